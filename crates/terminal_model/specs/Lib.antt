@@ -1,0 +1,4 @@
+pub mod Screen
+pub mod Functions
+pub mod Table
+pub mod Reports
