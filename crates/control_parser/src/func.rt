@@ -87,6 +87,24 @@ impl Params {
         }
     }
 
+    /// One parameter.
+    pub fn one(value: u16) -> Params
+        ensures { result ≡ value ∷ [] }
+    {
+        let mut params = Params::absent();
+        params.values[0] = value;
+        params
+    }
+
+    /// One parameter more.
+    pub fn push(&mut self, value: u16)
+        requires { length self.old < 16 }
+        ensures { self.new ≡ self.old ++ value ∷ [] }
+    {
+        self.values[self.count] = value;
+        self.count += 1;
+    }
+
     pub fn len(&self) -> usize
         ensures { result ≡ length self.now }
     {
