@@ -1,0 +1,14 @@
+//! A VT220 as this project means it: what a terminal is, what each control function does to it, how it reads
+//! bytes, and when it shows a view. The definitions stand in `specs/`; here are the plain types that code and
+//! definitions share, and the laws.
+#![tactic(auto)]
+
+mod action;
+mod limits;
+mod report;
+mod state;
+
+pub use action::{Action, Attribute, Mode, Part};
+pub use limits::{MAX_COLUMNS, MAX_KEEP, MAX_ROWS, MIN_COLUMNS, MIN_ROWS, REPORT_BYTES};
+pub use report::Report;
+pub use state::{Modes, Position, Saved, State};
