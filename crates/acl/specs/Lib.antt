@@ -1,0 +1,2 @@
+pub mod BitSets
+pub mod Same

@@ -1,0 +1,24 @@
+//! The access lists of a session: who is known, what each user may do, and by which acts.
+#![tactic(auto)]
+
+mod acl;
+mod act;
+mod bits;
+mod command_name;
+mod follower;
+mod limits;
+mod lists;
+mod plan;
+mod rows;
+mod slots;
+mod user_id;
+
+pub use acl::{Acl, AclFault, EntryDenial, MaskEntry, MaskScope, NewLeader};
+pub use act::{Act, LockMode, Object, PresetKind};
+pub use bits::{Bit, BitChange, Bits};
+pub use command_name::CommandName;
+pub use follower::Follower;
+pub use limits::{USERS, WINDOWS};
+pub use lists::Lists;
+pub use slots::Slots;
+pub use user_id::UserId;

@@ -1,0 +1,5 @@
+pub mod Cuts
+pub mod Pushes
+pub mod Encoded
+pub mod Joins
+pub mod Tables

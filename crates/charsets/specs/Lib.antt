@@ -1,0 +1,5 @@
+pub mod Utf8
+pub mod Partial
+pub mod Units
+pub mod Sets
+pub mod Shifts

@@ -1,0 +1,37 @@
+-- The units of a list of bytes.
+use Rattle.std.specs.Prelude.{◌≡◌, ℕ, nat_lt, if◌then◌else◌, List, [], ◌∷◌, map}
+use Rattle.charsets.specs.declared.unit.Coding.{Coding}
+use Rattle.charsets.specs.declared.unit.Coding.TheVariants.{Utf8, Ecma35}
+use Rattle.charsets.specs.declared.unit.Unit.{Unit}
+use Rattle.charsets.specs.declared.unit.Unit.TheVariants.{Code, High}
+use Rattle.charsets.specs.declared.unit.Units.{Units}
+use Rattle.charsets.specs.declared.unit.Units.TheVariants.{Nothing, One, Two}
+use Rattle.charsets.specs.Utf8.{codes}
+
+abbrev pub unit_of_byte : ℕ → Unit
+unit_of_byte b = if nat_lt b 0xA0 then Code b else High b
+
+-- the units of the bytes, and the beginning of a character that stands at their end
+abbrev pub units : Coding → List ℕ → List Unit × List ℕ
+units Utf8 bytes = (map (λ c. Code c) (codes bytes).0, (codes bytes).1)
+units Ecma35 bytes = (map unit_of_byte bytes, [])
+
+-- the units that one byte completes
+abbrev pub unit_list : Units → List Unit
+unit_list Nothing = []
+unit_list (One u) = u ∷ []
+unit_list (Two u v) = u ∷ v ∷ []
+
+-- what a decoder keeps: its coding, and the rest
+pub record Decoding : Type 0 where
+  pub coding : Coding
+  pub rest : List ℕ
+
+-- the decoder has read these bytes, in its coding
+abbrev pub StandsFor : Decoding → List ℕ → Type 0
+StandsFor decoder bytes = (units decoder.coding bytes).1 ≡ decoder.rest
+
+-- these units are what it has given of these bytes, and it has read no others
+pub record HasGiven (decoder : Decoding) (given : List Unit) (bytes : List ℕ) : Type 0 where
+  pub stands : StandsFor decoder bytes
+  pub all : given ≡ (units decoder.coding bytes).0

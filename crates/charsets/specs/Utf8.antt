@@ -1,0 +1,83 @@
+-- How bytes are cut into characters and maximal broken beginnings (Unicode, table 3-7).
+use Rattle.std.specs.Prelude.{ℕ, zero, suc, ◌+◌, ◌-◌, ◌*◌, Bool, ◌&&◌, nat_lt, ◌==◌, if◌then◌else◌, List, [], ◌∷◌, ◌++◌, Option, Some, None}
+
+-- the byte begins a character of several bytes
+abbrev pub is_lead : ℕ → Bool
+is_lead a = nat_lt 0xC1 a && nat_lt a 0xF5
+
+-- the byte goes on with a character
+abbrev pub continues : ℕ → Bool
+continues b = nat_lt 0x7F b && nat_lt b 0xC0
+
+-- the byte b may stand second, after the first byte a
+abbrev pub follows : ℕ → ℕ → Bool
+follows a b =
+    if a == 0xE0 then nat_lt 0x9F b && nat_lt b 0xC0
+    else (if a == 0xED then nat_lt 0x7F b && nat_lt b 0xA0
+    else (if a == 0xF0 then nat_lt 0x8F b && nat_lt b 0xC0
+    else (if a == 0xF4 then nat_lt 0x7F b && nat_lt b 0x90
+    else continues b)))
+
+abbrev pub code_of_2 : ℕ → ℕ → ℕ
+code_of_2 a b = (a - 0xC0) * 64 + (b - 0x80)
+
+abbrev pub code_of_3 : ℕ → ℕ → ℕ → ℕ
+code_of_3 a b c = ((a - 0xE0) * 64 + (b - 0x80)) * 64 + (c - 0x80)
+
+abbrev pub code_of_4 : ℕ → ℕ → ℕ → ℕ → ℕ
+code_of_4 a b c d = (((a - 0xF0) * 64 + (b - 0x80)) * 64 + (c - 0x80)) * 64 + (d - 0x80)
+
+-- A piece of the bytes: what it gives, and how many bytes it has beside its first one.
+pub record Piece : Type 0 where
+  pub gives : List ℕ
+  pub more : ℕ
+
+-- a well-formed character
+abbrev pub whole : ℕ → ℕ → Option Piece
+whole code more = Some (record { gives = code ∷ []; more = more })
+
+-- a byte that begins no character
+abbrev pub no_beginning : Option Piece
+no_beginning = Some (record { gives = 0xFFFD ∷ []; more = 0 })
+
+-- what a maximal beginning gives that the byte b breaks: CAN (18) cancels it
+abbrev pub broken_gives : ℕ → List ℕ
+broken_gives b = if b == 0x18 then [] else 0xFFFD ∷ []
+
+abbrev pub broken_by : ℕ → ℕ → Option Piece
+broken_by b more = Some (record { gives = broken_gives b; more = more })
+
+-- the piece that begins with these bytes; None where they end inside of it
+abbrev pub piece_of_4 : ℕ → ℕ → ℕ → List ℕ → Option Piece
+piece_of_4 a b c [] = None
+piece_of_4 a b c (d ∷ bytes) = if continues d then whole (code_of_4 a b c d) 3 else broken_by d 2
+
+abbrev pub piece_of_3 : ℕ → ℕ → List ℕ → Option Piece
+piece_of_3 a b [] = None
+piece_of_3 a b (c ∷ bytes) =
+    if continues c then (if nat_lt a 0xF0 then whole (code_of_3 a b c) 2 else piece_of_4 a b c bytes)
+    else broken_by c 1
+
+abbrev pub piece_of_2 : ℕ → List ℕ → Option Piece
+piece_of_2 a [] = None
+piece_of_2 a (b ∷ bytes) =
+    if follows a b then (if nat_lt a 0xE0 then whole (code_of_2 a b) 1 else piece_of_3 a b bytes)
+    else broken_by b 0
+
+unfoldable pub piece : ℕ → List ℕ → Option Piece
+piece a bytes =
+    if nat_lt a 0x80 then whole a 0
+    else (if is_lead a then piece_of_2 a bytes else no_beginning)
+
+-- the codes of the pieces of some bytes, and the beginning that stands at the end
+abbrev pub with_front : List ℕ → List ℕ × List ℕ → List ℕ × List ℕ
+with_front front later = (front ++ later.0, later.1)
+
+-- the same without the first skip bytes, which belong to a piece that began before
+unfoldable pub cut : ℕ → List ℕ → List ℕ × List ℕ
+cut skip [] = ([], [])
+cut (suc skip) (a ∷ bytes) = cut skip bytes
+cut zero (a ∷ bytes) = elim (piece a bytes) [ None ↦ ([], a ∷ bytes) | Some p ↦ with_front p.gives (cut p.more bytes) ]
+
+abbrev pub codes : List ℕ → List ℕ × List ℕ
+codes bytes = cut 0 bytes

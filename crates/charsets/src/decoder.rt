@@ -1,0 +1,107 @@
+//! Bytes to units, one byte at a time.
+
+ghost use Rattle.std.specs.Prelude.{◌≡◌, ◌↔◌, ℕ, List, [], ◌∷◌, ◌++◌, IsTrue};
+
+use crate::unit::{Coding, Unit, Units};
+use crate::utf8::{Chars, Partial, step};
+use std::marker::Model;
+
+/// Reads bytes in one coding, and keeps the beginning of a character.
+#[derive(Drop)]
+pub struct Decoder {
+    coding: Coding,
+    partial: Partial,
+}
+
+impl Model for Decoder {
+    ghost use Rattle.charsets.specs.Units.{Decoding};
+    ghost use Rattle.charsets.specs.Partial.{partial_bytes, IsPartialIn};
+
+    ghost Value = { Decoding };
+
+    ghost view = { λ d. record { coding = d.coding; rest = partial_bytes d.partial } };
+
+    ghost invariant = { λ d. IsPartialIn d.coding d.partial };
+}
+
+impl Decoder {
+    ghost use Rattle.charsets.specs.Units.{Decoding, units, unit_list, StandsFor, HasGiven};
+    ghost use Rattle.charsets.specs.declared.unit.Coding.TheVariants.{Utf8};
+
+    /// A decoder that has read nothing, in UTF-8.
+    pub fn new() -> Decoder
+        ensures starts { result ≡ record { coding = Utf8; rest = [] } }
+        ensures nothing { HasGiven result [] [] }
+    {
+        Decoder {
+            coding: Coding::Utf8,
+            partial: Partial::Empty,
+        }
+    }
+
+    /// Reads on in this coding. A character that has begun is dropped.
+    pub fn set_coding(&mut self, coding: Coding)
+        ensures starts { self.new ≡ record { coding = coding; rest = [] } }
+        ensures nothing { HasGiven self.new [] [] }
+    {
+        self.coding = coding;
+        self.partial = Partial::Empty;
+    }
+
+    /// The coding that it reads in.
+    pub fn coding(&self) -> Coding
+        ensures { result ≡ self.now.coding }
+    {
+        self.coding
+    }
+
+    /// Whether no character has begun.
+    pub fn is_idle(&self) -> bool
+        ensures { IsTrue result ↔ (self.now.rest ≡ []) }
+    {
+        matches!(self.partial, Partial::Empty)
+    }
+
+    /// Reads one byte, and gives the units that it completes.
+    pub fn push(&mut self, byte: u8) -> Units
+        ensures coding { self.new.coding ≡ self.old.coding }
+        ensures next { units self.old.coding (self.old.rest ++ byte ∷ []) ≡ (unit_list result, self.new.rest) }
+        // Whatever bytes were read, this one is read behind them.
+        ensures stands { (bytes : List ℕ) → StandsFor self.old bytes → StandsFor self.new (bytes ++ byte ∷ []) }
+        ensures gives { (bytes : List ℕ) → StandsFor self.old bytes →
+            (units self.old.coding (bytes ++ byte ∷ [])).0 ≡ (units self.old.coding bytes).0 ++ unit_list result }
+    {
+        match self.coding {
+            Coding::Ecma35 => Units::One(unit_of_byte(byte)),
+            Coding::Utf8 => {
+                let (chars, partial) = step(self.partial, byte);
+                self.partial = partial;
+                units_of_chars(chars)
+            }
+        }
+    }
+}
+
+ghost use Rattle.charsets.specs.Units.{unit_of_byte, unit_list};
+ghost use Rattle.charsets.specs.Partial.{chars_of};
+ghost use Rattle.std.specs.Prelude.{map};
+
+fn unit_of_byte(byte: u8) -> Unit
+    ensures { result ≡ unit_of_byte byte }
+{
+    if byte < 0xA0 {
+        Unit::Code(byte as char)
+    } else {
+        Unit::High(byte)
+    }
+}
+
+fn units_of_chars(chars: Chars) -> Units
+    ensures { unit_list result ≡ map (λ c. Unit.Code c) (chars_of chars) }
+{
+    match chars {
+        Chars::Nothing => Units::Nothing,
+        Chars::One(c) => Units::One(Unit::Code(c)),
+        Chars::Two(c, d) => Units::Two(Unit::Code(c), Unit::Code(d)),
+    }
+}

@@ -1,0 +1,31 @@
+//! Laws of the definitions, for the crates above.
+
+ghost use Rattle.std.specs.Prelude.{◌≡◌, ℕ, List, [], ◌∷◌, ◌++◌};
+ghost use Rattle.std.specs.Char.{encode_utf8, IsScalar};
+ghost use Rattle.charsets.specs.declared.unit.Coding.{Coding};
+ghost use Rattle.charsets.specs.declared.unit.Coding.TheVariants.{Utf8};
+ghost use Rattle.charsets.specs.declared.unit.Unit.TheVariants.{Code};
+ghost use Rattle.charsets.specs.Units.{units};
+
+/// Bytes behind whole characters are read for themselves.
+pub fn whole_ones_join()
+    ensures { (coding : Coding) (front later : List ℕ) → (units coding front).1 ≡ [] →
+        units coding (front ++ later) ≡ ((units coding front).0 ++ (units coding later).0, (units coding later).1) }
+{}
+
+/// CAN ends a character that has begun, which gives nothing.
+pub fn can_ends_all()
+    ensures { (bytes : List ℕ) → units Utf8 (bytes ++ 0x18 ∷ []) ≡ ((units Utf8 bytes).0 ++ Code 0x18 ∷ [], []) }
+{}
+
+/// A character as UTF-8 is read as it.
+pub fn characters_read_back()
+    ensures { (c : ℕ) → IsScalar c → units Utf8 (encode_utf8 c) ≡ (Code c ∷ [], []) }
+{}
+
+/// More bytes are read behind a beginning as behind itself.
+pub fn beginnings_go_on()
+    ensures go_on { (coding : Coding) (front later : List ℕ) → let rest = (units coding front).1 in
+        units coding (front ++ later) ≡ ((units coding front).0 ++ (units coding (rest ++ later)).0, (units coding (rest ++ later)).1) }
+    ensures own { (coding : Coding) (bytes : List ℕ) → units coding (units coding bytes).1 ≡ ([], (units coding bytes).1) }
+{}

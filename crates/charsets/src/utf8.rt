@@ -1,0 +1,155 @@
+//! UTF-8, byte by byte.
+
+ghost use Rattle.std.specs.Prelude.{◌≡◌, ◌<◌, ◌≤◌, ℕ, [], ◌∷◌, ◌++◌, true, false, nat_lt, option_to_list};
+ghost use Rattle.charsets.specs.Utf8.{is_lead, follows, continues, code_of_2, code_of_3, code_of_4, codes, with_front, broken_gives};
+ghost use Rattle.charsets.specs.Partial.{IsPartial, partial_bytes, chars_of};
+
+/// The bytes of a character that has begun.
+#[derive(Clone, Copy, Debug, PartialEq, Eq)]
+pub enum Partial {
+    Empty,
+    One(u8),
+    Two(u8, u8),
+    Three(u8, u8, u8),
+}
+
+/// The characters that a byte completes.
+#[derive(Clone, Copy, Debug, PartialEq, Eq)]
+pub enum Chars {
+    Nothing,
+    One(char),
+    Two(char, char),
+}
+
+const REPLACEMENT: char = '\u{FFFD}';
+
+const CAN: u8 = 0x18;
+
+fn can_lead(a: u8) -> bool
+    ensures { result ≡ is_lead a }
+{
+    0xC1 < a && a < 0xF5
+}
+
+fn can_continue(b: u8) -> bool
+    ensures { result ≡ continues b }
+{
+    0x7F < b && b < 0xC0
+}
+
+fn can_follow(a: u8, b: u8) -> bool
+    ensures { result ≡ follows a b }
+{
+    match a {
+        0xE0 => 0x9F < b && b < 0xC0,
+        0xED => 0x7F < b && b < 0xA0,
+        0xF0 => 0x8F < b && b < 0xC0,
+        0xF4 => 0x7F < b && b < 0x90,
+        _ => can_continue(b),
+    }
+}
+
+fn char_of_2(a: u8, b: u8) -> char
+    requires lead { is_lead a ≡ true }
+    requires short { a < 0xE0 }
+    requires second { follows a b ≡ true }
+    ensures { result ≡ code_of_2 a b }
+{
+    let code = (a - 0xC0) as u32 * 64 + (b - 0x80) as u32;
+    char::from_u32(code).unwrap()
+}
+
+fn char_of_3(a: u8, b: u8, c: u8) -> char
+    requires long { 0xE0 ≤ a }
+    requires short { a < 0xF0 }
+    requires second { follows a b ≡ true }
+    requires third { continues c ≡ true }
+    ensures { result ≡ code_of_3 a b c }
+{
+    let code = ((a - 0xE0) as u32 * 64 + (b - 0x80) as u32) * 64 + (c - 0x80) as u32;
+    char::from_u32(code).unwrap()
+}
+
+fn char_of_4(a: u8, b: u8, c: u8, d: u8) -> char
+    requires lead { is_lead a ≡ true }
+    requires long { 0xF0 ≤ a }
+    requires second { follows a b ≡ true }
+    requires third { continues c ≡ true }
+    requires fourth { continues d ≡ true }
+    ensures { result ≡ code_of_4 a b c d }
+{
+    let code = (((a - 0xF0) as u32 * 64 + (b - 0x80) as u32) * 64 + (c - 0x80) as u32) * 64
+        + (d - 0x80) as u32;
+    char::from_u32(code).unwrap()
+}
+
+// What a byte gives where no character has begun.
+#[tactic(auto, unfolding(crate::specs::Utf8::cut, crate::specs::Utf8::piece))]
+fn start(byte: u8) -> (Option<char>, Partial)
+    ensures value { codes (byte ∷ []) ≡ (option_to_list result.0, partial_bytes result.1) }
+    ensures partial { IsPartial result.1 }
+{
+    if byte < 0x80 {
+        (Some(byte as char), Partial::Empty)
+    } else if can_lead(byte) {
+        (None, Partial::One(byte))
+    } else {
+        (Some(REPLACEMENT), Partial::Empty)
+    }
+}
+
+// What a byte gives that breaks a beginning: CAN cancels it, and each byte is then read anew.
+#[tactic(auto, unfolding(crate::specs::Utf8::cut, crate::specs::Utf8::piece))]
+fn broken(byte: u8) -> (Chars, Partial)
+    ensures value { with_front (broken_gives byte) (codes (byte ∷ [])) ≡ (chars_of result.0, partial_bytes result.1) }
+    ensures partial { IsPartial result.1 }
+{
+    if byte == CAN {
+        return (Chars::One(byte as char), Partial::Empty);
+    }
+    let (anew, partial) = start(byte);
+    (
+        anew.map_or(Chars::One(REPLACEMENT), |c| Chars::Two(REPLACEMENT, c)),
+        partial,
+    )
+}
+
+/// The characters that a byte completes, and what has begun then.
+#[tactic(auto, unfolding(crate::specs::Utf8::cut, crate::specs::Utf8::piece))]
+pub fn step(partial: Partial, byte: u8) -> (Chars, Partial)
+    requires { IsPartial partial }
+    ensures value { codes (partial_bytes partial ++ byte ∷ []) ≡ (chars_of result.0, partial_bytes result.1) }
+    ensures partial { IsPartial result.1 }
+{
+    match partial {
+        Partial::Empty => {
+            let (anew, partial) = start(byte);
+            (anew.map_or(Chars::Nothing, Chars::One), partial)
+        }
+        Partial::One(a) => {
+            if !can_follow(a, byte) {
+                broken(byte)
+            } else if a < 0xE0 {
+                (Chars::One(char_of_2(a, byte)), Partial::Empty)
+            } else {
+                (Chars::Nothing, Partial::Two(a, byte))
+            }
+        }
+        Partial::Two(a, b) => {
+            if !can_continue(byte) {
+                broken(byte)
+            } else if a < 0xF0 {
+                (Chars::One(char_of_3(a, b, byte)), Partial::Empty)
+            } else {
+                (Chars::Nothing, Partial::Three(a, b, byte))
+            }
+        }
+        Partial::Three(a, b, c) => {
+            if !can_continue(byte) {
+                broken(byte)
+            } else {
+                (Chars::One(char_of_4(a, b, c, byte)), Partial::Empty)
+            }
+        }
+    }
+}

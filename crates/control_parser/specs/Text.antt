@@ -1,0 +1,75 @@
+-- The text of a control sequence: what stands between CSI and the final byte.
+use Rattle.std.specs.Prelude.{ℕ, ◌+◌, ◌-◌, ◌*◌, Bool, ◌&&◌, ◌||◌, nat_lt, nat_le, ◌==◌, if◌then◌else◌, List, [], ◌∷◌, length, take, map, min, Option, Some, None}
+use Rattle.std.specs.List.{list_all}
+
+abbrev pub is_intermediate : ℕ → Bool
+is_intermediate c = nat_lt 0x1F c && nat_lt c 0x30
+
+abbrev pub is_digit : ℕ → Bool
+is_digit c = nat_lt 0x2F c && nat_lt c 0x3A
+
+-- a digit, or the semicolon between two parameters
+abbrev pub is_number : ℕ → Bool
+is_number c = is_digit c || c == 0x3B
+
+-- one of < = > ?
+abbrev pub is_mark : ℕ → Bool
+is_mark c = nat_lt 0x3B c && nat_lt c 0x40
+
+-- the longest front that passes, and what follows it
+abbrev pub while : {A : Type 0} → (A → Bool) → List A → List A × List A
+while p [] = ([], [])
+while p (x ∷ xs) = if p x then (x ∷ (while p xs).0, (while p xs).1) else ([], x ∷ xs)
+
+-- the decimal number that some digits spell, behind what is spelled before them
+abbrev pub number_after : ℕ → List ℕ → ℕ
+number_after n [] = n
+number_after n (d ∷ digits) = number_after (n * 10 + (d - 0x30)) digits
+
+-- a parameter saturates at 9,999; an absent one is 0
+abbrev pub value : List ℕ → ℕ
+value digits = min 9999 (number_after 0 digits)
+
+-- the digits of each parameter, cut at each semicolon
+abbrev pub onto_first : ℕ → List (List ℕ) → List (List ℕ)
+onto_first c [] = (c ∷ []) ∷ []
+onto_first c (field ∷ fields) = (c ∷ field) ∷ fields
+
+unfoldable pub fields : List ℕ → List (List ℕ)
+fields [] = [] ∷ []
+fields (c ∷ cs) = if c == 0x3B then [] ∷ fields cs else onto_first c (fields cs)
+
+abbrev pub values : List ℕ → List ℕ
+values numbers = map value (fields numbers)
+
+-- A text is a mark, perhaps, then numbers, then intermediates.
+abbrev pub mark_of : List ℕ → Option ℕ
+mark_of [] = None
+mark_of (c ∷ cs) = if is_mark c then Some c else None
+
+abbrev pub unmarked : List ℕ → List ℕ
+unmarked [] = []
+unmarked (c ∷ cs) = if is_mark c then cs else c ∷ cs
+
+abbrev pub numbers_of : List ℕ → List ℕ
+numbers_of text = (while is_number (unmarked text)).0
+
+abbrev pub intermediates_of : List ℕ → List ℕ
+intermediates_of text = (while is_number (unmarked text)).1
+
+-- with at most two intermediates, and nothing else behind the numbers; any other text is ignored
+abbrev pub is_well_formed : List ℕ → Bool
+is_well_formed text = list_all is_intermediate (intermediates_of text) && nat_le (length (intermediates_of text)) 2
+
+-- sixteen parameters count
+abbrev pub params_of : List ℕ → List ℕ
+params_of text = take 16 (values (numbers_of text))
+
+-- one digit more of a value, and of the last of some values
+abbrev pub longer : ℕ → ℕ → ℕ
+longer n digit = min 9999 (n * 10 + digit)
+
+abbrev pub digit_added : List ℕ → ℕ → List ℕ
+digit_added [] digit = []
+digit_added (n ∷ []) digit = longer n digit ∷ []
+digit_added (n ∷ m ∷ ns) digit = n ∷ digit_added (m ∷ ns) digit

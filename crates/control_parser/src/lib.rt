@@ -1,0 +1,21 @@
+//! Units to control functions, however the units are cut.
+#![tactic(auto)]
+
+mod func;
+mod laws;
+mod parser;
+mod pieces;
+mod plain;
+mod spelling;
+mod state;
+
+pub use func::{Func, Intermediates, Params};
+pub use laws::{can_ends_all, each_is_spelled, unended_go_on, whole_ones_join};
+pub use parser::Parser;
+pub use pieces::{feed, parse};
+pub use plain::plain_run;
+pub use spelling::spell;
+pub use std::alloc::AllocError as NoMemory;
+
+#[cfg(test)]
+mod tests;

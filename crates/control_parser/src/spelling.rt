@@ -1,0 +1,141 @@
+//! Control functions as bytes.
+
+ghost use Rattle.std.specs.Prelude.{◌≡◌, ◌<◌, ◌≤◌, ◌+◌, ◌*◌, ℕ, List, [], ◌∷◌, ◌++◌, length, take, OnOk, OnErr, option_to_list};
+ghost use Rattle.std.specs.List.{flat_map};
+ghost use Rattle.control_parser.specs.Spelling.{decimal, numerals, spelling, coding_of, IsGiven, ReadsAs};
+
+use crate::func::Func;
+use std::alloc::AllocError as NoMemory;
+use std::marker::Model;
+
+// The longest spelling has 85 bytes.
+const ROOM: usize = 96;
+
+#[derive(Drop)]
+struct Room {
+    bytes: [u8; ROOM],
+    count: usize,
+}
+
+impl Model for Room {
+    ghost Value = { List ℕ };
+
+    ghost view = { λ r. take r.count r.bytes };
+
+    ghost invariant = { λ r. r.count ≤ 96 };
+}
+
+impl Room {
+    fn new() -> Room
+        ensures { result ≡ [] }
+    {
+        Room {
+            bytes: [0; ROOM],
+            count: 0,
+        }
+    }
+
+    fn as_slice(&self) -> &[u8]
+        ensures { result.now ≡ self.now }
+    {
+        &self.bytes[..self.count]
+    }
+
+    fn push(&mut self, byte: u8)
+        requires { length self.old < 96 }
+        ensures { self.new ≡ self.old ++ byte ∷ [] }
+    {
+        self.bytes[self.count] = byte;
+        self.count += 1;
+    }
+}
+
+fn put_slice(room: &mut Room, bytes: &[u8])
+    requires { length room.old + length bytes.now ≤ 96 }
+    ensures { room.new ≡ room.old ++ bytes.now }
+{
+    for b in bytes {
+        room.push(*b);
+    }
+}
+
+#[tactic(auto, unfolding(crate::specs::Spelling::decimal))]
+fn put_number(room: &mut Room, n: u16)
+    requires { length room.old + 4 ≤ 96 }
+    ensures number { room.new ≡ room.old ++ decimal n }
+    ensures short { length room.new ≤ length room.old + 4 }
+{
+    if n >= 1000 {
+        room.push(b'0' + (n / 1000 % 10) as u8);
+    }
+    if n >= 100 {
+        room.push(b'0' + (n / 100 % 10) as u8);
+    }
+    if n >= 10 {
+        room.push(b'0' + (n / 10 % 10) as u8);
+    }
+    room.push(b'0' + (n % 10) as u8);
+}
+
+fn put_numbers(room: &mut Room, numbers: &[u16])
+    requires { length room.old + 5 * length numbers.now ≤ 96 }
+    ensures numbers { room.new ≡ room.old ++ numerals numbers.now }
+    ensures short { length room.new ≤ length room.old + 5 * length numbers.now }
+{
+    if let [first, others @ ..] = numbers {
+        put_number(room, *first);
+        for n in others {
+            room.push(b';');
+            put_number(room, *n);
+        }
+    }
+}
+
+fn spelled(func: &Func) -> Room
+    ensures { result ≡ spelling func.now }
+{
+    let mut room = Room::new();
+    match func {
+        Func::Print(c) => {
+            let mut bytes = [0; 4];
+            put_slice(&mut room, c.encode_utf8(&mut bytes).as_bytes());
+        }
+        Func::High(b) => room.push(*b),
+        Func::Control(c) => room.push(*c),
+        Func::Esc {
+            intermediates,
+            last,
+        } => {
+            room.push(0x1B);
+            put_slice(&mut room, intermediates.as_slice());
+            room.push(*last);
+        }
+        Func::Csi {
+            mark,
+            params,
+            intermediates,
+            last,
+        } => {
+            room.push(0x1B);
+            room.push(b'[');
+            if let Some(m) = *mark {
+                room.push(m);
+            }
+            put_numbers(&mut room, params.as_slice());
+            put_slice(&mut room, intermediates.as_slice());
+            room.push(*last);
+        }
+    }
+    room
+}
+
+/// Appends the 7-bit spelling.
+pub fn spell(func: &Func, out: &mut Vec<u8>) -> Result<(), NoMemory>
+    ensures ok { OnOk result (out.new.items ≡ out.old.items ++ spelling func.now) }
+    ensures err { OnErr result (out.new.items ≡ out.old.items) }
+    // What units can give reads back, alone.
+    ensures reads { IsGiven func.now → ReadsAs (coding_of func.now) (spelling func.now) (func.now ∷ []) }
+{
+    let room = spelled(func);
+    out.extend_from_slice(room.as_slice())
+}
