@@ -21,7 +21,8 @@ front_set room count i x array h k = (h.0, length-set array i x ∙ h.1, drop-se
 
 pub front_pushed : (room count x : ℕ) (array : List ℕ) → IsFront room count array → count < room → IsFront room (count + 1) (set array count x)
 front_pushed room count x array h k = (
-    omega arith,
-    length-set array count x ∙ h.1,
-    drop-set-lt (count + 1) array count x (omega arith) ∙ sym (drop-drop 1 count array) ∙ ap (drop 1) h.2
-        ∙ drop-replicate 1 (room - count) 0 ∙ ap (λ n. replicate n 0) (omega arith))
+  omega arith,
+  length-set array count x ∙ h.1,
+  drop-set-lt (count + 1) array count x (omega arith) ∙ sym (drop-drop 1 count array) ∙ ap (drop 1) h.2
+      ∙ drop-replicate 1 (room - count) 0 ∙ ap (λ n. replicate n 0) (omega arith),
+)

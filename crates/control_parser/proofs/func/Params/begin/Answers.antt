@@ -1,4 +1,4 @@
-use Rattle.std.proofs.Common.{◌≡◌, ◌<◌, length, take, ap, arith, length-take-le}
+use Rattle.std.proofs.Common.{◌≡◌, length, take, ap, arith, length-take-le}
 use Rattle.control_parser.specs.Arrays.{front_pushed}
 use Rattle.control_parser.proofs.func.Params.begin.Goals as goal
 
