@@ -1,5 +1,5 @@
 -- The units of a list of bytes.
-use Rattle.std.specs.Prelude.{◌≡◌, ℕ, nat_lt, if◌then◌else◌, List, [], ◌∷◌, map}
+use Rattle.std.specs.Prelude.{◌≡◌, ℕ, Bool, ◌&&◌, nat_lt, if◌then◌else◌, List, [], ◌∷◌, ◌++◌, map}
 use Rattle.charsets.specs.declared.unit.Coding.{Coding}
 use Rattle.charsets.specs.declared.unit.Coding.TheVariants.{Utf8, Ecma35}
 use Rattle.charsets.specs.declared.unit.Unit.{Unit}
@@ -35,3 +35,15 @@ StandsFor decoder bytes = (units decoder.coding bytes).1 ≡ decoder.rest
 pub record HasGiven (decoder : Decoding) (given : List Unit) (bytes : List ℕ) : Type 0 where
   pub stands : StandsFor decoder bytes
   pub all : given ≡ (units decoder.coding bytes).0
+
+-- bytes that come in pieces: each piece is read behind the rest of those before it
+abbrev pub units_of_pieces : Coding → List ℕ → List (List ℕ) → List Unit × List ℕ
+units_of_pieces coding rest [] = ([], rest)
+units_of_pieces coding rest (piece ∷ pieces) =
+    let here = units coding (rest ++ piece) in
+    let later = units_of_pieces coding here.1 pieces in
+    (here.0 ++ later.0, later.1)
+
+-- 20 to 7E, the same in both codings
+abbrev pub is_plain : ℕ → Bool
+is_plain b = nat_lt 0x1F b && nat_lt b 0x7F

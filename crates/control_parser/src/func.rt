@@ -9,18 +9,29 @@ use std::marker::Model;
 pub const PARAMS: usize = 16;
 
 /// At most two bytes 20 to 2F.
-#[derive(Drop)]
+#[derive(Clone, Copy, Debug, PartialEq, Eq)]
 pub struct Intermediates {
     bytes: [u8; 2],
     count: usize,
 }
 
 impl Model for Intermediates {
+    ghost use Rattle.std.specs.Prelude.{List, ℕ, take, length};
+    ghost use Rattle.std.proofs.Common.{arith, length-take-le};
+    ghost use Rattle.control_parser.specs.Arrays.{IsFront, array_of, array_of-take};
+
     ghost Value = { List ℕ };
 
     ghost view = { λ i. take i.count i.bytes };
 
-    ghost invariant = { λ i. i.count ≤ 2 };
+    ghost invariant = { λ i. IsFront 2 i.count i.bytes };
+
+    ghost inverse = { λ xs. record { bytes = array_of 2 xs; count = length xs } };
+
+    ghost inverse_ok = { λ a h i. record {
+      bytes = array_of-take 2 a.count a.bytes h i;
+      count = length-take-le a.count a.bytes (omega (arith, h.0, h.1)) i;
+    } };
 }
 
 impl Intermediates {
@@ -62,18 +73,29 @@ impl Intermediates {
 }
 
 /// One to sixteen parameters, each at most 9,999; an absent one is 0.
-#[derive(Drop)]
+#[derive(Clone, Copy, Debug, PartialEq, Eq)]
 pub struct Params {
     values: [u16; PARAMS],
     count: usize,
 }
 
 impl Model for Params {
+    ghost use Rattle.std.specs.Prelude.{List, ℕ, ◌<◌, take, length};
+    ghost use Rattle.std.proofs.Common.{arith, length-take-le};
+    ghost use Rattle.control_parser.specs.Arrays.{IsFront, array_of, array_of-take};
+
     ghost Value = { List ℕ };
 
     ghost view = { λ p. take p.count p.values };
 
-    ghost invariant = { λ p. (0 < p.count) × (p.count ≤ 16) };
+    ghost invariant = { λ p. (0 < p.count) × IsFront 16 p.count p.values };
+
+    ghost inverse = { λ xs. record { values = array_of 16 xs; count = length xs } };
+
+    ghost inverse_ok = { λ a h i. record {
+      values = array_of-take 16 a.count a.values h.1 i;
+      count = length-take-le a.count a.values (omega (arith, h.1.0, h.1.1)) i;
+    } };
 }
 
 impl Params {
@@ -146,7 +168,7 @@ impl Params {
 }
 
 /// A control function.
-#[derive(Drop)]
+#[derive(Clone, Copy, Debug, PartialEq, Eq)]
 pub enum Func {
     Print(char),
     High(u8),

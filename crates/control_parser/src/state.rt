@@ -9,7 +9,7 @@ use crate::func::{Func, Intermediates, Params};
 use charsets::Unit;
 
 /// The text of a control sequence so far.
-#[derive(Drop)]
+#[derive(Clone, Copy, Debug)]
 pub struct Text {
     pub begun: bool,
     pub mark: Option<u8>,
@@ -19,7 +19,7 @@ pub struct Text {
     pub intermediates: Intermediates,
 }
 
-#[derive(Drop)]
+#[derive(Clone, Copy, Debug)]
 pub enum State {
     Ground,
     Escape(Intermediates),
