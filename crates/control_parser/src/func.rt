@@ -35,6 +35,18 @@ impl Model for Intermediates {
 }
 
 impl Intermediates {
+    /// These bytes.
+    pub fn from_slice(bytes: &[u8]) -> Intermediates
+        requires { length bytes.now ≤ 2 }
+        ensures { result ≡ bytes.now }
+    {
+        let mut intermediates = Intermediates::none();
+        for byte in bytes {
+            intermediates.push(*byte);
+        }
+        intermediates
+    }
+
     pub fn none() -> Intermediates
         ensures { result ≡ [] }
     {
@@ -99,6 +111,20 @@ impl Model for Params {
 }
 
 impl Params {
+    /// These parameters.
+    pub fn from_slice(values: &[u16]) -> Params
+        requires some { 0 < length values.now }
+        requires few { length values.now ≤ 16 }
+        ensures { result ≡ values.now }
+    {
+        let mut params = Params::absent();
+        params.values[0] = values[0];
+        for value in &values[1..] {
+            params.push(*value);
+        }
+        params
+    }
+
     /// One parameter, absent.
     pub fn absent() -> Params
         ensures { result ≡ 0 ∷ [] }
@@ -157,12 +183,12 @@ impl Params {
         self.values[last] = longer.min(9999) as u16;
     }
 
-    /// Begins another parameter.
-    pub fn begin(&mut self)
+    /// Another parameter.
+    pub fn push(&mut self, value: u16)
         requires { length self.old < 16 }
-        ensures { self.new ≡ self.old ++ 0 ∷ [] }
+        ensures { self.new ≡ self.old ++ value ∷ [] }
     {
-        self.values[self.count] = 0;
+        self.values[self.count] = value;
         self.count += 1;
     }
 }

@@ -91,7 +91,7 @@ impl Text {
             })
         } else if c == b';' {
             if params.len() < 16 {
-                params.begin();
+                params.push(0);
             } else {
                 over = true;
             }
