@@ -1,14 +1,14 @@
-//! Control functions.
+//! Control functions (ECMA-48; VT220 Programmer Reference Manual, chapter 2).
 
 ghost use Rattle.std.specs.Prelude.{◌≡◌, ◌<◌, ◌≤◌, ◌+◌, ◌==◌, ◌∷◌, ◌++◌, [], ℕ, List, length, take, slice_index};
 ghost use Rattle.control_parser.specs.Text.{digit_added};
 
 use std::marker::Model;
 
-/// How many parameters count.
-pub const PARAMS: usize = 16;
+// How many parameters count.
+const PARAMS: usize = 16;
 
-/// At most two bytes 20 to 2F.
+/// The intermediate bytes of a sequence: at most two, each 20 to 2F where a parser gives it.
 #[derive(Clone, Copy, Debug, PartialEq, Eq)]
 pub struct Intermediates {
     bytes: [u8; 2],
@@ -47,6 +47,7 @@ impl Intermediates {
         intermediates
     }
 
+    /// No intermediate.
     pub fn none() -> Intermediates
         ensures { result ≡ [] }
     {
@@ -75,7 +76,8 @@ impl Intermediates {
         &self.bytes[..self.count]
     }
 
-    pub fn push(&mut self, byte: u8)
+    // One byte more.
+    pub(crate) fn push(&mut self, byte: u8)
         requires { length self.old < 2 }
         ensures { self.new ≡ self.old ++ byte ∷ [] }
     {
@@ -84,7 +86,8 @@ impl Intermediates {
     }
 }
 
-/// One to sixteen parameters, each at most 9,999; an absent one is 0.
+/// The parameters of a control sequence: one to sixteen, each at most 9,999 where a parser gives it.
+/// An absent one is 0.
 #[derive(Clone, Copy, Debug, PartialEq, Eq)]
 pub struct Params {
     values: [u16; PARAMS],
@@ -173,8 +176,8 @@ impl Params {
         self.as_slice().get(i).copied().unwrap_or(0)
     }
 
-    /// One digit more of the last parameter.
-    pub fn add_digit(&mut self, digit: u8)
+    // One digit more of the last parameter, which saturates.
+    pub(crate) fn add_digit(&mut self, digit: u8)
         requires { digit < 10 }
         ensures { self.new ≡ digit_added self.old digit }
     {
@@ -183,8 +186,8 @@ impl Params {
         self.values[last] = longer.min(9999) as u16;
     }
 
-    /// Another parameter.
-    pub fn push(&mut self, value: u16)
+    // Another parameter.
+    pub(crate) fn push(&mut self, value: u16)
         requires { length self.old < 16 }
         ensures { self.new ≡ self.old ++ value ∷ [] }
     {
@@ -196,17 +199,25 @@ impl Params {
 /// A control function.
 #[derive(Clone, Copy, Debug, PartialEq, Eq)]
 pub enum Func {
+    /// A graphic character.
     Print(char),
+    /// A byte from A0 on of ECMA-35, which goes through GR.
     High(u8),
+    /// A C0 control, but for CAN, SUB and ESC.
     Control(u8),
+    /// An escape sequence, or the C1 control that it stands for.
     Esc {
         intermediates: Intermediates,
+        /// The final byte, 30 to 7E.
         last: u8,
     },
+    /// A control sequence.
     Csi {
+        /// One of `<`, `=`, `>`, `?` before the parameters.
         mark: Option<u8>,
         params: Params,
         intermediates: Intermediates,
+        /// The final byte, 40 to 7E.
         last: u8,
     },
 }
