@@ -185,15 +185,6 @@ impl Params {
         let longer = self.values[last] as u32 * 10 + digit as u32;
         self.values[last] = longer.min(9999) as u16;
     }
-
-    // Another parameter.
-    pub(crate) fn push(&mut self, value: u16)
-        requires { length self.old < 16 }
-        ensures { self.new ≡ self.old ++ value ∷ [] }
-    {
-        self.values[self.count] = value;
-        self.count += 1;
-    }
 }
 
 /// A control function.
