@@ -1,6 +1,6 @@
 use Rattle.std.proofs.Common.{◌≡◌, length, take, ap, arith, length-take-le}
 use Rattle.control_parser.specs.Arrays.{front_pushed}
-use Rattle.control_parser.proofs.func.Params.push.Goals as goal
+use Rattle.control_parser.proofs.params.Params.push.Goals as goal
 
 pub invariant_of-self : goal.invariant_of-self
 invariant_of-self c =
