@@ -3,3 +3,6 @@ pub mod Pushes
 pub mod Encoded
 pub mod Joins
 pub mod Tables
+pub mod Pieces
+pub mod Shifted
+pub mod Scalars

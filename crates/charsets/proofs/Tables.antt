@@ -9,7 +9,7 @@ abbrev pub agrees : (ℕ → ℕ) → ℕ → List ℕ → Bool
 agrees rule u [] = true
 agrees rule u (x ∷ xs) = x == rule u && agrees rule (u + 1) xs
 
-both : (a b : Bool) → (a && b) ≡ true → (a ≡ true) × (b ≡ true)
+pub both : (a b : Bool) → (a && b) ≡ true → (a ≡ true) × (b ≡ true)
 both true b h = (refl, h)
 both false b h = absurd (cc)
 

@@ -3,15 +3,16 @@
 
 mod decoder;
 mod laws;
-mod pieces;
 mod sets;
 mod shifts;
 mod unit;
 mod utf8;
 
 pub use decoder::Decoder;
-pub use laws::{beginnings_go_on, can_ends_all, characters_read_back, whole_ones_join};
-pub use pieces::{decode, feed};
+pub use laws::{
+    ascii_stands_for_itself, beginnings_go_on, can_ends_all, characters_read_back,
+    pieces_are_whole, plain_bytes_stand, whole_ones_join,
+};
 pub use sets::CharacterSet;
 pub use shifts::{Place, Shift, Shifts};
 pub use unit::{Coding, Unit, Units};

@@ -259,7 +259,7 @@ control_of-spelled mark n ns is last h few low fine =
     ∙ ap (λ l. Csi mark l is last ∷ []) vs
 
 -- a function alone
-print_reads : (c : ℕ) → is_graphic c ≡ true → rest_step nothing (units.Code c) ≡ (Print c ∷ [], nothing)
+pub print_reads : (c : ℕ) → is_graphic c ≡ true → rest_step nothing (units.Code c) ≡ (Print c ∷ [], nothing)
 print_reads c h =
     let a : (c == 0x1A && false) ≡ false = and-false (c == 0x1A) in
     let b : (c == 0x1B) ≡ false = grind (arith, nat_tests) in

@@ -1,5 +1,5 @@
 -- What a parser keeps of a list of units.
-use Rattle.std.specs.Prelude.{◌≡◌, ℕ, not, nat_lt, nat_le, ◌==◌, if◌then◌else◌, List, [], ◌∷◌, length, map, Option, Some, None}
+use Rattle.std.specs.Prelude.{◌≡◌, ℕ, not, nat_lt, nat_le, ◌==◌, if◌then◌else◌, List, [], ◌∷◌, ◌++◌, length, map, Option, Some, None}
 use Rattle.charsets.specs.declared.unit.Unit.{Unit}
 use Rattle.charsets.specs.declared.unit.Unit.TheVariants.{Code}
 use Rattle.control_parser.specs.declared.func.Func.{Func}
@@ -7,7 +7,7 @@ use Rattle.control_parser.specs.declared.state.Text.{Text}
 use Rattle.control_parser.specs.declared.state.State.{State}
 use Rattle.control_parser.specs.declared.state.State.TheVariants.{Ground, Escape, EscapeIgnored, Control, ControlIgnored, String, Osc}
 use Rattle.control_parser.specs.Text.{values, is_well_formed, mark_of, numbers_of, params_of, intermediates_of}
-use Rattle.control_parser.specs.Grammar.{Rest, nothing, escape, control, string, osc, functions}
+use Rattle.control_parser.specs.Grammar.{Rest, nothing, escape, control, string, osc, with_front, functions}
 
 -- the parts of a control sequence's text so far, or None where it is ignored
 unfoldable pub parts : List ℕ → Option Text
@@ -50,3 +50,10 @@ opening (escape intermediates) = Code 0x1B ∷ map (λ c. Code c) intermediates
 opening (control text) = Code 0x1B ∷ Code 0x5B ∷ map (λ c. Code c) text
 opening string = Code 0x1B ∷ Code 0x58 ∷ []
 opening osc = Code 0x1B ∷ Code 0x5D ∷ []
+
+-- units that come in pieces: each piece is read behind what is unended at the end of those before it
+abbrev pub functions_of_pieces : Rest → List (List Unit) → List Func × Rest
+functions_of_pieces rest [] = ([], rest)
+functions_of_pieces rest (piece ∷ pieces) =
+    let here = functions (opening rest ++ piece) in
+    with_front here.0 (functions_of_pieces here.1 pieces)

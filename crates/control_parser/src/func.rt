@@ -1,29 +1,53 @@
-//! Control functions.
+//! Control functions (ECMA-48; VT220 Programmer Reference Manual, chapter 2).
 
 ghost use Rattle.std.specs.Prelude.{◌≡◌, ◌<◌, ◌≤◌, ◌+◌, ◌==◌, ◌∷◌, ◌++◌, [], ℕ, List, length, take, slice_index};
 ghost use Rattle.control_parser.specs.Text.{digit_added};
 
 use std::marker::Model;
 
-/// How many parameters count.
-pub const PARAMS: usize = 16;
+// How many parameters count.
+const PARAMS: usize = 16;
 
-/// At most two bytes 20 to 2F.
-#[derive(Drop)]
+/// The intermediate bytes of a sequence: at most two, each 20 to 2F where a parser gives it.
+#[derive(Clone, Copy, Debug, PartialEq, Eq)]
 pub struct Intermediates {
     bytes: [u8; 2],
     count: usize,
 }
 
 impl Model for Intermediates {
+    ghost use Rattle.std.specs.Prelude.{List, ℕ, take, length};
+    ghost use Rattle.std.proofs.Common.{arith, length-take-le};
+    ghost use Rattle.control_parser.specs.Arrays.{IsFront, array_of, array_of-take};
+
     ghost Value = { List ℕ };
 
     ghost view = { λ i. take i.count i.bytes };
 
-    ghost invariant = { λ i. i.count ≤ 2 };
+    ghost invariant = { λ i. IsFront 2 i.count i.bytes };
+
+    ghost inverse = { λ xs. record { bytes = array_of 2 xs; count = length xs } };
+
+    ghost inverse_ok = { λ a h i. record {
+      bytes = array_of-take 2 a.count a.bytes h i;
+      count = length-take-le a.count a.bytes (omega (arith, h.0, h.1)) i;
+    } };
 }
 
 impl Intermediates {
+    /// These bytes.
+    pub fn from_slice(bytes: &[u8]) -> Intermediates
+        requires { length bytes.now ≤ 2 }
+        ensures { result ≡ bytes.now }
+    {
+        let mut intermediates = Intermediates::none();
+        for byte in bytes {
+            intermediates.push(*byte);
+        }
+        intermediates
+    }
+
+    /// No intermediate.
     pub fn none() -> Intermediates
         ensures { result ≡ [] }
     {
@@ -52,7 +76,8 @@ impl Intermediates {
         &self.bytes[..self.count]
     }
 
-    pub fn push(&mut self, byte: u8)
+    // One byte more.
+    pub(crate) fn push(&mut self, byte: u8)
         requires { length self.old < 2 }
         ensures { self.new ≡ self.old ++ byte ∷ [] }
     {
@@ -61,22 +86,48 @@ impl Intermediates {
     }
 }
 
-/// One to sixteen parameters, each at most 9,999; an absent one is 0.
-#[derive(Drop)]
+/// The parameters of a control sequence: one to sixteen, each at most 9,999 where a parser gives it.
+/// An absent one is 0.
+#[derive(Clone, Copy, Debug, PartialEq, Eq)]
 pub struct Params {
     values: [u16; PARAMS],
     count: usize,
 }
 
 impl Model for Params {
+    ghost use Rattle.std.specs.Prelude.{List, ℕ, ◌<◌, take, length};
+    ghost use Rattle.std.proofs.Common.{arith, length-take-le};
+    ghost use Rattle.control_parser.specs.Arrays.{IsFront, array_of, array_of-take};
+
     ghost Value = { List ℕ };
 
     ghost view = { λ p. take p.count p.values };
 
-    ghost invariant = { λ p. (0 < p.count) × (p.count ≤ 16) };
+    ghost invariant = { λ p. (0 < p.count) × IsFront 16 p.count p.values };
+
+    ghost inverse = { λ xs. record { values = array_of 16 xs; count = length xs } };
+
+    ghost inverse_ok = { λ a h i. record {
+      values = array_of-take 16 a.count a.values h.1 i;
+      count = length-take-le a.count a.values (omega (arith, h.1.0, h.1.1)) i;
+    } };
 }
 
 impl Params {
+    /// These parameters.
+    pub fn from_slice(values: &[u16]) -> Params
+        requires some { 0 < length values.now }
+        requires few { length values.now ≤ 16 }
+        ensures { result ≡ values.now }
+    {
+        let mut params = Params::absent();
+        params.values[0] = values[0];
+        for value in &values[1..] {
+            params.push(*value);
+        }
+        params
+    }
+
     /// One parameter, absent.
     pub fn absent() -> Params
         ensures { result ≡ 0 ∷ [] }
@@ -125,8 +176,8 @@ impl Params {
         self.as_slice().get(i).copied().unwrap_or(0)
     }
 
-    /// One digit more of the last parameter.
-    pub fn add_digit(&mut self, digit: u8)
+    // One digit more of the last parameter, which saturates.
+    pub(crate) fn add_digit(&mut self, digit: u8)
         requires { digit < 10 }
         ensures { self.new ≡ digit_added self.old digit }
     {
@@ -134,31 +185,30 @@ impl Params {
         let longer = self.values[last] as u32 * 10 + digit as u32;
         self.values[last] = longer.min(9999) as u16;
     }
-
-    /// Begins another parameter.
-    pub fn begin(&mut self)
-        requires { length self.old < 16 }
-        ensures { self.new ≡ self.old ++ 0 ∷ [] }
-    {
-        self.values[self.count] = 0;
-        self.count += 1;
-    }
 }
 
 /// A control function.
-#[derive(Drop)]
+#[derive(Clone, Copy, Debug, PartialEq, Eq)]
 pub enum Func {
+    /// A graphic character.
     Print(char),
+    /// A byte from A0 on of ECMA-35, which goes through GR.
     High(u8),
+    /// A C0 control, but for CAN, SUB and ESC.
     Control(u8),
+    /// An escape sequence, or the C1 control that it stands for.
     Esc {
         intermediates: Intermediates,
+        /// The final byte, 30 to 7E.
         last: u8,
     },
+    /// A control sequence.
     Csi {
+        /// One of `<`, `=`, `>`, `?` before the parameters.
         mark: Option<u8>,
         params: Params,
         intermediates: Intermediates,
+        /// The final byte, 40 to 7E.
         last: u8,
     },
 }

@@ -1,12 +1,14 @@
 //! Laws of the definitions, for the crates above.
 
-ghost use Rattle.std.specs.Prelude.{◌≡◌, List, [], ◌∷◌, ◌++◌};
-ghost use Rattle.std.specs.List.{AllByRecursion};
+ghost use Rattle.std.specs.Prelude.{◌≡◌, ℕ, List, [], ◌∷◌, ◌++◌, map, true};
+ghost use Rattle.std.specs.List.{AllByRecursion, flat_map, list_all};
+ghost use Rattle.charsets.specs.Units.{is_plain, IsUnit};
 ghost use Rattle.charsets.specs.declared.unit.Unit.{Unit};
 ghost use Rattle.charsets.specs.declared.unit.Unit.TheVariants.{Code};
-ghost use Rattle.control_parser.specs.Grammar.{functions, nothing, with_front};
-ghost use Rattle.control_parser.specs.Spelling.{IsGiven, IsUnit};
-ghost use Rattle.control_parser.specs.Kept.{opening};
+ghost use Rattle.control_parser.specs.declared.func.Func.TheVariants.{Print};
+ghost use Rattle.control_parser.specs.Grammar.{functions, is_graphic, nothing, with_front};
+ghost use Rattle.control_parser.specs.Spelling.{IsGiven};
+ghost use Rattle.control_parser.specs.Kept.{opening, functions_of_pieces};
 
 /// Units give nothing but functions that have a spelling.
 pub fn each_is_spelled()
@@ -27,4 +29,17 @@ pub fn can_ends_all()
 pub fn unended_go_on()
     ensures go_on { (us vs : List Unit) → functions (us ++ vs) ≡ with_front (functions us).0 (functions (opening (functions us).1 ++ vs)) }
     ensures own { (us : List Unit) → functions (opening (functions us).1) ≡ ([], (functions us).1) }
+{}
+
+/// Reading in pieces is reading the whole, however it is cut.
+pub fn pieces_are_whole()
+    ensures { (pieces : List (List Unit)) → functions_of_pieces nothing pieces ≡ functions (flat_map (λ piece. piece) pieces) }
+{}
+
+/// Graphic codes, as 20 to 7E, are printed where nothing is unended.
+pub fn graphic_codes_print()
+    ensures graphic { (codes : List ℕ) → list_all is_graphic codes ≡ true →
+        functions (map (λ c. Code c) codes) ≡ (map (λ c. Print c) codes, nothing) }
+    ensures plain { (codes : List ℕ) → list_all is_plain codes ≡ true →
+        functions (map (λ c. Code c) codes) ≡ (map (λ c. Print c) codes, nothing) }
 {}

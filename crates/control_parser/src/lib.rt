@@ -4,15 +4,16 @@
 mod func;
 mod laws;
 mod parser;
-mod pieces;
 mod plain;
 mod spelling;
 mod state;
 
 pub use func::{Func, Intermediates, Params};
-pub use laws::{can_ends_all, each_is_spelled, unended_go_on, whole_ones_join};
+pub use laws::{
+    can_ends_all, each_is_spelled, graphic_codes_print, pieces_are_whole, unended_go_on,
+    whole_ones_join,
+};
 pub use parser::Parser;
-pub use pieces::{feed, parse};
 pub use plain::plain_run;
 pub use spelling::spell;
 pub use std::alloc::AllocError as NoMemory;

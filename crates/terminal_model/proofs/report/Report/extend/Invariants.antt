@@ -1,4 +1,4 @@
-use Rattle.std.proofs.Common.{◌≡◌, ◌≤◌, ◌+◌, ◌++◌, length, take}
+use Rattle.std.proofs.Common.{◌≡◌, ◌+◌, ◌++◌, length, take}
 use Rattle.terminal_model.proofs.report.Report.extend.Given as goal
 
 abbrev pub invariant-loop-byte : goal.invariant-loop-byte

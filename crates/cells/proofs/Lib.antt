@@ -1,0 +1,7 @@
+pub mod Settling
+pub mod Cutting
+pub mod Splicing
+pub mod Moves
+pub mod Pages
+pub mod Erasing
+pub mod Putting

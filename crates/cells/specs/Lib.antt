@@ -1,0 +1,6 @@
+pub mod Line
+pub mod Page
+pub mod Moves
+pub mod Resizing
+pub mod Glyph
+pub mod Unlike

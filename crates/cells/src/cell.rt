@@ -1,0 +1,182 @@
+//! What stands at a place of a line.
+
+ghost use Rattle.std.specs.Prelude.{◌≡◌, ◌↔◌, IsTrue};
+ghost use Rattle.cells.specs.Line.{joined, unprotected, narrow_cell, left_cell, right_cell};
+
+/// The part of its character that a cell holds (UAX #11, section 5).
+#[derive(Clone, Copy, Debug, PartialEq, Eq)]
+pub enum Shape {
+    /// A character of width 1.
+    Narrow,
+    /// The left half of a character of width 2.
+    Left,
+    /// The right half of a character of width 2.
+    Right,
+}
+
+/// The nonspacing marks that joined a cell, in their order: at most two
+/// (Unicode core specification, section 5.13).
+#[derive(Clone, Copy, Debug, PartialEq, Eq)]
+pub enum Marks {
+    Bare,
+    One(char),
+    Two(char, char),
+}
+
+/// How a character is shown (ECMA-48, 8.3.117, SGR).
+#[derive(Clone, Copy, Debug, PartialEq, Eq)]
+pub struct Rendition {
+    pub is_bold: bool,
+    pub is_underlined: bool,
+    pub is_blinking: bool,
+    pub is_reversed: bool,
+}
+
+/// A place of a line: a character of width 1, or half of one of width 2. Both halves hold the
+/// character, its rendition and its protection; the left one alone holds its marks.
+#[derive(Clone, Copy, Debug, PartialEq, Eq)]
+pub struct Cell {
+    pub shape: Shape,
+    pub character: char,
+    pub marks: Marks,
+    pub rendition: Rendition,
+    /// Whether a selective erasure spares it (VT220 Programmer Reference Manual, DECSCA).
+    pub is_protected: bool,
+}
+
+impl Marks {
+    /// These marks and one more, which is dropped where there are two.
+    pub fn joined(self, mark: char) -> Marks
+        ensures { result ≡ joined self mark }
+    {
+        match self {
+            Marks::Bare => Marks::One(mark),
+            Marks::One(first) => Marks::Two(first, mark),
+            Marks::Two(first, second) => Marks::Two(first, second),
+        }
+    }
+}
+
+impl Rendition {
+    /// No rendition (SGR 0).
+    pub const PLAIN: Rendition = Rendition {
+        is_bold: false,
+        is_underlined: false,
+        is_blinking: false,
+        is_reversed: false,
+    };
+}
+
+impl Cell {
+    /// A space without rendition, marks and protection.
+    pub const BLANK: Cell = Cell {
+        shape: Shape::Narrow,
+        character: ' ',
+        marks: Marks::Bare,
+        rendition: Rendition::PLAIN,
+        is_protected: false,
+    };
+
+    ghost use Rattle.cells.specs.Line.{is_left as is_left_shape, is_right as is_right_shape};
+
+    /// A character of width 1, without marks.
+    pub fn narrow(character: char, rendition: Rendition, is_protected: bool) -> Cell
+        ensures { result ≡ narrow_cell character rendition is_protected }
+    {
+        Cell {
+            shape: Shape::Narrow,
+            character,
+            marks: Marks::Bare,
+            rendition,
+            is_protected,
+        }
+    }
+
+    /// The left half of a character of width 2, without marks.
+    pub fn left(character: char, rendition: Rendition, is_protected: bool) -> Cell
+        ensures { result ≡ left_cell character rendition is_protected }
+    {
+        Cell {
+            shape: Shape::Left,
+            ..Cell::narrow(character, rendition, is_protected)
+        }
+    }
+
+    /// The right half of a character of width 2.
+    pub fn right(character: char, rendition: Rendition, is_protected: bool) -> Cell
+        ensures { result ≡ right_cell character rendition is_protected }
+    {
+        Cell {
+            shape: Shape::Right,
+            ..Cell::narrow(character, rendition, is_protected)
+        }
+    }
+
+    /// Whether it is a character of width 1.
+    pub fn is_narrow(&self) -> bool
+        ensures { IsTrue result ↔ (self.now.shape ≡ Shape.Narrow) }
+    {
+        match self.shape {
+            Shape::Narrow => true,
+            _ => false,
+        }
+    }
+
+    /// Whether it is the left half of a wide character.
+    pub fn is_left(&self) -> bool
+        ensures { result ≡ is_left_shape self.now.shape }
+    {
+        match self.shape {
+            Shape::Left => true,
+            _ => false,
+        }
+    }
+
+    /// Whether it is the right half of a wide character.
+    pub fn is_right(&self) -> bool
+        ensures { result ≡ is_right_shape self.now.shape }
+    {
+        match self.shape {
+            Shape::Right => true,
+            _ => false,
+        }
+    }
+
+    /// What is seen of it: the cell without protection.
+    pub fn unprotected(&self) -> Cell
+        ensures { result ≡ unprotected self.now }
+    {
+        Cell {
+            is_protected: false,
+            ..*self
+        }
+    }
+
+    /// Whether both look alike: they are one cell, protection aside.
+    pub fn is_like(&self, other: &Cell) -> bool
+        ensures { IsTrue result ↔ (unprotected self.now ≡ unprotected other.now) }
+    {
+        self.character == other.character
+            && is_same_shape(self.shape, other.shape)
+            && is_same_rendition(self.rendition, other.rendition)
+            && is_same_marks(self.marks, other.marks)
+    }
+}
+
+fn is_same_shape(a: Shape, b: Shape) -> bool
+    ensures { IsTrue result ↔ (a ≡ b) }
+{
+    a == b
+}
+
+fn is_same_rendition(a: Rendition, b: Rendition) -> bool
+    ensures { IsTrue result ↔ (a ≡ b) }
+{
+    a == b
+}
+
+fn is_same_marks(a: Marks, b: Marks) -> bool
+    ensures { IsTrue result ↔ (a ≡ b) }
+{
+    a == b
+}

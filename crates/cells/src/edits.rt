@@ -1,0 +1,119 @@
+//! Edits of a line's cells.
+
+ghost use Rattle.std.specs.Prelude.{◌≡◌, ◌+◌, ◌<◌, ◌≤◌, length, replicate, [], ◌∷◌};
+ghost use Rattle.cells.specs.Line.{cells_from, IsPaired, cut_of, spliced, blank, unprotected_erased, fresh_at};
+
+use crate::cell::{Cell, Shape};
+
+/// Blanks a wide character that stands on both sides of the boundary before `at`.
+pub fn cut(cells: &mut [Cell], at: usize)
+    requires paired { IsPaired cells.old }
+    ensures { cells.new ≡ cut_of at cells.old }
+{
+    if at > 0 && at < cells.len() && cells[at].is_right() {
+        cells[at - 1] = Cell::BLANK;
+        cells[at] = Cell::BLANK;
+    }
+}
+
+/// Keeps the cells before `at`, puts in `count` blanks, and lets the old cells from `rest` on follow
+/// them.
+pub fn splice(cells: &mut [Cell], at: usize, count: usize, rest: usize)
+    requires paired { IsPaired cells.old }
+    requires order { at ≤ rest }
+    requires inside { rest ≤ length cells.old }
+    requires room { at + count ≤ length cells.old }
+    requires changes { at < rest + count }
+    ensures { cells.new ≡ cells_from (spliced at (replicate count blank) rest (length cells.old)) cells.old }
+{
+    let width = cells.len();
+    let start = at + count;
+    let moved = (width - rest).min(width - start);
+    cut(cells, at);
+    cut(cells, rest);
+    cut(cells, rest + moved);
+    cells.copy_within(rest..rest + moved, start);
+    cells[at..start].fill(Cell::BLANK);
+    cells[start + moved..].fill(Cell::BLANK);
+}
+
+/// Puts a cell of width 1 in at `at`, and lets the old cells from `rest` on follow it.
+pub fn put_narrow(cells: &mut [Cell], at: usize, cell: Cell, rest: usize)
+    requires paired { IsPaired cells.old }
+    requires order { at ≤ rest }
+    requires inside { rest ≤ length cells.old }
+    requires room { at + 1 ≤ length cells.old }
+    requires narrow { cell.shape ≡ Shape.Narrow }
+    ensures { cells.new ≡ cells_from (spliced at (cell ∷ []) rest (length cells.old)) cells.old }
+{
+    if rest == at + 1 && cells[at].is_narrow() {
+        cells[at] = cell;
+        return;
+    }
+    splice(cells, at, 1, rest);
+    cells[at] = cell;
+}
+
+/// Puts the halves of a wide character in at `at`, and lets the old cells from `rest` on follow them.
+pub fn put_wide(cells: &mut [Cell], at: usize, left: Cell, right: Cell, rest: usize)
+    requires paired { IsPaired cells.old }
+    requires order { at ≤ rest }
+    requires inside { rest ≤ length cells.old }
+    requires room { at + 2 ≤ length cells.old }
+    requires left { left.shape ≡ Shape.Left }
+    requires right { right.shape ≡ Shape.Right }
+    ensures { cells.new ≡ cells_from (spliced at (left ∷ right ∷ []) rest (length cells.old)) cells.old }
+{
+    if rest == at + 2 && !cells[at].is_right() && !cells[at + 1].is_left() {
+        cells[at] = left;
+        cells[at + 1] = right;
+        return;
+    }
+    splice(cells, at, 2, rest);
+    cells[at] = left;
+    cells[at + 1] = right;
+}
+
+/// The new cell of a column, or a blank where it is a half without its other half beside it.
+fn settled_fresh(fresh: &[Cell], column: usize) -> Cell
+    requires { column < length fresh.now }
+    ensures { result ≡ fresh_at fresh.now column }
+{
+    let cell = fresh[column];
+    let is_whole = match cell.shape {
+        Shape::Narrow => true,
+        Shape::Left => column + 1 < fresh.len() && fresh[column + 1].is_right(),
+        Shape::Right => column > 0 && fresh[column - 1].is_left(),
+    };
+    if is_whole { cell } else { Cell::BLANK }
+}
+
+/// Puts new cells in place of as many old ones.
+pub fn put(cells: &mut [Cell], at: usize, fresh: &[Cell])
+    requires paired { IsPaired cells.old }
+    requires room { at + length fresh.now ≤ length cells.old }
+    ensures { cells.new ≡ cells_from (spliced at fresh.now (at + length fresh.now) (length cells.old)) cells.old }
+{
+    if fresh.is_empty() {
+        return;
+    }
+    cut(cells, at);
+    cut(cells, at + fresh.len());
+    for column in 0..fresh.len() {
+        cells[at + column] = settled_fresh(fresh, column);
+    }
+}
+
+/// Erases the cells from `from` on and below `end`, but for protected ones.
+pub fn erase_unprotected(cells: &mut [Cell], from: usize, end: usize)
+    requires paired { IsPaired cells.old }
+    requires order { from ≤ end }
+    requires inside { end ≤ length cells.old }
+    ensures { cells.new ≡ cells_from (unprotected_erased cells.old from end) cells.old }
+{
+    for column in from..end {
+        if !cells[column].is_protected {
+            splice(cells, column, 1, column + 1);
+        }
+    }
+}

@@ -1,0 +1,21 @@
+//! The columns that a character takes.
+
+ghost use Rattle.std.specs.Prelude.{◌≡◌, ◌≤◌, false};
+ghost use Rattle.cells.specs.Glyph.{glyph_columns};
+ghost use Rattle.unicode_width.specs.Width.{char_width};
+
+use unicode_width::UnicodeWidthChar;
+
+/// The columns that a character takes by itself: 0 for a mark and for a control, 1, or 2 (UAX #11,
+/// where ambiguous characters are narrow). U+17D8, whose width is 3, takes 1: a screen draws it as
+/// U+FFFD.
+pub fn glyph_width(character: char) -> u8
+    ensures width { result ≡ glyph_columns (char_width false character) }
+    ensures bound { result ≤ 2 }
+{
+    match character.width() {
+        Some(2) => 2,
+        Some(0) | None => 0,
+        Some(_) => 1,
+    }
+}

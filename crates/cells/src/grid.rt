@@ -1,0 +1,117 @@
+//! A grid of cells.
+
+ghost use Rattle.std.specs.Prelude.{◌≡◌, ◌+◌, ◌<◌, ◌≤◌, ◌↔◌, Err, length, replicate, IfOk, IsTrue};
+ghost use Rattle.cells.specs.Line.{blank, spliced};
+ghost use Rattle.cells.specs.Page.{IsGrid, IsGridSize, line_at, page_from, edited};
+
+use crate::cell::Cell;
+use crate::line::Line;
+use std::alloc::{AllocError, Global};
+use std::fmt;
+use std::marker::Model;
+use thiserror::Error;
+
+/// The fewest and the most lines of a grid, and the fewest and the most columns.
+const LEAST: usize = 2;
+
+const MOST_ROWS: usize = 200;
+
+const MOST_COLS: usize = 300;
+
+/// Why there is no grid.
+#[derive(Clone, Copy, Debug, PartialEq, Eq, Error)]
+pub enum GridFault {
+    /// An allocation was refused.
+    #[error("out of memory")]
+    NoMemory = 1,
+    /// Not 2 to 200 lines by 2 to 300 columns.
+    #[error("bad size")]
+    BadSize = 2,
+}
+
+/// Lines of one width, in which the halves of wide characters are paired: 2 to 200 lines by 2 to 300
+/// columns. Lines and columns count from 0.
+#[derive(Drop)]
+pub struct Grid {
+    lines: Vec<Line>,
+}
+
+impl Model for Grid {
+    ghost use Rattle.std.specs.Prelude.{List};
+    ghost use Rattle.cells.specs.declared.cell.Cell.{Cell};
+    ghost use Rattle.cells.specs.Page.{IsGrid};
+
+    ghost Value = { List (List Cell) };
+
+    ghost view = { λ grid. grid.lines.items };
+
+    ghost invariant = { λ grid. IsGrid grid.lines.items };
+}
+
+/// So many blank lines.
+fn blank_lines(alloc: Global, rows: usize, cols: usize) -> Result<Vec<Line>, AllocError>
+    ensures { IfOk result (λ lines. lines.items ≡ replicate rows (replicate cols blank)) }
+{
+    let mut lines = Vec::with_capacity(alloc, rows)?;
+    for row in 0..rows {
+        lines.push(Line::blank(alloc, cols)?)?;
+    }
+    Ok(lines)
+}
+
+/// Whether a grid may have this size.
+fn is_size(rows: usize, cols: usize) -> bool
+    ensures { IsTrue result ↔ IsGridSize rows cols }
+{
+    (LEAST..=MOST_ROWS).contains(&rows) && (LEAST..=MOST_COLS).contains(&cols)
+}
+
+impl Grid {
+    /// A grid of blanks. It is `BadSize` outside 2 to 200 lines by 2 to 300 columns.
+    pub fn new(alloc: Global, rows: usize, cols: usize) -> Result<Grid, GridFault>
+        ensures ok { IfOk result (λ grid. grid ≡ replicate rows (replicate cols blank)) }
+        ensures size { IfOk result (λ _. IsGridSize rows cols) }
+        ensures bad_size { (result ≡ Err GridFault.BadSize) ↔ (¬ IsGridSize rows cols) }
+    {
+        if !is_size(rows, cols) {
+            return Err(GridFault::BadSize);
+        }
+        match blank_lines(alloc, rows, cols) {
+            Ok(lines) => Ok(Grid { lines }),
+            Err(_) => Err(GridFault::NoMemory),
+        }
+    }
+
+    /// The number of its lines.
+    pub fn rows(&self) -> usize
+        ensures value { result ≡ length self.now }
+        ensures grid { IsGrid self.now }
+    {
+        self.lines.len()
+    }
+
+    /// The number of cells of each line.
+    pub fn cols(&self) -> usize
+        ensures { result ≡ length (line_at self.now 0) }
+    {
+        self.lines[0].width()
+    }
+
+    /// The cells of a line, from the left.
+    pub fn row(&self, line: usize) -> &[Cell]
+        requires { line < length self.now }
+        ensures { result.now ≡ line_at self.now line }
+    {
+        self.lines[line].cells()
+    }
+
+    /// Puts cells at a place of a line, over as many old ones. What is torn at either end becomes
+    /// blank, and so does a half without its other half beside it.
+    pub fn write(&mut self, line: usize, column: usize, cells: &[Cell])
+        requires line_inside { line < length self.old }
+        requires room { column + length cells.now ≤ length (line_at self.old line) }
+        ensures { self.new ≡ page_from (edited line (spliced column cells.now (column + length cells.now) (length (line_at self.old line)))) self.old }
+    {
+        self.lines[line].put(column, cells);
+    }
+}

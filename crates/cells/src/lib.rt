@@ -1,0 +1,15 @@
+//! Cells, lines and grids of cells, in which the halves of wide characters are paired.
+#![tactic(auto)]
+
+mod cell;
+mod edits;
+mod glyph;
+mod grid;
+mod line;
+mod unlike;
+
+pub use cell::{Cell, Marks, Rendition, Shape};
+pub use glyph::glyph_width;
+pub use grid::{Grid, GridFault};
+pub use line::Line;
+pub use unlike::next_unlike;

@@ -1,0 +1,142 @@
+//! A line of cells.
+
+ghost use Rattle.std.specs.Prelude.{◌≡◌, ◌+◌, ◌<◌, ◌≤◌, [], ◌∷◌, length, replicate, IfOk, slice_set};
+ghost use Rattle.cells.specs.Line.{cells_from, cell_at, marked, IsPaired, spliced, blank, unprotected_erased};
+ghost use Rattle.cells.specs.Resizing.{line_resized};
+
+use crate::cell::{Cell, Shape};
+use crate::edits;
+use std::alloc::{AllocError, Global};
+use std::marker::Model;
+
+/// A line of cells, in which the halves of wide characters are paired. Its width stays.
+#[derive(Drop)]
+pub struct Line {
+    cells: Vec<Cell>,
+}
+
+impl Model for Line {
+    ghost use Rattle.std.specs.Prelude.{List};
+    ghost use Rattle.cells.specs.declared.cell.Cell.{Cell};
+    ghost use Rattle.cells.specs.Line.{IsPaired};
+
+    ghost Value = { List Cell };
+
+    ghost view = { λ line. line.cells.items };
+
+    ghost invariant = { λ line. IsPaired line.cells.items };
+}
+
+impl Line {
+    /// A line of blanks.
+    pub fn blank(alloc: Global, width: usize) -> Result<Line, AllocError>
+        ensures { IfOk result (λ line. line ≡ replicate width blank) }
+    {
+        let cells = vec![in alloc; Cell::BLANK; width]?;
+        Ok(Line { cells })
+    }
+
+    /// The number of its cells.
+    pub fn width(&self) -> usize
+        ensures { result ≡ length self.now }
+    {
+        self.cells.len()
+    }
+
+    /// Its cells, from the left.
+    pub fn cells(&self) -> &[Cell]
+        ensures value { result.now ≡ self.now }
+        ensures paired { IsPaired self.now }
+    {
+        self.cells.as_slice()
+    }
+
+    /// Makes every cell a blank.
+    pub fn clear(&mut self)
+        ensures { self.new ≡ replicate (length self.old) blank }
+    {
+        self.cells.as_mut_slice().fill(Cell::BLANK);
+    }
+
+    /// Makes every cell the same one, of width 1.
+    pub fn fill(&mut self, cell: Cell)
+        requires narrow { cell.shape ≡ Shape.Narrow }
+        ensures { self.new ≡ replicate (length self.old) cell }
+    {
+        self.cells.as_mut_slice().fill(cell);
+    }
+
+    /// Keeps the cells before `at`, puts in `count` blanks, and lets the old cells from `rest` on
+    /// follow them.
+    pub fn splice(&mut self, at: usize, count: usize, rest: usize)
+        requires order { at ≤ rest }
+        requires inside { rest ≤ length self.old }
+        requires room { at + count ≤ length self.old }
+        requires changes { at < rest + count }
+        ensures { self.new ≡ cells_from (spliced at (replicate count blank) rest (length self.old)) self.old }
+    {
+        edits::splice(self.cells.as_mut_slice(), at, count, rest);
+    }
+
+    /// Puts a cell of width 1 in at `at`, and lets the old cells from `rest` on follow it.
+    pub fn put_narrow(&mut self, at: usize, cell: Cell, rest: usize)
+        requires order { at ≤ rest }
+        requires inside { rest ≤ length self.old }
+        requires room { at + 1 ≤ length self.old }
+        requires narrow { cell.shape ≡ Shape.Narrow }
+        ensures { self.new ≡ cells_from (spliced at (cell ∷ []) rest (length self.old)) self.old }
+    {
+        edits::put_narrow(self.cells.as_mut_slice(), at, cell, rest);
+    }
+
+    /// Puts the halves of a wide character in at `at`, and lets the old cells from `rest` on follow
+    /// them.
+    pub fn put_wide(&mut self, at: usize, left: Cell, right: Cell, rest: usize)
+        requires order { at ≤ rest }
+        requires inside { rest ≤ length self.old }
+        requires room { at + 2 ≤ length self.old }
+        requires left { left.shape ≡ Shape.Left }
+        requires right { right.shape ≡ Shape.Right }
+        ensures { self.new ≡ cells_from (spliced at (left ∷ right ∷ []) rest (length self.old)) self.old }
+    {
+        edits::put_wide(self.cells.as_mut_slice(), at, left, right, rest);
+    }
+
+    /// Puts new cells in place of as many old ones. What is torn at either end becomes blank, and so
+    /// does a new half without its other half beside it.
+    pub fn put(&mut self, at: usize, fresh: &[Cell])
+        requires room { at + length fresh.now ≤ length self.old }
+        ensures { self.new ≡ cells_from (spliced at fresh.now (at + length fresh.now) (length self.old)) self.old }
+    {
+        edits::put(self.cells.as_mut_slice(), at, fresh);
+    }
+
+    /// Erases the cells from `from` on and below `end`, but for protected ones.
+    pub fn erase_unprotected(&mut self, from: usize, end: usize)
+        requires order { from ≤ end }
+        requires inside { end ≤ length self.old }
+        ensures { self.new ≡ cells_from (unprotected_erased self.old from end) self.old }
+    {
+        edits::erase_unprotected(self.cells.as_mut_slice(), from, end);
+    }
+
+    /// Lets a mark join the cell of a column, which drops it where it has two.
+    pub fn mark(&mut self, column: usize, mark: char)
+        requires inside { column < length self.old }
+        ensures { self.new ≡ slice_set self.old column (marked (cell_at self.old column) mark) }
+    {
+        let marks = self.cells[column].marks;
+        self.cells[column].marks = marks.joined(mark);
+    }
+
+    /// A line of another width with the same cells: what is added is blank, and so is a half that is
+    /// cut off from its other half.
+    pub fn resized(&self, alloc: Global, width: usize) -> Result<Line, AllocError>
+        ensures { IfOk result (λ line. line ≡ line_resized width self.now) }
+    {
+        let mut line = Line::blank(alloc, width)?;
+        let kept = width.min(self.cells.len());
+        line.put(0, &self.cells[..kept]);
+        Ok(line)
+    }
+}

@@ -1,0 +1,45 @@
+//! Where two lines look different.
+
+ghost use Rattle.std.specs.Prelude.{◌≡◌, ◌≤◌, length, IfSome, IfNone};
+ghost use Rattle.cells.specs.Unlike.{IsNextUnlike, IsFirstUnlike, IsEndOfUnlike, AreAlikeFrom};
+
+use crate::cell::Cell;
+
+/// The first run of columns, not below `from`, in which two lines look different, protection aside:
+/// its first column, and the first one after that in which they look alike, or their width.
+pub fn next_unlike(a: &[Cell], b: &[Cell], from: usize) -> Option<(usize, usize)>
+    requires { length a.now ≡ length b.now }
+    ensures found { IfSome result (λ run. IsNextUnlike a.now b.now from run.0 run.1) }
+    ensures none { IfNone result (AreAlikeFrom a.now b.now from) }
+{
+    let start = first_unlike(a, b, from)?;
+    Some((start, end_of_unlike(a, b, start)))
+}
+
+/// The first column, not below `from`, in which the lines look different.
+fn first_unlike(a: &[Cell], b: &[Cell], from: usize) -> Option<usize>
+    requires { length a.now ≡ length b.now }
+    ensures found { IfSome result (λ start. IsFirstUnlike a.now b.now from start) }
+    ensures none { IfNone result (AreAlikeFrom a.now b.now from) }
+{
+    for column in from..a.len() {
+        if !a[column].is_like(&b[column]) {
+            return Some(column);
+        }
+    }
+    None
+}
+
+/// The first column, not below `start`, in which the lines look alike, or their width.
+fn end_of_unlike(a: &[Cell], b: &[Cell], start: usize) -> usize
+    requires same_width { length a.now ≡ length b.now }
+    requires inside { start ≤ length a.now }
+    ensures { IsEndOfUnlike a.now b.now start result }
+{
+    for column in start..a.len() {
+        if a[column].is_like(&b[column]) {
+            return column;
+        }
+    }
+    a.len()
+}

@@ -1,0 +1,151 @@
+-- What a frame may hold, and what is known of a terminal that has read it.
+use Rattle.std.specs.Prelude.{◌≡◌, ℕ, zero, suc, ◌+◌, ◌<◌, ◌⊎◌, Bool, true, false, if◌then◌else◌, ◌==◌, ◌&&◌, nat_le, max, List, [], ◌∷◌, length, Option, Some, None, is_some, MatchOption}
+use Rattle.std.specs.List.{AllByRecursion, list_all}
+use Rattle.charsets.specs.declared.unit.Unit.{Unit}
+use Rattle.charsets.specs.declared.unit.Unit.TheVariants as units
+use Rattle.charsets.specs.Shifts.{mapped}
+use Rattle.cells.specs.declared.cell.Marks.{Marks}
+use Rattle.cells.specs.declared.cell.Marks.TheVariants.{Bare, One, Two}
+use Rattle.cells.specs.declared.cell.Cell.{Cell}
+use Rattle.cells.specs.Line.{cell_at}
+use Rattle.cells.specs.Page.{line_at}
+use Rattle.control_parser.specs.declared.func.Func.{Func}
+use Rattle.control_parser.specs.declared.func.Func.TheVariants.{Print, High, Csi}
+use Rattle.terminal_model.specs.declared.state.Position.{Position}
+use Rattle.terminal_model.specs.declared.state.State.{State}
+use Rattle.terminal_model.specs.Screen.{Page, starting_modes, starting_state, starting_tabs}
+use Rattle.terminal_model.specs.Functions.{actions_of, rendered, mode_set, private_mode_set}
+use Rattle.terminal_model.specs.Table.{effect, columns_of, drawn}
+use Rattle.terminal_model.specs.Reading.{Terminal, ready, Act}
+use Rattle.terminal_model.specs.Shows.{View, seen_at, Shows, IsOfSize}
+
+-- what a frame begins with where nothing is known of the terminal: CAN, RIS, ESC % G, CSI ? 7 l
+abbrev pub frame_bytes : List ℕ
+frame_bytes = 0x18 ∷ 0x1B ∷ 0x63 ∷ 0x1B ∷ 0x25 ∷ 0x47 ∷ 0x1B ∷ 0x5B ∷ 0x3F ∷ 0x37 ∷ 0x6C ∷ []
+
+-- how many parameters a sequence has, but for SGR, SM, RM, DECSM and DECRM: CUP, HVP and DECSTBM have two, the others one
+abbrev pub most_params : ℕ → ℕ
+most_params last = if last == 0x48 then 2 else (if last == 0x66 then 2 else (if last == 0x72 then 2 else 1))
+
+-- the meaning of each value of SGR, SM, RM, DECSM and DECRM
+abbrev pub meaning_of : Option ℕ → List ℕ → ℕ → Option (ℕ → Bool)
+meaning_of None [] last =
+    if last == 0x6D then Some (λ n. is_some (rendered n))
+    else (if last == 0x68 then Some (λ n. is_some (mode_set true n))
+    else (if last == 0x6C then Some (λ n. is_some (mode_set false n))
+    else None))
+meaning_of (Some mark) [] last =
+    if mark == 0x3F && last == 0x68 then Some (λ n. is_some (private_mode_set true n))
+    else (if mark == 0x3F && last == 0x6C then Some (λ n. is_some (private_mode_set false n))
+    else None)
+meaning_of mark (x ∷ xs) last = None
+
+-- every value is named, or there are no more of them than the row has
+abbrev pub values_named : Option (ℕ → Bool) → List ℕ → ℕ → Bool
+values_named (Some is_named) params last = list_all is_named params
+values_named None params last = nat_le (length params) (most_params last)
+
+abbrev pub are_values_named : Func → Bool
+are_values_named (Csi mark params intermediates last) = values_named (meaning_of mark intermediates last) params last
+are_values_named f = true
+
+-- a function that the screen table lists, all its values being named
+pub record IsListed (f : Func) : Type 0 where
+  pub acts : 0 < length (actions_of f)
+  pub named : are_values_named f ≡ true
+
+-- the unit that a function prints
+abbrev pub unit_of : Func → Option Unit
+unit_of (Print c) = Some (units.Code c)
+unit_of (High b) = Some (units.High b)
+unit_of f = None
+
+-- the character stands in the cell, or is one of its marks
+abbrev pub HasMark : Marks → ℕ → Type 0
+HasMark Bare c = ⊥
+HasMark (One a) c = a ≡ c
+HasMark (Two a b) c = (a ≡ c) ⊎ (b ≡ c)
+
+abbrev pub Holds : Cell → ℕ → Type 0
+Holds cell c = (cell.character ≡ c) ⊎ HasMark cell.marks c
+
+abbrev pub has_room : Marks → Bool
+has_room (Two a b) = false
+has_room marks = true
+
+abbrev pub cell_of : Page → Position → Cell
+cell_of page p = cell_at (line_at page p.line) p.column
+
+-- the place where a mark joins a cell
+abbrev pub mark_place : Page → Option Position → Option Position
+mark_place page None = None
+mark_place page (Some p) = if has_room (cell_of page p).marks then Some p else None
+
+-- the first place that a printed character takes: the place that marks join afterwards
+abbrev pub place_by : ℕ → Act → Option Position
+place_by zero a = mark_place a.before.page a.before.state.joining
+place_by (suc more) a = (effect a.before a.func).state.joining
+
+-- what an act prints, and where
+abbrev pub Prints : Act → ℕ → Position → Type 0
+Prints a c p = MatchOption (unit_of a.func) ⊥ (λ u.
+    (mapped a.before.state.shifts u ≡ Some c) × (place_by (columns_of c) a ≡ Some p))
+
+-- DISCREET: the act is of a listed function, and a character that it prints stands in the page at the place that it takes.
+pub record PrintsOf (page : Page) (a : Act) : Type 0 where
+  pub character : ℕ
+  pub place : Position
+  pub prints : Prints a character place
+  pub stands : Holds (cell_of page place) (drawn character)
+
+abbrev pub IsDiscreet : Page → Act → Type 0
+IsDiscreet page a = MatchOption (unit_of a.func) (IsListed a.func) (λ u. PrintsOf page a)
+
+-- SPARE: a character that is printed takes some place at which the old page differs.
+abbrev pub Differs : Page → Page → ℕ → ℕ → Type 0
+Differs old page line column = seen_at old line column ≡ seen_at page line column → ⊥
+
+pub record PrintsNew (old page : Page) (a : Act) : Type 0 where
+  pub character : ℕ
+  pub place : Position
+  pub prints : Prints a character place
+  pub further : ℕ
+  pub taken : further < max 1 (columns_of character)
+  pub differs : Differs old page place.line (place.column + further)
+
+abbrev pub IsSpare : Page → Page → Act → Type 0
+IsSpare old page a = MatchOption (unit_of a.func) (Prim.Unit {0}) (λ u. PrintsNew old page a)
+
+-- all acts are discreet and spare
+pub record Draws (old page : Page) (acts : List Act) : Type 0 where
+  pub discreet : AllByRecursion (IsDiscreet page) acts
+  pub spare : AllByRecursion (IsSpare old page) acts
+
+-- AGREEMENT. What a frame leaves: the starting values in UTF-8, but for ?7, which is reset, and for ?1, keypad, ?25, cursor,
+-- rendition and the cell that marks join, which may be any.
+abbrev pub drawn_state : State → State
+drawn_state s = record (starting_state s.rows s.columns) {
+  line = s.line;
+  column = s.column;
+  rendition = s.rendition;
+  joining = s.joining;
+  modes = record starting_modes {
+    wraps = false;
+    has_application_arrows = s.modes.has_application_arrows;
+    shows_cursor = s.modes.shows_cursor;
+    has_application_keypad = s.modes.has_application_keypad;
+  };
+}
+
+-- the terminal shows the view, has what a frame leaves, and has begun nothing
+pub record IsDrawn (v : View) (t : Terminal) : Type 0 where
+  pub shows : Shows v t.screen
+  pub state_is : t.screen.state ≡ drawn_state t.screen.state
+  pub tabs_are : t.screen.tabs ≡ starting_tabs t.screen.state.columns
+  pub none_saved : t.screen.saved ≡ None
+  pub ready_is : t ≡ ready t.screen
+
+-- a shadow agrees with a terminal: one that knows nothing with each of its size, one that knows a view with each that has it drawn
+abbrev pub Agrees : ℕ → ℕ → Option View → Terminal → Type 0
+Agrees rows columns None t = IsOfSize rows columns t
+Agrees rows columns (Some v) t = IsOfSize rows columns t × IsDrawn v t

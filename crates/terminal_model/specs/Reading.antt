@@ -1,0 +1,77 @@
+-- What a terminal makes of bytes.
+use Rattle.std.specs.Prelude.{◌≡◌, ℕ, List, [], ◌∷◌, ◌++◌}
+use Rattle.charsets.specs.declared.unit.Unit.{Unit}
+use Rattle.charsets.specs.Units.{units}
+use Rattle.control_parser.specs.declared.func.Func.{Func}
+use Rattle.control_parser.specs.Grammar.{Rest, nothing, functions}
+use Rattle.control_parser.specs.Kept.{opening}
+use Rattle.terminal_model.specs.Screen.{Screen, IsSound}
+use Rattle.terminal_model.specs.Table.{effect}
+use Rattle.terminal_model.specs.Reports.{report}
+
+-- A terminal: its screen, the bytes of a character that has begun, and the sequence or string that has begun.
+pub record Terminal : Type 0 where
+  pub screen : Screen
+  pub rest : List ℕ
+  pub unended : Rest
+
+-- between characters, sequences and strings
+abbrev pub ready : Screen → Terminal
+ready x = record { screen = x; rest = []; unended = nothing }
+
+-- its screen is sound, and what has begun is the rest of some bytes and of some units
+pub record IsTerminal (t : Terminal) : Type 0 where
+  pub sound : IsSound t.screen
+  pub begun : units t.screen.state.coding t.rest ≡ ([], t.rest)
+  pub opened : functions (opening t.unended) ≡ ([], t.unended)
+
+-- a function that acted, and the screen that it met
+pub record Act : Type 0 where
+  pub before : Screen
+  pub func : Func
+
+-- what reading leaves, what the terminal answered, and which functions acted, in their order
+pub record Read : Type 0 where
+  pub terminal : Terminal
+  pub reports : List ℕ
+  pub acts : List Act
+
+abbrev pub nothing_read : Terminal → Read
+nothing_read t = record { terminal = t; reports = []; acts = [] }
+
+-- one reading behind another
+abbrev pub joined : Read → Read → Read
+joined r later = record { terminal = later.terminal; reports = r.reports ++ later.reports; acts = r.acts ++ later.acts }
+
+-- a function acts on the screen
+unfoldable pub act : Terminal → Func → Read
+act t f = record {
+  terminal = record t { screen = effect t.screen f };
+  reports = report t.screen f;
+  acts = record { before = t.screen; func = f } ∷ [];
+}
+
+unfoldable pub act_all : Terminal → List Func → Read
+act_all t [] = nothing_read t
+act_all t (f ∷ later) = joined (act t f) (act_all (act t f).terminal later)
+
+-- a unit completes the functions that what has begun and it give
+unfoldable pub read_unit : Terminal → Unit → Read
+read_unit t u =
+    let given = functions (opening t.unended ++ u ∷ []) in
+    act_all (record t { unended = given.1 }) given.0
+
+unfoldable pub read_units : Terminal → List Unit → Read
+read_units t [] = nothing_read t
+read_units t (u ∷ later) = joined (read_unit t u) (read_units (read_unit t u).terminal later)
+
+-- a byte completes the units that what has begun and it give, in the coding of this moment
+unfoldable pub read_byte : Terminal → ℕ → Read
+read_byte t b =
+    let given = units t.screen.state.coding (t.rest ++ b ∷ []) in
+    read_units (record t { rest = given.1 }) given.0
+
+-- what a terminal makes of bytes, one after the other
+unfoldable pub reads : Terminal → List ℕ → Read
+reads t [] = nothing_read t
+reads t (b ∷ later) = joined (read_byte t b) (reads (read_byte t b).terminal later)

@@ -1,0 +1,102 @@
+-- What a terminal's screen is, and how it starts.
+use Rattle.std.specs.Prelude.{◌≡◌, ℕ, ◌-◌, ◌%◌, ◌==◌, ◌<◌, ◌≤◌, Bool, true, false, not, ◌&&◌, List, [], ◌∷◌, length, map, take, replicate, Option, None, IfSome}
+use Rattle.std.specs.List.{range_with_len}
+use Rattle.charsets.specs.declared.unit.Coding.TheVariants.{Utf8}
+use Rattle.charsets.specs.Shifts.{starting as starting_shifts}
+use Rattle.cells.specs.declared.cell.Cell.{Cell}
+use Rattle.cells.specs.Line.{blank, plain, IsPaired}
+use Rattle.cells.specs.Page.{line_at, IsPage, IsGridSize}
+use Rattle.terminal_model.specs.declared.state.Modes.{Modes}
+use Rattle.terminal_model.specs.declared.state.State.{State}
+use Rattle.terminal_model.specs.declared.state.Saved.{Saved}
+
+-- lines of cells, the first line first
+abbrev pub Page : Type 0
+Page = List (List Cell)
+
+-- A screen: its state, a tab stop or none for each column, what DECSC saved, its page, and its scrollback: the lines
+-- that it keeps, the newest first, and how many it keeps at most.
+pub record Screen : Type 0 where
+  pub state : State
+  pub tabs : List Bool
+  pub saved : Option Saved
+  pub page : Page
+  pub kept : Page
+  pub keep : ℕ
+
+-- the scrollback with one more line: of all lines that left, the last `keep` stay
+abbrev pub taken_in : ℕ → List Cell → Page → Page
+taken_in keep line kept = take keep (line ∷ kept)
+
+-- the starting values of the modes: ?7 and ?25 are set, the others are reset, and the keypad is numeric (VT220 manual, chapter 4)
+abbrev pub starting_modes : Modes
+starting_modes = record {
+  inserts = false;
+  starts_lines = false;
+  has_application_arrows = false;
+  is_inverted = false;
+  counts_from_margin = false;
+  wraps = true;
+  shows_cursor = true;
+  has_application_keypad = false;
+}
+
+-- the starting values, in UTF-8: the cursor in the first place, no rendition, no protection, ASCII, margins around the whole page
+abbrev pub starting_state : ℕ → ℕ → State
+starting_state rows columns = record {
+  rows = rows;
+  columns = columns;
+  line = 0;
+  column = 0;
+  is_wrap_pending = false;
+  top = 0;
+  bottom = rows - 1;
+  rendition = plain;
+  is_protecting = false;
+  modes = starting_modes;
+  shifts = starting_shifts;
+  coding = Utf8;
+  has_eight_bit_reports = false;
+  joining = None;
+}
+
+-- each eighth column has a stop, but for the first column (VT220 manual, chapter 4: tab stops)
+abbrev pub starting_tabs : ℕ → List Bool
+starting_tabs columns = map (λ column. not (column == 0) && (column % 8 == 0)) (range_with_len 0 columns)
+
+abbrev pub blank_page : ℕ → ℕ → Page
+blank_page rows columns = replicate rows (replicate columns blank)
+
+-- a screen as it starts
+abbrev pub starting : ℕ → ℕ → ℕ → Screen
+starting rows columns keep = record {
+  state = starting_state rows columns;
+  tabs = starting_tabs columns;
+  saved = None;
+  page = blank_page rows columns;
+  kept = [];
+  keep = keep;
+}
+
+-- a place of the page
+abbrev pub IsInside : ℕ → ℕ → ℕ → ℕ → Type 0
+IsInside rows columns line column = (line < rows) × (column < columns)
+
+-- kept lines: each as wide as the page, with halves paired
+pub record AreKept (columns : ℕ) (kept : Page) : Type 0 where
+  pub width : (n : ℕ) → n < length kept → length (line_at kept n) ≡ columns
+  pub paired : (n : ℕ) → IsPaired (line_at kept n)
+
+-- The page is well formed and has the screen's size; cursor, margins, saved place and joined cell lie on it; the kept lines are
+-- as wide, and no more than they may be.
+pub record IsSound (x : Screen) : Type 0 where
+  pub size : IsGridSize x.state.rows x.state.columns
+  pub sized : IsPage x.state.rows x.state.columns x.page
+  pub cursor : IsInside x.state.rows x.state.columns x.state.line x.state.column
+  pub margins : x.state.top < x.state.bottom
+  pub bottom_inside : x.state.bottom < x.state.rows
+  pub tabs : length x.tabs ≡ x.state.columns
+  pub joined : IfSome x.state.joining (λ p. IsInside x.state.rows x.state.columns p.line p.column)
+  pub saved : IfSome x.saved (λ p. IsInside x.state.rows x.state.columns p.line p.column)
+  pub kept : AreKept x.state.columns x.kept
+  pub few : length x.kept ≤ x.keep

@@ -1,0 +1,47 @@
+-- When a terminal shows a view.
+use Rattle.std.specs.Prelude.{◌≡◌, ℕ, Bool, true, false, List, [], Option, Some, None}
+use Rattle.cells.specs.declared.cell.Cell.{Cell}
+use Rattle.cells.specs.Line.{cell_at, unprotected}
+use Rattle.cells.specs.Page.{line_at, IsPage}
+use Rattle.terminal_model.specs.declared.state.Position.{Position}
+use Rattle.terminal_model.specs.Screen.{Page, Screen}
+use Rattle.terminal_model.specs.Reading.{Terminal, IsTerminal, reads}
+
+-- what a terminal is to show: cells, the cursor's place, or none where it is hidden, and what its keys are to send
+pub record View : Type 0 where
+  pub page : Page
+  pub cursor : Option Position
+  pub has_application_arrows : Bool
+  pub has_application_keypad : Bool
+
+-- what is seen at a place: its cell, protection aside
+abbrev pub seen_at : Page → ℕ → ℕ → Cell
+seen_at page line column = unprotected (cell_at (line_at page line) column)
+
+abbrev pub ShowsCursor : Option Position → Screen → Type 0
+ShowsCursor None x = x.state.modes.shows_cursor ≡ false
+ShowsCursor (Some p) x = (x.state.modes.shows_cursor ≡ true) × (x.state.line ≡ p.line) × (x.state.column ≡ p.column)
+
+-- the screen shows the view: its size, its cells, which aren't inverted, its cursor and its two modes
+pub record Shows (v : View) (x : Screen) : Type 0 where
+  pub size : IsPage x.state.rows x.state.columns v.page
+  pub cells : (line column : ℕ) → seen_at x.page line column ≡ seen_at v.page line column
+  pub upright : x.state.modes.is_inverted ≡ false
+  pub cursor : ShowsCursor v.cursor x
+  pub arrows : x.state.modes.has_application_arrows ≡ v.has_application_arrows
+  pub keypad : x.state.modes.has_application_keypad ≡ v.has_application_keypad
+
+-- a terminal of a size, in any state and inside any character, sequence or string
+pub record IsOfSize (rows columns : ℕ) (t : Terminal) : Type 0 where
+  pub terminal : IsTerminal t
+  pub rows_are : t.screen.state.rows ≡ rows
+  pub columns_are : t.screen.state.columns ≡ columns
+
+-- the terminal shows the view when it has read the bytes, and has answered nothing
+pub record ShowsFrom (v : View) (bytes : List ℕ) (t : Terminal) : Type 0 where
+  pub shows : Shows v (reads t bytes).terminal.screen
+  pub quiet : (reads t bytes).reports ≡ []
+
+-- so does every terminal of the size
+abbrev pub ShowsFromAny : List ℕ → ℕ → ℕ → View → Type 0
+ShowsFromAny bytes rows columns v = (t : Terminal) → IsOfSize rows columns t → ShowsFrom v bytes t

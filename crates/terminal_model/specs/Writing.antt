@@ -1,0 +1,43 @@
+-- A window's writing: its output, and what happens to its terminal in between.
+use Rattle.std.specs.Prelude.{ℕ, List, [], ◌∷◌}
+use Rattle.charsets.specs.declared.unit.Coding.{Coding}
+use Rattle.charsets.specs.declared.unit.Coding.TheVariants.{Utf8, Ecma35}
+use Rattle.terminal_model.specs.Table.{resized}
+use Rattle.terminal_model.specs.Reading.{Terminal, ready, Read, nothing_read, joined, reads}
+
+-- bytes of the window's program, a change of size, and the commands clear, reset and encoding
+pub data Writing : Type 0 where
+  Output : List ℕ → Writing
+  Size : ℕ → ℕ → Writing
+  Clear : Writing
+  Reset : Writing
+  Encoding : Coding → Writing
+
+-- CSI 2 J, CSI H
+abbrev pub clear_bytes : List ℕ
+clear_bytes = 0x1B ∷ 0x5B ∷ 0x32 ∷ 0x4A ∷ 0x1B ∷ 0x5B ∷ 0x48 ∷ []
+
+-- RIS
+abbrev pub reset_bytes : List ℕ
+reset_bytes = 0x1B ∷ 0x63 ∷ []
+
+-- ESC % G, ESC % @
+abbrev pub coding_bytes : Coding → List ℕ
+coding_bytes Utf8 = 0x1B ∷ 0x25 ∷ 0x47 ∷ []
+coding_bytes Ecma35 = 0x1B ∷ 0x25 ∷ 0x40 ∷ []
+
+-- as if the program had written these bytes, behind what has begun, which is dropped (own)
+abbrev pub reads_anew : Terminal → List ℕ → Read
+reads_anew t bytes = reads (ready t.screen) bytes
+
+-- a change of size leaves what has begun
+abbrev pub writes : Terminal → Writing → Read
+writes t (Output bytes) = reads t bytes
+writes t (Size rows columns) = nothing_read (record t { screen = resized rows columns t.screen })
+writes t Clear = reads_anew t clear_bytes
+writes t Reset = reads_anew t reset_bytes
+writes t (Encoding coding) = reads_anew t (coding_bytes coding)
+
+unfoldable pub writes_all : Terminal → List Writing → Read
+writes_all t [] = nothing_read t
+writes_all t (w ∷ later) = joined (writes t w) (writes_all (writes t w).terminal later)
