@@ -20,13 +20,18 @@ use Rattle.control_parser.proofs.Spelled.{spelled_reads}
 use Rattle.terminal_model.specs.Screen.{Screen}
 use Rattle.terminal_model.specs.Table.{effect}
 use Rattle.terminal_model.specs.Reports.{report}
-use Rattle.terminal_model.specs.Reading.{Terminal, ready, Read, joined, act, act_all, read_unit, read_units, read_byte, reads}
+use Rattle.terminal_model.specs.Reading.{Terminal, ready, Read, joined, act, act_all, read_unit, read_units, rest_in, in_coding, read_byte, reads}
 use Rattle.terminal_model.proofs.Readings.{effects, outcome, effects-append, outcome-append, read_units-is}
 use Rattle.terminal_model.proofs.Codings.{effect-coding, escape-coding, other-coding, utf8-coding}
 
 -- the coding is this one before and after each function
 pub record Stays (c : Coding) (x : Screen) (fs : List Func) : Type 0 where
   pub coding : (before after : List Func) → fs ≡ before ++ after → (effects x before).state.coding ≡ c
+
+rest-stays : (r : List ℕ) (c : Coding) → rest_in r c c ≡ r
+rest-stays [] c = refl
+rest-stays (b ∷ r) Utf8 = refl
+rest-stays (b ∷ r) Ecma35 = refl
 
 -- what bytes give in a coding that stays is what acts
 pub reads-is : (bs : List ℕ) (x : Screen) (c : Coding) (r : List ℕ) (u : Rest) → units c r ≡ ([], r) → functions (opening u) ≡ ([], u)
@@ -43,8 +48,13 @@ reads-is (b ∷ bs) x c r u h k s =
     let fs : functions (opening u ++ (units c (r ++ b ∷ bs)).0) ≡ with_front first.0 second =
     ap (λ v. functions (opening u ++ v.0)) us ∙ ap functions (sym (append_assoc (opening u) here.0 later.0)) ∙ functions-go_on (opening u ++ here.0) later.0 in
     let mine : x.state.coding ≡ c = s.coding [] _ refl in
+    let split : (functions (opening u ++ (units c (r ++ b ∷ bs)).0)).0 ≡ first.0 ++ second.0 = ap (λ v. v.0) fs in
+    let after : (effects x first.0).state.coding ≡ c = s.coding first.0 second.0 split in
     let byte : read_byte (record { screen = x; rest = r; unended = u }) b ≡ outcome x first.0 here.1 first.1 =
-    ap (λ d. let given = units d (r ++ b ∷ []) in read_units (record { screen = x; rest = given.1; unended = u }) given.0) mine ∙ read_units-is x here.1 u here.0 k in
+    ap (λ d. let given = units d (r ++ b ∷ []) in in_coding d (read_units (record { screen = x; rest = given.1; unended = u }) given.0)) mine
+    ∙ ap (in_coding c) (read_units-is x here.1 u here.0 k)
+    ∙ ap (λ d. outcome x first.0 (rest_in here.1 c d) first.1) after
+    ∙ ap (λ v. outcome x first.0 v first.1) (rest-stays here.1 c) in
     let stays : Stays c (effects x first.0) second.0 = record {
       coding = λ before after e.
           ap (λ y. y.state.coding) (sym (effects-append x first.0 before))

@@ -1,15 +1,17 @@
 //! Laws of the definitions, for the crates above.
 
 ghost use Rattle.std.specs.Prelude.{◌≡◌, ℕ, List, [], ◌∷◌, ◌++◌, false, nat_lt, Option};
+ghost use Rattle.std.specs.List.{AllByRecursion};
+ghost use Rattle.cells.specs.Page.{IsGridSize};
 ghost use Rattle.control_parser.specs.declared.func.Func.{Func};
 ghost use Rattle.control_parser.specs.Spelling.{IsGiven, coding_of, spelling};
 ghost use Rattle.terminal_model.specs.declared.action.Action.TheVariants.{SetMargins};
-ghost use Rattle.terminal_model.specs.Screen.{Screen};
+ghost use Rattle.terminal_model.specs.Screen.{Screen, IsSound, starting};
 ghost use Rattle.terminal_model.specs.Functions.{actions_of};
-ghost use Rattle.terminal_model.specs.Table.{acted, effect, bottom_of};
+ghost use Rattle.terminal_model.specs.Table.{acted, effect, bottom_of, resized};
 ghost use Rattle.terminal_model.specs.Reports.{report};
 ghost use Rattle.terminal_model.specs.Reading.{Terminal, IsTerminal, ready, joined, reads};
-ghost use Rattle.terminal_model.specs.Writing.{Writing, Output, writes_all};
+ghost use Rattle.terminal_model.specs.Writing.{Writing, IsWriting, Output, writes_all};
 ghost use Rattle.terminal_model.specs.Drawing.{frame_bytes, frame_start};
 
 /// Reading in two pieces is reading the whole, and so it is with a window's writing.
@@ -38,4 +40,19 @@ pub fn frames_start_anew()
 pub fn spelled_ones_act_alone()
     ensures { (x : Screen) (f : Func) → IsGiven f → x.state.coding ≡ coding_of f →
         reads (ready x) (spelling f) ≡ record { terminal = ready (effect x f); reports = report x f; acts = record { before = x; func = f } ∷ [] } }
+{}
+
+/// A screen starts sound, and every effect and every change of size keeps it so: a well-formed page of its size, the cursor on it,
+/// margins in order, no more kept lines than it may have.
+pub fn screens_stay_sound()
+    ensures starting { (rows columns keep : ℕ) → IsGridSize rows columns → IsSound (starting rows columns keep) }
+    ensures effect { (x : Screen) (f : Func) → IsSound x → IsSound (effect x f) }
+    ensures resized { (rows columns : ℕ) (x : Screen) → IsGridSize rows columns → IsSound x → IsSound (resized rows columns x) }
+{}
+
+/// Whatever a terminal reads, and whatever its window writes, it stays one.
+pub fn terminals_stay_terminals()
+    ensures ready { (x : Screen) → IsSound x → IsTerminal (ready x) }
+    ensures reading { (t : Terminal) (bytes : List ℕ) → IsTerminal t → IsTerminal (reads t bytes).terminal }
+    ensures writing { (t : Terminal) (writings : List Writing) → AllByRecursion IsWriting writings → IsTerminal t → IsTerminal (writes_all t writings).terminal }
 {}

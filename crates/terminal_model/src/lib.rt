@@ -11,7 +11,8 @@ mod state;
 
 pub use action::{Action, Attribute, Mode, Part};
 pub use laws::{
-    frames_start_anew, ignored_ones_change_nothing, pieces_are_whole, spelled_ones_act_alone,
+    frames_start_anew, ignored_ones_change_nothing, pieces_are_whole, screens_stay_sound,
+    spelled_ones_act_alone, terminals_stay_terminals,
 };
 pub use limits::{MAX_COLUMNS, MAX_KEEP, MAX_ROWS, MIN_COLUMNS, MIN_ROWS, REPORT_BYTES};
 pub use report::Report;
