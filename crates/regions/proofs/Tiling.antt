@@ -1,11 +1,11 @@
 -- The parts of a page cover each place once.
-use Rattle.std.proofs.Common.{◌≡◌, ℕ, suc, ◌+◌, ◌*◌, ◌-◌, ◌/◌, ◌<◌, ◌≤◌, Bool, true, false, ◌&&◌, cond, ltb, leb, List, [], ◌∷◌, ◌++◌, map, refl, sym, ap, subst, ◌∙◌, arith}
+use Rattle.std.proofs.Common.{◌≡◌, ℕ, ◌+◌, ◌-◌, ◌/◌, ◌<◌, Bool, true, false, ◌&&◌, ltb, List, [], ◌∷◌, ◌++◌, map, refl, sym, ap, subst, ◌∙◌, arith}
 use Rattle.std.proofs.lemmas.Bool.Decides.{nat_tests}
 use Rattle.std.proofs.lemmas.Bool.{ltb-true}
 use Rattle.regions.specs.declared.rect.Rect.{Rect}
 use Rattle.regions.specs.declared.way.Way.TheVariants.{Below, Right}
-use Rattle.regions.specs.Shapes.{Shape, region, split, upper, lower, left, between, right, boxes, separators, fits}
-use Rattle.regions.specs.Pages.{rows_of_box, box_of, status_of, has_room, inner, caption, parts, among, has, one_if, times, TilesPage}
+use Rattle.regions.specs.Shapes.{Shape, region, split, upper, lower, left, right, boxes, separators, fits}
+use Rattle.regions.specs.Pages.{box_of, status_of, has_room, inner, caption, parts, among, has, one_if, times, TilesPage}
 use Rattle.regions.proofs.Room.{both_true, wide, room_fits}
 
 times_append : (xs ys : List Rect) (l c : ℕ) → times (xs ++ ys) l c ≡ times xs l c + times ys l c

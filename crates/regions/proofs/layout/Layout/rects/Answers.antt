@@ -1,7 +1,5 @@
-use Rattle.std.proofs.Common.{◌≡◌, ◌<◌, ◌++◌, List, [], length, sym, ap, ◌∙◌, arith}
-use Rattle.regions.specs.declared.rect.Rect.{Rect}
-use Rattle.regions.specs.Shapes.{shape, boxes, separators, fits}
-use Rattle.regions.specs.Pages.{box_of, TilesPage, parts}
+use Rattle.std.proofs.Common.{length, sym, ap, ◌∙◌, arith}
+use Rattle.regions.specs.Shapes.{shape}
 use Rattle.regions.specs.Layouts.{Arrangement}
 use Rattle.regions.proofs.Room.{room_fits}
 use Rattle.regions.proofs.Counting.{length_boxes}

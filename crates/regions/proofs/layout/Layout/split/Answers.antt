@@ -1,6 +1,6 @@
-use Rattle.std.proofs.Common.{rules, ◌≡◌, ◌≤◌, ◌<◌, ◌+◌, length, arith}
+use Rattle.std.proofs.Common.{◌≡◌, ◌+◌, arith}
 use Rattle.std.proofs.lemmas.Grind.{common_steps}
-use Rattle.regions.specs.Shapes.{shape, regions, split_at}
+use Rattle.regions.specs.Shapes.{shape, regions}
 use Rattle.regions.proofs.Counting.{regions_split}
 use Rattle.regions.proofs.layout.Layout.split.Goals as goal
 
