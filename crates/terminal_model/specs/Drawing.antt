@@ -13,7 +13,7 @@ use Rattle.control_parser.specs.declared.func.Func.{Func}
 use Rattle.control_parser.specs.declared.func.Func.TheVariants.{Print, High, Csi}
 use Rattle.terminal_model.specs.declared.state.Position.{Position}
 use Rattle.terminal_model.specs.declared.state.State.{State}
-use Rattle.terminal_model.specs.Screen.{Page, starting_modes, starting_state, starting_tabs}
+use Rattle.terminal_model.specs.Screen.{Page, Screen, starting_modes, starting_state, starting_tabs, blank_page}
 use Rattle.terminal_model.specs.Functions.{actions_of, rendered, mode_set, private_mode_set}
 use Rattle.terminal_model.specs.Table.{effect, columns_of, drawn}
 use Rattle.terminal_model.specs.Reading.{Terminal, ready, Act}
@@ -22,6 +22,16 @@ use Rattle.terminal_model.specs.Shows.{View, seen_at, Shows, IsOfSize}
 -- what a frame begins with where nothing is known of the terminal: CAN, RIS, ESC % G, CSI ? 7 l
 abbrev pub frame_bytes : List ℕ
 frame_bytes = 0x18 ∷ 0x1B ∷ 0x63 ∷ 0x1B ∷ 0x25 ∷ 0x47 ∷ 0x1B ∷ 0x5B ∷ 0x3F ∷ 0x37 ∷ 0x6C ∷ []
+
+-- what they make of a screen: the starting values in UTF-8, but for ?7, which is reset, and a blank page; the scrollback stays
+abbrev pub frame_start : Screen → Screen
+frame_start x =
+    record x {
+      state = record (starting_state x.state.rows x.state.columns) { modes = record starting_modes { wraps = false } };
+      tabs = starting_tabs x.state.columns;
+      saved = None;
+      page = blank_page x.state.rows x.state.columns;
+    }
 
 -- how many parameters a sequence has, but for SGR, SM, RM, DECSM and DECRM: CUP, HVP and DECSTBM have two, the others one
 abbrev pub most_params : ℕ → ℕ

@@ -1,6 +1,8 @@
 -- What a terminal makes of bytes.
 use Rattle.std.specs.Prelude.{◌≡◌, ℕ, List, [], ◌∷◌, ◌++◌}
 use Rattle.charsets.specs.declared.unit.Unit.{Unit}
+use Rattle.charsets.specs.declared.unit.Coding.{Coding}
+use Rattle.charsets.specs.declared.unit.Coding.TheVariants.{Utf8, Ecma35}
 use Rattle.charsets.specs.Units.{units}
 use Rattle.control_parser.specs.declared.func.Func.{Func}
 use Rattle.control_parser.specs.Grammar.{Rest, nothing, functions}
@@ -65,11 +67,22 @@ unfoldable pub read_units : Terminal → List Unit → Read
 read_units t [] = nothing_read t
 read_units t (u ∷ later) = joined (read_unit t u) (read_units (read_unit t u).terminal later)
 
+-- what has begun of a character, where the coding was one and is another: then nothing has
+abbrev pub rest_in : List ℕ → Coding → Coding → List ℕ
+rest_in [] before after = []
+rest_in (b ∷ rest) Utf8 Utf8 = b ∷ rest
+rest_in (b ∷ rest) Ecma35 Ecma35 = b ∷ rest
+rest_in (b ∷ rest) before after = []
+
+-- what is left in the coding that holds afterwards
+abbrev pub in_coding : Coding → Read → Read
+in_coding before r = record r { terminal = record r.terminal { rest = rest_in r.terminal.rest before r.terminal.screen.state.coding } }
+
 -- a byte completes the units that what has begun and it give, in the coding of this moment
 unfoldable pub read_byte : Terminal → ℕ → Read
 read_byte t b =
     let given = units t.screen.state.coding (t.rest ++ b ∷ []) in
-    read_units (record t { rest = given.1 }) given.0
+    in_coding t.screen.state.coding (read_units (record t { rest = given.1 }) given.0)
 
 -- what a terminal makes of bytes, one after the other
 unfoldable pub reads : Terminal → List ℕ → Read

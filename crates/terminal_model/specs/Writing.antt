@@ -2,6 +2,7 @@
 use Rattle.std.specs.Prelude.{ℕ, List, [], ◌∷◌}
 use Rattle.charsets.specs.declared.unit.Coding.{Coding}
 use Rattle.charsets.specs.declared.unit.Coding.TheVariants.{Utf8, Ecma35}
+use Rattle.cells.specs.Page.{IsGridSize}
 use Rattle.terminal_model.specs.Table.{resized}
 use Rattle.terminal_model.specs.Reading.{Terminal, ready, Read, nothing_read, joined, reads}
 
@@ -12,6 +13,11 @@ pub data Writing : Type 0 where
   Clear : Writing
   Reset : Writing
   Encoding : Coding → Writing
+
+-- changes of size are to sizes of a window
+abbrev pub IsWriting : Writing → Type 0
+IsWriting (Size rows columns) = IsGridSize rows columns
+IsWriting w = Unit {0}
 
 -- CSI 2 J, CSI H
 abbrev pub clear_bytes : List ℕ

@@ -1,0 +1,97 @@
+-- What a first frame begins with brings every terminal of a size to one screen.
+use Rattle.std.proofs.Common.{◌≡◌, ℕ, List, [], ◌∷◌, ◌++◌, Some, refl, ap, ◌∙◌, subst, arith, append-nil}
+use Rattle.charsets.specs.declared.unit.Unit.TheVariants as codes
+use Rattle.charsets.specs.declared.unit.Coding.{Coding}
+use Rattle.charsets.specs.declared.unit.Coding.TheVariants.{Utf8, Ecma35}
+use Rattle.charsets.specs.Units.{units}
+use Rattle.charsets.proofs.Joins.{units-can}
+use Rattle.control_parser.specs.declared.func.Func.TheVariants.{Esc, Csi}
+use Rattle.control_parser.specs.Text.{fields}
+use Rattle.control_parser.specs.Grammar.{Rest, nothing, escape, control, functions, functions_behind, begun_by}
+use Rattle.control_parser.specs.Grammar as grammar
+use Rattle.control_parser.specs.Kept.{opening}
+use Rattle.control_parser.proofs.Keeping.{functions-can}
+use Rattle.terminal_model.specs.Screen.{Screen}
+use Rattle.terminal_model.specs.Functions.{private_sequence}
+use Rattle.terminal_model.specs.Table.{acted_from, effect}
+use Rattle.terminal_model.specs.Reports.{report}
+use Rattle.terminal_model.specs.Reading.{Terminal, IsTerminal, ready, nothing_read, joined, act_all, read_unit, read_units, read_byte, reads}
+use Rattle.terminal_model.specs.Drawing.{frame_bytes, frame_start}
+use Rattle.terminal_model.proofs.Spellings.{done, silent, ending, escape-opens, percent-goes_on}
+
+cancel-units : (c : Coding) (rest : List ℕ) → units c rest ≡ ([], rest) → units c (rest ++ 0x18 ∷ []) ≡ (codes.Code 0x18 ∷ [], [])
+cancel-units Utf8 rest h = units-can rest ∙ ap (λ v. (v.0 ++ codes.Code 0x18 ∷ [], [])) h
+cancel-units Ecma35 rest h = subst (λ (r : List ℕ). units Ecma35 (r ++ 0x18 ∷ []) ≡ (codes.Code 0x18 ∷ [], [])) (ap (λ v. v.1) h) refl
+
+cancel-functions : (u : Rest) → functions (opening u) ≡ ([], u) → functions (opening u ++ codes.Code 0x18 ∷ []) ≡ ([], nothing)
+cancel-functions u h = functions-can (opening u) ∙ ap (λ v. (v.0, nothing)) h
+
+-- CAN ends all that has begun
+pub cancel-reads : (t : Terminal) (bs : List ℕ) → IsTerminal t → reads t (0x18 ∷ bs) ≡ reads (ready t.screen) bs
+unfolding reads read_byte read_units read_unit act_all
+cancel-reads t bs h = rw (cancel-units t.screen.state.coding t.rest h.begun, cancel-functions t.unended h.opened) refl
+
+reset-ends : functions (opening (escape []) ++ codes.Code 0x63 ∷ []) ≡ (Esc [] 0x63 ∷ [], nothing)
+unfolding functions_behind grammar.piece grammar.text grammar.controls begun_by
+reset-ends = refl
+
+utf8-ends : functions (opening (escape (0x25 ∷ [])) ++ codes.Code 0x47 ∷ []) ≡ (Esc (0x25 ∷ []) 0x47 ∷ [], nothing)
+unfolding functions_behind grammar.piece grammar.text grammar.controls begun_by
+utf8-ends = refl
+
+bracket-opens : functions (opening (escape []) ++ codes.Code 0x5B ∷ []) ≡ ([], control [])
+unfolding functions_behind grammar.piece grammar.text grammar.controls begun_by
+bracket-opens = refl
+
+mark-goes_on : functions (opening (control []) ++ codes.Code 0x3F ∷ []) ≡ ([], control (0x3F ∷ []))
+unfolding functions_behind grammar.piece grammar.text grammar.controls begun_by
+mark-goes_on = refl
+
+seven-goes_on : functions (opening (control (0x3F ∷ [])) ++ codes.Code 0x37 ∷ []) ≡ ([], control (0x3F ∷ 0x37 ∷ []))
+unfolding functions_behind grammar.piece grammar.text grammar.controls begun_by
+seven-goes_on = refl
+
+wrap-ends : functions (opening (control (0x3F ∷ 0x37 ∷ [])) ++ codes.Code 0x6C ∷ []) ≡ (Csi (Some 0x3F) (7 ∷ []) [] 0x6C ∷ [], nothing)
+unfolding functions_behind grammar.piece grammar.text grammar.controls begun_by fields
+wrap-ends = refl
+
+abbrev pub reset-screen : Screen → Screen
+reset-screen x = effect x (Esc [] 0x63)
+
+abbrev pub coded-screen : Screen → Screen
+coded-screen x = effect (reset-screen x) (Esc (0x25 ∷ []) 0x47)
+
+abbrev pub wrapless-screen : Screen → Screen
+wrapless-screen x = effect (coded-screen x) (Csi (Some 0x3F) (7 ∷ []) [] 0x6C)
+
+frame-screen : (x : Screen) → wrapless-screen x ≡ frame_start x
+unfolding acted_from private_sequence
+frame-screen x = refl
+
+frame-quiet : (x : Screen) → report x (Esc [] 0x63) ++ (report (reset-screen x) (Esc (0x25 ∷ []) 0x47) ++ report (coded-screen x) (Csi (Some 0x3F) (7 ∷ []) [] 0x6C)) ≡ []
+unfolding private_sequence
+frame-quiet x = refl
+
+-- the functions behind CAN
+frame-reads : (x : Screen) → reads (ready x) (0x1B ∷ 0x63 ∷ 0x1B ∷ 0x25 ∷ 0x47 ∷ 0x1B ∷ 0x5B ∷ 0x3F ∷ 0x37 ∷ 0x6C ∷ [])
+    ≡ joined (done x (Esc [] 0x63)) (joined (done (reset-screen x) (Esc (0x25 ∷ []) 0x47)) (joined (done (coded-screen x) (Csi (Some 0x3F) (7 ∷ []) [] 0x6C)) (nothing_read (ready (wrapless-screen x)))))
+unfolding reads
+frame-reads x =
+    silent x nothing (escape []) 0x1B (0x63 ∷ 0x1B ∷ 0x25 ∷ 0x47 ∷ 0x1B ∷ 0x5B ∷ 0x3F ∷ 0x37 ∷ 0x6C ∷ []) (omega arith) escape-opens
+    ∙ ending x (escape []) (Esc [] 0x63) 0x63 (0x1B ∷ 0x25 ∷ 0x47 ∷ 0x1B ∷ 0x5B ∷ 0x3F ∷ 0x37 ∷ 0x6C ∷ []) (omega arith) reset-ends
+    ∙ ap (joined (done x (Esc [] 0x63)))
+    (silent (reset-screen x) nothing (escape []) 0x1B (0x25 ∷ 0x47 ∷ 0x1B ∷ 0x5B ∷ 0x3F ∷ 0x37 ∷ 0x6C ∷ []) (omega arith) escape-opens
+    ∙ silent (reset-screen x) (escape []) (escape (0x25 ∷ [])) 0x25 (0x47 ∷ 0x1B ∷ 0x5B ∷ 0x3F ∷ 0x37 ∷ 0x6C ∷ []) (omega arith) percent-goes_on
+    ∙ ending (reset-screen x) (escape (0x25 ∷ [])) (Esc (0x25 ∷ []) 0x47) 0x47 (0x1B ∷ 0x5B ∷ 0x3F ∷ 0x37 ∷ 0x6C ∷ []) (omega arith) utf8-ends
+    ∙ ap (joined (done (reset-screen x) (Esc (0x25 ∷ []) 0x47)))
+    (silent (coded-screen x) nothing (escape []) 0x1B (0x5B ∷ 0x3F ∷ 0x37 ∷ 0x6C ∷ []) (omega arith) escape-opens
+    ∙ silent (coded-screen x) (escape []) (control []) 0x5B (0x3F ∷ 0x37 ∷ 0x6C ∷ []) (omega arith) bracket-opens
+    ∙ silent (coded-screen x) (control []) (control (0x3F ∷ [])) 0x3F (0x37 ∷ 0x6C ∷ []) (omega arith) mark-goes_on
+    ∙ silent (coded-screen x) (control (0x3F ∷ [])) (control (0x3F ∷ 0x37 ∷ [])) 0x37 (0x6C ∷ []) (omega arith) seven-goes_on
+    ∙ ending (coded-screen x) (control (0x3F ∷ 0x37 ∷ [])) (Csi (Some 0x3F) (7 ∷ []) [] 0x6C) 0x6C [] (omega arith) wrap-ends))
+
+pub frame-terminal : (t : Terminal) → IsTerminal t → (reads t frame_bytes).terminal ≡ ready (frame_start t.screen)
+frame-terminal t h = ap (λ v. v.terminal) (cancel-reads t _ h ∙ frame-reads t.screen) ∙ ap ready (frame-screen t.screen)
+
+pub frame-reports : (t : Terminal) → IsTerminal t → (reads t frame_bytes).reports ≡ []
+frame-reports t h = ap (λ v. v.reports) (cancel-reads t _ h ∙ frame-reads t.screen) ∙ append-nil (report t.screen (Esc [] 0x63) ++ (report (reset-screen t.screen) (Esc (0x25 ∷ []) 0x47) ++ report (coded-screen t.screen) (Csi (Some 0x3F) (7 ∷ []) [] 0x6C))) ∙ frame-quiet t.screen
