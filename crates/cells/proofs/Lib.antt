@@ -5,3 +5,4 @@ pub mod Moves
 pub mod Pages
 pub mod Erasing
 pub mod Putting
+pub mod Grids

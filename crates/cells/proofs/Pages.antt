@@ -10,7 +10,7 @@ use Rattle.cells.specs.Page.{line_at, IsPage, IsWellFormed, IsGrid, Origin, New,
 use Rattle.cells.proofs.Settling.{kept_is, cells_from-is, settled_at, true≢false, cell_at_past, after_inside, left_kept, right_kept, and_false, same_side}
 
 -- lists made of equal functions
-map_same : {X : Type 0} → (f g : ℕ → X) (a n : ℕ) → ((k : ℕ) → f k ≡ g k) → map f (range_with_len a n) ≡ map g (range_with_len a n)
+pub map_same : {X : Type 0} → (f g : ℕ → X) (a n : ℕ) → ((k : ℕ) → f k ≡ g k) → map f (range_with_len a n) ≡ map g (range_with_len a n)
 map_same f g a zero h = refl
 map_same f g a (suc n) h = ap (λ x. x ∷ map f (range_with_len (a + 1) n)) (h a) ∙ ap (λ xs. g a ∷ xs) (map_same f g (a + 1) n h)
 
@@ -24,14 +24,14 @@ cell_on_line : (page : List (List Cell)) (line : ℕ) (a : Source) → cell_from
 cell_on_line page line (Fresh x) = refl
 cell_on_line page line (Old c) = refl
 
-settled_on_line : (page : List (List Cell)) (line : ℕ) (a b c : Source) → settled_cell page (on_line line a) (on_line line b) (on_line line c) ≡ settled (line_at page line) a b c
+pub settled_on_line : (page : List (List Cell)) (line : ℕ) (a b c : Source) → settled_cell page (on_line line a) (on_line line b) (on_line line c) ≡ settled (line_at page line) a b c
 settled_on_line page line a b c = rw (cell_on_line page line b, own_on_line line b c, own_on_line line a b) refl
 
-before_on_line : (origin : ℕ → Origin) (source : ℕ → Source) (line : ℕ) → ((column : ℕ) → origin column ≡ on_line line (source column)) → (column : ℕ) → origin_before origin column ≡ on_line line (source_before source column)
+pub before_on_line : (origin : ℕ → Origin) (source : ℕ → Source) (line : ℕ) → ((column : ℕ) → origin column ≡ on_line line (source column)) → (column : ℕ) → origin_before origin column ≡ on_line line (source_before source column)
 before_on_line origin source line same zero = refl
 before_on_line origin source line same (suc column) = same column
 
-after_on_line : (origin : ℕ → Origin) (source : ℕ → Source) (line width : ℕ) → ((column : ℕ) → origin column ≡ on_line line (source column)) → (column : ℕ) → origin_after origin width column ≡ on_line line (source_after source width column)
+pub after_on_line : (origin : ℕ → Origin) (source : ℕ → Source) (line width : ℕ) → ((column : ℕ) → origin column ≡ on_line line (source column)) → (column : ℕ) → origin_after origin width column ≡ on_line line (source_after source width column)
 after_on_line origin source line width same column = ⊎_elim
     (λ (e : eqb (suc column) width ≡ true). rw e refl)
     (λ (e : eqb (suc column) width ≡ false). rw e (same (suc column)))
@@ -63,7 +63,7 @@ cells_from-old cells paired = sym (cells_from-is Old cells cells refl (λ column
 pub line_from-whole : (origin : ℕ → Origin) (page : List (List Cell)) (line width : ℕ) → width ≡ length (line_at page line) → IsPaired (line_at page line) → ((column : ℕ) → origin column ≡ From line column) → line_from origin width page ≡ line_at page line
 line_from-whole origin page line width w paired same = line_from-edit origin Old page line width w same ∙ cells_from-old (line_at page line) paired
 
-map_replicate : {X : Type 0} → (x : X) (a n : ℕ) → map (λ (_k : ℕ). x) (range_with_len a n) ≡ replicate n x
+pub map_replicate : {X : Type 0} → (x : X) (a n : ℕ) → map (λ (_k : ℕ). x) (range_with_len a n) ≡ replicate n x
 map_replicate x a zero = refl
 map_replicate x a (suc n) = ap (λ xs. x ∷ xs) (map_replicate x (a + 1) n)
 
@@ -132,7 +132,7 @@ cell_at-line_from origin width page column h = get_or-map-range_with_len _ 0 wid
 pub length-line_from : (origin : ℕ → Origin) (width : ℕ) (page : List (List Cell)) → length (line_from origin width page) ≡ width
 length-line_from origin width page = length-map-range_with_len _ 0 width
 
-IsPaired-line_from : (origin : ℕ → Origin) (width rows columns : ℕ) (page : List (List Cell)) → IsPage rows columns page → IsPaired (line_from origin width page)
+pub IsPaired-line_from : (origin : ℕ → Origin) (width rows columns : ℕ) (page : List (List Cell)) → IsPage rows columns page → IsPaired (line_from origin width page)
 IsPaired-line_from origin width rows columns page is_page = record {
   first = ⊎_elim
       (λ h. ap (λ x. is_right x.shape) (cell_at-line_from origin width page 0 h) ∙ right_settled page (New blank) (origin 0) _ ∙ new_first page (origin 0))
@@ -157,7 +157,7 @@ IsPaired-line_from origin width rows columns page is_page = record {
       (cases_lt (suc column) width);
 }
 
-IsPaired-nil : IsPaired []
+pub IsPaired-nil : IsPaired []
 IsPaired-nil = record { first = refl; next = λ column. refl }
 
 -- whatever the origins, the page is well formed

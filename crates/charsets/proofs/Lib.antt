@@ -5,3 +5,4 @@ pub mod Joins
 pub mod Tables
 pub mod Pieces
 pub mod Shifted
+pub mod Scalars

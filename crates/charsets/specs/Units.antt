@@ -1,5 +1,6 @@
--- The units of a list of bytes.
-use Rattle.std.specs.Prelude.{◌≡◌, ℕ, Bool, ◌&&◌, nat_lt, if◌then◌else◌, List, [], ◌∷◌, ◌++◌, map}
+-- The units of a list of bytes: codes in UTF-8 (Unicode core specification, 3.9), single bytes in ECMA-35.
+use Rattle.std.specs.Prelude.{◌≡◌, ℕ, ◌≤◌, Bool, ◌&&◌, nat_lt, if◌then◌else◌, List, [], ◌∷◌, ◌++◌, map}
+use Rattle.std.specs.Char.{IsScalar}
 use Rattle.charsets.specs.declared.unit.Coding.{Coding}
 use Rattle.charsets.specs.declared.unit.Coding.TheVariants.{Utf8, Ecma35}
 use Rattle.charsets.specs.declared.unit.Unit.{Unit}
@@ -8,6 +9,7 @@ use Rattle.charsets.specs.declared.unit.Units.{Units}
 use Rattle.charsets.specs.declared.unit.Units.TheVariants.{Nothing, One, Two}
 use Rattle.charsets.specs.Utf8.{codes}
 
+-- in ECMA-35 each byte is a unit: below A0 it is the code, from A0 on a byte of GR (ECMA-35, 8-bit codes)
 abbrev pub unit_of_byte : ℕ → Unit
 unit_of_byte b = if nat_lt b 0xA0 then Code b else High b
 
@@ -15,6 +17,11 @@ unit_of_byte b = if nat_lt b 0xA0 then Code b else High b
 abbrev pub units : Coding → List ℕ → List Unit × List ℕ
 units Utf8 bytes = (map (λ c. Code c) (codes bytes).0, (codes bytes).1)
 units Ecma35 bytes = (map unit_of_byte bytes, [])
+
+-- the units that a decoder gives: characters, and bytes from A0 on
+abbrev pub IsUnit : Unit → Type 0
+IsUnit (Code c) = IsScalar c
+IsUnit (High b) = 0xA0 ≤ b
 
 -- the units that one byte completes
 abbrev pub unit_list : Units → List Unit

@@ -1,15 +1,16 @@
--- How bytes are cut into characters and maximal broken beginnings (Unicode, table 3-7).
+-- How bytes are cut, from the left, into well-formed characters and maximal broken beginnings
+-- (Unicode core specification, 3.9: table 3-7, and the substitution of maximal subparts by U+FFFD).
 use Rattle.std.specs.Prelude.{ℕ, zero, suc, ◌+◌, ◌-◌, ◌*◌, Bool, ◌&&◌, nat_lt, ◌==◌, if◌then◌else◌, List, [], ◌∷◌, ◌++◌, Option, Some, None}
 
--- the byte begins a character of several bytes
+-- table 3-7: the byte begins a character of several bytes
 abbrev pub is_lead : ℕ → Bool
 is_lead a = nat_lt 0xC1 a && nat_lt a 0xF5
 
--- the byte goes on with a character
+-- the byte may stand third or fourth, and second but for the bounds below
 abbrev pub continues : ℕ → Bool
 continues b = nat_lt 0x7F b && nat_lt b 0xC0
 
--- the byte b may stand second, after the first byte a
+-- the byte b may stand second, after the first byte a: no overlong form, no surrogate, nothing above 10FFFF
 abbrev pub follows : ℕ → ℕ → Bool
 follows a b =
     if a == 0xE0 then nat_lt 0x9F b && nat_lt b 0xC0
@@ -40,7 +41,7 @@ whole code more = Some (record { gives = code ∷ []; more = more })
 abbrev pub no_beginning : Option Piece
 no_beginning = Some (record { gives = 0xFFFD ∷ []; more = 0 })
 
--- what a maximal beginning gives that the byte b breaks: CAN (18) cancels it
+-- what a maximal beginning gives that the byte b breaks: U+FFFD, but CAN (18) cancels it. The byte is read anew.
 abbrev pub broken_gives : ℕ → List ℕ
 broken_gives b = if b == 0x18 then [] else 0xFFFD ∷ []
 
@@ -69,7 +70,7 @@ piece a bytes =
     if nat_lt a 0x80 then whole a 0
     else (if is_lead a then piece_of_2 a bytes else no_beginning)
 
--- the codes of the pieces of some bytes, and the beginning that stands at the end
+-- what the pieces give, one after another, and the beginning that stands at the end of the bytes
 abbrev pub with_front : List ℕ → List ℕ × List ℕ → List ℕ × List ℕ
 with_front front later = (front ++ later.0, later.1)
 

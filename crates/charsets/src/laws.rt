@@ -2,14 +2,14 @@
 
 ghost use Rattle.std.specs.Prelude.{◌≡◌, ℕ, List, [], ◌∷◌, ◌++◌, map, true, Some, None};
 ghost use Rattle.std.specs.Char.{encode_utf8, IsScalar};
-ghost use Rattle.std.specs.List.{concat, list_all};
+ghost use Rattle.std.specs.List.{AllByRecursion, concat, list_all};
 ghost use Rattle.charsets.specs.declared.sets.CharacterSet.TheVariants.{Ascii};
 ghost use Rattle.charsets.specs.declared.shifts.Shifts.{Shifts};
 ghost use Rattle.charsets.specs.declared.unit.Coding.{Coding};
 ghost use Rattle.charsets.specs.declared.unit.Coding.TheVariants.{Utf8};
 ghost use Rattle.charsets.specs.declared.unit.Unit.TheVariants.{Code};
 ghost use Rattle.charsets.specs.Shifts.{set_at, is_graphic, mapped, spent};
-ghost use Rattle.charsets.specs.Units.{units, units_of_pieces, is_plain};
+ghost use Rattle.charsets.specs.Units.{units, units_of_pieces, is_plain, IsUnit};
 
 /// Bytes behind whole characters are read for themselves.
 pub fn whole_ones_join()
@@ -43,6 +43,11 @@ pub fn pieces_are_whole()
 pub fn plain_bytes_stand()
     ensures { (coding : Coding) (bytes : List ℕ) → list_all is_plain bytes ≡ true →
         units coding bytes ≡ (map (λ b. Code b) bytes, []) }
+{}
+
+/// Bytes give characters, and in ECMA-35 bytes from A0 on.
+pub fn each_is_a_unit()
+    ensures { (coding : Coding) (bytes : List ℕ) → AllByRecursion IsUnit (units coding bytes).0 }
 {}
 
 /// Where GL has ASCII and no single shift waits, a graphic code stands for itself and changes no shift.

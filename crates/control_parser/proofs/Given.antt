@@ -10,7 +10,8 @@ use Rattle.control_parser.specs.declared.func.Func.TheVariants.{Print, Control, 
 use Rattle.control_parser.specs.Text.{is_intermediate, is_mark, value, number_after, fields, values, mark_of, numbers_of, is_well_formed}
 use Rattle.control_parser.specs.Grammar.{code, ESC, SUB, is_control, is_c1, is_graphic, is_sequence_text, is_string_opener, Rest, nothing, escape, control, string, osc, alone, functions}
 use Rattle.control_parser.specs.Steps.{breaks_string, is_final_from}
-use Rattle.control_parser.specs.Spelling.{begins_none, IsGiven, IsUnit}
+use Rattle.control_parser.specs.Spelling.{begins_none, IsGiven}
+use Rattle.charsets.specs.Units.{IsUnit}
 use Rattle.control_parser.proofs.Machine.{rest_begun, rest_anew, rest_broken, rest_inside, rest_step, machine, functions_behind-machine}
 use Rattle.control_parser.proofs.Texts.{IsFull, full_fields}
 use Rattle.control_parser.proofs.Spelled.{all-append, all_more, both}

@@ -1,4 +1,6 @@
--- The control functions of a list of units.
+-- The control functions of a list of units: controls, escape sequences, control sequences and control strings
+-- (ECMA-48, 5 and 8; ECMA-35, 13; VT220 Programmer Reference Manual, chapter 2). The list is cut from the left
+-- into pieces, each by the longest front that goes on with it, and the text of a sequence is read as a whole.
 use Rattle.std.specs.Prelude.{ℕ, zero, suc, ◌+◌, ◌-◌, Bool, not, ◌&&◌, ◌||◌, nat_lt, nat_le, ◌==◌, if◌then◌else◌, List, [], ◌∷◌, ◌++◌, length}
 use Rattle.charsets.specs.declared.unit.Unit.{Unit}
 use Rattle.charsets.specs.declared.unit.Unit.TheVariants as units
@@ -20,10 +22,11 @@ CAN = 0x18
 abbrev pub SUB : ℕ
 SUB = 0x1A
 
--- a control that is executed wherever it stands, but in a string
+-- a C0 control that is executed wherever it stands, but in a string (ECMA-48, 5.2; VT220 manual, chapter 2)
 abbrev pub is_control : ℕ → Bool
 is_control c = nat_lt c 0x20 && not (c == ESC) && not (c == CAN) && not (c == SUB)
 
+-- a C1 control, the same function as ESC and its code less 40 (ECMA-48, 5.3)
 abbrev pub is_c1 : ℕ → Bool
 is_c1 c = nat_lt 0x7F c && nat_lt c 0xA0
 
@@ -58,7 +61,7 @@ unfoldable pub text : List Unit → List ℕ
 text [] = []
 text (u ∷ us) = if is_sequence_text (code u) then code u ∷ text us else text us
 
--- what is unended at the end of a list, with the text that it has so far
+-- what is unended at the end of a list, with the text that it has so far, controls taken out
 pub data Rest : Type 0 where
   nothing : Rest
   escape : List ℕ → Rest
@@ -82,11 +85,11 @@ broken n f =
     if f == SUB then ends (Print 0xFFFD ∷ []) (n + 1)
     else (if f == CAN then ends [] (n + 1) else ends [] n)
 
--- an escape sequence, its intermediates and its final
+-- an escape sequence, its intermediates and its final (ECMA-35, 13); with more than two intermediates it is ignored
 abbrev pub escape_of : List ℕ → ℕ → List Func
 escape_of intermediates last = if nat_le (length intermediates) 2 then Esc intermediates last ∷ [] else []
 
--- a control sequence, its text and its final
+-- a control sequence, its text and its final (ECMA-48, 5.4)
 abbrev pub control_of : List ℕ → ℕ → List Func
 control_of text last = if is_well_formed text then Csi (mark_of text) (params_of text) (intermediates_of text) last ∷ [] else []
 
@@ -107,10 +110,11 @@ string_end rest n (f ∷ after) = if code f == 7 then ends [] (n + 1) else broke
 abbrev pub string_of : Rest → (Unit → Bool) → List Unit → Piece
 string_of rest inside us = string_end rest (length (while inside us).0) (while inside us).1
 
--- what ESC and f begin, or the C1 control f + 40, before these units
+-- DCS, SOS, PM, APC (ECMA-48, 5.6), and ESC k
 abbrev pub is_string_opener : ℕ → Bool
 is_string_opener f = f == 0x50 || (f == 0x58 || (f == 0x5E || (f == 0x5F || f == 0x6B)))
 
+-- what ESC and f begin, or the C1 control f + 40, before these units
 unfoldable pub begun_by : ℕ → List Unit → Piece
 begun_by f us =
     if f == 0x5B then control_sequence us

@@ -4,8 +4,6 @@ use Rattle.std.specs.Char.{encode_utf8, IsScalar}
 use Rattle.std.specs.List.{flat_map, list_all}
 use Rattle.charsets.specs.declared.unit.Coding.{Coding}
 use Rattle.charsets.specs.declared.unit.Coding.TheVariants.{Utf8, Ecma35}
-use Rattle.charsets.specs.declared.unit.Unit.{Unit}
-use Rattle.charsets.specs.declared.unit.Unit.TheVariants as codes
 use Rattle.charsets.specs.Units.{units}
 use Rattle.control_parser.specs.declared.func.Func.{Func}
 use Rattle.control_parser.specs.declared.func.Func.TheVariants.{Print, High, Control, Esc, Csi}
@@ -58,8 +56,3 @@ IsGiven (Csi mark params is last) = IfSome mark (λ m. is_mark m ≡ true) × (0
 -- the functions of some bytes, and no rest
 abbrev pub ReadsAs : Coding → List ℕ → List Func → Type 0
 ReadsAs coding bytes given = ((units coding bytes).1 ≡ []) × (functions (units coding bytes).0 ≡ (given, nothing))
-
--- the units that a decoder gives
-abbrev pub IsUnit : Unit → Type 0
-IsUnit (codes.Code c) = IsScalar c
-IsUnit (codes.High b) = 0xA0 ≤ b

@@ -58,22 +58,29 @@ grown_step (Some t) = (None, state.Control t)
 abbrev pub is_final_from : ℕ → ℕ → Bool
 is_final_from low c = nat_lt low c && nat_lt c 0x7F
 
+-- inside an escape sequence, a control sequence, but for controls and DEL
+abbrev pub escape_step : List ℕ → Unit → Option Func × State
+escape_step is u =
+    if is_intermediate (code u) then (if length is == 2 then (None, state.EscapeIgnored) else (None, state.Escape (is ++ code u ∷ [])))
+    else (if is_final_from 0x2F (code u) then (if length is == 0 then begun_step (code u) else (Some (Esc is (code u)), state.Ground))
+    else broken_step u true)
+
+abbrev pub control_step : Text → Unit → Option Func × State
+control_step t u =
+    if is_sequence_text (code u) then grown_step (text_grown t (code u))
+    else (if is_final_from 0x3F (code u) then (Some (Csi t.mark t.params t.intermediates (code u)), state.Ground)
+    else broken_step u true)
+
 abbrev pub step_of : State → Unit → Option Func × State
 step_of state.Ground u = broken_step u false
 step_of state.String u = if breaks_string (code u) then broken_step u true else (None, state.String)
 step_of state.Osc u = if code u == 7 then (None, state.Ground) else (if breaks_string (code u) then broken_step u true else (None, state.Osc))
-step_of (state.Escape is) u = inside_step (state.Escape is) u
-    (if is_intermediate (code u) then (if length is == 2 then (None, state.EscapeIgnored) else (None, state.Escape (is ++ code u ∷ [])))
-    else (if is_final_from 0x2F (code u) then (if length is == 0 then begun_step (code u) else (Some (Esc is (code u)), state.Ground))
-    else broken_step u true))
+step_of (state.Escape is) u = inside_step (state.Escape is) u (escape_step is u)
 step_of state.EscapeIgnored u = inside_step state.EscapeIgnored u
     (if is_intermediate (code u) then (None, state.EscapeIgnored)
     else (if is_final_from 0x2F (code u) then (None, state.Ground)
     else broken_step u true))
-step_of (state.Control t) u = inside_step (state.Control t) u
-    (if is_sequence_text (code u) then grown_step (text_grown t (code u))
-    else (if is_final_from 0x3F (code u) then (Some (Csi t.mark t.params t.intermediates (code u)), state.Ground)
-    else broken_step u true))
+step_of (state.Control t) u = inside_step (state.Control t) u (control_step t u)
 step_of state.ControlIgnored u = inside_step state.ControlIgnored u
     (if is_sequence_text (code u) then (None, state.ControlIgnored)
     else (if is_final_from 0x3F (code u) then (None, state.Ground)

@@ -1,7 +1,8 @@
--- The text of a control sequence: what stands between CSI and the final byte.
+-- The text of a control sequence: what stands between CSI and the final byte (ECMA-48, 5.4).
 use Rattle.std.specs.Prelude.{ℕ, ◌+◌, ◌-◌, ◌*◌, Bool, ◌&&◌, ◌||◌, nat_lt, nat_le, ◌==◌, if◌then◌else◌, List, [], ◌∷◌, length, take, map, min, Option, Some, None}
 use Rattle.std.specs.List.{list_all}
 
+-- an intermediate byte (ECMA-48, 5.4, and of escape sequences ECMA-35, 13)
 abbrev pub is_intermediate : ℕ → Bool
 is_intermediate c = nat_lt 0x1F c && nat_lt c 0x30
 
@@ -12,7 +13,7 @@ is_digit c = nat_lt 0x2F c && nat_lt c 0x3A
 abbrev pub is_number : ℕ → Bool
 is_number c = is_digit c || c == 0x3B
 
--- one of < = > ?
+-- one of < = > ?, which begin private parameters (ECMA-48, 5.4.1)
 abbrev pub is_mark : ℕ → Bool
 is_mark c = nat_lt 0x3B c && nat_lt c 0x40
 
@@ -61,7 +62,7 @@ intermediates_of text = (while is_number (unmarked text)).1
 abbrev pub is_well_formed : List ℕ → Bool
 is_well_formed text = list_all is_intermediate (intermediates_of text) && nat_le (length (intermediates_of text)) 2
 
--- sixteen parameters count
+-- sixteen parameters count (VT220 Programmer Reference Manual, chapter 2)
 abbrev pub params_of : List ℕ → List ℕ
 params_of text = take 16 (values (numbers_of text))
 

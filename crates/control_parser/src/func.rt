@@ -1,186 +1,30 @@
-//! Control functions.
+//! Control functions (ECMA-48; VT220 Programmer Reference Manual, chapter 2).
 
-ghost use Rattle.std.specs.Prelude.{◌≡◌, ◌<◌, ◌≤◌, ◌+◌, ◌==◌, ◌∷◌, ◌++◌, [], ℕ, List, length, take, slice_index};
-ghost use Rattle.control_parser.specs.Text.{digit_added};
-
-use std::marker::Model;
-
-/// How many parameters count.
-pub const PARAMS: usize = 16;
-
-/// At most two bytes 20 to 2F.
-#[derive(Clone, Copy, Debug, PartialEq, Eq)]
-pub struct Intermediates {
-    bytes: [u8; 2],
-    count: usize,
-}
-
-impl Model for Intermediates {
-    ghost use Rattle.std.specs.Prelude.{List, ℕ, take, length};
-    ghost use Rattle.std.proofs.Common.{arith, length-take-le};
-    ghost use Rattle.control_parser.specs.Arrays.{IsFront, array_of, array_of-take};
-
-    ghost Value = { List ℕ };
-
-    ghost view = { λ i. take i.count i.bytes };
-
-    ghost invariant = { λ i. IsFront 2 i.count i.bytes };
-
-    ghost inverse = { λ xs. record { bytes = array_of 2 xs; count = length xs } };
-
-    ghost inverse_ok = { λ a h i. record {
-      bytes = array_of-take 2 a.count a.bytes h i;
-      count = length-take-le a.count a.bytes (omega (arith, h.0, h.1)) i;
-    } };
-}
-
-impl Intermediates {
-    pub fn none() -> Intermediates
-        ensures { result ≡ [] }
-    {
-        Intermediates {
-            bytes: [0; 2],
-            count: 0,
-        }
-    }
-
-    pub fn len(&self) -> usize
-        ensures { result ≡ length self.now }
-    {
-        self.count
-    }
-
-    pub fn is_empty(&self) -> bool
-        ensures { result ≡ (length self.now == 0) }
-    {
-        self.count == 0
-    }
-
-    pub fn as_slice(&self) -> &[u8]
-        ensures items { result.now ≡ self.now }
-        ensures few { length result.now ≤ 2 }
-    {
-        &self.bytes[..self.count]
-    }
-
-    pub fn push(&mut self, byte: u8)
-        requires { length self.old < 2 }
-        ensures { self.new ≡ self.old ++ byte ∷ [] }
-    {
-        self.bytes[self.count] = byte;
-        self.count += 1;
-    }
-}
-
-/// One to sixteen parameters, each at most 9,999; an absent one is 0.
-#[derive(Clone, Copy, Debug, PartialEq, Eq)]
-pub struct Params {
-    values: [u16; PARAMS],
-    count: usize,
-}
-
-impl Model for Params {
-    ghost use Rattle.std.specs.Prelude.{List, ℕ, ◌<◌, take, length};
-    ghost use Rattle.std.proofs.Common.{arith, length-take-le};
-    ghost use Rattle.control_parser.specs.Arrays.{IsFront, array_of, array_of-take};
-
-    ghost Value = { List ℕ };
-
-    ghost view = { λ p. take p.count p.values };
-
-    ghost invariant = { λ p. (0 < p.count) × IsFront 16 p.count p.values };
-
-    ghost inverse = { λ xs. record { values = array_of 16 xs; count = length xs } };
-
-    ghost inverse_ok = { λ a h i. record {
-      values = array_of-take 16 a.count a.values h.1 i;
-      count = length-take-le a.count a.values (omega (arith, h.1.0, h.1.1)) i;
-    } };
-}
-
-impl Params {
-    /// One parameter, absent.
-    pub fn absent() -> Params
-        ensures { result ≡ 0 ∷ [] }
-    {
-        Params {
-            values: [0; PARAMS],
-            count: 1,
-        }
-    }
-
-    /// One parameter.
-    pub fn one(value: u16) -> Params
-        ensures { result ≡ value ∷ [] }
-    {
-        let mut params = Params::absent();
-        params.values[0] = value;
-        params
-    }
-
-    /// One parameter more.
-    pub fn push(&mut self, value: u16)
-        requires { length self.old < 16 }
-        ensures { self.new ≡ self.old ++ value ∷ [] }
-    {
-        self.values[self.count] = value;
-        self.count += 1;
-    }
-
-    pub fn len(&self) -> usize
-        ensures { result ≡ length self.now }
-    {
-        self.count
-    }
-
-    pub fn as_slice(&self) -> &[u16]
-        ensures items { result.now ≡ self.now }
-        ensures few { length result.now ≤ 16 }
-    {
-        &self.values[..self.count]
-    }
-
-    /// The parameter at a place, from 0 on; 0 where there is none.
-    pub fn get(&self, i: usize) -> u16
-        ensures { result ≡ slice_index self.now i }
-    {
-        self.as_slice().get(i).copied().unwrap_or(0)
-    }
-
-    /// One digit more of the last parameter.
-    pub fn add_digit(&mut self, digit: u8)
-        requires { digit < 10 }
-        ensures { self.new ≡ digit_added self.old digit }
-    {
-        let last = self.count - 1;
-        let longer = self.values[last] as u32 * 10 + digit as u32;
-        self.values[last] = longer.min(9999) as u16;
-    }
-
-    /// Begins another parameter.
-    pub fn begin(&mut self)
-        requires { length self.old < 16 }
-        ensures { self.new ≡ self.old ++ 0 ∷ [] }
-    {
-        self.values[self.count] = 0;
-        self.count += 1;
-    }
-}
+use crate::intermediates::Intermediates;
+use crate::params::Params;
 
 /// A control function.
 #[derive(Clone, Copy, Debug, PartialEq, Eq)]
 pub enum Func {
+    /// A graphic character.
     Print(char),
+    /// A byte from A0 on of ECMA-35, which goes through GR.
     High(u8),
+    /// A C0 control, but for CAN, SUB and ESC.
     Control(u8),
+    /// An escape sequence, or the C1 control that it stands for.
     Esc {
         intermediates: Intermediates,
+        /// The final byte, 30 to 7E.
         last: u8,
     },
+    /// A control sequence.
     Csi {
+        /// One of `<`, `=`, `>`, `?` before the parameters.
         mark: Option<u8>,
         params: Params,
         intermediates: Intermediates,
+        /// The final byte, 40 to 7E.
         last: u8,
     },
 }

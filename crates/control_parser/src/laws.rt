@@ -2,12 +2,12 @@
 
 ghost use Rattle.std.specs.Prelude.{◌≡◌, ℕ, List, [], ◌∷◌, ◌++◌, map, true};
 ghost use Rattle.std.specs.List.{AllByRecursion, flat_map, list_all};
-ghost use Rattle.charsets.specs.Units.{is_plain};
+ghost use Rattle.charsets.specs.Units.{is_plain, IsUnit};
 ghost use Rattle.charsets.specs.declared.unit.Unit.{Unit};
 ghost use Rattle.charsets.specs.declared.unit.Unit.TheVariants.{Code};
 ghost use Rattle.control_parser.specs.declared.func.Func.TheVariants.{Print};
 ghost use Rattle.control_parser.specs.Grammar.{functions, is_graphic, nothing, with_front};
-ghost use Rattle.control_parser.specs.Spelling.{IsGiven, IsUnit};
+ghost use Rattle.control_parser.specs.Spelling.{IsGiven};
 ghost use Rattle.control_parser.specs.Kept.{opening, functions_of_pieces};
 
 /// Units give nothing but functions that have a spelling.

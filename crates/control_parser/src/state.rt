@@ -1,11 +1,13 @@
 //! What the parser keeps of a sequence that is not ended.
 
-ghost use Rattle.std.specs.Prelude.{◌≡◌, ◌<◌, ◌≤◌, ◌+◌, ◌-◌, ◌==◌, ◌∷◌, ◌++◌, [], ℕ, List, Bool, true, false, Option, Some, None, length, is_some};
-ghost use Rattle.control_parser.specs.Text.{is_intermediate, is_digit, is_mark};
-ghost use Rattle.control_parser.specs.Steps.{text_grown, begun_step, broken_step, step_of, alone_of};
-ghost use Rattle.control_parser.specs.Grammar.{code, is_control, is_c1, is_graphic};
+ghost use Rattle.std.specs.Prelude.{◌≡◌, ◌==◌, ◌∷◌, [], true, false, Some, None, length};
+ghost use Rattle.control_parser.specs.Text.{is_intermediate};
+ghost use Rattle.control_parser.specs.Steps.{text_grown, begun_step, broken_step, escape_step, control_step, breaks_string, is_final_from, step_of, alone_of};
+ghost use Rattle.control_parser.specs.Grammar.{code, is_control, is_c1, is_sequence_text};
 
-use crate::func::{Func, Intermediates, Params};
+use crate::func::Func;
+use crate::intermediates::Intermediates;
+use crate::params::Params;
 use charsets::Unit;
 
 /// The text of a control sequence so far.
@@ -14,29 +16,72 @@ pub struct Text {
     pub begun: bool,
     pub mark: Option<u8>,
     pub params: Params,
-    // More than sixteen parameters have begun.
+    /// More than sixteen parameters have begun.
     pub over: bool,
     pub intermediates: Intermediates,
 }
 
+/// What has begun.
 #[derive(Clone, Copy, Debug)]
 pub enum State {
     Ground,
     Escape(Intermediates),
+    /// An escape sequence with more than two intermediates.
     EscapeIgnored,
     Control(Text),
+    /// A control sequence whose text can't become well formed.
     ControlIgnored,
+    /// DCS, SOS, PM, APC or ESC k.
     String,
     Osc,
 }
 
-const ESC: char = '\u{1B}';
+/// What a unit completes, and what has begun then.
+pub type Step = (Option<Func>, State);
 
-const CAN: char = '\u{18}';
+const BEL: u32 = 0x07;
 
-const SUB: char = '\u{1A}';
+const CAN: u32 = 0x18;
 
-const BEL: char = '\u{7}';
+const SUB: u32 = 0x1A;
+
+const ESC: u32 = 0x1B;
+
+const DEL: u32 = 0x7F;
+
+// The code of a unit; each byte from A0 on in ECMA-35 does as A0.
+fn code(unit: Unit) -> u32
+    ensures { result ≡ code unit }
+{
+    match unit {
+        Unit::Code(c) => c as u32,
+        Unit::High(_) => 0xA0,
+    }
+}
+
+fn is_executed(c: u32) -> bool
+    ensures { result ≡ is_control c }
+{
+    c < 0x20 && c != ESC && c != CAN && c != SUB
+}
+
+fn is_c1(c: u32) -> bool
+    ensures { result ≡ is_c1 c }
+{
+    0x7F < c && c < 0xA0
+}
+
+fn is_intermediate(c: u32) -> bool
+    ensures { result ≡ is_intermediate c }
+{
+    0x1F < c && c < 0x30
+}
+
+fn ends_string(c: u32) -> bool
+    ensures { result ≡ breaks_string c }
+{
+    c == CAN || c == SUB || c == ESC || is_c1(c)
+}
 
 impl Text {
     fn empty() -> Text
@@ -51,87 +96,40 @@ impl Text {
         }
     }
 
-    // One character more of the text; None where it is ignored from here on.
-    fn grown(self, c: u8) -> Option<Text>
+    // With one character more; None where the text is ignored from here on.
+    fn grown(mut self, c: u8) -> Option<Text>
         ensures { result ≡ text_grown self c }
     {
-        let Text {
-            begun,
-            mark,
-            mut params,
-            mut over,
-            mut intermediates,
-        } = self;
-        if 0x1F < c && c < 0x30 {
-            if intermediates.len() == 2 {
-                return None;
-            }
-            intermediates.push(c);
-            return Some(Text {
-                begun: true,
-                mark,
-                params,
-                over,
-                intermediates,
-            });
+        let first = !self.begun;
+        self.begun = true;
+        match c {
+            b' '..=b'/' if self.intermediates.len() < 2 => self.intermediates.push(c),
+            _ if !self.intermediates.is_empty() => return None,
+            b'0'..=b'9' if self.over => {}
+            b'0'..=b'9' => self.params.add_digit(c - b'0'),
+            b';' if self.params.len() < 16 => self.params.push(0),
+            b';' => self.over = true,
+            b'<'..=b'?' if first => self.mark = Some(c),
+            _ => return None,
         }
-        if !intermediates.is_empty() {
-            return None;
-        }
-        if 0x2F < c && c < 0x3A {
-            if !over {
-                params.add_digit(c - 0x30);
-            }
-            Some(Text {
-                begun: true,
-                mark,
-                params,
-                over,
-                intermediates,
-            })
-        } else if c == b';' {
-            if params.len() < 16 {
-                params.begin();
-            } else {
-                over = true;
-            }
-            Some(Text {
-                begun: true,
-                mark,
-                params,
-                over,
-                intermediates,
-            })
-        } else if 0x3B < c && c < 0x40 && !begun {
-            Some(Text {
-                begun: true,
-                mark: Some(c),
-                params,
-                over,
-                intermediates,
-            })
-        } else {
-            None
-        }
+        Some(self)
     }
 }
 
-// What a unit does that breaks a sequence off, or stands alone.
+// What a unit gives by itself.
 fn alone(unit: Unit) -> Option<Func>
     ensures { result ≡ alone_of unit }
 {
     match unit {
         Unit::High(byte) => Some(Func::High(byte)),
-        Unit::Code(c) => match c {
-            ESC | CAN | SUB | '\u{7F}'..='\u{9F}' => None,
-            '\0'..='\u{1F}' => Some(Func::Control(c as u8)),
-            _ => Some(Func::Print(c)),
-        },
+        Unit::Code('\u{18}' | '\u{1A}' | '\u{1B}' | '\u{7F}'..='\u{9F}') => None,
+        Unit::Code(c @ '\0'..='\u{1F}') => Some(Func::Control(c as u8)),
+        Unit::Code(c) => Some(Func::Print(c)),
     }
 }
 
 // What ESC and a final begin.
-fn begun(last: u8) -> (Option<Func>, State)
+fn begun(last: u8) -> Step
     ensures { result ≡ begun_step last }
 {
     match last {
@@ -148,139 +146,99 @@ fn begun(last: u8) -> (Option<Func>, State)
     }
 }
 
-fn code(unit: &Unit) -> u32
-    ensures { result ≡ code unit.now }
-{
-    match *unit {
-        Unit::Code(c) => c as u32,
-        Unit::High(_) => 0xA0,
-    }
-}
-
-// What a unit does that ends what was begun, as CAN, SUB, ESC, a C1 control or a graphic from A0 on.
-fn broken(unit: Unit, inside: bool) -> (Option<Func>, State)
+// What a unit does where nothing has begun, or where it breaks off what has.
+fn broken(unit: Unit, inside: bool) -> Step
     ensures { result ≡ broken_step unit inside }
 {
-    let c = code(&unit);
-    if c == 0x1A && inside {
+    let c = code(unit);
+    if c == SUB && inside {
         (Some(Func::Print('\u{FFFD}')), State::Ground)
-    } else if c == 0x1B {
+    } else if c == ESC {
         (None, State::Escape(Intermediates::none()))
-    } else if 0x7F < c && c < 0xA0 {
+    } else if is_c1(c) {
         begun((c - 0x40) as u8)
     } else {
         (alone(unit), State::Ground)
     }
 }
 
-fn is_executed(c: u32) -> bool
-    ensures { result ≡ is_control c }
+// An intermediate or the final of an escape sequence, or what breaks it off.
+fn escape_step(mut intermediates: Intermediates, unit: Unit) -> Step
+    ensures { result ≡ escape_step intermediates unit }
 {
-    c < 0x20 && c != 0x1B && c != 0x18 && c != 0x1A
+    let c = code(unit);
+    if is_intermediate(c) {
+        if intermediates.len() == 2 {
+            return (None, State::EscapeIgnored);
+        }
+        intermediates.push(c as u8);
+        (None, State::Escape(intermediates))
+    } else if c < 0x30 || 0x7E < c {
+        broken(unit, true)
+    } else if intermediates.is_empty() {
+        begun(c as u8)
+    } else {
+        let last = c as u8;
+        (
+            Some(Func::Esc {
+                intermediates,
+                last,
+            }),
+            State::Ground,
+        )
+    }
 }
 
-/// One unit more.
-pub fn step(state: State, unit: Unit) -> (Option<Func>, State)
-    ensures { result ≡ step_of state unit }
+// A character of the text or the final of a control sequence, or what breaks it off.
+fn control_step(text: Text, unit: Unit) -> Step
+    ensures { result ≡ control_step text unit }
 {
-    let c = code(&unit);
-    match state {
-        State::Ground => broken(unit, false),
-        State::String => {
-            if c == 0x18 || c == 0x1A || c == 0x1B || (0x7F < c && c < 0xA0) {
-                broken(unit, true)
-            } else {
-                (None, State::String)
-            }
-        }
-        State::Osc => {
-            if c == 7 {
-                (None, State::Ground)
-            } else if c == 0x18 || c == 0x1A || c == 0x1B || (0x7F < c && c < 0xA0) {
-                broken(unit, true)
-            } else {
-                (None, State::Osc)
-            }
-        }
-        State::Escape(mut intermediates) => {
-            if is_executed(c) {
-                (Some(Func::Control(c as u8)), State::Escape(intermediates))
-            } else if c == 0x7F {
-                (None, State::Escape(intermediates))
-            } else if 0x1F < c && c < 0x30 {
-                if intermediates.len() == 2 {
-                    (None, State::EscapeIgnored)
-                } else {
-                    intermediates.push(c as u8);
-                    (None, State::Escape(intermediates))
-                }
-            } else if 0x2F < c && c < 0x7F {
-                if intermediates.is_empty() {
-                    begun(c as u8)
-                } else {
-                    (
-                        Some(Func::Esc {
-                            intermediates,
-                            last: c as u8,
-                        }),
-                        State::Ground,
-                    )
-                }
-            } else {
-                broken(unit, true)
-            }
-        }
-        State::EscapeIgnored => {
-            if is_executed(c) {
-                (Some(Func::Control(c as u8)), State::EscapeIgnored)
-            } else if c == 0x7F || (0x1F < c && c < 0x30) {
-                (None, State::EscapeIgnored)
-            } else if 0x2F < c && c < 0x7F {
-                (None, State::Ground)
-            } else {
-                broken(unit, true)
-            }
-        }
-        State::Control(text) => {
-            if is_executed(c) {
-                (Some(Func::Control(c as u8)), State::Control(text))
-            } else if c == 0x7F {
-                (None, State::Control(text))
-            } else if 0x1F < c && c < 0x40 {
-                match text.grown(c as u8) {
-                    None => (None, State::ControlIgnored),
-                    Some(text) => (None, State::Control(text)),
-                }
-            } else if 0x3F < c && c < 0x7F {
-                let Text {
-                    mark,
-                    params,
-                    intermediates,
-                    ..
-                } = text;
-                (
-                    Some(Func::Csi {
-                        mark,
-                        params,
-                        intermediates,
-                        last: c as u8,
-                    }),
-                    State::Ground,
-                )
-            } else {
-                broken(unit, true)
-            }
-        }
-        State::ControlIgnored => {
-            if is_executed(c) {
-                (Some(Func::Control(c as u8)), State::ControlIgnored)
-            } else if c == 0x7F || (0x1F < c && c < 0x40) {
-                (None, State::ControlIgnored)
-            } else if 0x3F < c && c < 0x7F {
-                (None, State::Ground)
-            } else {
-                broken(unit, true)
-            }
+    let c = code(unit);
+    if c < 0x20 || 0x7E < c {
+        broken(unit, true)
+    } else if c < 0x40 {
+        let grown = text.grown(c as u8);
+        (None, grown.map_or(State::ControlIgnored, State::Control))
+    } else {
+        let Text {
+            mark,
+            params,
+            intermediates,
+            ..
+        } = text;
+        let last = c as u8;
+        (
+            Some(Func::Csi {
+                mark,
+                params,
+                intermediates,
+                last,
+            }),
+            State::Ground,
+        )
+    }
+}
+
+impl State {
+    /// One unit more.
+    pub fn step(self, unit: Unit) -> Step
+        ensures { result ≡ step_of self unit }
+    {
+        let c = code(unit);
+        match self {
+            State::Ground => broken(unit, false),
+            State::Osc if c == BEL => (None, State::Ground),
+            State::String | State::Osc if ends_string(c) => broken(unit, true),
+            State::String | State::Osc => (None, self),
+            _ if is_executed(c) => (Some(Func::Control(c as u8)), self),
+            _ if c == DEL => (None, self),
+            State::Escape(intermediates) => escape_step(intermediates, unit),
+            State::EscapeIgnored if is_intermediate(c) => (None, self),
+            State::EscapeIgnored if 0x2F < c && c < 0x7F => (None, State::Ground),
+            State::Control(text) => control_step(text, unit),
+            State::ControlIgnored if 0x1F < c && c < 0x40 => (None, self),
+            State::ControlIgnored if 0x3F < c && c < 0x7F => (None, State::Ground),
+            State::EscapeIgnored | State::ControlIgnored => broken(unit, true),
         }
     }
 }

@@ -1,0 +1,5 @@
+pub mod TextLaws
+pub mod FieldLaws
+pub mod Payloads
+pub mod Frames
+pub mod Joining

@@ -1,0 +1,4 @@
+pub mod Runs
+pub mod CutLemmas
+pub mod Digits
+pub mod Signs

@@ -1,0 +1,35 @@
+-- A scrollback: the last lines that left a page at the top, by index or by a wrap.
+use Rattle.std.specs.Prelude.{◌≡◌, ℕ, List, [], ◌∷◌, ◌++◌, map}
+use Rattle.circular_buffer.specs.Buffer.{keep_last}
+use Rattle.cells.specs.declared.cell.Cell.{Cell}
+use Rattle.cells.specs.Resizing.{line_resized}
+
+-- how many lines are kept, their width, and the lines, of which the newest is the last
+pub record Kept : Type 0 where
+  pub keep : ℕ
+  pub columns : ℕ
+  pub lines : List (List Cell)
+
+-- none yet
+abbrev pub no_lines : ℕ → ℕ → Kept
+no_lines keep columns = record { keep = keep; columns = columns; lines = [] }
+
+-- one more line came in
+abbrev pub taken_in : Kept → List Cell → Kept
+taken_in kept line = record kept { lines = keep_last kept.keep (kept.lines ++ line ∷ []) }
+
+-- all lines are cut or filled to another width
+abbrev pub resized_lines : Kept → ℕ → Kept
+resized_lines kept columns = record kept { columns = columns; lines = map (line_resized columns) kept.lines }
+
+-- it stands for a list of lines: it has the last of them
+abbrev pub StandsFor : Kept → List (List Cell) → Type 0
+StandsFor kept lines = kept.lines ≡ keep_last kept.keep lines
+
+-- whatever list it stood for, it stands for that list with one more line at its end
+abbrev pub Continues : Kept → Kept → List Cell → Type 0
+Continues old new line = (lines : List (List Cell)) → StandsFor old lines → StandsFor new (lines ++ line ∷ [])
+
+-- whatever list it stood for, it stands for that list with its lines cut or filled
+abbrev pub ContinuesResized : Kept → Kept → ℕ → Type 0
+ContinuesResized old new columns = (lines : List (List Cell)) → StandsFor old lines → StandsFor new (map (line_resized columns) lines)

@@ -1,0 +1,6 @@
+//! The scrollback of a screen: the last lines that left its page at the top.
+#![tactic(auto)]
+
+mod ring;
+
+pub use ring::{NoMemory, Ring};

@@ -1,0 +1,176 @@
+//! A ring of lines.
+
+ghost use Rattle.std.specs.Prelude.{◌≡◌, [], ◌∷◌, ◌++◌, length, map, reverse, slice_get, option_copied, IfOk, OnOk, OnErr, IfSome, IfNone};
+ghost use Rattle.std.specs.Prelude.{replicate, ◌+◌, ◌≤◌};
+ghost use Rattle.circular_buffer.specs.Buffer.{buffer as buffer_of};
+ghost use Rattle.cells.specs.Line.{blank};
+ghost use Rattle.cells.specs.Resizing.{line_resized};
+ghost use Rattle.scrollback.specs.Kept.{no_lines, taken_in, resized_lines, StandsFor, Continues, ContinuesResized};
+
+use cells::{Cell, Line};
+use circular_buffer::HeapCircularBuffer;
+use std::alloc::{AllocError, Global};
+use std::marker::Model;
+use std::mem;
+use thiserror::Error;
+
+/// An allocation was refused.
+#[derive(Clone, Copy, Debug, PartialEq, Eq, Error)]
+#[error("out of memory")]
+pub struct NoMemory;
+
+/// The last `keep` of the lines that it took in, all of one width. All its lines are made with it:
+/// taking one in takes no memory.
+#[derive(Drop)]
+pub struct Ring {
+    alloc: Global,
+    /// Always `keep` lines. The last `count` of them were taken in.
+    lines: HeapCircularBuffer<Line>,
+    count: usize,
+    cols: usize,
+}
+
+impl Model for Ring {
+    ghost use Rattle.scrollback.specs.Kept.{Kept};
+    ghost use Rattle.scrollback.specs.Fields.{kept_lines, IsRing};
+
+    ghost Value = { Kept };
+
+    ghost view = { kept_lines };
+
+    ghost invariant = { IsRing };
+}
+
+/// A full buffer of blank lines.
+fn blank_lines(
+    alloc: Global,
+    keep: usize,
+    cols: usize,
+) -> Result<HeapCircularBuffer<Line>, AllocError>
+    ensures { IfOk result (λ lines. lines ≡ buffer_of (replicate keep (replicate cols blank)) keep) }
+{
+    let mut lines = HeapCircularBuffer::with_capacity(alloc, keep)?;
+    for row in 0..keep {
+        let _ = lines.push_back(Line::blank(alloc, cols)?);
+    }
+    Ok(lines)
+}
+
+/// Puts lines in another width behind those of a buffer that has room for them.
+fn append_resized(
+    alloc: Global,
+    buffer: &mut HeapCircularBuffer<Line>,
+    lines: &[Line],
+    cols: usize,
+) -> Result<(), AllocError>
+    requires { length buffer.old.items + length lines.now ≤ buffer.old.capacity }
+    ensures { OnOk result (buffer.new ≡ buffer_of (buffer.old.items ++ map (line_resized cols) lines.now) buffer.old.capacity) }
+{
+    for line in lines {
+        let _ = buffer.push_back(line.resized(alloc, cols)?);
+    }
+    Ok(())
+}
+
+/// The lines of a full buffer in another width.
+fn resized_buffer(
+    alloc: Global,
+    lines: &HeapCircularBuffer<Line>,
+    cols: usize,
+) -> Result<HeapCircularBuffer<Line>, AllocError>
+    requires { length lines.now.items ≡ lines.now.capacity }
+    ensures { IfOk result (λ resized. resized ≡ buffer_of (map (line_resized cols) lines.now.items) lines.now.capacity) }
+{
+    let mut resized = HeapCircularBuffer::with_capacity(alloc, lines.capacity())?;
+    let (front, back) = lines.as_slices();
+    append_resized(alloc, &mut resized, front, cols)?;
+    append_resized(alloc, &mut resized, back, cols)?;
+    Ok(resized)
+}
+
+impl Ring {
+    /// A ring that keeps at most `keep` lines of `cols` cells, and has taken in none.
+    pub fn new(alloc: Global, keep: usize, cols: usize) -> Result<Ring, NoMemory>
+        ensures value { IfOk result (λ ring. ring ≡ no_lines keep cols) }
+        ensures stands { IfOk result (λ ring. StandsFor ring []) }
+    {
+        match blank_lines(alloc, keep, cols) {
+            Ok(lines) => Ok(Ring {
+                alloc,
+                lines,
+                count: 0,
+                cols,
+            }),
+            Err(_) => Err(NoMemory),
+        }
+    }
+
+    /// The number of lines that it has: those that it took in, or `keep` where they are more.
+    pub fn len(&self) -> usize
+        ensures value { result ≡ length self.now.lines }
+        ensures bound { result ≤ self.now.keep }
+    {
+        self.count
+    }
+
+    /// The number of cells of each line.
+    pub fn cols(&self) -> usize
+        ensures { result ≡ self.now.columns }
+    {
+        self.cols
+    }
+
+    /// Takes in a line of its width, and hands one of that width back for use. No memory is taken.
+    pub fn take_in(&mut self, line: Line) -> Line
+        requires { length line ≡ self.old.columns }
+        ensures kept { self.new ≡ taken_in self.old line }
+        ensures stands { Continues self.old self.new line }
+        ensures width { length result ≡ self.old.columns }
+    {
+        let mut spare = line;
+        self.swap_in(&mut spare);
+        spare
+    }
+
+    /// Takes in a line of its width, and leaves one of that width in its place. No memory is taken.
+    pub fn swap_in(&mut self, line: &mut Line)
+        requires { length line.old ≡ self.old.columns }
+        ensures kept { self.new ≡ taken_in self.old line.old }
+        ensures stands { Continues self.old self.new line.old }
+        ensures width { length line.new ≡ self.old.columns }
+    {
+        let keep = self.lines.capacity();
+        if let Some(mut spare) = self.lines.pop_front() {
+            mem::swap(line, &mut spare);
+            let _ = self.lines.push_back(spare);
+            self.count = (self.count + 1).min(keep);
+        }
+    }
+
+    /// The cells of the n-th newest line, of which the newest is line 0.
+    pub fn line(&self, n: usize) -> Option<&[Cell]>
+        ensures { option_copied result ≡ slice_get (reverse self.now.lines) n }
+    {
+        if n >= self.count {
+            return None;
+        }
+        self.lines.nth_back(n).map(|line| line.cells())
+    }
+
+    /// Gives its lines another width: each is cut or filled with blanks. A refusal leaves all as it
+    /// was.
+    pub fn resized(&mut self, cols: usize) -> Result<(), NoMemory>
+        ensures ok { OnOk result (self.new ≡ resized_lines self.old cols) }
+        ensures stands { OnOk result (ContinuesResized self.old self.new cols) }
+        ensures err { OnErr result (self.new ≡ self.old) }
+    {
+        match resized_buffer(self.alloc, &self.lines, cols) {
+            Ok(lines) => {
+                self.lines = lines;
+                self.cols = cols;
+                Ok(())
+            }
+            Err(_) => Err(NoMemory),
+        }
+    }
+}

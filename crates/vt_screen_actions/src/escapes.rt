@@ -1,0 +1,89 @@
+//! C0 controls and escape sequences.
+
+ghost use Rattle.std.specs.Prelude.{◌≡◌, Option};
+ghost use Rattle.terminal_model.specs.Functions.{alone, control_action, designated_set, designation, escape_action, escape_actions, intermediate_action};
+
+use charsets::{CharacterSet, Coding, Place, Shift};
+use terminal_model::Action;
+
+/// The action of a C0 control (ECMA-48, 8.3; VT220 Programmer Reference Manual, chapter 2); None where it is ignored.
+pub fn control_action(control: u8) -> Option<Action>
+    ensures { result ≡ control_action control }
+{
+    match control {
+        0x08 => Some(Action::Backspace),
+        0x09 => Some(Action::Tab),
+        0x0A..=0x0C => Some(Action::LineFeed),
+        0x0D => Some(Action::CarriageReturn),
+        0x0E => Some(Action::Shift(Shift::So)),
+        0x0F => Some(Action::Shift(Shift::Si)),
+        _ => None,
+    }
+}
+
+/// The action of an escape sequence; None where it is ignored.
+pub fn escape_action(intermediates: &[u8], last: u8) -> Option<Action>
+    ensures { alone result ≡ escape_actions intermediates.now last }
+{
+    match intermediates {
+        [] => plain_escape_action(last),
+        [intermediate] => intermediate_action(*intermediate, last),
+        _ => None,
+    }
+}
+
+/// ESC and a final byte (ECMA-48, 8.3; VT220 Programmer Reference Manual, chapter 4).
+fn plain_escape_action(last: u8) -> Option<Action>
+    ensures { result ≡ escape_action last }
+{
+    match last {
+        b'7' => Some(Action::Save),
+        b'8' => Some(Action::Restore),
+        b'=' => Some(Action::SetApplicationKeypad(true)),
+        b'>' => Some(Action::SetApplicationKeypad(false)),
+        b'D' => Some(Action::Index),
+        b'E' => Some(Action::NextLine),
+        b'H' => Some(Action::SetTab),
+        b'M' => Some(Action::ReverseIndex),
+        b'N' => Some(Action::Shift(Shift::Ss2)),
+        b'O' => Some(Action::Shift(Shift::Ss3)),
+        b'c' => Some(Action::Reset),
+        b'n' => Some(Action::Shift(Shift::Ls2)),
+        b'o' => Some(Action::Shift(Shift::Ls3)),
+        b'|' => Some(Action::Shift(Shift::Ls3r)),
+        b'}' => Some(Action::Shift(Shift::Ls2r)),
+        b'~' => Some(Action::Shift(Shift::Ls1r)),
+        _ => None,
+    }
+}
+
+/// ESC, an intermediate and a final byte.
+fn intermediate_action(intermediate: u8, last: u8) -> Option<Action>
+    ensures { result ≡ intermediate_action intermediate last }
+{
+    match (intermediate, last) {
+        (b' ', b'F') => Some(Action::SetEightBitReports(false)),
+        (b' ', b'G') => Some(Action::SetEightBitReports(true)),
+        (b'#', b'8') => Some(Action::Align),
+        (b'%', b'G') => Some(Action::SetCoding(Coding::Utf8)),
+        (b'%', b'@') => Some(Action::SetCoding(Coding::Ecma35)),
+        (b'(', _) => designation(Place::G0, last),
+        (b')', _) => designation(Place::G1, last),
+        (b'*', _) => designation(Place::G2, last),
+        (b'+', _) => designation(Place::G3, last),
+        _ => None,
+    }
+}
+
+/// The designation of a set by its final byte (ECMA-35; VT220 Programmer Reference Manual, SCS).
+fn designation(place: Place, last: u8) -> Option<Action>
+    ensures { result ≡ designation (Some place) (designated_set last) }
+{
+    match last {
+        b'B' => Some(Action::Designate(place, CharacterSet::Ascii)),
+        b'A' => Some(Action::Designate(place, CharacterSet::UnitedKingdom)),
+        b'0' => Some(Action::Designate(place, CharacterSet::SpecialGraphics)),
+        b'<' => Some(Action::Designate(place, CharacterSet::Supplemental)),
+        _ => None,
+    }
+}

@@ -1,0 +1,12 @@
+//! Which rows of the screen table a control function is, with their values.
+#![tactic(auto)]
+
+mod acts;
+mod escapes;
+mod sequences;
+mod values;
+
+pub use acts::{Acts, acts_of};
+pub use escapes::{control_action, escape_action};
+pub use sequences::sequence_acts;
+pub use values::Setting;

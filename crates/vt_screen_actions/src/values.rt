@@ -1,0 +1,75 @@
+//! The functions that name several values.
+
+ghost use Rattle.std.specs.Prelude.{◌≡◌};
+ghost use Rattle.terminal_model.specs.Functions.{mode_set, private_mode_set, rendered};
+ghost use Rattle.vt_screen_actions.specs.Meanings.{meaning};
+
+use terminal_model::{Action, Attribute, Mode};
+
+/// A function that does one action for each of its values that is named.
+#[derive(Clone, Copy, Debug)]
+pub enum Setting {
+    /// SGR.
+    Rendition,
+    /// SM, or RM where false.
+    Mode(bool),
+    /// DECSM, or DECRM where false.
+    PrivateMode(bool),
+}
+
+impl Setting {
+    /// What one value does; None where it isn't named.
+    pub fn action(self, value: u16) -> Option<Action>
+        ensures { result ≡ meaning self value }
+    {
+        match self {
+            Setting::Rendition => rendition_action(value),
+            Setting::Mode(is_set) => mode_action(is_set, value),
+            Setting::PrivateMode(is_set) => private_mode_action(is_set, value),
+        }
+    }
+}
+
+/// A value of SGR (ECMA-48, 8.3.117).
+fn rendition_action(value: u16) -> Option<Action>
+    ensures { result ≡ rendered value }
+{
+    match value {
+        0 => Some(Action::Render(Attribute::Plain)),
+        1 => Some(Action::Render(Attribute::Bold(true))),
+        4 => Some(Action::Render(Attribute::Underlined(true))),
+        5 => Some(Action::Render(Attribute::Blinking(true))),
+        7 => Some(Action::Render(Attribute::Reversed(true))),
+        22 => Some(Action::Render(Attribute::Bold(false))),
+        24 => Some(Action::Render(Attribute::Underlined(false))),
+        25 => Some(Action::Render(Attribute::Blinking(false))),
+        27 => Some(Action::Render(Attribute::Reversed(false))),
+        _ => None,
+    }
+}
+
+/// A value of SM or RM (ECMA-48, 7.2).
+fn mode_action(is_set: bool, value: u16) -> Option<Action>
+    ensures { result ≡ mode_set is_set value }
+{
+    match value {
+        4 => Some(Action::SetMode(Mode::Insert, is_set)),
+        20 => Some(Action::SetMode(Mode::NewLine, is_set)),
+        _ => None,
+    }
+}
+
+/// A value of DECSM or DECRM (VT220 Programmer Reference Manual, chapter 4).
+fn private_mode_action(is_set: bool, value: u16) -> Option<Action>
+    ensures { result ≡ private_mode_set is_set value }
+{
+    match value {
+        1 => Some(Action::SetMode(Mode::Arrows, is_set)),
+        3 => Some(Action::BlankPage),
+        5 => Some(Action::SetMode(Mode::Inverted, is_set)),
+        6 => Some(Action::SetMode(Mode::Origin, is_set)),
+        7 => Some(Action::SetMode(Mode::Wrap, is_set)),
+        25 => Some(Action::SetMode(Mode::Cursor, is_set)),
+        _ => None,
+    }
+}

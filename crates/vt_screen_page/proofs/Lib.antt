@@ -1,0 +1,4 @@
+pub mod Stored
+pub mod Clearing
+pub mod Turning
+pub mod Sizes

@@ -1,0 +1,34 @@
+-- The lines of a page lie in a store in any order: the places say where each line of the page is.
+use Rattle.std.specs.Prelude.{◌≡◌, ◌≢◌, ℕ, ◌+◌, ◌-◌, ◌<◌, ◌≤◌, List, map, length, replicate, slice_index}
+use Rattle.cells.specs.declared.cell.Cell.{Cell}
+use Rattle.cells.specs.Line.{blank}
+use Rattle.cells.specs.Page.{line_at, IsGrid}
+
+-- the lines in the order of their places
+abbrev pub lines_in_order : List (List Cell) → List ℕ → List (List Cell)
+lines_in_order stored places = map (λ place. line_at stored place) places
+
+-- places in the store, no two alike
+pub record ArePlaces (size : ℕ) (places : List ℕ) : Type 0 where
+  pub inside : (k : ℕ) → k < length places → slice_index places k < size
+  pub apart : (k j : ℕ) → k < length places → j < length places → slice_index places k ≡ slice_index places j → k ≡ j
+
+-- a store whose lines make a grid in the order of their places
+pub record IsStore (stored : List (List Cell)) (places : List ℕ) : Type 0 where
+  pub places_apart : ArePlaces (length stored) places
+  pub grid : IsGrid (lines_in_order stored places)
+
+-- the places from top to bottom went round: the first count of them come last
+pub record IsTurned (top bottom count : ℕ) (old new : List ℕ) : Type 0 where
+  pub size : length new ≡ length old
+  pub above : (k : ℕ) → k < top → slice_index new k ≡ slice_index old k
+  pub risen : (k : ℕ) → top ≤ k → k + count ≤ bottom → slice_index new k ≡ slice_index old (k + count)
+  pub last : (k : ℕ) → top ≤ k → k ≤ bottom → bottom < k + count → slice_index new k ≡ slice_index old (k + count - (bottom + 1 - top))
+  pub below : (k : ℕ) → bottom < k → slice_index new k ≡ slice_index old k
+
+-- the lines at the places are blank, and the others as they were
+pub record AreCleared (old new : List (List Cell)) (places : List ℕ) : Type 0 where
+  pub size : length new ≡ length old
+  pub width : (place : ℕ) → length (line_at new place) ≡ length (line_at old place)
+  pub cleared : (k : ℕ) → k < length places → line_at new (slice_index places k) ≡ replicate (length (line_at old (slice_index places k))) blank
+  pub others : (place : ℕ) → ((k : ℕ) → k < length places → slice_index places k ≢ place) → line_at new place ≡ line_at old place

@@ -1,0 +1,290 @@
+//! The page of a screen.
+
+ghost use Rattle.std.specs.Prelude.{◌≡◌, ◌+◌, ◌-◌, ◌<◌, ◌≤◌, ◌↔◌, [], ◌∷◌, length, replicate, IfOk, OnOk, OnErr, Err, IsTrue};
+ghost use Rattle.cells.specs.Line.{blank, spliced, unprotected_erased};
+ghost use Rattle.cells.specs.Page.{IsGrid, IsGridSize, line_at, page_from, page_marked, edited};
+ghost use Rattle.cells.specs.Moves.{scrolled_up, scrolled_down, erased_lines, filled};
+ghost use Rattle.cells.specs.Resizing.{page_resized};
+ghost use Rattle.scrollback.specs.Kept.{taken_in, Continues};
+
+use crate::store;
+use cells::{Cell, GridFault, Line, Shape};
+use scrollback::Ring;
+use std::alloc::{AllocError, Global};
+use std::marker::Model;
+
+/// A page of 2 to 200 lines of 2 to 300 cells, in which the halves of wide characters are paired. A
+/// scroll moves the places of lines and no cells. Lines and columns count from 0. Only `new` and the
+/// changes of size take memory.
+#[derive(Drop)]
+pub struct Page {
+    alloc: Global,
+    stored: Vec<Line>,
+    /// The stored line of each line of the page.
+    places: Vec<usize>,
+}
+
+impl Model for Page {
+    ghost use Rattle.std.specs.Prelude.{List};
+    ghost use Rattle.cells.specs.declared.cell.Cell.{Cell};
+    ghost use Rattle.vt_screen_page.specs.Store.{lines_in_order, IsStore};
+
+    ghost Value = { List (List Cell) };
+
+    ghost view = { λ page. lines_in_order page.stored.items page.places.items };
+
+    ghost invariant = { λ page. IsStore page.stored.items page.places.items };
+}
+
+/// Whether a page may have this size.
+fn is_size(rows: usize, cols: usize) -> bool
+    ensures { IsTrue result ↔ IsGridSize rows cols }
+{
+    (2..=200).contains(&rows) && (2..=300).contains(&cols)
+}
+
+impl Page {
+    /// A page of blanks. It is `BadSize` outside 2 to 200 lines by 2 to 300 columns.
+    pub fn new(alloc: Global, rows: usize, cols: usize) -> Result<Page, GridFault>
+        ensures ok { IfOk result (λ page. page ≡ replicate rows (replicate cols blank)) }
+        ensures size { IfOk result (λ _. IsGridSize rows cols) }
+        ensures bad_size { (result ≡ Err GridFault.BadSize) ↔ (¬ IsGridSize rows cols) }
+    {
+        if !is_size(rows, cols) {
+            return Err(GridFault::BadSize);
+        }
+        match Page::blank(alloc, rows, cols) {
+            Ok(page) => Ok(page),
+            Err(_) => Err(GridFault::NoMemory),
+        }
+    }
+
+    fn blank(alloc: Global, rows: usize, cols: usize) -> Result<Page, AllocError>
+        requires { IsGridSize rows cols }
+        ensures { IfOk result (λ page. page ≡ replicate rows (replicate cols blank)) }
+    {
+        let stored = store::blank_lines(alloc, rows, cols)?;
+        let places = store::places_in_order(alloc, rows)?;
+        Ok(Page {
+            alloc,
+            stored,
+            places,
+        })
+    }
+
+    /// The number of its lines.
+    pub fn rows(&self) -> usize
+        ensures value { result ≡ length self.now }
+        ensures grid { IsGrid self.now }
+    {
+        self.places.len()
+    }
+
+    /// The number of cells of each line.
+    pub fn cols(&self) -> usize
+        ensures { result ≡ length (line_at self.now 0) }
+    {
+        self.stored[self.places[0]].width()
+    }
+
+    /// The cells of a line, from the left.
+    pub fn row(&self, line: usize) -> &[Cell]
+        requires { line < length self.now }
+        ensures { result.now ≡ line_at self.now line }
+    {
+        self.stored[self.places[line]].cells()
+    }
+
+    /// The stored line that holds a line of the page.
+    pub fn place(&self, line: usize) -> usize
+        requires { line < length self.now }
+    {
+        self.places[line]
+    }
+
+    /// Puts blanks into a line, and lets its old cells from `rest` on follow them.
+    pub fn splice(&mut self, line: usize, at: usize, count: usize, rest: usize)
+        requires line_inside { line < length self.old }
+        requires order { at ≤ rest }
+        requires inside { rest ≤ length (line_at self.old line) }
+        requires room { at + count ≤ length (line_at self.old line) }
+        requires changes { at < rest + count }
+        ensures { self.new ≡ page_from (edited line (spliced at (replicate count blank) rest (length (line_at self.old line)))) self.old }
+    {
+        let place = self.places[line];
+        self.stored[place].splice(at, count, rest);
+    }
+
+    /// Puts a cell of width 1 into a line, and lets its old cells from `rest` on follow it.
+    pub fn put_narrow(&mut self, line: usize, at: usize, cell: Cell, rest: usize)
+        requires line_inside { line < length self.old }
+        requires order { at ≤ rest }
+        requires inside { rest ≤ length (line_at self.old line) }
+        requires room { at + 1 ≤ length (line_at self.old line) }
+        requires narrow { cell.shape ≡ Shape.Narrow }
+        ensures { self.new ≡ page_from (edited line (spliced at (cell ∷ []) rest (length (line_at self.old line)))) self.old }
+    {
+        let place = self.places[line];
+        self.stored[place].put_narrow(at, cell, rest);
+    }
+
+    /// Puts the halves of a wide character into a line, and lets its old cells from `rest` on follow
+    /// them.
+    pub fn put_wide(&mut self, line: usize, at: usize, left: Cell, right: Cell, rest: usize)
+        requires line_inside { line < length self.old }
+        requires order { at ≤ rest }
+        requires inside { rest ≤ length (line_at self.old line) }
+        requires room { at + 2 ≤ length (line_at self.old line) }
+        requires left { left.shape ≡ Shape.Left }
+        requires right { right.shape ≡ Shape.Right }
+        ensures { self.new ≡ page_from (edited line (spliced at (left ∷ right ∷ []) rest (length (line_at self.old line)))) self.old }
+    {
+        let place = self.places[line];
+        self.stored[place].put_wide(at, left, right, rest);
+    }
+
+    /// Erases the cells of a line from `from` on and below `end`, but for protected ones.
+    pub fn erase_unprotected(&mut self, line: usize, from: usize, end: usize)
+        requires line_inside { line < length self.old }
+        requires order { from ≤ end }
+        requires inside { end ≤ length (line_at self.old line) }
+        ensures { self.new ≡ page_from (edited line (unprotected_erased (line_at self.old line) from end)) self.old }
+    {
+        let place = self.places[line];
+        self.stored[place].erase_unprotected(from, end);
+    }
+
+    /// Lets a mark join the cell of a place, which drops it where it has two.
+    pub fn mark(&mut self, line: usize, column: usize, mark: char)
+        requires line_inside { line < length self.old }
+        requires inside { column < length (line_at self.old line) }
+        ensures { self.new ≡ page_marked line column mark self.old }
+    {
+        let place = self.places[line];
+        self.stored[place].mark(column, mark);
+    }
+
+    /// Makes the lines from `first` on and below `end` blank.
+    pub fn erase_lines(&mut self, first: usize, end: usize)
+        requires order { first ≤ end }
+        requires inside { end ≤ length self.old }
+        ensures { self.new ≡ page_from (erased_lines first end) self.old }
+    {
+        store::erase_lines(
+            self.stored.as_mut_slice(),
+            self.places.as_slice(),
+            first,
+            end,
+        );
+    }
+
+    /// Makes the whole page blank.
+    pub fn clear(&mut self)
+        ensures { self.new ≡ replicate (length self.old) (replicate (length (line_at self.old 0)) blank) }
+    {
+        store::fill_all(self.stored.as_mut_slice(), Cell::BLANK);
+    }
+
+    /// Puts the same cell, of width 1, at every place.
+    pub fn fill(&mut self, cell: Cell)
+        requires narrow { cell.shape ≡ Shape.Narrow }
+        ensures { self.new ≡ page_from (filled cell) self.old }
+    {
+        store::fill_all(self.stored.as_mut_slice(), cell);
+    }
+
+    /// Scrolls the lines from `top` to `bottom` up by `count`.
+    pub fn scroll_up(&mut self, top: usize, bottom: usize, count: usize)
+        requires order { top ≤ bottom }
+        requires inside { bottom < length self.old }
+        requires room { count ≤ bottom + 1 - top }
+        ensures { self.new ≡ page_from (scrolled_up top bottom count) self.old }
+    {
+        store::scroll_up(
+            self.stored.as_mut_slice(),
+            self.places.as_mut_slice(),
+            top,
+            bottom,
+            count,
+        );
+    }
+
+    /// Scrolls the lines from `top` to `bottom` down by `count`.
+    pub fn scroll_down(&mut self, top: usize, bottom: usize, count: usize)
+        requires order { top ≤ bottom }
+        requires inside { bottom < length self.old }
+        requires room { count ≤ bottom + 1 - top }
+        ensures { self.new ≡ page_from (scrolled_down top bottom count) self.old }
+    {
+        store::scroll_down(
+            self.stored.as_mut_slice(),
+            self.places.as_mut_slice(),
+            top,
+            bottom,
+            count,
+        );
+    }
+
+    /// Scrolls the lines from the first one to `bottom` up by one. The first line goes into the
+    /// scrollback.
+    pub fn scroll_into(&mut self, ring: &mut Ring, bottom: usize)
+        requires inside { bottom < length self.old }
+        requires width { ring.old.columns ≡ length (line_at self.old 0) }
+        ensures page { self.new ≡ page_from (scrolled_up 0 bottom 1) self.old }
+        ensures kept { ring.new ≡ taken_in ring.old (line_at self.old 0) }
+        ensures stands { Continues ring.old ring.new (line_at self.old 0) }
+    {
+        store::scroll_into(
+            self.stored.as_mut_slice(),
+            self.places.as_mut_slice(),
+            ring,
+            bottom,
+        );
+    }
+
+    /// The page in another size. It keeps the upper left part: what is added is blank, and so is a
+    /// half that is cut off from its other half. It is `BadSize` as in `new`.
+    pub fn with_size(&self, rows: usize, cols: usize) -> Result<Page, GridFault>
+        ensures ok { IfOk result (λ page. page ≡ page_resized rows cols self.now) }
+        ensures size { IfOk result (λ _. IsGridSize rows cols) }
+        ensures bad_size { (result ≡ Err GridFault.BadSize) ↔ (¬ IsGridSize rows cols) }
+    {
+        if !is_size(rows, cols) {
+            return Err(GridFault::BadSize);
+        }
+        match self.in_size(rows, cols) {
+            Ok(page) => Ok(page),
+            Err(_) => Err(GridFault::NoMemory),
+        }
+    }
+
+    fn in_size(&self, rows: usize, cols: usize) -> Result<Page, AllocError>
+        requires { IsGridSize rows cols }
+        ensures { IfOk result (λ page. page ≡ page_resized rows cols self.now) }
+    {
+        let stored = store::resized_lines(
+            self.alloc,
+            self.stored.as_slice(),
+            self.places.as_slice(),
+            rows,
+            cols,
+        )?;
+        let places = store::places_in_order(self.alloc, rows)?;
+        Ok(Page {
+            alloc: self.alloc,
+            stored,
+            places,
+        })
+    }
+
+    /// Gives the page another size, as `with_size`. A refusal leaves it as it was.
+    pub fn resized(&mut self, rows: usize, cols: usize) -> Result<(), GridFault>
+        ensures ok { OnOk result (self.new ≡ page_resized rows cols self.old) }
+        ensures err { OnErr result (self.new ≡ self.old) }
+        ensures bad_size { (result ≡ Err GridFault.BadSize) ↔ (¬ IsGridSize rows cols) }
+    {
+        let page = self.with_size(rows, cols)?;
+        *self = page;
+        Ok(())
+    }
+}

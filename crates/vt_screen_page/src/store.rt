@@ -1,0 +1,162 @@
+//! Work on the stored lines of a page and on their places.
+
+ghost use Rattle.std.specs.Prelude.{◌≡◌, ℕ, ◌+◌, ◌-◌, ◌<◌, ◌≤◌, length, map, replicate, IfOk, slice_index};
+ghost use Rattle.std.specs.List.{range_with_len};
+ghost use Rattle.cells.specs.Line.{blank};
+ghost use Rattle.cells.specs.Page.{line_at, page_from};
+ghost use Rattle.cells.specs.Moves.{scrolled_up, scrolled_down, erased_lines};
+ghost use Rattle.scrollback.specs.Kept.{taken_in, Continues};
+ghost use Rattle.cells.specs.Resizing.{line_resized, page_resized};
+ghost use Rattle.vt_screen_page.specs.Store.{IsStore, IsTurned, AreCleared, lines_in_order};
+
+use cells::{Cell, Line, Shape};
+use scrollback::Ring;
+use std::alloc::{AllocError, Global};
+
+/// Lets the places from `top` to `bottom` go round, so that the first `count` of them come last.
+pub fn turn(places: &mut [usize], top: usize, bottom: usize, count: usize)
+    requires order { top ≤ bottom }
+    requires inside { bottom < length places.old }
+    requires room { count ≤ bottom + 1 - top }
+    ensures { IsTurned top bottom count places.old places.new }
+{
+    places[top..bottom + 1].rotate_left(count);
+}
+
+/// Makes the lines at some places blank.
+pub fn clear_lines(stored: &mut [Line], places: &[usize])
+    requires { (k : ℕ) → k < length places.now → slice_index places.now k < length stored.old }
+    ensures { AreCleared stored.old stored.new places.now }
+{
+    for place in places {
+        stored[*place].clear();
+    }
+}
+
+/// Makes the lines of the page from `first` on and below `end` blank.
+pub fn erase_lines(stored: &mut [Line], places: &[usize], first: usize, end: usize)
+    requires store { IsStore stored.old places.now }
+    requires order { first ≤ end }
+    requires inside { end ≤ length places.now }
+    ensures store { IsStore stored.new places.now }
+    ensures page { lines_in_order stored.new places.now ≡ page_from (erased_lines first end) (lines_in_order stored.old places.now) }
+{
+    clear_lines(stored, &places[first..end]);
+}
+
+/// Scrolls the lines of the page from `top` to `bottom` up by `count`.
+pub fn scroll_up(stored: &mut [Line], places: &mut [usize], top: usize, bottom: usize, count: usize)
+    requires store { IsStore stored.old places.old }
+    requires order { top ≤ bottom }
+    requires inside { bottom < length places.old }
+    requires room { count ≤ bottom + 1 - top }
+    ensures store { IsStore stored.new places.new }
+    ensures page { lines_in_order stored.new places.new ≡ page_from (scrolled_up top bottom count) (lines_in_order stored.old places.old) }
+{
+    clear_lines(stored, &places[top..top + count]);
+    turn(places, top, bottom, count);
+}
+
+/// Scrolls the lines of the page from `top` to `bottom` down by `count`.
+pub fn scroll_down(
+    stored: &mut [Line],
+    places: &mut [usize],
+    top: usize,
+    bottom: usize,
+    count: usize,
+)
+    requires store { IsStore stored.old places.old }
+    requires order { top ≤ bottom }
+    requires inside { bottom < length places.old }
+    requires room { count ≤ bottom + 1 - top }
+    ensures store { IsStore stored.new places.new }
+    ensures page { lines_in_order stored.new places.new ≡ page_from (scrolled_down top bottom count) (lines_in_order stored.old places.old) }
+{
+    let kept = bottom + 1 - top - count;
+    clear_lines(stored, &places[top + kept..bottom + 1]);
+    turn(places, top, bottom, kept);
+}
+
+/// Scrolls the lines of the page from the first one to `bottom` up by one, the first one into a ring.
+pub fn scroll_into(stored: &mut [Line], places: &mut [usize], ring: &mut Ring, bottom: usize)
+    requires store { IsStore stored.old places.old }
+    requires inside { bottom < length places.old }
+    requires width { ring.old.columns ≡ length (line_at (lines_in_order stored.old places.old) 0) }
+    ensures store { IsStore stored.new places.new }
+    ensures page { lines_in_order stored.new places.new ≡ page_from (scrolled_up 0 bottom 1) (lines_in_order stored.old places.old) }
+    ensures kept { ring.new ≡ taken_in ring.old (line_at (lines_in_order stored.old places.old) 0) }
+    ensures stands { Continues ring.old ring.new (line_at (lines_in_order stored.old places.old) 0) }
+{
+    let line = &mut stored[places[0]];
+    ring.swap_in(line);
+    line.clear();
+    turn(places, 0, bottom, 1);
+}
+
+/// Makes every cell of every line the same one, of width 1.
+pub fn fill_all(stored: &mut [Line], cell: Cell)
+    requires narrow { cell.shape ≡ Shape.Narrow }
+    ensures { stored.new ≡ map (λ line. replicate (length line) cell) stored.old }
+{
+    for line in stored.iter_mut() {
+        line.fill(cell);
+    }
+}
+
+/// The places of so many lines in the order of the store.
+pub fn places_in_order(alloc: Global, rows: usize) -> Result<Vec<usize>, AllocError>
+    ensures { IfOk result (λ places. places.items ≡ range_with_len 0 rows) }
+{
+    let mut places = Vec::with_capacity(alloc, rows)?;
+    for row in 0..rows {
+        places.push(row)?;
+    }
+    Ok(places)
+}
+
+/// So many blank lines.
+pub fn blank_lines(alloc: Global, rows: usize, cols: usize) -> Result<Vec<Line>, AllocError>
+    ensures { IfOk result (λ lines. lines.items ≡ replicate rows (replicate cols blank)) }
+{
+    let mut lines = Vec::with_capacity(alloc, rows)?;
+    for row in 0..rows {
+        lines.push(Line::blank(alloc, cols)?)?;
+    }
+    Ok(lines)
+}
+
+/// A line of a page in another width, or a blank one below the last.
+fn resized_line(
+    alloc: Global,
+    stored: &[Line],
+    places: &[usize],
+    row: usize,
+    cols: usize,
+) -> Result<Line, AllocError>
+    requires { (k : ℕ) → k < length places.now → slice_index places.now k < length stored.now }
+    ensures { IfOk result (λ line. line ≡ line_resized cols (line_at (lines_in_order stored.now places.now) row)) }
+{
+    if row < places.len() {
+        stored[places[row]].resized(alloc, cols)
+    } else {
+        Line::blank(alloc, cols)
+    }
+}
+
+/// The lines of a page of another size, in their order.
+pub fn resized_lines(
+    alloc: Global,
+    stored: &[Line],
+    places: &[usize],
+    rows: usize,
+    cols: usize,
+) -> Result<Vec<Line>, AllocError>
+    requires { (k : ℕ) → k < length places.now → slice_index places.now k < length stored.now }
+    ensures { IfOk result (λ lines. lines.items ≡ page_resized rows cols (lines_in_order stored.now places.now)) }
+{
+    let mut lines = Vec::with_capacity(alloc, rows)?;
+    for row in 0..rows {
+        lines.push(resized_line(alloc, stored, places, row, cols)?)?;
+    }
+    Ok(lines)
+}

@@ -1,0 +1,151 @@
+//! The cursor.
+
+ghost use Rattle.std.specs.Prelude.{◌≡◌, ◌+◌, ◌-◌, ◌<◌, ◌≤◌, min};
+ghost use Rattle.terminal_model.specs.Table.{advanced, apart, following, home, lacks_room, line_down, line_named, line_up, moved_to, settled};
+
+use terminal_model::{Position, State};
+
+/// No mark joins what was printed: so after every function other than print.
+pub fn separate(state: &mut State)
+    ensures { state.new ≡ apart state.old }
+{
+    state.joining = None;
+}
+
+/// No mark joins what was printed, and no wrap is pending: so after every function other than print, SGR, the shifts
+/// and the designations.
+pub fn settle(state: &mut State)
+    ensures { state.new ≡ settled state.old }
+{
+    state.is_wrap_pending = false;
+    state.joining = None;
+}
+
+/// The cursor goes to a place.
+pub fn move_to(state: &mut State, line: usize, column: usize)
+    ensures { state.new ≡ moved_to state.old line column }
+{
+    state.line = line;
+    state.column = column;
+    settle(state);
+}
+
+/// The cursor goes home: to the page's first place, or to that of the margins with ?6 set (VT220 Programmer Reference
+/// Manual, DECOM).
+pub fn go_home(state: &mut State)
+    ensures { state.new ≡ home state.old }
+{
+    let line = if state.modes.counts_from_margin {
+        state.top
+    } else {
+        0
+    };
+    move_to(state, line, 0);
+}
+
+/// CUU (ECMA-48, 8.3.22): from within or below the margins at most to their first line, else to the page's.
+pub fn go_up(state: &mut State, count: usize)
+    ensures { state.new ≡ moved_to state.old (line_up state.old count) state.old.column }
+{
+    let first = if state.top <= state.line {
+        state.top
+    } else {
+        0
+    };
+    let line = state.line.saturating_sub(count).max(first);
+    let column = state.column;
+    move_to(state, line, column);
+}
+
+/// CUD (ECMA-48, 8.3.19): from within or above the margins at most to their last line, else to the page's.
+pub fn go_down(state: &mut State, count: usize)
+    requires line_inside { state.old.line < state.old.rows }
+    requires bottom_inside { state.old.bottom < state.old.rows }
+    ensures { state.new ≡ moved_to state.old (line_down state.old count) state.old.column }
+{
+    let last = if state.line <= state.bottom {
+        state.bottom
+    } else {
+        state.rows - 1
+    };
+    let line = state.line.saturating_add(count).min(last);
+    let column = state.column;
+    move_to(state, line, column);
+}
+
+/// CUF (ECMA-48, 8.3.20): at most to the last column.
+pub fn go_right(state: &mut State, count: usize)
+    requires { state.old.column < state.old.columns }
+    ensures { state.new ≡ moved_to state.old state.old.line (min (state.old.column + count) (state.old.columns - 1)) }
+{
+    let line = state.line;
+    let column = state.column.saturating_add(count).min(state.columns - 1);
+    move_to(state, line, column);
+}
+
+/// CUB (ECMA-48, 8.3.18), and BS (8.3.5) by one: at most to the first column.
+pub fn go_left(state: &mut State, count: usize)
+    ensures { state.new ≡ moved_to state.old state.old.line (state.old.column - count) }
+{
+    let line = state.line;
+    let column = state.column.saturating_sub(count);
+    move_to(state, line, column);
+}
+
+/// CUP (ECMA-48, 8.3.21) and HVP (8.3.63): a place of the page, or with ?6 set of the margins' lines.
+pub fn go_to(state: &mut State, line: usize, column: usize)
+    requires line_inside { state.old.line < state.old.rows }
+    requires column_inside { state.old.column < state.old.columns }
+    requires bottom_inside { state.old.bottom < state.old.rows }
+    ensures { state.new ≡ moved_to state.old (line_named state.old line) (min column (state.old.columns - 1)) }
+{
+    let line = if state.modes.counts_from_margin {
+        state.top.saturating_add(line).min(state.bottom)
+    } else {
+        line.min(state.rows - 1)
+    };
+    let column = column.min(state.columns - 1);
+    move_to(state, line, column);
+}
+
+/// Whether a wide character has no room at the cursor.
+pub fn lacks_room(state: &State) -> bool
+    requires { state.now.column < state.now.columns }
+    ensures { result ≡ lacks_room state.now }
+{
+    state.column + 1 == state.columns
+}
+
+/// The column whose old cell follows so many new ones at the cursor: with IRM set the one that stood there (ECMA-48,
+/// 7.2.10).
+pub fn following(state: &State, width: usize) -> usize
+    requires inside { state.now.column + width ≤ state.now.columns }
+    requires few { state.now.columns ≤ 300 }
+    ensures { result ≡ following state.now width }
+{
+    if state.modes.inserts {
+        state.column
+    } else {
+        state.column + width
+    }
+}
+
+/// The cursor behind so many printed columns, which marks join; behind the last column the wrap is pending, with ?7 set.
+pub fn advance(state: &mut State, width: usize)
+    requires some { 0 < width }
+    requires inside { state.old.column + width ≤ state.old.columns }
+    ensures { state.new ≡ advanced state.old width }
+{
+    state.joining = Some(Position {
+        line: state.line,
+        column: state.column,
+    });
+    let column = state.column + width;
+    if column < state.columns {
+        state.column = column;
+        state.is_wrap_pending = false;
+    } else {
+        state.column = state.columns - 1;
+        state.is_wrap_pending = state.modes.wraps;
+    }
+}

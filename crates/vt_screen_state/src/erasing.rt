@@ -1,0 +1,56 @@
+//! The parts of a line and of the page that an erasure takes (ECMA-48, 8.3.38, 8.3.39 and 8.3.41).
+
+ghost use Rattle.std.specs.Prelude.{◌≡◌, ◌+◌, ◌<◌, ◌≤◌, min};
+ghost use Rattle.terminal_model.specs.Table.{first_column, end_column, first_line, end_line};
+
+use terminal_model::{Part, State};
+
+/// The first column of a part of the cursor's line.
+pub fn first_column(part: Part, state: &State) -> usize
+    ensures { result ≡ first_column part state.now }
+{
+    match part {
+        Part::ToEnd => state.column,
+        Part::ToStart | Part::All => 0,
+    }
+}
+
+/// The column behind a part of the cursor's line.
+pub fn end_column(part: Part, state: &State) -> usize
+    requires { state.now.column < state.now.columns }
+    ensures { result ≡ end_column part state.now }
+{
+    match part {
+        Part::ToStart => state.column + 1,
+        Part::ToEnd | Part::All => state.columns,
+    }
+}
+
+/// The first one of the lines that a part of the page has beside the cursor's, or of all lines.
+pub fn first_line(part: Part, state: &State) -> usize
+    requires inside { state.now.line < state.now.rows }
+    requires few { state.now.rows ≤ 200 }
+    ensures { result ≡ first_line part state.now }
+{
+    match part {
+        Part::ToEnd => state.line + 1,
+        Part::ToStart | Part::All => 0,
+    }
+}
+
+/// The line behind these.
+pub fn end_line(part: Part, state: &State) -> usize
+    ensures { result ≡ end_line part state.now }
+{
+    match part {
+        Part::ToStart => state.line,
+        Part::ToEnd | Part::All => state.rows,
+    }
+}
+
+/// The column behind so many from the cursor on, or the end of the line.
+pub fn end_after(state: &State, count: usize) -> usize
+    ensures { result ≡ min (state.now.column + count) state.now.columns }
+{
+    state.column.saturating_add(count).min(state.columns)
+}

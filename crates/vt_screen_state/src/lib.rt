@@ -1,0 +1,24 @@
+//! What a terminal holds beside its page, and how control functions change it. Lines and columns count from 0.
+#![tactic(auto)]
+
+mod cursor;
+mod erasing;
+mod margins;
+mod modes;
+mod report;
+mod saved;
+mod tabs;
+
+pub use cursor::{
+    advance, following, go_down, go_home, go_left, go_right, go_to, go_up, lacks_room, move_to,
+    separate, settle,
+};
+pub use erasing::{end_after, end_column, end_line, first_column, first_line};
+pub use margins::{fit, is_in_margins, set_margins, use_whole_page};
+pub use modes::{
+    designate, protect, render, set_application_keypad, set_coding, set_eight_bit_reports,
+    set_mode, shift, soft_reset, starting_state,
+};
+pub use report::report_of;
+pub use saved::{fit_saved, restore, saved_of};
+pub use tabs::Tabs;

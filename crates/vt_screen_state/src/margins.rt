@@ -1,0 +1,59 @@
+//! The margins, and the size of the page.
+
+ghost use Rattle.std.specs.Prelude.{◌≡◌, ◌-◌, ◌<◌, min, nat_lt};
+ghost use Rattle.cells.specs.Page.{IsGridSize};
+ghost use Rattle.terminal_model.specs.Table.{bottom_of, is_in_margins, margins_or_none, whole_margins};
+ghost use Rattle.vt_screen_state.specs.Fitted.{fitted};
+
+use crate::cursor::go_home;
+use terminal_model::State;
+
+/// DECSTBM (VT220 Programmer Reference Manual): the lines from `top` to `bottom`, by default the page's last one, are
+/// the margins, and the cursor goes home; where these aren't two lines at least, nothing changes.
+pub fn set_margins(state: &mut State, top: usize, bottom: Option<usize>)
+    requires { state.old.line < state.old.rows }
+    ensures { state.new ≡ margins_or_none (nat_lt top (bottom_of state.old.rows bottom)) top (bottom_of state.old.rows bottom) state.old }
+{
+    let last = state.rows - 1;
+    let bottom = match bottom {
+        Some(bottom) => bottom.min(last),
+        None => last,
+    };
+    if top < bottom {
+        state.top = top;
+        state.bottom = bottom;
+        go_home(state);
+    }
+}
+
+/// The margins are the whole page.
+pub fn use_whole_page(state: &mut State)
+    requires { state.old.line < state.old.rows }
+    ensures { state.new ≡ whole_margins state.old }
+{
+    state.top = 0;
+    state.bottom = state.rows - 1;
+}
+
+/// Whether the cursor is within the margins.
+pub fn is_in_margins(state: &State) -> bool
+    ensures { result ≡ is_in_margins state.now }
+{
+    state.top <= state.line && state.line <= state.bottom
+}
+
+/// A page of another size: the cursor goes to the nearest place, no wrap is pending, no mark joins what was printed, and
+/// the margins are the whole page.
+pub fn fit(state: &mut State, rows: usize, columns: usize)
+    requires { IsGridSize rows columns }
+    ensures { state.new ≡ fitted rows columns state.old }
+{
+    state.rows = rows;
+    state.columns = columns;
+    state.line = state.line.min(rows - 1);
+    state.column = state.column.min(columns - 1);
+    state.is_wrap_pending = false;
+    state.top = 0;
+    state.bottom = rows - 1;
+    state.joining = None;
+}

@@ -1,0 +1,94 @@
+//! DECSC and DECRC (VT220 Programmer Reference Manual, cursor positioning).
+
+ghost use Rattle.std.specs.Prelude.{◌≡◌, ◌-◌, ◌<◌, option_map};
+ghost use Rattle.cells.specs.Page.{IsGridSize};
+ghost use Rattle.terminal_model.specs.Table.{never_saved, restored, restored_line, saved_of, saved_or_none, saved_resized};
+
+use cells::Rendition;
+use charsets::Shifts;
+use terminal_model::{Saved, State};
+
+/// What DECSC saves: the cursor, and how is printed there.
+pub fn saved_of(state: &State) -> Saved
+    ensures { result ≡ saved_of state.now }
+{
+    Saved {
+        line: state.line,
+        column: state.column,
+        is_wrap_pending: state.is_wrap_pending,
+        rendition: state.rendition,
+        is_protecting: state.is_protecting,
+        shifts: state.shifts,
+        counts_from_margin: state.modes.counts_from_margin,
+    }
+}
+
+/// What is restored where nothing was saved.
+fn never_saved() -> Saved
+    ensures { result ≡ never_saved }
+{
+    Saved {
+        line: 0,
+        column: 0,
+        is_wrap_pending: false,
+        rendition: Rendition::PLAIN,
+        is_protecting: false,
+        shifts: Shifts::new(),
+        counts_from_margin: false,
+    }
+}
+
+/// Restores what was saved, or its starting values where nothing was, at a place of the page, and of the margins with ?6
+/// set.
+pub fn restore(state: &mut State, saved: Option<Saved>)
+    requires line_inside { state.old.line < state.old.rows }
+    requires column_inside { state.old.column < state.old.columns }
+    ensures { state.new ≡ restored state.old (saved_or_none saved) }
+{
+    let saved = match saved {
+        Some(saved) => saved,
+        None => never_saved(),
+    };
+    restore_from(state, saved);
+}
+
+fn restore_from(state: &mut State, saved: Saved)
+    requires line_inside { state.old.line < state.old.rows }
+    requires column_inside { state.old.column < state.old.columns }
+    ensures { state.new ≡ restored state.old saved }
+{
+    let last = state.columns - 1;
+    state.line = restored_line(state, saved);
+    state.column = saved.column.min(last);
+    state.is_wrap_pending = saved.is_wrap_pending && state.modes.wraps && state.column == last;
+    state.rendition = saved.rendition;
+    state.is_protecting = saved.is_protecting;
+    state.shifts = saved.shifts;
+    state.modes.counts_from_margin = saved.counts_from_margin;
+    state.joining = None;
+}
+
+/// A saved line, on the page, and within the margins where ?6 was saved.
+fn restored_line(state: &State, saved: Saved) -> usize
+    requires { state.now.line < state.now.rows }
+    ensures { result ≡ restored_line state.now saved }
+{
+    if saved.counts_from_margin {
+        saved.line.min(state.bottom).max(state.top)
+    } else {
+        saved.line.min(state.rows - 1)
+    }
+}
+
+/// What was saved, at the nearest place of a page of another size.
+pub fn fit_saved(saved: Option<Saved>, rows: usize, columns: usize) -> Option<Saved>
+    requires { IsGridSize rows columns }
+    ensures { result ≡ option_map (saved_resized rows columns) saved }
+{
+    let saved = saved?;
+    Some(Saved {
+        line: saved.line.min(rows - 1),
+        column: saved.column.min(columns - 1),
+        ..saved
+    })
+}
