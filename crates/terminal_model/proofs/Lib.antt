@@ -9,3 +9,4 @@ pub mod Terminals
 pub mod Places
 pub mod Frames
 pub mod Shown
+pub mod Further
