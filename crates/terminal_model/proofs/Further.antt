@@ -1,14 +1,12 @@
 -- The scrollback, first frames, acts behind each other, and the functions that frames are made of.
-use Rattle.std.proofs.Common.{◌≡◌, ℕ, zero, suc, ◌+◌, ◌<◌, Bool, true, false, List, [], ◌∷◌, ◌++◌, length, take, reverse, Option, Some, None, refl, sym, ap, ◌∙◌, subst, arith, append_assoc, append-nil}
+use Rattle.std.proofs.Common.{◌≡◌, ℕ, zero, suc, ◌<◌, Bool, true, false, List, [], ◌∷◌, ◌++◌, length, take, reverse, Option, Some, None, refl, sym, ap, ◌∙◌, subst, arith, append_assoc, append-nil}
 use Rattle.std.proofs.lemmas.List.{reverse-append}
 use Rattle.std.specs.Prelude.{is_some, option_to_list, ◌&&◌}
-use Rattle.std.specs.List.{AllByRecursion, list_all}
-use Rattle.cells.specs.declared.cell.Cell.{Cell}
-use Rattle.control_parser.specs.declared.func.Func.{Func}
-use Rattle.control_parser.specs.declared.func.Func.TheVariants.{Print, Esc, Csi}
+use Rattle.std.specs.List.{AllByRecursion}
+use Rattle.control_parser.specs.declared.func.Func.TheVariants.{Esc, Csi}
 use Rattle.terminal_model.specs.declared.action.Action.{Action}
-use Rattle.terminal_model.specs.Screen.{Page, Screen, IsSound, taken_in, all_taken_in, blank_page}
-use Rattle.terminal_model.specs.Functions.{actions_of, plain_sequence, private_sequence, rendered, private_mode_set}
+use Rattle.terminal_model.specs.Screen.{Page, Screen, IsSound, all_taken_in}
+use Rattle.terminal_model.specs.Functions.{plain_sequence, private_sequence, rendered, private_mode_set}
 use Rattle.terminal_model.specs.Reading.{Act, ready}
 use Rattle.terminal_model.specs.Shows.{blank_view}
 use Rattle.terminal_model.specs.Drawing.{Draws, IsDiscreet, IsSpare, IsListed, IsDrawn, frame_start}

@@ -10,3 +10,4 @@ pub mod Places
 pub mod Frames
 pub mod Shown
 pub mod Further
+pub mod Renditions

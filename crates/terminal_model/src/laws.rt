@@ -5,6 +5,7 @@ ghost use Rattle.std.specs.List.{AllByRecursion};
 ghost use Rattle.charsets.specs.declared.unit.Unit.TheVariants.{Code};
 ghost use Rattle.charsets.specs.Shifts.{is_graphic};
 ghost use Rattle.cells.specs.declared.cell.Cell.{Cell};
+ghost use Rattle.cells.specs.declared.cell.Rendition.{Rendition};
 ghost use Rattle.cells.specs.Line.{blank, IsPaired, spliced};
 ghost use Rattle.cells.specs.Page.{line_at, IsPage, IsGridSize, page_from, page_marked, edited};
 ghost use Rattle.control_parser.specs.declared.func.Func.{Func};
@@ -23,7 +24,7 @@ ghost use Rattle.terminal_model.specs.Reading.{Act, Terminal, IsTerminal, ready,
 ghost use Rattle.terminal_model.specs.Writing.{Writing, IsWriting, Output, writes_all};
 ghost use Rattle.terminal_model.specs.Shows.{blank_view};
 ghost use Rattle.terminal_model.specs.Drawing.{frame_bytes, frame_start, Draws, IsListed, IsDrawn};
-ghost use Rattle.terminal_model.specs.Places.{place, over, with_mark, IsPlain, narrow_at, wide_at, PutsOver, PutsMark, mode_final, keypad_final};
+ghost use Rattle.terminal_model.specs.Places.{place, over, with_mark, IsPlain, narrow_at, wide_at, PutsOver, PutsMark, mode_final, keypad_final, rendition_values};
 
 /// Reading in two pieces is reading the whole, and so it is with a window's writing.
 pub fn pieces_are_whole()
@@ -111,7 +112,9 @@ pub fn renditions_and_modes_change_alone()
         effect x (Csi (Some 0x3F) (n ∷ []) [] (mode_final on)) ≡ with_state x (homed m (record x.state { modes = modes_with x.state.modes m on })) }
     ensures keypad { (x : Screen) (on : Bool) →
         effect x (Esc [] (keypad_final on)) ≡ with_state x (settled (record x.state { modes = record x.state.modes { has_application_keypad = on } })) }
-    ensures rendition_quiet { (x : Screen) (n : ℕ) (a : Attribute) → rendered n ≡ Some (Render a) → report x (Csi None (n ∷ []) [] 0x6D) ≡ [] }
+    ensures whole_rendition { (x : Screen) (r : Rendition) →
+        effect x (Csi None (rendition_values r) [] 0x6D) ≡ with_state x (apart (record x.state { rendition = r })) }
+    ensures rendition_quiet { (x : Screen) (values : List ℕ) → report x (Csi None values [] 0x6D) ≡ [] }
     ensures mode_quiet { (x : Screen) (on : Bool) (n : ℕ) (m : Mode) → private_mode_set on n ≡ Some (SetMode m on) →
         report x (Csi (Some 0x3F) (n ∷ []) [] (mode_final on)) ≡ [] }
     ensures keypad_quiet { (x : Screen) (on : Bool) → report x (Esc [] (keypad_final on)) ≡ [] }
@@ -143,6 +146,7 @@ pub fn frame_functions_are_listed()
     ensures cells { (n : ℕ) → IsListed (Csi None (n ∷ []) [] 0x58) }
     ensures line { IsListed (Csi None (0 ∷ []) [] 0x4B) }
     ensures rendition { (n : ℕ) (a : Action) → rendered n ≡ Some a → IsListed (Csi None (n ∷ []) [] 0x6D) }
+    ensures whole_rendition { (r : Rendition) → IsListed (Csi None (rendition_values r) [] 0x6D) }
     ensures mode { (on : Bool) (n : ℕ) (a : Action) → private_mode_set on n ≡ Some a → IsListed (Csi (Some 0x3F) (n ∷ []) [] (mode_final on)) }
     ensures keypad { (on : Bool) → IsListed (Esc [] (keypad_final on)) }
 {}
