@@ -9,6 +9,8 @@ mod limits;
 mod report;
 mod rows;
 mod state;
+#[cfg(test)]
+mod tests;
 
 pub use action::{Action, Attribute, Mode, Part};
 pub use laws::{
