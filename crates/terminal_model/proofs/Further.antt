@@ -1,15 +1,18 @@
 -- The scrollback, first frames, acts behind each other, and the functions that frames are made of.
 use Rattle.std.proofs.Common.{◌≡◌, ℕ, zero, suc, ◌<◌, Bool, true, false, List, [], ◌∷◌, ◌++◌, length, take, reverse, Option, Some, None, refl, sym, ap, ◌∙◌, subst, arith, append_assoc, append-nil}
 use Rattle.std.proofs.lemmas.List.{reverse-append}
+use Rattle.std.proofs.lemmas.Grind.{flat_map-append}
 use Rattle.std.specs.Prelude.{is_some, option_to_list, ◌&&◌}
-use Rattle.std.specs.List.{AllByRecursion}
+use Rattle.std.specs.List.{AllByRecursion, flat_map}
+use Rattle.control_parser.specs.Spelling.{spelling}
 use Rattle.control_parser.specs.declared.func.Func.TheVariants.{Esc, Csi}
+use Rattle.control_parser.specs.declared.func.Func.{Func}
 use Rattle.terminal_model.specs.declared.action.Action.{Action}
 use Rattle.terminal_model.specs.Screen.{Page, Screen, IsSound, all_taken_in}
 use Rattle.terminal_model.specs.Functions.{plain_sequence, private_sequence, rendered, private_mode_set}
 use Rattle.terminal_model.specs.Reading.{Act, ready}
 use Rattle.terminal_model.specs.Shows.{blank_view}
-use Rattle.terminal_model.specs.Drawing.{Draws, IsDiscreet, IsSpare, IsListed, IsDrawn, frame_start}
+use Rattle.terminal_model.specs.Drawing.{Draws, IsDiscreet, IsSpare, IsListed, IsDrawn, AreSpelled, frame_start}
 use Rattle.terminal_model.specs.Places.{IsPlain, mode_final, keypad_final}
 use Rattle.terminal_model.proofs.Sound.{IsPage-blank, tabs-start}
 
@@ -80,6 +83,12 @@ all-append P (x ∷ a) b h k = (h.0, all-append P a b h.1 k)
 
 pub draws-append : (old page : Page) (a b : List Act) → Draws old page a → Draws old page b → Draws old page (a ++ b)
 draws-append old page a b h k = record { discreet = all-append (IsDiscreet page) a b h.discreet k.discreet; spare = all-append (IsSpare old page) a b h.spare k.spare }
+
+pub spelled-append : (a b : List ℕ) (as' bs : List Act) → AreSpelled a as' → AreSpelled b bs → AreSpelled (a ++ b) (as' ++ bs)
+spelled-append a b as' bs h k = ap (λ v. v ++ b) h ∙ ap (λ v. flat_map (λ c. spelling c.func) as' ++ v) k ∙ sym (flat_map-append (λ c. spelling c.func) as' bs)
+
+pub spelled-one : (x : Screen) (f : Func) → AreSpelled (spelling f) (record { before = x; func = f } ∷ [])
+spelled-one x f = sym (append-nil (spelling f))
 
 -- listed functions
 

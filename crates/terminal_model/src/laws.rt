@@ -23,7 +23,7 @@ ghost use Rattle.terminal_model.specs.Reports.{report};
 ghost use Rattle.terminal_model.specs.Reading.{Act, Terminal, IsTerminal, ready, joined, reads};
 ghost use Rattle.terminal_model.specs.Writing.{Writing, IsWriting, Output, writes_all};
 ghost use Rattle.terminal_model.specs.Shows.{blank_view};
-ghost use Rattle.terminal_model.specs.Drawing.{frame_bytes, frame_start, Draws, IsListed, IsDrawn};
+ghost use Rattle.terminal_model.specs.Drawing.{frame_bytes, frame_start, Draws, IsListed, IsDrawn, AreSpelled};
 ghost use Rattle.terminal_model.specs.Places.{place, over, with_mark, IsPlain, narrow_at, wide_at, PutsOver, PutsMark, mode_final, keypad_final, rendition_values};
 
 /// Reading in two pieces is reading the whole, and so it is with a window's writing.
@@ -135,9 +135,11 @@ pub fn last_lines_stay()
     ensures { (keep : ℕ) (lines : Page) → all_taken_in keep lines [] ≡ take keep (reverse lines) }
 {}
 
-/// Acts that are discreet and spare are so behind each other.
+/// Acts that are discreet and spare are so behind each other, and so are bytes that are their spellings alone.
 pub fn draws_join()
-    ensures { (old page : Page) (a b : List Act) → Draws old page a → Draws old page b → Draws old page (a ++ b) }
+    ensures spelled { (a b : List ℕ) (first second : List Act) → AreSpelled a first → AreSpelled b second → AreSpelled (a ++ b) (first ++ second) }
+    ensures one { (x : Screen) (f : Func) → AreSpelled (spelling f) (record { before = x; func = f } ∷ []) }
+    ensures draws { (old page : Page) (a b : List Act) → Draws old page a → Draws old page b → Draws old page (a ++ b) }
 {}
 
 /// The functions that frames are made of beside print are listed, with values that are named.
