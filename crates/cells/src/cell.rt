@@ -84,11 +84,10 @@ impl Cell {
         ensures { result ≡ narrow_cell character rendition is_protected }
     {
         Cell {
-            shape: Shape::Narrow,
             character,
-            marks: Marks::Bare,
             rendition,
             is_protected,
+            ..Cell::BLANK
         }
     }
 
