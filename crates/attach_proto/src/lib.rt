@@ -15,7 +15,7 @@ mod writing;
 pub use fault::{ProtoFault, WriteFault};
 pub use fields::{Bytes, Text, Token};
 pub use kind::Kind;
-pub use laws::{one_reading, spelled_ones_are_read};
+pub use laws::{longest_list, one_reading, spelled_apart, spelled_ones_are_read};
 pub use message::Message;
 pub use reader::Reader;
 pub use reading::LONGEST;
