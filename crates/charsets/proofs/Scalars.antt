@@ -1,5 +1,5 @@
 -- The units of bytes are units that a parser reads.
-use Rattle.std.proofs.Common.{◌≡◌, ◌+◌, ◌-◌, ◌*◌, ◌<◌, ◌≤◌, ℕ, zero, suc, Bool, true, false, ◌&&◌, cond, List, [], ◌∷◌, ◌++◌, map, Option, Some, None, refl, sym, ap, subst, ◌∙◌, arith}
+use Rattle.std.proofs.Common.{◌≡◌, ◌<◌, ◌≤◌, ℕ, zero, suc, Bool, true, false, cond, List, [], ◌∷◌, ◌++◌, map, Option, Some, None, refl, arith}
 use Rattle.std.specs.Prelude.{nat_lt, ◌==◌}
 use Rattle.std.specs.Char.{IsScalar}
 use Rattle.std.specs.List.{AllByRecursion}
@@ -7,9 +7,8 @@ use Rattle.std.proofs.lemmas.Bool.Decides.{nat_tests}
 use Rattle.std.proofs.Math.Utf8.{scalar, low_scalar}
 use Rattle.charsets.specs.declared.unit.Coding.{Coding}
 use Rattle.charsets.specs.declared.unit.Coding.TheVariants.{Utf8, Ecma35}
-use Rattle.charsets.specs.declared.unit.Unit.{Unit}
 use Rattle.charsets.specs.declared.unit.Unit.TheVariants.{Code, High}
-use Rattle.charsets.specs.Utf8.{Piece, whole, broken_by, broken_gives, no_beginning, is_lead, follows, continues, code_of_2, code_of_3, code_of_4, piece, piece_of_2, piece_of_3, piece_of_4, cut, codes, with_front}
+use Rattle.charsets.specs.Utf8.{Piece, broken_by, is_lead, follows, continues, code_of_2, code_of_3, code_of_4, piece, piece_of_2, piece_of_3, piece_of_4, cut, codes}
 use Rattle.charsets.specs.Units.{units, unit_of_byte, IsUnit}
 use Rattle.charsets.proofs.Cuts.{cut_by, cut-step}
 

@@ -16,3 +16,6 @@ pub use laws::{
 pub use sets::CharacterSet;
 pub use shifts::{Place, Shift, Shifts};
 pub use unit::{Coding, Unit, Units};
+
+#[cfg(test)]
+mod tests;

@@ -5,7 +5,9 @@ ghost use Rattle.control_parser.specs.Text.{is_intermediate};
 ghost use Rattle.control_parser.specs.Steps.{text_grown, begun_step, broken_step, escape_step, control_step, breaks_string, is_final_from, step_of, alone_of};
 ghost use Rattle.control_parser.specs.Grammar.{code, is_control, is_c1, is_sequence_text};
 
-use crate::func::{Func, Intermediates, Params};
+use crate::func::Func;
+use crate::intermediates::Intermediates;
+use crate::params::Params;
 use charsets::Unit;
 
 /// The text of a control sequence so far.

@@ -3,116 +3,207 @@ use charsets::{Coding, Decoder, Unit, Units};
 use std::alloc::{AllocError, Global};
 use std::test::*;
 
-fn show(alloc: Global, out: &mut String, func: Func) -> Result<(), AllocError> {
-    match func {
-        Func::Print(c) => {
-            out.push('P')?;
-            out.push(c)?;
-        }
-        Func::High(_) => out.push('H')?,
-        Func::Control(c) => {
-            out.push('C')?;
-            out.push((c % 32 + 64) as char)?;
-        }
-        Func::Esc {
-            intermediates,
-            last,
-        } => {
-            out.push('E')?;
-            for b in intermediates.as_slice() {
-                out.push((b % 128) as char)?;
-            }
-            out.push((last % 128) as char)?;
-        }
-        Func::Csi {
-            mark,
-            params,
-            intermediates,
-            last,
-        } => {
-            out.push('S')?;
-            if let Some(m) = mark {
-                out.push((m % 128) as char)?;
-            }
-            for p in params.as_slice() {
-                let text = format!(in alloc; "{p};")?;
-                out.push_str(text.as_str())?;
-            }
-            for b in intermediates.as_slice() {
-                out.push((b % 128) as char)?;
-            }
-            out.push((last % 128) as char)?;
-        }
-    }
-    out.push(' ')
+// What was read, written out: P and a character, H, C and a control's letter, E and an escape sequence, S and a control
+// sequence, whose numbers each end in a semicolon.
+#[derive(Drop)]
+struct Transcript {
+    decoder: Decoder,
+    parser: Parser,
+    text: String,
 }
 
-fn give(
-    alloc: Global,
-    parser: &mut Parser,
-    out: &mut String,
-    unit: Unit,
-) -> Result<(), AllocError> {
-    match parser.push(unit) {
-        None => Ok(()),
-        Some(f) => show(alloc, out, f),
-    }
-}
-
-fn read(alloc: Global, coding: Coding, bytes: &[u8]) -> Result<String, AllocError> {
-    let mut decoder = Decoder::new();
-    decoder.set_coding(coding);
-    let mut parser = Parser::new();
-    let mut out = String::new(alloc);
-    for b in bytes {
-        match decoder.push(*b) {
-            Units::Nothing => {}
-            Units::One(u) => give(alloc, &mut parser, &mut out, u)?,
-            Units::Two(u, v) => {
-                give(alloc, &mut parser, &mut out, u)?;
-                give(alloc, &mut parser, &mut out, v)?;
-            }
+impl Transcript {
+    fn new(alloc: Global, coding: Coding) -> Transcript {
+        let mut decoder = Decoder::new();
+        decoder.set_coding(coding);
+        Transcript {
+            decoder,
+            parser: Parser::new(),
+            text: String::new(alloc),
         }
     }
-    Ok(out)
+
+    fn read(&mut self, alloc: Global, bytes: &[u8]) -> Result<(), AllocError> {
+        for byte in bytes {
+            match self.decoder.push(*byte) {
+                Units::Nothing => {}
+                Units::One(u) => self.take(alloc, u)?,
+                Units::Two(u, v) => {
+                    self.take(alloc, u)?;
+                    self.take(alloc, v)?;
+                }
+            }
+        }
+        Ok(())
+    }
+
+    fn take(&mut self, alloc: Global, unit: Unit) -> Result<(), AllocError> {
+        match self.parser.push(unit) {
+            None => Ok(()),
+            Some(func) => self.put(alloc, func),
+        }
+    }
+
+    fn put(&mut self, alloc: Global, func: Func) -> Result<(), AllocError> {
+        match func {
+            Func::Print(c) => {
+                self.text.push('P')?;
+                self.text.push(c)?;
+            }
+            Func::High(_) => self.text.push('H')?,
+            Func::Control(c) => {
+                self.text.push('C')?;
+                self.text.push((c % 32 + 64) as char)?;
+            }
+            Func::Esc {
+                intermediates,
+                last,
+            } => {
+                self.text.push('E')?;
+                self.put_ascii(intermediates.as_slice())?;
+                self.put_ascii(&[last])?;
+            }
+            Func::Csi {
+                mark,
+                params,
+                intermediates,
+                last,
+            } => {
+                self.text.push('S')?;
+                if let Some(m) = mark {
+                    self.put_ascii(&[m])?;
+                }
+                for p in params.as_slice() {
+                    let number = format!(in alloc; "{p};")?;
+                    self.text.push_str(number.as_str())?;
+                }
+                self.put_ascii(intermediates.as_slice())?;
+                self.put_ascii(&[last])?;
+            }
+        }
+        self.text.push(' ')
+    }
+
+    fn put_ascii(&mut self, bytes: &[u8]) -> Result<(), AllocError> {
+        for byte in bytes {
+            self.text.push((byte % 128) as char)?;
+        }
+        Ok(())
+    }
 }
 
 #[test]
-fn rows(rt: HostRuntime) -> Result<(), Fail> {
-    let utf8 = |bytes: &[u8]| read(rt.alloc(), Coding::Utf8, bytes);
-    assert_eq!(rt; utf8(b"a\x1b[1;\n31mb")?.as_str(), "Pa CJ S1;31;m Pb ");
-    assert_eq!(rt; utf8(b"\xe2\x82\x41")?.as_str(), "P\u{FFFD} PA ");
-    assert_eq!(rt; utf8(b"\xe6\xbc\x18\xa2")?.as_str(), "P\u{FFFD} ");
-    assert_eq!(rt; utf8(b"\xe6\xbc\xa2")?.as_str(), "P\u{6F22} ");
+fn rows_at_every_cut(rt: HostRuntime) -> Result<(), Fail> {
+    let rows: [(&[u8], &str); 20] = [
+        (b"a\x1b[1;\n31mb", "Pa CJ S1;31;m Pb "),
+        (b"\x1b(0q\x1b(Bq", "E(0 Pq E(B Pq "),
+        (b"\xe2\x82\x41", "P\u{FFFD} PA "),
+        (b"\xe6\xbc\x18\xa2", "P\u{FFFD} "),
+        (b"\xe6\xbc\xa2", "P\u{6F22} "),
+        (
+            b"e\xcc\x81\xcc\x82\xcc\x83",
+            "Pe P\u{301} P\u{302} P\u{303} ",
+        ),
+        (b"\x1b%@\x1b*<", "E%@ E*< "),
+        (b"\x1b+0\x1bOqq", "E+0 EO Pq Pq "),
+        (b"\xed\xa0\x80", "P\u{FFFD} P\u{FFFD} P\u{FFFD} "),
+        (
+            b"\xf4\x90\x80\x80",
+            "P\u{FFFD} P\u{FFFD} P\u{FFFD} P\u{FFFD} ",
+        ),
+        (b"\xf0\x90\x80\x41", "P\u{FFFD} PA "),
+        (b"\x1b[99999999999999999999;2H", "S9999;2;H "),
+        (b"\x1b[1$$$p\x1b[?1?h\x1b[1:2Ha", "Pa "),
+        (b"\x1bPx\x07y\x18a", "Pa "),
+        (b"\x1b]xx\x07a\x1b]x\x1b\\b", "Pa E\\ Pb "),
+        (b"\x1bkt\x1b\\\x1b_t\x1b[1K", "E\\ S1;K "),
+        (
+            b"\xc2\x9b?5h\x1b(0\x1bM\xc2\x84\xc2\x9dt\x07",
+            "S?5;h E(0 EM ED ",
+        ),
+        (b"\x1b[1\x1a2\x1a\x18\x7f\x1b$$$~3", "P\u{FFFD} P2 P3 "),
+        (b"\x1b[1\xc3\xa92\x1b[\x1b[mx", "P\u{e9} P2 S0;m Px "),
+        (b"\x1b[;;1\"q\x1b[0!p\x1b[>c", "S0;0;1;\"q S0;!p S>0;c "),
+    ];
+    for (bytes, want) in rows {
+        for cut in 0..bytes.len() {
+            let mut transcript = Transcript::new(rt.alloc(), Coding::Utf8);
+            transcript.read(rt.alloc(), &bytes[..cut])?;
+            transcript.read(rt.alloc(), &bytes[cut..])?;
+            assert_eq!(rt; transcript.text.as_str(), want, "cut at {cut}");
+            assert!(rt; transcript.parser.is_idle());
+        }
+    }
+    Ok(())
+}
+
+#[test]
+fn single_bytes(rt: HostRuntime) -> Result<(), Fail> {
+    let mut transcript = Transcript::new(rt.alloc(), Coding::Ecma35);
+    transcript.read(rt.alloc(), b"\x9b3mA\xa9\x1b[\xff\x85")?;
+    assert_eq!(rt; transcript.text.as_str(), "S3;m PA H H EE ");
+    Ok(())
+}
+
+#[test]
+fn long_ones(rt: HostRuntime) -> Result<(), Fail> {
+    let mut transcript = Transcript::new(rt.alloc(), Coding::Utf8);
+    transcript.read(rt.alloc(), b"\x1b[")?;
+    for _ in 0..10_000 {
+        transcript.read(rt.alloc(), b"1;")?;
+    }
+    transcript.read(rt.alloc(), b"Ha\x1b]")?;
+    for _ in 0..1_000_000 {
+        transcript.read(rt.alloc(), b"x")?;
+    }
+    assert!(rt; !transcript.parser.is_idle());
+    transcript.read(rt.alloc(), b"\x07a")?;
     assert_eq!(rt;
-        utf8(b"\xed\xa0\x80")?.as_str(),
-        "P\u{FFFD} P\u{FFFD} P\u{FFFD} "
-    );
-    assert_eq!(rt;
-        utf8(b"\xf4\x90\x80\x80")?.as_str(),
-        "P\u{FFFD} P\u{FFFD} P\u{FFFD} P\u{FFFD} "
-    );
-    assert_eq!(rt; utf8(b"\xf0\x90\x80\x41")?.as_str(), "P\u{FFFD} PA ");
-    assert_eq!(rt;
-        utf8(b"\x1b[99999999999999999999;2H")?.as_str(),
-        "S9999;2;H "
-    );
-    assert_eq!(rt; utf8(b"\x1b[1$$$p\x1b[?1?h\x1b[1:2Ha")?.as_str(), "Pa ");
-    assert_eq!(rt; utf8(b"\x1bPx\x07y\x18a")?.as_str(), "Pa ");
-    assert_eq!(rt; utf8(b"\x1b]xx\x07a\x1b]x\x1b\\b")?.as_str(), "Pa E\\ Pb ");
-    assert_eq!(rt;
-        utf8(b"\xc2\x9b?5h\x1b(0\x1bM\xc2\x84")?.as_str(),
-        "S?5;h E(0 EM ED "
-    );
-    assert_eq!(rt; utf8(b"\x1b[1\x1a2\x1a\x18\x7f")?.as_str(), "P\u{FFFD} P2 ");
-    assert_eq!(rt;
-        utf8(b"\x1b[1\xc3\xa92\x1b[\x1b[mx")?.as_str(),
-        "P\u{e9} P2 S0;m Px "
-    );
-    assert_eq!(rt; utf8(b"\x1b[;;1\"q\x1b[0!p")?.as_str(), "S0;0;1;\"q S0;!p ");
-    assert_eq!(rt;
-        read(rt.alloc(), Coding::Ecma35, b"\x9b3mA\xa9\x1b[\xff")?.as_str(),
-        "S3;m PA H H "
+        transcript.text.as_str(),
+        "S1;1;1;1;1;1;1;1;1;1;1;1;1;1;1;1;H Pa Pa "
     );
     Ok(())
+}
+
+#[test]
+fn spellings(rt: HostRuntime) -> Result<(), Fail> {
+    let mut out = Vec::new(rt.alloc());
+    spell(&Func::Print('A'), &mut out)?;
+    assert_eq!(rt; out.as_slice(), b"A".as_slice());
+    let place = Func::Csi {
+        mark: None,
+        params: Params::from_slice(&[24, 1000]),
+        intermediates: Intermediates::none(),
+        last: b'H',
+    };
+    let designation = Func::Esc {
+        intermediates: Intermediates::from_slice(b"("),
+        last: b'0',
+    };
+    spell(&place, &mut out)?;
+    spell(&designation, &mut out)?;
+    spell(&Func::Print('\u{6F22}'), &mut out)?;
+    spell(&Func::High(0xA9), &mut out)?;
+    assert_eq!(rt;
+        out.as_slice(),
+        b"A\x1b[24;1000H\x1b(0\xe6\xbc\xa2\xa9".as_slice()
+    );
+    assert_eq!(rt; Params::from_slice(&[24, 1000]).get(1), 1000);
+    assert_eq!(rt; Params::absent().get(1), 0);
+    Ok(())
+}
+
+#[test]
+fn plain_runs(rt: HostRuntime) {
+    for place in 0..101_usize {
+        for byte in [0x1F, 0x7F] {
+            let mut bytes = [b'~'; 101];
+            bytes[place] = byte;
+            for len in 0..101_usize {
+                let want = if place < len { place } else { len };
+                assert_eq!(rt; plain_run(&bytes[..len]), want);
+            }
+        }
+    }
+    assert_eq!(rt; plain_run(b" ~\xE9"), 2);
 }

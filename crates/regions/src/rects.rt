@@ -1,10 +1,11 @@
 //! The rectangles of a page.
 
-ghost use Rattle.std.specs.Prelude.{◌≡◌, ◌-◌, ◌<◌, ◌≤◌, [], ◌∷◌, IfOk};
-
-use std::alloc::{AllocError, Global};
+ghost use Rattle.std.specs.Prelude.{IfOk};
+ghost use Rattle.regions.specs.Shapes.{region};
+ghost use Rattle.regions.specs.Pages.{IsRects};
 
 use crate::rect::Rect;
+use std::alloc::{AllocError, Global};
 
 /// The boxes of a page's regions in the order of the splits, each with its caption in its last row; the
 /// separators between them; the place of the focused one among the boxes; and the status line.
@@ -19,29 +20,15 @@ pub struct Rects {
 impl Rects {
     /// One region over the whole page, but for the status line in the last row.
     pub fn lone(alloc: Global, rows: u16, cols: u16) -> Result<Rects, AllocError>
-        requires { 0 < rows }
-        ensures boxes { IfOk result (λ r. r.boxes.items ≡ record { line = 1; column = 1; rows = rows - 1; cols = cols } ∷ []) }
-        ensures separators { IfOk result (λ r. r.separators.items ≡ []) }
-        ensures focus { IfOk result (λ r. r.focus ≡ 0) }
-        ensures status { IfOk result (λ r. r.status ≡ record { line = rows; column = 1; rows = 1; cols = cols }) }
+        ensures { IfOk result (IsRects region 0 rows cols) }
     {
         let mut boxes = Vec::new(alloc);
-        boxes.push(Rect {
-            line: 1,
-            column: 1,
-            rows: rows - 1,
-            cols,
-        })?;
+        boxes.push(Rect::of_layout(rows, cols))?;
         Ok(Rects {
             boxes,
             separators: Vec::new(alloc),
             focus: 0,
-            status: Rect {
-                line: rows,
-                column: 1,
-                rows: 1,
-                cols,
-            },
+            status: Rect::of_status(rows, cols),
         })
     }
 }

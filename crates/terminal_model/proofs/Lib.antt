@@ -6,3 +6,5 @@ pub mod Ignored
 pub mod Resizes
 pub mod Sound
 pub mod Terminals
+pub mod Places
+pub mod Frames

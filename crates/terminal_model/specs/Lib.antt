@@ -6,3 +6,4 @@ pub mod Reading
 pub mod Writing
 pub mod Shows
 pub mod Drawing
+pub mod Places

@@ -1,18 +1,27 @@
 //! Laws of the definitions, for the crates above.
 
-ghost use Rattle.std.specs.Prelude.{◌≡◌, ℕ, List, [], ◌∷◌, ◌++◌, false, nat_lt, Option};
+ghost use Rattle.std.specs.Prelude.{◌≡◌, ℕ, ◌+◌, ◌-◌, ◌<◌, ◌≤◌, ◌==◌, Bool, true, false, nat_lt, if◌then◌else◌, List, [], ◌∷◌, ◌++◌, length, replicate, Option, Some, None};
 ghost use Rattle.std.specs.List.{AllByRecursion};
-ghost use Rattle.cells.specs.Page.{IsGridSize};
+ghost use Rattle.charsets.specs.declared.unit.Unit.TheVariants.{Code};
+ghost use Rattle.charsets.specs.Shifts.{is_graphic};
+ghost use Rattle.cells.specs.declared.cell.Cell.{Cell};
+ghost use Rattle.cells.specs.Line.{blank, IsPaired, spliced};
+ghost use Rattle.cells.specs.Page.{line_at, IsPage, IsGridSize, page_from, page_marked, edited};
 ghost use Rattle.control_parser.specs.declared.func.Func.{Func};
+ghost use Rattle.control_parser.specs.declared.func.Func.TheVariants.{Print, Esc, Csi};
 ghost use Rattle.control_parser.specs.Spelling.{IsGiven, coding_of, spelling};
-ghost use Rattle.terminal_model.specs.declared.action.Action.TheVariants.{SetMargins};
-ghost use Rattle.terminal_model.specs.Screen.{Screen, IsSound, starting};
-ghost use Rattle.terminal_model.specs.Functions.{actions_of};
-ghost use Rattle.terminal_model.specs.Table.{acted, effect, bottom_of, resized};
+ghost use Rattle.terminal_model.specs.declared.action.Action.TheVariants.{SetMargins, Render, SetMode};
+ghost use Rattle.terminal_model.specs.declared.action.Attribute.{Attribute};
+ghost use Rattle.terminal_model.specs.declared.action.Mode.{Mode};
+ghost use Rattle.terminal_model.specs.declared.state.Position.{Position};
+ghost use Rattle.terminal_model.specs.Screen.{Page, Screen, IsSound, starting, blank_page};
+ghost use Rattle.terminal_model.specs.Functions.{actions_of, rendered, private_mode_set};
+ghost use Rattle.terminal_model.specs.Table.{acted, effect, bottom_of, resized, advanced, settled, apart, moved_to, with_state, homed, rendition_with, modes_with, columns_of, drawn};
 ghost use Rattle.terminal_model.specs.Reports.{report};
 ghost use Rattle.terminal_model.specs.Reading.{Terminal, IsTerminal, ready, joined, reads};
 ghost use Rattle.terminal_model.specs.Writing.{Writing, IsWriting, Output, writes_all};
 ghost use Rattle.terminal_model.specs.Drawing.{frame_bytes, frame_start};
+ghost use Rattle.terminal_model.specs.Places.{place, over, with_mark, IsPlain, narrow_at, wide_at, PutsOver, PutsMark, mode_final, keypad_final};
 
 /// Reading in two pieces is reading the whole, and so it is with a window's writing.
 pub fn pieces_are_whole()
@@ -55,4 +64,57 @@ pub fn terminals_stay_terminals()
     ensures ready { (x : Screen) → IsSound x → IsTerminal (ready x) }
     ensures reading { (t : Terminal) (bytes : List ℕ) → IsTerminal t → IsTerminal (reads t bytes).terminal }
     ensures writing { (t : Terminal) (writings : List Writing) → AllByRecursion IsWriting writings → IsTerminal t → IsTerminal (writes_all t writings).terminal }
+{}
+
+/// A printed character at a place: of width 1 or 2 over the cells at the cursor, of width 0 on the cell that was printed last.
+pub fn printed_ones_stand_at_places()
+    ensures narrow { (x : Screen) (c : ℕ) → IsPlain x → is_graphic (Code c) ≡ true → columns_of c ≡ 1 →
+        PutsOver x (narrow_at x (drawn c)) (advanced x.state 1) (effect x (Print c)) }
+    ensures wide { (x : Screen) (c : ℕ) → IsPlain x → is_graphic (Code c) ≡ true → columns_of c ≡ 2 → x.state.column + 2 ≤ x.state.columns →
+        PutsOver x (wide_at x (drawn c)) (advanced x.state 2) (effect x (Print c)) }
+    ensures mark { (x : Screen) (c : ℕ) (p : Position) → IsPlain x → is_graphic (Code c) ≡ true → columns_of c ≡ 0 → x.state.joining ≡ Some p →
+        p.line < x.state.rows → p.column < x.state.columns → PutsMark x p (drawn c) (effect x (Print c)) }
+    ensures quiet { (x : Screen) (c : ℕ) → report x (Print c) ≡ [] }
+{}
+
+/// ECH and EL at a place: blanks over the cells at the cursor.
+pub fn erased_ones_stand_at_places()
+    ensures cells { (x : Screen) (n : ℕ) → IsSound x → 0 < n → x.state.column + n ≤ x.state.columns →
+        PutsOver x (replicate n blank) (settled x.state) (effect x (Csi None (n ∷ []) [] 0x58)) }
+    ensures line { (x : Screen) → IsSound x →
+        PutsOver x (replicate (x.state.columns - x.state.column) blank) (settled x.state) (effect x (Csi None (0 ∷ []) [] 0x4B)) }
+    ensures cells_quiet { (x : Screen) (params : List ℕ) → report x (Csi None params [] 0x58) ≡ [] }
+    ensures line_quiet { (x : Screen) → report x (Csi None (0 ∷ []) [] 0x4B) ≡ [] }
+{}
+
+/// CUP to a place of the page.
+pub fn moves_change_the_cursor_alone()
+    ensures cursor { (x : Screen) (line column : ℕ) → x.state.modes.counts_from_margin ≡ false → line < x.state.rows → column < x.state.columns →
+        effect x (Csi None ((line + 1) ∷ (column + 1) ∷ []) [] 0x48) ≡ with_state x (moved_to x.state line column) }
+    ensures quiet { (x : Screen) (params : List ℕ) → report x (Csi None params [] 0x48) ≡ [] }
+{}
+
+/// SGR changes the rendition alone, value by value; DECSM, DECRM, DECKPAM and DECKPNM change their mode.
+pub fn renditions_and_modes_change_alone()
+    ensures turn { (x : Screen) (a b : List ℕ) → effect x (Csi None (a ++ b) [] 0x6D) ≡ effect (effect x (Csi None a [] 0x6D)) (Csi None b [] 0x6D) }
+    ensures rendition { (x : Screen) (n : ℕ) (a : Attribute) → rendered n ≡ Some (Render a) →
+        effect x (Csi None (n ∷ []) [] 0x6D) ≡ with_state x (apart (record x.state { rendition = rendition_with x.state.rendition a })) }
+    ensures mode { (x : Screen) (on : Bool) (n : ℕ) (m : Mode) → private_mode_set on n ≡ Some (SetMode m on) →
+        effect x (Csi (Some 0x3F) (n ∷ []) [] (mode_final on)) ≡ with_state x (homed m (record x.state { modes = modes_with x.state.modes m on })) }
+    ensures keypad { (x : Screen) (on : Bool) →
+        effect x (Esc [] (keypad_final on)) ≡ with_state x (settled (record x.state { modes = record x.state.modes { has_application_keypad = on } })) }
+    ensures rendition_quiet { (x : Screen) (n : ℕ) (a : Attribute) → rendered n ≡ Some (Render a) → report x (Csi None (n ∷ []) [] 0x6D) ≡ [] }
+    ensures mode_quiet { (x : Screen) (on : Bool) (n : ℕ) (m : Mode) → private_mode_set on n ≡ Some (SetMode m on) →
+        report x (Csi (Some 0x3F) (n ∷ []) [] (mode_final on)) ≡ [] }
+    ensures keypad_quiet { (x : Screen) (on : Bool) → report x (Esc [] (keypad_final on)) ≡ [] }
+{}
+
+/// A place of a page of which one line got new cells, a mark, or of a blank page.
+pub fn pages_at_places()
+    ensures over { (rows columns at from rest : ℕ) (fresh : List Cell) (page : Page) → IsPage rows columns page → at < rows → IsPaired fresh →
+        0 < length fresh → from + length fresh ≤ columns → rest ≡ from + length fresh → (line column : ℕ) →
+        place (page_from (edited at (spliced from fresh rest columns)) page) line column ≡ (if line == at then over fresh from (line_at page at) column else place page line column) }
+    ensures marked { (rows columns at from mark : ℕ) (page : Page) → IsPage rows columns page → at < rows → from < columns → (line column : ℕ) →
+        place (page_marked at from mark page) line column ≡ with_mark at from mark page line column }
+    ensures blank_page { (rows columns line column : ℕ) → place (blank_page rows columns) line column ≡ blank }
 {}

@@ -11,8 +11,10 @@ mod state;
 
 pub use action::{Action, Attribute, Mode, Part};
 pub use laws::{
-    frames_start_anew, ignored_ones_change_nothing, pieces_are_whole, screens_stay_sound,
-    spelled_ones_act_alone, terminals_stay_terminals,
+    erased_ones_stand_at_places, frames_start_anew, ignored_ones_change_nothing,
+    moves_change_the_cursor_alone, pages_at_places, pieces_are_whole, printed_ones_stand_at_places,
+    renditions_and_modes_change_alone, screens_stay_sound, spelled_ones_act_alone,
+    terminals_stay_terminals,
 };
 pub use limits::{MAX_COLUMNS, MAX_KEEP, MAX_ROWS, MIN_COLUMNS, MIN_ROWS, REPORT_BYTES};
 pub use report::Report;

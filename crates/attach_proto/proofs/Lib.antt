@@ -1,0 +1,6 @@
+pub mod TextLaws
+pub mod FieldLaws
+pub mod Payloads
+pub mod Frames
+pub mod Rests
+pub mod Joining

@@ -1,0 +1,149 @@
+//! What messages hold. Contracts see each field as its list of bytes.
+
+ghost use Rattle.std.specs.Prelude.{◌≡◌, ◌==◌, length, IfOk};
+ghost use Rattle.std.specs.List.{list_all};
+ghost use Rattle.attach_proto.specs.Texts.{Gives, token_of, text_of, IsToken, IsText, is_token, is_digit};
+
+use crate::fault::Unread;
+use std::alloc::{AllocError, Global};
+use std::fmt;
+use std::marker::Model;
+
+/// Any bytes.
+#[derive(Debug, Drop)]
+pub struct Bytes {
+    items: Vec<u8>,
+}
+
+impl Model for Bytes {
+    ghost use Rattle.std.specs.Prelude.{List, ℕ};
+
+    ghost Value = { List ℕ };
+
+    ghost view = { λ b. b.items.items };
+}
+
+impl Bytes {
+    pub fn new(alloc: Global, bytes: &[u8]) -> Result<Bytes, AllocError>
+        ensures { IfOk result (λ b. b ≡ bytes.now) }
+    {
+        Ok(Bytes {
+            items: Vec::from_slice(alloc, bytes)?,
+        })
+    }
+
+    pub fn as_slice(&self) -> &[u8]
+        ensures { result.now ≡ self.now }
+    {
+        self.items.as_slice()
+    }
+}
+
+/// A name, a title or another text: UTF-8.
+#[derive(Debug, Drop)]
+pub struct Text {
+    text: String,
+}
+
+impl Model for Text {
+    ghost use Rattle.std.specs.Prelude.{List, ℕ, string_bytes};
+
+    ghost Value = { List ℕ };
+
+    ghost view = { λ t. string_bytes t.text };
+}
+
+impl Text {
+    pub fn new(alloc: Global, text: &str) -> Result<Text, AllocError>
+        ensures { IfOk result (λ t. t ≡ text.now) }
+    {
+        Ok(Text {
+            text: String::from_str(alloc, text)?,
+        })
+    }
+
+    // The text of these bytes, if they are one.
+    pub(crate) fn read(alloc: Global, bytes: &[u8]) -> Result<Text, Unread>
+        ensures { Gives (λ t. t) result (text_of bytes.now) }
+    {
+        match str::from_utf8(bytes) {
+            Ok(text) => Ok(Text {
+                text: String::from_str(alloc, text)?,
+            }),
+            Err(_) => Err(Unread::Payload),
+        }
+    }
+
+    pub fn as_str(&self) -> &str
+        ensures value { result.now ≡ self.now }
+        ensures text { IsText self.now }
+    {
+        self.text.as_str()
+    }
+}
+
+const TOKEN_LEN: usize = 64;
+
+/// The 64 digits, `0` to `9` and `a` to `f`, by which a peer shows whose it is.
+#[derive(Drop)]
+pub struct Token {
+    digits: [u8; TOKEN_LEN],
+}
+
+impl Model for Token {
+    ghost use Rattle.std.specs.Prelude.{List, ℕ};
+
+    ghost Value = { List ℕ };
+
+    ghost use Rattle.attach_proto.specs.Texts.{IsToken};
+
+    ghost view = { λ t. t.digits };
+
+    ghost invariant = { λ t. IsToken t.digits };
+}
+
+/// A token's digits aren't shown.
+impl fmt::Debug for Token {
+    fn fmt<W: fmt::Write>(&self, f: &mut fmt::Formatter<W>) -> fmt::Result {
+        f.write_str("Token")
+    }
+}
+
+fn is_digit(byte: u8) -> bool
+    ensures { result ≡ is_digit byte }
+{
+    byte.is_ascii_digit() || (b'a' <= byte && byte <= b'f')
+}
+
+fn are_digits(bytes: &[u8]) -> bool
+    ensures { result ≡ list_all is_digit bytes.now }
+{
+    bytes.iter().all(|byte| is_digit(*byte))
+}
+
+fn is_token(bytes: &[u8]) -> bool
+    ensures { result ≡ is_token bytes.now }
+{
+    bytes.len() == TOKEN_LEN && are_digits(bytes)
+}
+
+impl Token {
+    /// The token of these bytes, if they are 64 such digits.
+    pub fn read(bytes: &[u8]) -> Option<Token>
+        ensures { result ≡ token_of bytes.now }
+    {
+        if !is_token(bytes) {
+            return None;
+        }
+        let mut digits = [0; TOKEN_LEN];
+        digits.copy_from_slice(bytes);
+        Some(Token { digits })
+    }
+
+    pub fn as_slice(&self) -> &[u8]
+        ensures value { result.now ≡ self.now }
+        ensures token { IsToken self.now }
+    {
+        self.digits.as_slice()
+    }
+}

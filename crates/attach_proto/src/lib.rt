@@ -1,0 +1,24 @@
+//! Frames between the server and its peers: messages as bytes, and a stream of bytes as messages.
+#![tactic(auto)]
+
+mod fault;
+mod fields;
+mod kind;
+mod laws;
+mod message;
+mod reader;
+mod reading;
+mod side;
+mod why;
+mod writing;
+
+pub use fault::{ProtoFault, WriteFault};
+pub use fields::{Bytes, Text, Token};
+pub use kind::Kind;
+pub use laws::{longest_list, one_reading, spelled_apart, spelled_ones_are_read};
+pub use message::Message;
+pub use reader::Reader;
+pub use reading::LONGEST;
+pub use side::Side;
+pub use why::Why;
+pub use writing::write_message;

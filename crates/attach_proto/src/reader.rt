@@ -1,0 +1,149 @@
+//! A stream that comes in pieces.
+
+ghost use Rattle.std.specs.Prelude.{◌≡◌, ◌++◌, ◌≤◌, List, [], drop, vec_len, IfOk, IfSome, OnOk, OnErr, Some, None, Ok, Err};
+ghost use Rattle.attach_proto.specs.declared.message.Message.{Message};
+ghost use Rattle.attach_proto.specs.Streams.{HasRead, IsRun, TakesPiece, Answers};
+
+use crate::fault::ProtoFault;
+use crate::message::Message;
+use crate::reading::{Front, front_of};
+use crate::side::Side;
+use std::alloc::{AllocError, Global};
+use std::marker::Model;
+
+// The messages at the front of some bytes, how many bytes they take, and what is wrong behind them.
+#[derive(Drop)]
+struct Run {
+    messages: Vec<Message>,
+    taken: usize,
+    fault: Option<ProtoFault>,
+}
+
+fn run_of(alloc: Global, side: Side, bytes: &[u8]) -> Result<Run, AllocError>
+    ensures { IfOk result (λ run. IsRun side bytes.now run.messages.items run.taken run.fault) }
+{
+    let mut messages = Vec::new(alloc);
+    let mut taken = 0;
+    'frames: loop {
+        match front_of(alloc, side, &bytes[taken..])? {
+            Front::Part => {
+                return Ok(Run {
+                    messages,
+                    taken,
+                    fault: None,
+                });
+            }
+            Front::Broken(fault) => {
+                return Ok(Run {
+                    messages,
+                    taken,
+                    fault: Some(fault),
+                });
+            }
+            Front::Whole(message, len) => {
+                messages.push(message)?;
+                taken += len;
+            }
+        }
+    }
+}
+
+// Adds the messages of a run to `out`; what it tells of the rest.
+fn read_run(
+    alloc: Global,
+    side: Side,
+    bytes: &[u8],
+    out: &mut Vec<Message>,
+) -> Result<(usize, Option<ProtoFault>), AllocError>
+    ensures ok { IfOk result (λ r. (made : List Message) × (out.new.items ≡ out.old.items ++ made) × IsRun side bytes.now made r.0 r.1) }
+    ensures err { OnErr result (out.new.items ≡ out.old.items) }
+{
+    let mut run = run_of(alloc, side, bytes)?;
+    out.append(&mut run.messages)?;
+    Ok((run.taken, run.fault))
+}
+
+fn drop_front(bytes: &mut Vec<u8>, taken: usize)
+    requires { taken ≤ vec_len bytes.old }
+    ensures { bytes.new.items ≡ drop taken bytes.old.items }
+{
+    bytes.drain(..taken);
+}
+
+/// Reads the frames of a connection. It answers a fault for good.
+#[derive(Drop)]
+pub struct Reader {
+    alloc: Global,
+    side: Side,
+    rest: Vec<u8>,
+    fault: Option<ProtoFault>,
+}
+
+impl Model for Reader {
+    ghost use Rattle.attach_proto.specs.Streams.{Reading};
+
+    ghost Value = { Reading };
+
+    ghost view = { λ r. record { side = r.side; rest = r.rest.items; fault = r.fault } };
+}
+
+impl Reader {
+    /// A reader that has read nothing.
+    pub fn new(alloc: Global, side: Side) -> Reader
+        ensures starts { result ≡ record { side = side; rest = []; fault = None } }
+        ensures nothing { HasRead result [] [] }
+    {
+        Reader {
+            alloc,
+            side,
+            rest: Vec::new(alloc),
+            fault: None,
+        }
+    }
+
+    fn take(&mut self, piece: &[u8], out: &mut Vec<Message>) -> Result<(), AllocError>
+        requires { self.old.fault ≡ None }
+        ensures ok { OnOk result ((made : List Message) × (out.new.items ≡ out.old.items ++ made) × TakesPiece self.old piece.now made self.new) }
+        ensures err { OnErr result ((self.new ≡ self.old) × (out.new.items ≡ out.old.items)) }
+        ensures fault { OnOk result (self.new.fault ≡ Some ProtoFault.NoMemory → ⊥) }
+        ensures side { self.new.side ≡ self.old.side }
+    {
+        let kept = self.rest.len();
+        self.rest.extend_from_slice(piece)?;
+        match read_run(self.alloc, self.side, &self.rest, out) {
+            Ok((taken, fault)) => {
+                drop_front(&mut self.rest, taken);
+                self.fault = fault;
+                Ok(())
+            }
+            Err(error) => {
+                self.rest.truncate(kept);
+                Err(error)
+            }
+        }
+    }
+
+    /// Reads one piece, and adds the messages that are whole with it.
+    pub fn feed(&mut self, piece: &[u8], out: &mut Vec<Message>) -> Result<(), ProtoFault>
+        // Without memory nothing of this piece was read.
+        ensures memory { result ≡ Err ProtoFault.NoMemory → (self.new ≡ self.old) × (out.new.items ≡ out.old.items) }
+        // Else it was, whatever was read before.
+        ensures reads { (result ≡ Err ProtoFault.NoMemory → ⊥) →
+            (made : List Message) × (out.new.items ≡ out.old.items ++ made) × TakesPiece self.old piece.now made self.new }
+        // The answer is the fault that it keeps.
+        ensures answer { (result ≡ Err ProtoFault.NoMemory → ⊥) → Answers self.new result }
+        ensures stays { IfSome self.old.fault (λ f. (self.new ≡ self.old) × (out.new.items ≡ out.old.items) × (result ≡ Err f)) }
+        ensures side { self.new.side ≡ self.old.side }
+    {
+        if let Some(fault) = self.fault {
+            return Err(fault);
+        }
+        if self.take(piece, out).is_err() {
+            return Err(ProtoFault::NoMemory);
+        }
+        match self.fault {
+            Some(fault) => Err(fault),
+            None => Ok(()),
+        }
+    }
+}

@@ -1,0 +1,56 @@
+//! Why a peer goes.
+
+ghost use Rattle.std.specs.Prelude.{◌≡◌};
+ghost use Rattle.attach_proto.specs.Spelling.{reason};
+ghost use Rattle.attach_proto.specs.Reading.{why_at};
+
+/// Why a peer goes, in a GONE.
+#[derive(Clone, Copy, Debug, PartialEq, Eq)]
+pub enum Why {
+    Detached,
+    /// Its user was removed from the access lists.
+    Removed,
+    /// The session is single-user again.
+    SingleUser,
+    Killed,
+    Quit,
+    /// Too many bytes wait for it.
+    TooFarBehind,
+    Fault,
+    TrailFull,
+}
+
+impl Why {
+    /// The number in the frame, from 0.
+    pub fn number(self) -> u8
+        ensures { result ≡ reason self }
+    {
+        match self {
+            Why::Detached => 0,
+            Why::Removed => 1,
+            Why::SingleUser => 2,
+            Why::Killed => 3,
+            Why::Quit => 4,
+            Why::TooFarBehind => 5,
+            Why::Fault => 6,
+            Why::TrailFull => 7,
+        }
+    }
+
+    /// The one with this number, if there is one.
+    pub fn of_number(number: u8) -> Option<Why>
+        ensures { result ≡ why_at number }
+    {
+        match number {
+            0 => Some(Why::Detached),
+            1 => Some(Why::Removed),
+            2 => Some(Why::SingleUser),
+            3 => Some(Why::Killed),
+            4 => Some(Why::Quit),
+            5 => Some(Why::TooFarBehind),
+            6 => Some(Why::Fault),
+            7 => Some(Why::TrailFull),
+            _ => None,
+        }
+    }
+}

@@ -1,0 +1,7 @@
+pub mod Runs
+pub mod CutLemmas
+pub mod Digits
+pub mod Signs
+pub mod WordFaults
+pub mod Fits
+pub mod Whole

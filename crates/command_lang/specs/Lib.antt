@@ -1,0 +1,10 @@
+pub mod Parts
+pub mod Reading
+pub mod Lines
+pub mod Values
+pub mod MaskFaults
+pub mod Names
+pub mod Table
+pub mod Meaning
+pub mod Relation
+pub mod FirstWord

@@ -1,0 +1,4 @@
+pub mod Grammar
+pub mod Steps
+pub mod Bindings
+pub mod Kept

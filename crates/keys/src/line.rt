@@ -1,0 +1,90 @@
+//! The line of a prompt, in a fixed array.
+
+ghost use Rattle.std.specs.Prelude.{◌≡◌, ◌≤◌, ℕ, List, [], ◌∷◌, ◌++◌, length, take, nat_lt, if◌then◌else◌};
+ghost use Rattle.keys.specs.Grammar.{continues, shortened, edited};
+
+use std::marker::Model;
+
+/// The most bytes of a line.
+const ROOM: usize = 1024;
+
+/// The line of a prompt. Contracts see it as its bytes.
+#[derive(Drop)]
+pub struct Line {
+    bytes: [u8; ROOM],
+    count: usize,
+}
+
+impl Model for Line {
+    ghost Value = { List ℕ };
+
+    ghost view = { λ l. take l.count l.bytes };
+
+    ghost invariant = { λ l. l.count ≤ 1024 };
+}
+
+/// Whether the byte goes on with a character, by the Unicode core specification, table 3-7.
+fn is_trailing(byte: u8) -> bool
+    ensures { result ≡ continues byte }
+{
+    0x7F < byte && byte < 0xC0
+}
+
+impl Line {
+    /// An empty line.
+    pub fn new() -> Line
+        ensures { result ≡ [] }
+    {
+        Line {
+            bytes: [0; ROOM],
+            count: 0,
+        }
+    }
+
+    /// The bytes.
+    pub fn as_slice(&self) -> &[u8]
+        ensures { result.now ≡ self.now }
+    {
+        &self.bytes[..self.count]
+    }
+
+    /// Begins anew.
+    pub fn clear(&mut self)
+        ensures { self.new ≡ [] }
+    {
+        self.count = 0;
+    }
+
+    /// Takes the last character away: trailing bytes and the byte before them.
+    fn shorten(&mut self)
+        ensures { self.new ≡ shortened self.old }
+    {
+        while self.count > 0 {
+            self.count -= 1;
+            if !is_trailing(self.bytes[self.count]) {
+                break;
+            }
+        }
+    }
+
+    /// Puts a byte at the end, where there is room.
+    fn put(&mut self, byte: u8)
+        ensures { self.new ≡ (if nat_lt (length self.old) 1024 then self.old ++ byte ∷ [] else self.old) }
+    {
+        if self.count < ROOM {
+            self.bytes[self.count] = byte;
+            self.count += 1;
+        }
+    }
+
+    /// One key of the prompt, which neither ends the line nor closes it.
+    pub fn edit(&mut self, key: u8)
+        ensures { self.new ≡ edited self.old key }
+    {
+        if key == 0x08 || key == 0x7F {
+            self.shorten();
+        } else if key >= 0x20 {
+            self.put(key);
+        }
+    }
+}

@@ -1,0 +1,11 @@
+//! Bytes that make any VT220 show a view.
+#![tactic(auto)]
+
+mod command;
+mod frames;
+mod painting;
+mod pen;
+mod shadow;
+
+pub use frames::frame;
+pub use shadow::{Shadow, needs_draw};

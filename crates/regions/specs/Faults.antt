@@ -1,0 +1,10 @@
+-- The numbers of the faults.
+use Rattle.std.specs.Prelude.{ℕ}
+use Rattle.regions.specs.declared.fault.RegionFault.{RegionFault}
+use Rattle.regions.specs.declared.fault.RegionFault.TheVariants.{TooSmall, TooMany, LastRegion, NoMemory}
+
+abbrev pub number : RegionFault → ℕ
+number TooSmall = 1
+number TooMany = 2
+number LastRegion = 3
+number NoMemory = 4

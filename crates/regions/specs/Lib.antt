@@ -1,0 +1,5 @@
+pub mod Shapes
+pub mod Codes
+pub mod Pages
+pub mod Layouts
+pub mod Faults

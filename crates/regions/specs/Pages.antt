@@ -1,0 +1,62 @@
+-- The rectangles of a page, and the places that they cover.
+use Rattle.std.specs.Prelude.{◌≡◌, ℕ, ◌+◌, ◌-◌, Bool, ◌&&◌, nat_lt, nat_le, if◌then◌else◌, List, [], ◌∷◌, ◌++◌, map}
+use Rattle.std.specs.List.{list_all}
+use Rattle.regions.specs.declared.rect.Rect.{Rect}
+use Rattle.regions.specs.declared.rects.Rects.{Rects}
+use Rattle.regions.specs.Shapes.{Shape, boxes, separators}
+
+-- The last row is the status line; the others are the layout's box.
+abbrev pub rows_of_box : ℕ → ℕ
+rows_of_box rows = rows - 1
+
+abbrev pub box_of : ℕ → ℕ → Rect
+box_of rows cols = record { line = 1; column = 1; rows = rows_of_box rows; cols = cols }
+
+abbrev pub status_of : ℕ → ℕ → Rect
+status_of rows cols = record { line = rows; column = 1; rows = 1; cols = cols }
+
+-- one row beside the caption, and two columns
+abbrev pub is_roomy : Rect → Bool
+is_roomy r = nat_lt 1 r.rows && nat_lt 1 r.cols
+
+abbrev pub has_room : Shape → ℕ → ℕ → Bool
+has_room s rows cols = list_all is_roomy (boxes s (box_of rows cols))
+
+-- the rectangles of a page that is split so
+pub record IsRects (s : Shape) (focus rows cols : ℕ) (r : Rects) : Type 0 where
+  pub boxes_are : r.boxes.items ≡ boxes s (box_of rows cols)
+  pub separators_are : r.separators.items ≡ separators s (box_of rows cols)
+  pub focus_is : r.focus ≡ focus
+  pub status_is : r.status ≡ status_of rows cols
+
+-- A box ends in its caption.
+abbrev pub inner : Rect → Rect
+inner r = record r { rows = r.rows - 1 }
+
+abbrev pub caption : Rect → Rect
+caption r = record r { line = r.line + (r.rows - 1); rows = 1 }
+
+-- regions, captions, separators and the status line
+abbrev pub parts : List Rect → List Rect → Rect → List Rect
+parts boxes separators status = (map inner boxes ++ (map caption boxes ++ separators)) ++ status ∷ []
+
+-- ---- places
+
+-- whether n numbers from first on have this one among them
+abbrev pub among : ℕ → ℕ → ℕ → Bool
+among first n x = nat_le first x && nat_lt x (first + n)
+
+abbrev pub has : Rect → ℕ → ℕ → Bool
+has r line column = among r.line r.rows line && among r.column r.cols column
+
+abbrev pub one_if : Bool → ℕ
+one_if b = if b then 1 else 0
+
+-- in how many of these a place lies
+abbrev pub times : List Rect → ℕ → ℕ → ℕ
+times [] line column = 0
+times (r ∷ rs) line column = one_if (has r line column) + times rs line column
+
+-- These cover each place of the page once, and no other place.
+abbrev pub TilesPage : ℕ → ℕ → List Rect → Type 0
+TilesPage rows cols rs = (line column : ℕ) → times rs line column ≡ one_if (among 1 rows line && among 1 cols column)

@@ -1,0 +1,84 @@
+-- Shapes of layouts: a region, or two halves (GNU Screen manual, "Split" and "Remove"). Lines and columns count from 1.
+use Rattle.std.specs.Prelude.{ℕ, ◌+◌, ◌-◌, ◌/◌, Bool, true, false, ◌&&◌, nat_lt, if◌then◌else◌, List, [], ◌∷◌, ◌++◌}
+use Rattle.regions.specs.declared.rect.Rect.{Rect}
+use Rattle.regions.specs.declared.way.Way.{Way}
+use Rattle.regions.specs.declared.way.Way.TheVariants.{Below, Right}
+use Rattle.regions.specs.declared.node.Node.{Node, Region, Split'}
+
+pub data Shape : Type 0 where
+  region : Shape
+  split : Way → Shape → Shape → Shape
+
+-- a tree, without the places of its boxes in memory
+abbrev pub shape : Node → Shape
+shape Region = region
+shape (Split' way p a q b) = split way (shape a) (shape b)
+
+-- ---- the halves of a rectangle
+
+-- Of halves over one another the first has the rounded-up half of the rows.
+abbrev pub upper : Rect → Rect
+upper r = record r { rows = (r.rows + 1) / 2 }
+
+abbrev pub lower : Rect → Rect
+lower r = record r { line = r.line + (r.rows + 1) / 2; rows = r.rows / 2 }
+
+-- Between halves side by side stands one column, over all rows; the first has the rounded-down half of the other columns.
+abbrev pub left : Rect → Rect
+left r = record r { cols = (r.cols - 1) / 2 }
+
+abbrev pub between : Rect → Rect
+between r = record r { column = r.column + (r.cols - 1) / 2; cols = 1 }
+
+abbrev pub right : Rect → Rect
+right r = record r { column = r.column + (r.cols - 1) / 2 + 1; cols = r.cols / 2 }
+
+-- the boxes of the regions, in the order of the splits
+abbrev pub boxes : Shape → Rect → List Rect
+boxes region r = r ∷ []
+boxes (split Below a b) r = boxes a (upper r) ++ boxes b (lower r)
+boxes (split Right a b) r = boxes a (left r) ++ boxes b (right r)
+
+-- the columns between, each before those of its halves
+abbrev pub separators : Shape → Rect → List Rect
+separators region r = []
+separators (split Below a b) r = separators a (upper r) ++ separators b (lower r)
+separators (split Right a b) r = between r ∷ (separators a (left r) ++ separators b (right r))
+
+-- each box has one row beside its caption, and two columns
+abbrev pub fits : Shape → ℕ → ℕ → Bool
+fits region rows cols = nat_lt 1 rows && nat_lt 1 cols
+fits (split Below a b) rows cols = fits a ((rows + 1) / 2) cols && fits b (rows / 2) cols
+fits (split Right a b) rows cols = fits a rows ((cols - 1) / 2) && fits b rows (cols / 2)
+
+-- ---- what changes a shape
+
+abbrev pub regions : Shape → ℕ
+regions region = 1
+regions (split way a b) = regions a + regions b
+
+abbrev pub is_region : Shape → Bool
+is_region region = true
+is_region (split way a b) = false
+
+abbrev pub halves : Way → Shape
+halves way = split way region region
+
+-- the n-th region of the order is split
+abbrev pub split_at : Way → ℕ → Shape → Shape
+split_at way n region = halves way
+split_at way n (split w a b) = if nat_lt n (regions a) then split w (split_at way n a) b else split w a (split_at way (n - regions a) b)
+
+-- the n-th region goes, and its sibling has its room
+abbrev pub without : ℕ → Shape → Shape
+without n region = region
+without n (split w a b) =
+    if nat_lt n (regions a) then (if is_region a then b else split w (without n a) b)
+    else (if is_region b then a else split w a (without (n - regions a) b))
+
+-- the first region of the sibling of the n-th, once that is gone
+abbrev pub after : ℕ → Shape → ℕ
+after n region = 0
+after n (split w a b) =
+    if nat_lt n (regions a) then (if is_region a then 0 else after n a)
+    else (if is_region b then 0 else regions a + after (n - regions a) b)

@@ -1,0 +1,51 @@
+//! Why a layout stays as it is.
+
+ghost use Rattle.std.specs.Prelude.{◌≡◌};
+ghost use Rattle.regions.specs.Faults.{number};
+ghost use Rattle.regions.specs.declared.fault.RegionFault.TheVariants.{NoMemory};
+
+use std::alloc::{AllocError, AllocFailed};
+use thiserror::Error;
+
+/// Why a call on a layout is refused.
+#[derive(Clone, Copy, Debug, PartialEq, Eq, Error)]
+pub enum RegionFault {
+    #[error("a region would be too small")]
+    TooSmall,
+    #[error("there are 16 regions")]
+    TooMany,
+    #[error("the last region stays")]
+    LastRegion,
+    #[error("out of memory")]
+    NoMemory,
+}
+
+impl RegionFault {
+    /// 1 TooSmall, 2 TooMany, 3 LastRegion, 4 NoMemory.
+    pub fn number(self) -> u8
+        ensures { result ≡ number self }
+    {
+        match self {
+            RegionFault::TooSmall => 1,
+            RegionFault::TooMany => 2,
+            RegionFault::LastRegion => 3,
+            RegionFault::NoMemory => 4,
+        }
+    }
+}
+
+impl From<AllocError> for RegionFault {
+    ghost from_gives = { λ _ e. e ≡ NoMemory };
+
+    fn from(_error: AllocError) -> RegionFault {
+        RegionFault::NoMemory
+    }
+}
+
+impl<T: Drop> From<AllocFailed<T>> for RegionFault {
+    ghost from_gives = { λ _ e. e ≡ NoMemory };
+
+    fn from(_error: AllocFailed<T>) -> RegionFault {
+        RegionFault::NoMemory
+    }
+}

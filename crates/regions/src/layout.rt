@@ -1,0 +1,194 @@
+//! The layout of a client's page.
+
+ghost use Rattle.std.specs.Prelude.{◌≡◌, ◌<◌, ◌≤◌, ◌+◌, ◌⊎◌, ◌↔◌, length, map, OnOk, OnErr, IfOk, IfErr, IfNone, IsOk, Some, None, Ok, Err, true, false, slice_get, slice_set, unwrap_or, if◌then◌else◌};
+ghost use Rattle.regions.specs.Shapes.{split_at};
+ghost use Rattle.regions.specs.Pages.{has_room, IsRects, TilesPage, parts};
+ghost use Rattle.regions.specs.Layouts.{Arrangement, one_region, split_focused, remove_focused, next_focus, split_fault, emptied, kept_alone};
+
+use crate::fault::RegionFault;
+use crate::node::Node;
+use crate::rect::Rect;
+use crate::rects::Rects;
+use crate::shown::Shown;
+use crate::way::Way;
+use std::alloc::{AllocError, Global};
+use std::marker::Model;
+
+/// The most regions of a page.
+pub const REGIONS: usize = 16;
+
+/// The regions of a client's page, what they show, and which one has the focus.
+#[derive(Debug, Drop)]
+pub struct Layout {
+    tree: Node,
+    focus: usize,
+    shown: Vec<Shown>,
+}
+
+impl Model for Layout {
+    ghost use Rattle.std.specs.Prelude.{◌≡◌, ◌<◌, ◌≤◌, length};
+    ghost use Rattle.regions.specs.Layouts.{Arrangement, arrangement_code};
+
+    ghost Value = { Arrangement };
+
+    ghost coded = { arrangement_code };
+
+    ghost use Rattle.regions.specs.Shapes.{shape, regions};
+
+    ghost view = { λ l. record { shape = shape l.tree; focus = l.focus; shown = l.shown.items } };
+
+    ghost invariant = { λ l. (regions (shape l.tree) ≡ length l.shown.items) × (l.focus < length l.shown.items) × (length l.shown.items ≤ 16) };
+}
+
+impl Layout {
+    /// One region.
+    pub fn new(alloc: Global, shown: Shown) -> Result<Layout, AllocError>
+        ensures { IfOk result (λ l. l ≡ one_region shown) }
+    {
+        let mut all = Vec::new(alloc);
+        all.push(shown)?;
+        Ok(Layout {
+            tree: Node::Region,
+            focus: 0,
+            shown: all,
+        })
+    }
+
+    /// What each region shows, in the order of the splits: 1 to 16 of them.
+    pub fn shown(&self) -> &[Shown]
+        ensures value { result.now ≡ self.now.shown }
+        ensures some { 0 < length result.now }
+        ensures few { length result.now ≤ 16 }
+    {
+        self.shown.as_slice()
+    }
+
+    /// The place of the focused region in that order.
+    pub fn focus(&self) -> usize
+        ensures value { result ≡ self.now.focus }
+        ensures inside { result < length self.now.shown }
+    {
+        self.focus
+    }
+
+    /// What the focused region shows.
+    pub fn focused(&self) -> Shown
+        ensures { slice_get self.now.shown self.now.focus ≡ Some result }
+    {
+        self.shown[self.focus]
+    }
+
+    /// The focused region shows this.
+    pub fn set_shown(&mut self, shown: Shown)
+        ensures { self.new ≡ record self.old { shown = slice_set self.old.shown self.old.focus shown } }
+    {
+        self.shown[self.focus] = shown;
+    }
+
+    /// Empties the regions that show this window.
+    pub fn close_window(&mut self, serial: u32)
+        ensures { self.new ≡ record self.old { shown = map (emptied serial) self.old.shown } }
+    {
+        for shown in self.shown.iter_mut() {
+            *shown = shown.without_window(serial);
+        }
+    }
+
+    /// Gives the focus to the next region in the order of the splits, after the last one to the first.
+    pub fn focus_next(&mut self)
+        ensures { self.new ≡ record self.old { focus = next_focus self.old } }
+    {
+        self.focus = if self.focus + 1 == self.shown.len() {
+            0
+        } else {
+            self.focus + 1
+        };
+    }
+
+    /// Keeps the focused region alone.
+    pub fn only(&mut self)
+        ensures { self.new ≡ kept_alone self.old }
+    {
+        let kept = self.shown[self.focus];
+        self.shown.truncate(1);
+        self.shown[0] = kept;
+        self.tree = Node::Region;
+        self.focus = 0;
+    }
+
+    /// The page has this size now: where a region would be too small, the focused one stays alone.
+    pub fn resized(&mut self, rows: u16, cols: u16)
+        ensures { self.new ≡ (if has_room self.old.shape rows cols then self.old else kept_alone self.old) }
+    {
+        if !self.tree.has_room(rows, cols) {
+            self.only();
+        }
+    }
+
+    /// Splits the focused region. The new region is the second half and is empty; the focus stays.
+    pub fn split(
+        &mut self,
+        alloc: Global,
+        way: Way,
+        rows: u16,
+        cols: u16,
+    ) -> Result<(), RegionFault>
+        ensures ok { OnOk result ((split_fault way self.old rows cols ≡ None) × (self.new ≡ split_focused way self.old)) }
+        ensures err { OnErr result (self.new ≡ self.old) }
+        ensures fault { IfErr result (λ f. f ≡ unwrap_or (split_fault way self.old rows cols) RegionFault.NoMemory) }
+    {
+        if self.shown.len() == REGIONS {
+            return Err(RegionFault::TooMany);
+        }
+        if !self.tree.has_room_split(self.focus, way, rows, cols) {
+            return Err(RegionFault::TooSmall);
+        }
+        let halves = Node::halves(alloc, way)?;
+        self.shown.insert(self.focus + 1, Shown::EMPTY)?;
+        self.tree.split(self.focus, way, halves);
+        Ok(())
+    }
+
+    /// Closes the focused region. Its sibling has its room, and the sibling's first region the focus.
+    pub fn remove(&mut self) -> Result<(), RegionFault>
+        ensures ok { OnOk result (self.new ≡ remove_focused self.old) }
+        ensures err { IfErr result (λ f. (f ≡ RegionFault.LastRegion) × (self.new ≡ self.old)) }
+        ensures last { IsOk result ↔ (1 < length self.old.shown) }
+    {
+        if self.shown.len() <= 1 {
+            return Err(RegionFault::LastRegion);
+        }
+        let next = self.tree.after(self.focus);
+        let _closed = self.shown.remove(self.focus);
+        self.tree.remove(self.focus);
+        self.focus = next;
+        Ok(())
+    }
+
+    /// The rectangles on a page of this size.
+    pub fn rects(&self, alloc: Global, rows: u16, cols: u16) -> Result<Rects, RegionFault>
+        ensures ok { IfOk result (IsRects self.now.shape self.now.focus rows cols) }
+        ensures room { OnOk result (has_room self.now.shape rows cols ≡ true) }
+        ensures fault { IfErr result (λ f. f ≡ (if has_room self.now.shape rows cols then RegionFault.NoMemory else RegionFault.TooSmall)) }
+        // One box a region, the focused one among them.
+        ensures each { IfOk result (λ r. length r.boxes.items ≡ length self.now.shown) }
+        ensures focused { IfOk result (λ r. r.focus < length r.boxes.items) }
+        // They cover each place of the page once.
+        ensures tiles { IfOk result (λ r. TilesPage rows cols (parts r.boxes.items r.separators.items r.status)) }
+    {
+        let page = Rect::of_layout(rows, cols);
+        if !self.tree.has_room(rows, cols) {
+            return Err(RegionFault::TooSmall);
+        }
+        let mut boxes = Vec::new(alloc);
+        let mut separators = Vec::new(alloc);
+        self.tree.put_boxes(page, &mut boxes)?;
+        self.tree.put_separators(page, &mut separators)?;
+        Ok(Rects {
+            boxes,
+            separators,
+            focus: self.focus,
+            status: Rect::of_status(rows, cols),
+        })
+    }
+}

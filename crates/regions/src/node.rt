@@ -1,0 +1,258 @@
+//! The tree of splits.
+
+ghost use Rattle.std.specs.Prelude.{◌≡◌, ◌<◌, ◌≤◌, ◌+◌, ◌++◌, OnOk, IfOk, true};
+ghost use Rattle.regions.specs.Shapes.{shape, regions, fits, boxes, separators, halves, split_at, without, after, is_region};
+ghost use Rattle.regions.specs.Pages.{has_room};
+
+use crate::rect::Rect;
+use crate::way::Way;
+use std::alloc::{AllocError, Global};
+use std::mem;
+
+/// A region, or two halves.
+#[derive(Debug, Drop)]
+pub enum Node {
+    Region,
+    Split(Way, Box<Node>, Box<Node>),
+}
+
+impl Node {
+    /// A region that is split.
+    pub fn halves(alloc: Global, way: Way) -> Result<Node, AllocError>
+        ensures { IfOk result (λ n. shape n ≡ halves way) }
+    {
+        let first = Box::new(alloc, Node::Region)?;
+        let second = Box::new(alloc, Node::Region)?;
+        Ok(Node::Split(way, first, second))
+    }
+
+    fn is_region(&self) -> bool
+        ensures { result ≡ is_region (shape self.now) }
+    {
+        matches!(self, Node::Region)
+    }
+
+    pub fn regions(&self) -> usize
+        requires { regions (shape self.now) ≤ 16 }
+        ensures { result ≡ regions (shape self.now) }
+    {
+        match self {
+            Node::Region => 1,
+            Node::Split(_, first, second) => first.regions() + second.regions(),
+        }
+    }
+
+    /// Whether each region has room in a box of this size.
+    fn fits(&self, rows: u16, cols: u16) -> bool
+        requires { rows < 65535 }
+        ensures { result ≡ fits (shape self.now) rows cols }
+    {
+        match self {
+            Node::Region => 1 < rows && 1 < cols,
+            Node::Split(Way::Below, upper, lower) => {
+                upper.fits((rows + 1) / 2, cols) && lower.fits(rows / 2, cols)
+            }
+            Node::Split(Way::Right, left, right) => {
+                left.fits(rows, cols.saturating_sub(1) / 2) && right.fits(rows, cols / 2)
+            }
+        }
+    }
+
+    /// Whether each region has room on a page of this size.
+    pub fn has_room(&self, rows: u16, cols: u16) -> bool
+        ensures { result ≡ has_room (shape self.now) rows cols }
+    {
+        self.fits(rows.saturating_sub(1), cols)
+    }
+
+    /// Whether each region has room on a page of this size once the region `at` is split.
+    pub fn has_room_split(&self, at: usize, way: Way, rows: u16, cols: u16) -> bool
+        requires { regions (shape self.now) ≤ 16 }
+        ensures { result ≡ has_room (split_at way at (shape self.now)) rows cols }
+    {
+        self.fits_split(at, way, rows.saturating_sub(1), cols)
+    }
+
+    /// Whether each region has room in a box of this size once the region `at` is split.
+    fn fits_split(&self, at: usize, way: Way, rows: u16, cols: u16) -> bool
+        requires few { regions (shape self.now) ≤ 16 }
+        requires rows { rows < 65535 }
+        ensures { result ≡ fits (split_at way at (shape self.now)) rows cols }
+    {
+        match self {
+            Node::Region => match way {
+                Way::Below => 1 < (rows + 1) / 2 && 1 < cols && 1 < rows / 2 && 1 < cols,
+                Way::Right => {
+                    1 < rows && 1 < cols.saturating_sub(1) / 2 && 1 < rows && 1 < cols / 2
+                }
+            },
+            Node::Split(Way::Below, upper, lower) => {
+                let first = upper.regions();
+                let (height, rest) = ((rows + 1) / 2, rows / 2);
+                if at < first {
+                    upper.fits_split(at, way, height, cols) && lower.fits(rest, cols)
+                } else {
+                    upper.fits(height, cols) && lower.fits_split(at - first, way, rest, cols)
+                }
+            }
+            Node::Split(Way::Right, left, right) => {
+                let first = left.regions();
+                let (width, rest) = (cols.saturating_sub(1) / 2, cols / 2);
+                if at < first {
+                    left.fits_split(at, way, rows, width) && right.fits(rows, rest)
+                } else {
+                    left.fits(rows, width) && right.fits_split(at - first, way, rows, rest)
+                }
+            }
+        }
+    }
+
+    /// Adds the boxes of the regions, in the order of the splits.
+    #[tactic(auto, using(crate::proofs::Room::wide))]
+    pub fn put_boxes(&self, r: Rect, out: &mut Vec<Rect>) -> Result<(), AllocError>
+        requires rows { r.rows < 65535 }
+        requires lines { r.line + r.rows ≤ 65535 }
+        requires columns { r.column + r.cols ≤ 65536 }
+        requires room { fits (shape self.now) r.rows r.cols ≡ true }
+        ensures { OnOk result (out.new.items ≡ out.old.items ++ boxes (shape self.now) r) }
+    {
+        match self {
+            Node::Region => out.push(r)?,
+            Node::Split(Way::Below, upper, lower) => {
+                let half = (r.rows + 1) / 2;
+                upper.put_boxes(Rect { rows: half, ..r }, out)?;
+                lower.put_boxes(
+                    Rect {
+                        line: r.line + half,
+                        rows: r.rows / 2,
+                        ..r
+                    },
+                    out,
+                )?;
+            }
+            Node::Split(Way::Right, left, right) => {
+                let half = r.cols.saturating_sub(1) / 2;
+                left.put_boxes(Rect { cols: half, ..r }, out)?;
+                right.put_boxes(
+                    Rect {
+                        column: r.column + half + 1,
+                        cols: r.cols / 2,
+                        ..r
+                    },
+                    out,
+                )?;
+            }
+        }
+        Ok(())
+    }
+
+    /// Adds the separators, each before those of its halves.
+    #[tactic(auto, using(crate::proofs::Room::wide))]
+    pub fn put_separators(&self, r: Rect, out: &mut Vec<Rect>) -> Result<(), AllocError>
+        requires rows { r.rows < 65535 }
+        requires lines { r.line + r.rows ≤ 65535 }
+        requires columns { r.column + r.cols ≤ 65536 }
+        requires room { fits (shape self.now) r.rows r.cols ≡ true }
+        ensures { OnOk result (out.new.items ≡ out.old.items ++ separators (shape self.now) r) }
+    {
+        match self {
+            Node::Region => {}
+            Node::Split(Way::Below, upper, lower) => {
+                let half = (r.rows + 1) / 2;
+                upper.put_separators(Rect { rows: half, ..r }, out)?;
+                lower.put_separators(
+                    Rect {
+                        line: r.line + half,
+                        rows: r.rows / 2,
+                        ..r
+                    },
+                    out,
+                )?;
+            }
+            Node::Split(Way::Right, left, right) => {
+                let half = r.cols.saturating_sub(1) / 2;
+                out.push(Rect {
+                    column: r.column + half,
+                    cols: 1,
+                    ..r
+                })?;
+                left.put_separators(Rect { cols: half, ..r }, out)?;
+                right.put_separators(
+                    Rect {
+                        column: r.column + half + 1,
+                        cols: r.cols / 2,
+                        ..r
+                    },
+                    out,
+                )?;
+            }
+        }
+        Ok(())
+    }
+
+    /// Puts two halves in the place of the region `at`.
+    pub fn split(&mut self, at: usize, way: Way, made: Node)
+        requires few { regions (shape self.old) ≤ 16 }
+        requires halves { shape made ≡ halves way }
+        ensures { shape self.new ≡ split_at way at (shape self.old) }
+    {
+        match self {
+            Node::Region => *self = made,
+            Node::Split(_, a, b) => {
+                let first = a.regions();
+                if at < first {
+                    a.split(at, way, made);
+                } else {
+                    b.split(at - first, way, made);
+                }
+            }
+        }
+    }
+
+    /// The place of the first region of the sibling of the region `at`, once that is gone.
+    pub fn after(&self, at: usize) -> usize
+        requires { regions (shape self.now) ≤ 16 }
+        ensures value { result ≡ after at (shape self.now) }
+        ensures small { result ≤ regions (shape self.now) }
+    {
+        match self {
+            Node::Region => 0,
+            Node::Split(_, a, b) => {
+                let first = a.regions();
+                if at < first {
+                    if a.is_region() { 0 } else { a.after(at) }
+                } else if b.is_region() {
+                    0
+                } else {
+                    first + b.after(at - first)
+                }
+            }
+        }
+    }
+
+    /// Takes the region `at` out: its sibling has its room.
+    pub fn remove(&mut self, at: usize)
+        requires { regions (shape self.old) ≤ 16 }
+        ensures { shape self.new ≡ without at (shape self.old) }
+    {
+        match mem::replace(self, Node::Region) {
+            Node::Region => {}
+            Node::Split(way, mut a, mut b) => {
+                let first = a.regions();
+                if at < first {
+                    if a.is_region() {
+                        *self = Box::into_inner(b);
+                    } else {
+                        a.remove(at);
+                        *self = Node::Split(way, a, b);
+                    }
+                } else if b.is_region() {
+                    *self = Box::into_inner(a);
+                } else {
+                    b.remove(at - first);
+                    *self = Node::Split(way, a, b);
+                }
+            }
+        }
+    }
+}

@@ -1,0 +1,67 @@
+-- What stands at a place afterwards.
+use Rattle.std.specs.Prelude.{◌≡◌, ℕ, ◌+◌, ◌-◌, ◌==◌, Bool, true, false, ◌&&◌, nat_lt, nat_le, if◌then◌else◌, List, [], ◌∷◌, length, None}
+use Rattle.charsets.specs.declared.sets.CharacterSet.TheVariants.{Ascii}
+use Rattle.charsets.specs.Shifts.{set_at}
+use Rattle.cells.specs.declared.cell.Cell.{Cell}
+use Rattle.cells.specs.Line.{blank, cell_at, is_left, is_right, marked, narrow_cell, left_cell, right_cell}
+use Rattle.cells.specs.Page.{line_at}
+use Rattle.terminal_model.specs.declared.state.Position.{Position}
+use Rattle.terminal_model.specs.declared.state.State.{State}
+use Rattle.terminal_model.specs.Screen.{Page, Screen, IsSound}
+
+-- the cell of a place, and a blank past the page
+abbrev pub place : Page → ℕ → ℕ → Cell
+place page line column = cell_at (line_at page line) column
+
+-- New cells over a line, from a column on. The half of a wide character beside them that lost its other half is a blank.
+abbrev pub over : List Cell → ℕ → List Cell → ℕ → Cell
+over fresh at old column =
+    if nat_le at column && nat_lt column (at + length fresh) then cell_at fresh (column - at)
+    else (if (column + 1 == at) && is_left (cell_at old column).shape then blank
+    else (if (column == at + length fresh) && is_right (cell_at old column).shape then blank
+    else cell_at old column))
+
+-- the same in the cursor's line; the other lines stay
+abbrev pub over_cursor : List Cell → Screen → ℕ → ℕ → Cell
+over_cursor fresh x line column =
+    if line == x.state.line then over fresh x.state.column (line_at x.page x.state.line) column
+    else place x.page line column
+
+-- one more mark at a place
+abbrev pub with_mark : ℕ → ℕ → ℕ → Page → ℕ → ℕ → Cell
+with_mark at_line at_column mark page line column =
+    if (line == at_line) && (column == at_column) then marked (place page line column) mark else place page line column
+
+-- a sound screen on which a printed character goes into the cursor's place: no pending wrap, IRM reset, ASCII through GL, no single shift
+pub record IsPlain (x : Screen) : Type 0 where
+  pub sound : IsSound x
+  pub none_pending : x.state.is_wrap_pending ≡ false
+  pub none_moved : x.state.modes.inserts ≡ false
+  pub ascii : set_at x.state.shifts x.state.shifts.gl ≡ Ascii
+  pub none_shifted : x.state.shifts.single ≡ None
+
+-- the new cells of a character at the cursor
+abbrev pub narrow_at : Screen → ℕ → List Cell
+narrow_at x c = narrow_cell c x.state.rendition x.state.is_protecting ∷ []
+
+abbrev pub wide_at : Screen → ℕ → List Cell
+wide_at x c = left_cell c x.state.rendition x.state.is_protecting ∷ right_cell c x.state.rendition x.state.is_protecting ∷ []
+
+-- new cells were put at the cursor, and the state is this one
+pub record PutsOver (x : Screen) (fresh : List Cell) (s : State) (y : Screen) : Type 0 where
+  pub page : (line column : ℕ) → place y.page line column ≡ over_cursor fresh x line column
+  pub state : y.state ≡ s
+
+-- a mark joined the cell of a place, and nothing else changed
+pub record PutsMark (x : Screen) (p : Position) (mark : ℕ) (y : Screen) : Type 0 where
+  pub page : (line column : ℕ) → place y.page line column ≡ with_mark p.line p.column mark x.page line column
+  pub state : y.state ≡ x.state
+
+-- the final byte of DECSM and DECRM, of DECKPAM and DECKPNM
+abbrev pub mode_final : Bool → ℕ
+mode_final true = 0x68
+mode_final false = 0x6C
+
+abbrev pub keypad_final : Bool → ℕ
+keypad_final true = 0x3D
+keypad_final false = 0x3E

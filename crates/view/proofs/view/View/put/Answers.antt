@@ -1,0 +1,22 @@
+use Rattle.std.proofs.Common.{◌+◌, List, length}
+use Rattle.cells.specs.declared.cell.Cell.{Cell}
+use Rattle.cells.specs.Line.{spliced}
+use Rattle.cells.specs.Page.{line_at, edited}
+use Rattle.cells.proofs.Pages.{IsGrid-page_from, length-page_from, width-page_from}
+use Rattle.view.proofs.view.View.put.Goals as goal
+
+pub returns-then-cells-cols : goal.returns-then-cells-cols
+returns-then-cells-cols c =
+    let page : List (List Cell) = c.self.inside.grid in
+    let source = spliced c.args.column c.args.cells.now (c.args.column + length c.args.cells.now) (length (line_at page c.args.line)) in
+    record {
+      size = rw (c.write.ensures, ← c.self.view_is) record {
+        rows_are = length-page_from (edited c.args.line source) page;
+        columns_are = width-page_from (edited c.args.line source) page 0;
+      };
+    }
+
+pub invariant_of-self : goal.invariant_of-self
+invariant_of-self c =
+    let page : List (List Cell) = c.self.inside.grid in
+    rw c.write.ensures (IsGrid-page_from (edited c.args.line (spliced c.args.column c.args.cells.now (c.args.column + length c.args.cells.now) (length (line_at page c.args.line)))) page c.self.invariant)

@@ -1,0 +1,11 @@
+//! What a client is to see: the granted view over its regions.
+#![tactic(auto)]
+
+mod composing;
+mod pane;
+mod text;
+mod view;
+
+pub use composing::compose;
+pub use pane::{Contents, Pane};
+pub use view::{Cursor, KeyModes, View};

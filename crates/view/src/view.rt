@@ -1,0 +1,130 @@
+//! A client's page as it is to be shown.
+
+ghost use Rattle.std.specs.Prelude.{◌≡◌, ◌<◌, ◌≤◌, ◌↔◌, Err, length, replicate, IfOk};
+ghost use Rattle.cells.specs.Line.{blank};
+ghost use Rattle.cells.specs.Page.{IsGrid, IsGridSize, line_at};
+
+use cells::{Cell, Grid, GridFault};
+use std::alloc::{AllocError, Global};
+use std::marker::Model;
+
+/// Where the cursor is shown. Lines and columns count from 0.
+#[derive(Clone, Copy, Debug, PartialEq, Eq)]
+pub enum Cursor {
+    Hidden,
+    Shown { line: u16, column: u16 },
+}
+
+/// What the keyboard sends: cursor keys (DECCKM) and keypad (DECKPAM) in application mode.
+#[derive(Clone, Copy, Debug, PartialEq, Eq)]
+pub struct KeyModes {
+    pub has_application_arrows: bool,
+    pub has_application_keypad: bool,
+}
+
+impl KeyModes {
+    /// As a terminal starts.
+    pub const NORMAL: KeyModes = KeyModes {
+        has_application_arrows: false,
+        has_application_keypad: false,
+    };
+}
+
+/// A page with its cursor and the two modes of the keyboard.
+#[derive(Drop)]
+pub struct View {
+    pub(crate) grid: Grid,
+    pub(crate) cursor: Cursor,
+    pub(crate) modes: KeyModes,
+}
+
+impl Model for View {
+    ghost use Rattle.view.specs.View.{Shown};
+
+    ghost Value = { Shown };
+
+    ghost view = { λ v. record { page = v.grid; cursor = v.cursor; modes = v.modes } };
+
+    ghost use Rattle.cells.specs.Page.{IsGrid};
+
+    ghost invariant = { λ v. IsGrid v.grid };
+}
+
+impl View {
+    ghost use Rattle.view.specs.View.{Shown, HasSize};
+
+    /// A blank page of this size, its cursor hidden. It is `BadSize` outside 2 to 200 lines by 2 to 300
+    /// columns.
+    pub fn blank(alloc: Global, rows: usize, cols: usize) -> Result<View, GridFault>
+        ensures ok { IfOk result (λ v. v ≡ record { page = replicate rows (replicate cols blank); cursor = Cursor.Hidden; modes = KeyModes.NORMAL }) }
+        ensures bad_size { (result ≡ Err GridFault.BadSize) ↔ (¬ IsGridSize rows cols) }
+    {
+        Ok(View {
+            grid: Grid::new(alloc, rows, cols)?,
+            cursor: Cursor::Hidden,
+            modes: KeyModes::NORMAL,
+        })
+    }
+
+    /// The number of its rows.
+    pub fn rows(&self) -> usize
+        ensures value { result ≡ length self.now.page }
+        ensures grid { IsGrid self.now.page }
+    {
+        self.grid.rows()
+    }
+
+    /// The number of cells of each row.
+    pub fn cols(&self) -> usize
+        ensures { result ≡ length (line_at self.now.page 0) }
+    {
+        self.grid.cols()
+    }
+
+    /// The cells of a row, counted from 0.
+    pub fn row(&self, line: usize) -> &[Cell]
+        requires { line < length self.now.page }
+        ensures cells { result.now ≡ line_at self.now.page line }
+        ensures width { length result.now ≡ length (line_at self.now.page 0) }
+        ensures few { length result.now ≤ 300 }
+    {
+        self.grid.row(line)
+    }
+
+    pub fn cursor(&self) -> Cursor
+        ensures { result ≡ self.now.cursor }
+    {
+        self.cursor
+    }
+
+    pub fn modes(&self) -> KeyModes
+        ensures { result ≡ self.now.modes }
+    {
+        self.modes
+    }
+
+    /// The same view once more.
+    pub fn try_copy(&self, alloc: Global) -> Result<View, AllocError>
+        ensures size { IfOk result (λ v. HasSize (length self.now.page) (length (line_at self.now.page 0)) v) }
+    {
+        let Ok(mut copy) = View::blank(alloc, self.rows(), self.cols()) else {
+            return Err(AllocError);
+        };
+        for line in 0..self.rows() {
+            copy.put(line, 0, self.row(line));
+        }
+        copy.cursor = self.cursor;
+        copy.modes = self.modes;
+        Ok(copy)
+    }
+
+    /// Puts cells at a place, counted from 0; nothing where the page has no such place.
+    pub(crate) fn put(&mut self, line: usize, column: usize, cells: &[Cell])
+        ensures size { HasSize (length self.old.page) (length (line_at self.old.page 0)) self.new }
+    {
+        let cols = self.grid.cols();
+        if line < self.grid.rows() && column <= cols && cells.len() <= cols - column {
+            self.grid.write(line, column, cells);
+        }
+    }
+}
