@@ -8,3 +8,4 @@ pub mod Sound
 pub mod Terminals
 pub mod Places
 pub mod Frames
+pub mod Shown
