@@ -9,3 +9,5 @@ pub mod Terminals
 pub mod Places
 pub mod Frames
 pub mod Shown
+pub mod Further
+pub mod Renditions
