@@ -1,2 +1,8 @@
 pub mod BitSets
+pub mod Commands
+pub mod History
+pub mod Lists
+pub mod Names
 pub mod Same
+pub mod Slots
+pub mod Table

@@ -4,7 +4,10 @@
 mod acl;
 mod act;
 mod bits;
+mod carry;
 mod command_name;
+mod entries;
+mod faults;
 mod follower;
 mod limits;
 mod lists;
@@ -13,10 +16,12 @@ mod rows;
 mod slots;
 mod user_id;
 
-pub use acl::{Acl, AclFault, EntryDenial, MaskEntry, MaskScope, NewLeader};
+pub use acl::Acl;
 pub use act::{Act, LockMode, Object, PresetKind};
 pub use bits::{Bit, BitChange, Bits};
 pub use command_name::CommandName;
+pub use entries::{EntryDenial, MaskEntry, MaskScope, NewLeader};
+pub use faults::AclFault;
 pub use follower::Follower;
 pub use limits::{USERS, WINDOWS};
 pub use lists::Lists;

@@ -1,20 +1,47 @@
-//! The acts of list commands, and what refuses one.
+//! The acts of list commands, and the fault that refuses one: the first from the left.
 
-use crate::acl::{AclFault, MaskEntry, MaskScope, NewLeader};
+ghost use Rattle.std.specs.Prelude.{◌≡◌, ◌&&◌, ◌||◌, ◌++◌, ◌∷◌, [], not, Some, IfOk, IfErr, OnOk, OnErr, length};
+ghost use Rattle.std.specs.List.{list_any};
+ghost use Rattle.acl.specs.Commands.{Answers, Keeps, names_user, with_name, with_names, new_name, new_name_fault, name_acts, change_fault, sets_on, sets, change_acts, known_name_fault, removal_acts, leader_fault, chosen_leader, group_fault, group_acts, scope_fault, scope_acts, mask_fault, mask_acts};
+ghost use Rattle.acl.specs.Same.{same_user};
+ghost use Rattle.acl.specs.History.{among};
+ghost use Rattle.acl.specs.Table.{users_in};
+ghost use Rattle.acl.specs.Lists.{table_of};
+
 use crate::act::{Act, Object};
 use crate::bits::BitChange;
+use crate::entries::{MaskEntry, MaskScope, NewLeader};
+use crate::faults::AclFault;
 use crate::limits::USERS;
 use crate::lists::Lists;
 use crate::user_id::UserId;
 
+/// Whether the word names the user.
+fn names_user(name: Option<UserId>, user: UserId) -> bool
+    ensures { result ≡ names_user user name }
+{
+    match name {
+        Some(named) => user == named,
+        None => false,
+    }
+}
+
 /// Whether one of the words names the user.
-fn names_any(names: &[Option<UserId>], user: UserId) -> bool {
-    names.iter().any(|name| *name == Some(user))
+fn names_any(names: &[Option<UserId>], user: UserId) -> bool
+    ensures { result ≡ list_any (names_user user) names.now }
+{
+    names.iter().any(|name| names_user(*name, user))
 }
 
 /// Puts an act at the end.
-fn push_act(acts: &mut Vec<Act>, act: Act) -> Result<(), AclFault> {
-    acts.push(act).map_err(|_| AclFault::NoMemory)?;
+fn push_act(acts: &mut Vec<Act>, act: Act) -> Result<(), AclFault>
+    ensures ok { OnOk result (acts.new.items ≡ acts.old.items ++ act ∷ []) }
+    ensures err { OnErr result (acts.new.items ≡ acts.old.items) }
+    ensures memory { IfErr result (λ fault. fault ≡ AclFault.NoMemory) }
+{
+    if acts.push(act).is_err() {
+        return Err(AclFault::NoMemory);
+    }
     Ok(())
 }
 
@@ -24,7 +51,11 @@ fn plan_sets_on(
     changes: &[BitChange],
     object: Object,
     acts: &mut Vec<Act>,
-) -> Result<(), AclFault> {
+) -> Result<(), AclFault>
+    ensures ok { OnOk result (acts.new.items ≡ acts.old.items ++ sets_on user changes.now object) }
+    ensures err { OnErr result (Keeps acts.old.items acts.new.items) }
+    ensures memory { IfErr result (λ fault. fault ≡ AclFault.NoMemory) }
+{
     for change in changes {
         push_act(
             acts,
@@ -45,20 +76,65 @@ fn plan_sets(
     changes: &[BitChange],
     objects: &[Object],
     acts: &mut Vec<Act>,
-) -> Result<(), AclFault> {
+) -> Result<(), AclFault>
+    ensures ok { OnOk result (acts.new.items ≡ acts.old.items ++ sets user changes.now objects.now) }
+    ensures err { OnErr result (Keeps acts.old.items acts.new.items) }
+    ensures memory { IfErr result (λ fault. fault ≡ AclFault.NoMemory) }
+{
     for object in objects {
         plan_sets_on(user, changes, *object, acts)?;
     }
     Ok(())
 }
 
-/// The name of a word that may become known.
-fn new_name(lists: &Lists, name: Option<UserId>) -> Result<UserId, AclFault> {
-    let user = name.ok_or(AclFault::ReservedName)?;
-    if lists.owner() == user {
-        return Err(AclFault::OwnerKept);
+/// The user whom a word names, not the owner.
+fn new_name(lists: &Lists, name: Option<UserId>) -> Result<UserId, AclFault>
+    ensures { result ≡ new_name (table_of lists.now).owner name }
+{
+    match name {
+        Some(user) => if lists.owner() == user {
+            Err(AclFault::OwnerKept)
+        } else {
+            Ok(user)
+        },
+        None => Err(AclFault::ReservedName),
     }
-    Ok(user)
+}
+
+/// Whether the user is known, or one of the words before names him.
+fn is_named(lists: &Lists, before: &[Option<UserId>], user: UserId) -> bool
+    ensures { result ≡ among (with_names (users_in (table_of lists.now)) before.now) user }
+{
+    lists.knows(user) || names_any(before, user)
+}
+
+/// The acts of one word of a change, behind the words before it, which leave so many users known. The new number.
+fn plan_name(
+    lists: &Lists,
+    before: &[Option<UserId>],
+    count: usize,
+    name: Option<UserId>,
+    changes: &[BitChange],
+    objects: &[Object],
+    acts: &mut Vec<Act>,
+) -> Result<usize, AclFault>
+    requires { count ≡ length (with_names (users_in (table_of lists.now)) before.now) }
+    ensures answer { Answers result (new_name_fault (table_of lists.now).owner (with_names (users_in (table_of lists.now)) before.now) name) }
+    ensures count { IfOk result (λ more. more ≡ length (with_name (with_names (users_in (table_of lists.now)) before.now) name)) }
+    ensures ok { OnOk result (acts.new.items ≡ acts.old.items ++ name_acts (with_names (users_in (table_of lists.now)) before.now) name changes.now objects.now) }
+    ensures err { OnErr result (Keeps acts.old.items acts.new.items) }
+{
+    let user = new_name(lists, name)?;
+    if is_named(lists, before, user) {
+        plan_sets(user, changes, objects, acts)?;
+        return Ok(count);
+    }
+    if count >= USERS {
+        return Err(AclFault::TooManyUsers);
+    }
+    push_act(acts, Act::Known { user })?;
+    plan_sets(user, changes, objects, acts)?;
+    Ok(count + 1)
 }
 
 /// A change of bits, user by user. A name that isn't known becomes known.
@@ -68,29 +144,29 @@ pub fn plan_change(
     changes: &[BitChange],
     objects: &[Object],
     acts: &mut Vec<Act>,
-) -> Result<(), AclFault> {
+) -> Result<(), AclFault>
+    ensures answer { Answers result (change_fault (table_of lists.now).owner (users_in (table_of lists.now)) names.now) }
+    ensures ok { OnOk result (acts.new.items ≡ acts.old.items ++ change_acts (users_in (table_of lists.now)) names.now changes.now objects.now) }
+    ensures err { OnErr result (Keeps acts.old.items acts.new.items) }
+{
     let mut count = lists.user_count();
     for i in 0..names.len() {
-        let user = new_name(lists, names[i])?;
-        if !lists.knows(user) && !names_any(&names[..i], user) {
-            if count >= USERS {
-                return Err(AclFault::TooManyUsers);
-            }
-            count += 1;
-            push_act(acts, Act::Known { user })?;
-        }
-        plan_sets(user, changes, objects, acts)?;
+        count = plan_name(lists, &names[..i], count, names[i], changes, objects, acts)?;
     }
     Ok(())
 }
 
 /// The known user, not the owner, whom a word names.
-fn known_name(lists: &Lists, name: Option<UserId>) -> Result<UserId, AclFault> {
+fn known_name(lists: &Lists, name: Option<UserId>) -> Result<UserId, AclFault>
+    ensures answer { Answers result (known_name_fault (table_of lists.now).owner (users_in (table_of lists.now)) name) }
+    ensures user { IfOk result (λ user. name ≡ Some user) }
+{
     let user = new_name(lists, name)?;
-    if !lists.knows(user) {
-        return Err(AclFault::UnknownUser);
+    if lists.knows(user) {
+        Ok(user)
+    } else {
+        Err(AclFault::UnknownUser)
     }
-    Ok(user)
 }
 
 /// A user is gone.
@@ -98,19 +174,33 @@ pub fn plan_removal(
     lists: &Lists,
     name: Option<UserId>,
     acts: &mut Vec<Act>,
-) -> Result<(), AclFault> {
+) -> Result<(), AclFault>
+    ensures answer { Answers result (known_name_fault (table_of lists.now).owner (users_in (table_of lists.now)) name) }
+    ensures ok { OnOk result (acts.new.items ≡ acts.old.items ++ removal_acts name) }
+    ensures err { OnErr result (acts.new.items ≡ acts.old.items) }
+{
     let user = known_name(lists, name)?;
     push_act(acts, Act::Gone { user })
 }
 
+/// Whether a known user may lead another.
+fn may_lead(lists: &Lists, user: UserId, leader: UserId) -> bool
+    ensures { result ≡ (among (users_in (table_of lists.now)) leader && not (same_user user leader)) }
+{
+    lists.knows(leader) && !(user == leader)
+}
+
 /// The leader whom a word names for a user.
-fn leader_for(lists: &Lists, user: UserId, leader: NewLeader) -> Result<Option<UserId>, AclFault> {
+fn leader_for(lists: &Lists, user: UserId, leader: NewLeader) -> Result<Option<UserId>, AclFault>
+    ensures answer { Answers result (leader_fault (table_of lists.now).owner (users_in (table_of lists.now)) (Some user) leader) }
+    ensures leader { IfOk result (λ chosen. chosen ≡ chosen_leader leader) }
+{
     match leader {
         NewLeader::Nobody => Ok(None),
         NewLeader::Named(None) => Err(AclFault::NoSuchGroup),
         NewLeader::Named(Some(leader)) => if lists.owner() == leader {
             Err(AclFault::OwnerKept)
-        } else if lists.knows(leader) && leader != user {
+        } else if may_lead(lists, user, leader) {
             Ok(Some(leader))
         } else {
             Err(AclFault::NoSuchGroup)
@@ -124,34 +214,64 @@ pub fn plan_group(
     name: Option<UserId>,
     leader: NewLeader,
     acts: &mut Vec<Act>,
-) -> Result<(), AclFault> {
+) -> Result<(), AclFault>
+    ensures answer { Answers result (group_fault (table_of lists.now).owner (users_in (table_of lists.now)) name leader) }
+    ensures ok { OnOk result (acts.new.items ≡ acts.old.items ++ group_acts name leader) }
+    ensures err { OnErr result (acts.new.items ≡ acts.old.items) }
+{
     let user = known_name(lists, name)?;
     let leader = leader_for(lists, user, leader)?;
     push_act(acts, Act::Grouped { user, leader })
 }
 
-/// Masks of a user, and presets.
+/// One bit of a mask or a preset.
+fn plan_mask(
+    lists: &Lists,
+    by: UserId,
+    entry: MaskEntry,
+    acts: &mut Vec<Act>,
+) -> Result<(), AclFault>
+    ensures answer { Answers result (scope_fault (table_of lists.now).owner (users_in (table_of lists.now)) entry.scope) }
+    ensures ok { OnOk result (acts.new.items ≡ acts.old.items ++ scope_acts by entry.scope entry.bit entry.value) }
+    ensures err { OnErr result (acts.new.items ≡ acts.old.items) }
+{
+    match entry.scope {
+        MaskScope::Preset(kind) => push_act(
+            acts,
+            Act::Preset {
+                kind,
+                bit: entry.bit,
+                value: entry.value,
+            },
+        ),
+        MaskScope::User(name) => {
+            let user = known_name(lists, name)?;
+            push_act(
+                acts,
+                Act::Masked {
+                    by,
+                    user,
+                    bit: entry.bit,
+                    value: entry.value,
+                },
+            )
+        }
+    }
+}
+
+/// Masks and presets, bit by bit.
 pub fn plan_masks(
     lists: &Lists,
     by: UserId,
     entries: &[MaskEntry],
     acts: &mut Vec<Act>,
-) -> Result<(), AclFault> {
+) -> Result<(), AclFault>
+    ensures answer { Answers result (mask_fault (table_of lists.now).owner (users_in (table_of lists.now)) entries.now) }
+    ensures ok { OnOk result (acts.new.items ≡ acts.old.items ++ mask_acts by entries.now) }
+    ensures err { OnErr result (Keeps acts.old.items acts.new.items) }
+{
     for entry in entries {
-        let act = match entry.scope {
-            MaskScope::Preset(kind) => Act::Preset {
-                kind,
-                bit: entry.bit,
-                value: entry.value,
-            },
-            MaskScope::User(name) => Act::Masked {
-                by,
-                user: known_name(lists, name)?,
-                bit: entry.bit,
-                value: entry.value,
-            },
-        };
-        push_act(acts, act)?;
+        plan_mask(lists, by, *entry, acts)?;
     }
     Ok(())
 }

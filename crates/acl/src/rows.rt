@@ -1,5 +1,11 @@
 //! The users' rows and the masks.
 
+ghost use Rattle.std.specs.Prelude.{◌≡◌, ◌<◌, ◌≤◌, ◌||◌, not, map, filter, Some, length};
+ghost use Rattle.std.specs.Map.{lookup};
+ghost use Rattle.indexmap.specs.IndexMap.{spare};
+ghost use Rattle.acl.specs.Same.{same_user};
+ghost use Rattle.acl.specs.Table.{mask_bits, opening_bits, with_window, without_leader, remaining_leader, bits_on, with_right};
+
 use crate::act::Object;
 use crate::bits::{Bit, Bits};
 use crate::slots::Slots;
@@ -14,13 +20,20 @@ pub struct Row {
     pub leader: Option<UserId>,
 }
 
+/// The known users' rows, in the order in which they became known.
 pub type Rows = IndexMap<UserId, Row>;
 
+/// What users get on windows that others open, by opener and user.
 pub type Masks = IndexMap<(UserId, UserId), Bits>;
 
 impl Row {
+    ghost use Rattle.std.specs.Prelude.{◌≡◌};
+    ghost use Rattle.acl.specs.Table.{new_row};
+
     /// What a name that becomes known has.
-    pub fn new(command_preset: Bits, window_preset: Bits) -> Row {
+    pub fn new(command_preset: Bits, window_preset: Bits) -> Row
+        ensures { result ≡ new_row command_preset window_preset }
+    {
         Row {
             commands: [command_preset; 31],
             windows: [window_preset; 40],
@@ -30,14 +43,12 @@ impl Row {
 }
 
 /// What a row has on an object.
-pub fn bits_on(slots: &Slots, object: Object, row: &Row) -> Bits {
+pub fn bits_on(slots: &Slots, object: Object, row: &Row) -> Bits
+    ensures { result ≡ bits_on slots.now.serials object row.now }
+{
     match object {
         Object::Window(window) => match slots.slot_of(window) {
-            Some(slot) => if slot < 40 {
-                row.windows[slot]
-            } else {
-                Bits::NONE
-            },
+            Some(slot) => row.windows[slot],
             None => Bits::NONE,
         },
         Object::Command(command) => row.commands[command as usize],
@@ -45,12 +56,14 @@ pub fn bits_on(slots: &Slots, object: Object, row: &Row) -> Bits {
 }
 
 /// Sets the bit on an object that is there.
-pub fn set_right(slots: &Slots, row: &mut Row, object: Object, bit: Bit, value: bool) {
+pub fn set_right(slots: &Slots, row: &mut Row, object: Object, bit: Bit, value: bool)
+    ensures set { row.new ≡ with_right slots.now.serials object bit value row.old }
+    ensures commands { length row.old.commands ≡ 31 }
+    ensures windows { length row.old.windows ≡ length slots.now.serials }
+{
     match object {
         Object::Window(window) => if let Some(slot) = slots.slot_of(window) {
-            if slot < 40 {
-                row.windows[slot] = row.windows[slot].with_bit(bit, value);
-            }
+            row.windows[slot] = row.windows[slot].with_bit(bit, value);
         },
         Object::Command(command) => {
             let place = command as usize;
@@ -60,7 +73,9 @@ pub fn set_right(slots: &Slots, row: &mut Row, object: Object, bit: Bit, value: 
 }
 
 /// What `by` gives a user on the windows that `by` opens.
-pub fn mask_bits(masks: &Masks, by: UserId, user: UserId) -> Bits {
+pub fn mask_bits(masks: &Masks, by: UserId, user: UserId) -> Bits
+    ensures { result ≡ mask_bits masks.now.entries by user }
+{
     match masks.get(&(by, user)) {
         Some(bits) => *bits,
         None => Bits::ALL,
@@ -68,7 +83,9 @@ pub fn mask_bits(masks: &Masks, by: UserId, user: UserId) -> Bits {
 }
 
 /// What a user gets on a window that `by` opens.
-pub fn opening_bits(masks: &Masks, by: UserId, user: UserId) -> Bits {
+pub fn opening_bits(masks: &Masks, by: UserId, user: UserId) -> Bits
+    ensures { result ≡ opening_bits masks.now.entries by user }
+{
     if by == user {
         Bits::ALL
     } else {
@@ -77,16 +94,21 @@ pub fn opening_bits(masks: &Masks, by: UserId, user: UserId) -> Bits {
 }
 
 /// Gives each user what he gets on the window that `by` opens in the slot.
-pub fn give_window(rows: &mut Rows, masks: &Masks, by: UserId, slot: usize) {
-    if slot < 40 {
-        for (user, row) in rows.iter_mut() {
-            row.windows[slot] = opening_bits(masks, by, *user);
-        }
+pub fn give_window(rows: &mut Rows, masks: &Masks, by: UserId, slot: usize)
+    requires { slot < 40 }
+    ensures given { rows.new.entries ≡ map (λ e. (e.0, with_window slot (opening_bits masks.now.entries by e.0) e.1)) rows.old.entries }
+    ensures wide { (user : UserId) (row : Row) → lookup (same_user user) rows.old.entries ≡ Some row → length row.windows ≡ 40 }
+{
+    for i in 0..rows.len() {
+        let (user, row) = rows.pair_mut(i);
+        row.windows[slot] = opening_bits(masks, by, *user);
     }
 }
 
 /// The leader, unless he is the one who is gone.
-fn remaining_leader(leader: Option<UserId>, gone: UserId) -> Option<UserId> {
+fn remaining_leader(leader: Option<UserId>, gone: UserId) -> Option<UserId>
+    ensures { result ≡ remaining_leader gone leader }
+{
     match leader {
         Some(leader) => if gone == leader { None } else { Some(leader) },
         None => None,
@@ -94,13 +116,24 @@ fn remaining_leader(leader: Option<UserId>, gone: UserId) -> Option<UserId> {
 }
 
 /// Takes a leader away from all whom he leads.
-pub fn forget_leader(rows: &mut Rows, gone: UserId) {
-    for (_, row) in rows.iter_mut() {
+pub fn forget_leader(rows: &mut Rows, gone: UserId)
+    ensures forgotten { rows.new.entries ≡ map (λ e. (e.0, without_leader gone e.1)) rows.old.entries }
+    ensures room { spare rows.new ≡ spare rows.old }
+{
+    for i in 0..rows.len() {
+        let (_, row) = rows.pair_mut(i);
         row.leader = remaining_leader(row.leader, gone);
     }
 }
 
 /// Forgets the masks that a user gave or got.
-pub fn forget_masks(masks: &mut Masks, user: UserId) {
-    masks.retain(|pair: &(UserId, UserId), _: &mut Bits| !(user == pair.0 || user == pair.1));
+pub fn forget_masks(masks: &mut Masks, user: UserId)
+    ensures forgotten { masks.new.entries ≡ filter (λ e. not (same_user user e.0.0 || same_user user e.0.1)) masks.old.entries }
+    ensures room { spare masks.old ≤ spare masks.new }
+{
+    masks.retain(
+        |pair: &(UserId, UserId), bits: &mut Bits| -> bool
+            ensures { (result ≡ not (same_user user pair.now.0 || same_user user pair.now.1)) × (bits.new ≡ bits.old) }
+        { !(user == pair.0 || user == pair.1) },
+    );
 }

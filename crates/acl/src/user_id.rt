@@ -1,3 +1,8 @@
+ghost use Rattle.std.specs.Prelude.{◌≡◌, ◌≤◌, ◌<◌, ◌==◌, IfSome, nat_eq, codes, position, unwrap_or};
+ghost use Rattle.std.specs.List.{list_all};
+ghost use Rattle.std.specs.Cmp.Lexicographic.{pointwise};
+ghost use Rattle.acl.specs.Names.{is_letter, is_name_byte, is_name, begins_with_letter};
+
 /// The most bytes of a name.
 const LONGEST: usize = 20;
 
@@ -8,44 +13,92 @@ pub struct UserId {
 }
 
 /// Whether a name may begin with the byte.
-fn is_letter(byte: u8) -> bool {
-    matches!(byte, b'a'..=b'z')
+fn is_letter(byte: u8) -> bool
+    ensures { result ≡ is_letter byte }
+{
+    byte >= b'a' && byte <= b'z'
 }
 
 /// Whether a name may hold the byte.
-fn is_name_byte(byte: u8) -> bool {
-    is_letter(byte) || matches!(byte, b'0'..=b'9') || byte == b'_'
+fn is_name_byte(byte: u8) -> bool
+    ensures { result ≡ is_name_byte byte }
+{
+    is_letter(byte) || (byte >= b'0' && byte <= b'9') || byte == b'_'
 }
 
-/// Whether the word is a name.
-pub fn is_name(word: &[u8]) -> bool {
+/// Whether the word begins with a letter.
+fn begins_with_letter(word: &[u8]) -> bool
+    ensures { result ≡ begins_with_letter word.now }
+{
     match word {
-        [first, ..] => is_letter(*first)
-            && word.len() <= LONGEST
-            && word.iter().all(|byte| is_name_byte(*byte))
-            && word != b"none".as_slice(),
+        [first, ..] => is_letter(*first),
         [] => false,
     }
 }
 
+/// Whether a name may hold each byte of the word.
+fn has_name_bytes(word: &[u8]) -> bool
+    ensures { result ≡ list_all is_name_byte word.now }
+{
+    word.iter().all(|byte| is_name_byte(*byte))
+}
+
+/// Whether the word is `none`.
+fn is_none_word(word: &[u8]) -> bool
+    ensures { result ≡ pointwise nat_eq word.now (codes "none") }
+{
+    word == b"none".as_slice()
+}
+
+/// Whether the word is a name.
+fn is_name(word: &[u8]) -> bool
+    ensures { result ≡ is_name word.now }
+{
+    begins_with_letter(word) && word.len() <= LONGEST && has_name_bytes(word) && !is_none_word(word)
+}
+
+/// The place of the first zero.
+fn first_zero(name: &[u8; 20]) -> Option<usize>
+    ensures place { result ≡ position (λ byte. byte == 0) name.now }
+    ensures within { IfSome result (λ place. place < 20) }
+{
+    name.iter().position(|byte| *byte == 0)
+}
+
+/// How many bytes stand before the zeros.
+fn length_of(name: &[u8; 20]) -> usize
+    ensures length { result ≡ unwrap_or (position (λ byte. byte == 0) name.now) 20 }
+    ensures within { result ≤ 20 }
+{
+    match first_zero(name) {
+        Some(place) => place,
+        None => 20,
+    }
+}
+
 impl UserId {
+    ghost use Rattle.std.specs.Prelude.{◌≡◌, IfSome};
+    ghost use Rattle.acl.specs.Names.{named_by, name_of};
+
     /// The user whom the word names; none where it is no name.
-    pub fn of(word: &[u8]) -> Option<UserId> {
+    pub fn of(word: &[u8]) -> Option<UserId>
+        ensures named { result ≡ named_by word.now }
+        ensures spelled { IfSome result (λ user. name_of user ≡ word.now) }
+    {
         if !is_name(word) {
             return None;
         }
         let mut name = [0; 20];
         for i in 0..word.len() {
-            if i < name.len() {
-                name[i] = word[i];
-            }
+            name[i] = word[i];
         }
         Some(UserId { name })
     }
 
     /// The name's bytes.
-    pub fn as_bytes(&self) -> &[u8] {
-        let end = self.name.iter().position(|byte| *byte == 0).unwrap_or(20);
-        &self.name[..end]
+    pub fn as_bytes(&self) -> &[u8]
+        ensures { result.now ≡ name_of self.now }
+    {
+        &self.name[..length_of(&self.name)]
     }
 }

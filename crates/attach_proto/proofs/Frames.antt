@@ -1,9 +1,9 @@
--- A whole frame at the front is the one that spells its message, and a fault stays.
-use Rattle.std.proofs.Common.{◌≡◌, ℕ, suc, ◌+◌, ◌*◌, ◌/◌, ◌%◌, ◌<◌, ◌≤◌, Bool, true, false, cond, eqb, ltb, List, [], ◌∷◌, ◌++◌, length, take, drop, Option, Some, None, refl, sym, ap, subst, ◌∙◌, arith}
-use Rattle.std.proofs.lemmas.List.{take_at, take-append-le, take-append-drop, length-append, length-take}
+-- A whole frame at the front is the one that spells its message.
+use Rattle.std.proofs.Common.{◌≡◌, ℕ, suc, ◌+◌, ◌*◌, ◌/◌, ◌%◌, ◌<◌, ◌≤◌, Bool, true, false, cond, eqb, ltb, List, [], ◌∷◌, ◌++◌, length, take, drop, Option, Some, None, refl, sym, ap, ◌∙◌, arith}
+use Rattle.std.proofs.lemmas.List.{take_at, take-append-drop, length-append, length-take}
 use Rattle.std.proofs.lemmas.Bool.{eqb-true, ltb-false, le-ltb}
 use Rattle.attach_proto.specs.declared.fault.ProtoFault.{ProtoFault}
-use Rattle.attach_proto.specs.declared.fault.ProtoFault.TheVariants.{TooLong, WrongSide, NoMemory}
+use Rattle.attach_proto.specs.declared.fault.ProtoFault.TheVariants.{TooLong, WrongSide}
 use Rattle.attach_proto.specs.declared.side.Side.{Side}
 use Rattle.attach_proto.specs.declared.side.Side.TheVariants.{Server, Peer}
 use Rattle.attach_proto.specs.declared.kind.Kind.{Kind}
@@ -20,7 +20,7 @@ use Rattle.attach_proto.proofs.Payloads.{chosen, message_takes, message_again}
 kind_here : (n k : ℕ) (w z : Kind) → k ≡ code w → eqb n k ≡ true → w ≡ z → n ≡ code z
 kind_here n k w z k-is t e = eqb-true n k t ∙ k-is ∙ ap code e
 
-kind_takes : (n : ℕ) (k : Kind) → kind_at n ≡ Some k → n ≡ code k
+pub kind_takes : (n : ℕ) (k : Kind) → kind_at n ≡ Some k → n ≡ code k
 kind_takes n k e =
     chosen (eqb n 65) kind.Attach k _ (n ≡ code k) e (kind_here n 65 kind.Attach k refl) (λ e.
     chosen (eqb n 87) kind.Window k _ (n ≡ code k) e (kind_here n 87 kind.Window k refl) (λ e.
@@ -36,7 +36,7 @@ kind_takes n k e =
     chosen (eqb n 122) kind.Size k _ (n ≡ code k) e (kind_here n 122 kind.Size k refl) (λ e.
     chosen (eqb n 103) kind.Gone k _ (n ≡ code k) e (kind_here n 103 kind.Gone k refl) (λ e. absurd cc)))))))))))))
 
-kind_again : (k : Kind) → kind_at (code k) ≡ Some k
+pub kind_again : (k : Kind) → kind_at (code k) ≡ Some k
 kind_again kind.Attach = refl
 kind_again kind.Window = refl
 kind_again kind.Command = refl
@@ -51,13 +51,13 @@ kind_again kind.Say = refl
 kind_again kind.Size = refl
 kind_again kind.Gone = refl
 
-same_is : (a b : Side) → same_side a b ≡ true → a ≡ b
+pub same_is : (a b : Side) → same_side a b ≡ true → a ≡ b
 same_is Server Server e = refl
 same_is Peer Peer e = refl
 same_is Server Peer e = absurd cc
 same_is Peer Server e = absurd cc
 
-same_again : (a : Side) → same_side a a ≡ true
+pub same_again : (a : Side) → same_side a a ≡ true
 same_again Server = refl
 same_again Peer = refl
 
@@ -132,66 +132,3 @@ front_again side m rest h =
     let short : ltb 8192 len ≡ false = le-ltb _ _ h.fits.short in
     let enough : ltb (length (payload m ++ rest)) len ≡ false = le-ltb _ _ (omega (arith, length-append (payload m) rest)) in
     rw (kind_again (kind_of m), h.side_is, same_again side, two_is len, short, enough, take_at (payload m) rest len refl, message_again m h.fits.fields) refl
-
--- ---- a fault stays, whatever follows
-
-length_stays : (k : Kind) (n : ℕ) (bytes more : List ℕ) (f : ProtoFault) (a b c : Bool) → a ≡ ltb 8192 n → b ≡ ltb (length bytes) n → c ≡ ltb (length (bytes ++ more)) n
-    → cond a (Broken TooLong) (cond b Part (ended n (message_of k (take n bytes)))) ≡ Broken f
-    → cond a (Broken TooLong) (cond c Part (ended n (message_of k (take n (bytes ++ more))))) ≡ Broken f
-length_stays k n bytes more f true b c a-is b-is c-is e = e
-length_stays k n bytes more f false true c a-is b-is c-is e = absurd cc
-length_stays k n bytes more f false false true a-is b-is c-is e =
-    let enough : n ≤ length bytes = ltb-false _ _ (sym b-is) in
-    let no : ltb (length (bytes ++ more)) n ≡ false = le-ltb _ _ (omega (arith, length-append bytes more)) in
-    let clash : true ≡ false = c-is ∙ no in absurd cc
-length_stays k n bytes more f false false false a-is b-is c-is e =
-    let enough : n ≤ length bytes = ltb-false _ _ (sym b-is) in
-    rw (take-append-le n bytes more enough) e
-
-sized_stays : (k : Kind) (bytes more : List ℕ) (f : ProtoFault) → sized k bytes ≡ Broken f → sized k (bytes ++ more) ≡ Broken f
-sized_stays k [] more f e = absurd cc
-sized_stays k (h ∷ []) more f e = absurd cc
-sized_stays k (h ∷ l ∷ bytes) more f e = length_stays k (256 * h + l) bytes more f _ _ _ refl refl refl e
-
-kind_stays : (side : Side) (o : Option Kind) (bytes more : List ℕ) (f : ProtoFault) → of_kind side o bytes ≡ Broken f → of_kind side o (bytes ++ more) ≡ Broken f
-kind_stays side None bytes more f e = e
-kind_stays side (Some k) bytes more f e = go (same_side (reader_of k) side) e where
-  go : (b : Bool) → cond b (sized k bytes) (Broken WrongSide) ≡ Broken f → cond b (sized k (bytes ++ more)) (Broken WrongSide) ≡ Broken f
-  go true e = sized_stays k bytes more f e
-  go false e = e
-
-pub broken_stays : (side : Side) (bytes more : List ℕ) (f : ProtoFault) → front side bytes ≡ Broken f → front side (bytes ++ more) ≡ Broken f
-unfolding front
-broken_stays side [] more f e = absurd cc
-broken_stays side (c ∷ bytes) more f e = kind_stays side (kind_at c) bytes more f e
-
--- ---- no fault of a stream is want of memory
-
-abbrev NoneOfMemory : Front → Type 0
-NoneOfMemory (Broken NoMemory) = ⊥
-NoneOfMemory _ = Unit {0}
-
-either_of : (b : Bool) (x y : Front) → NoneOfMemory x → NoneOfMemory y → NoneOfMemory (cond b x y)
-either_of true x y h k = h
-either_of false x y h k = k
-
-ended_of : (n : ℕ) (o : Option Message) → NoneOfMemory (ended n o)
-ended_of n None = tt
-ended_of n (Some m) = tt
-
-sized_of : (k : Kind) (bytes : List ℕ) → NoneOfMemory (sized k bytes)
-sized_of k [] = tt
-sized_of k (h ∷ []) = tt
-sized_of k (h ∷ l ∷ bytes) = either_of (ltb 8192 (256 * h + l)) _ _ tt (either_of (ltb (length bytes) (256 * h + l)) _ _ tt (ended_of (256 * h + l) (message_of k (take (256 * h + l) bytes))))
-
-kind_none : (side : Side) (o : Option Kind) (bytes : List ℕ) → NoneOfMemory (of_kind side o bytes)
-kind_none side None bytes = tt
-kind_none side (Some k) bytes = either_of (same_side (reader_of k) side) _ _ (sized_of k bytes) tt
-
-front_none : (side : Side) (bytes : List ℕ) → NoneOfMemory (front side bytes)
-unfolding front
-front_none side [] = tt
-front_none side (c ∷ bytes) = kind_none side (kind_at c) bytes
-
-pub never_memory : (side : Side) (bytes : List ℕ) (f : ProtoFault) → front side bytes ≡ Broken f → f ≡ NoMemory → ⊥
-never_memory side bytes f e m = subst NoneOfMemory (e ∙ ap (λ (g : ProtoFault). Broken g) m) (front_none side bytes)

@@ -9,13 +9,15 @@ mod message;
 mod reader;
 mod reading;
 mod side;
+#[cfg(test)]
+mod tests;
 mod why;
 mod writing;
 
 pub use fault::{ProtoFault, WriteFault};
 pub use fields::{Bytes, Text, Token};
 pub use kind::Kind;
-pub use laws::{one_reading, spelled_ones_are_read};
+pub use laws::{longest_list, one_reading, spelled_apart, spelled_ones_are_read};
 pub use message::Message;
 pub use reader::Reader;
 pub use reading::LONGEST;

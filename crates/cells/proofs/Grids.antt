@@ -16,9 +16,9 @@ pub IsGrid-set : (page : List (List Cell)) (line : ℕ) (new : List Cell) → Is
 IsGrid-set page line new grid inside same paired =
     let n : length (set page line new) ≡ length page = length-set page line new in
     let widths : (k : ℕ) → length (line_at (set page line new) k) ≡ length (line_at page k) = λ k. ⊎_elim
-        (λ (e : k ≡ line). ap (λ i. length (line_at (set page line new) i)) e ∙ ap length (get_or-set_same page line new [] inside) ∙ same ∙ sym (ap (λ i. length (line_at page i)) e))
-        (λ (ne : k ≡ line → ⊥). ap length (get_or-set_other page line k new [] ne))
-        (cases_eq k line) in
+    (λ (e : k ≡ line). ap (λ i. length (line_at (set page line new) i)) e ∙ ap length (get_or-set_same page line new [] inside) ∙ same ∙ sym (ap (λ i. length (line_at page i)) e))
+    (λ (ne : k ≡ line → ⊥). ap length (get_or-set_other page line k new [] ne))
+    (cases_eq k line) in
     record {
       well_formed = record {
         height = refl;
@@ -26,14 +26,14 @@ IsGrid-set page line new grid inside same paired =
         paired = λ k. ⊎_elim
             (λ (e : k ≡ line). subst IsPaired (sym (ap (line_at (set page line new)) e ∙ get_or-set_same page line new [] inside)) paired)
             (λ (ne : k ≡ line → ⊥). subst IsPaired (sym (get_or-set_other page line k new [] ne)) (grid.well_formed.paired k))
-            (cases_eq k line)
+            (cases_eq k line);
       };
       size = record {
         least_rows = rw n grid.size.least_rows;
         most_rows = rw n grid.size.most_rows;
         least_columns = rw (widths 0) grid.size.least_columns;
-        most_columns = rw (widths 0) grid.size.most_columns
-      }
+        most_columns = rw (widths 0) grid.size.most_columns;
+      };
     }
 
 -- a page of a grid's size is a grid
@@ -48,15 +48,15 @@ IsGrid-is rows columns page is_page size =
         least_rows = rw n size.least_rows;
         most_rows = rw n size.most_rows;
         least_columns = rw w size.least_columns;
-        most_columns = rw w size.most_columns
-      }
+        most_columns = rw w size.most_columns;
+      };
     }
 
 -- a line of a resized page is the resized line
 pub line_from-resized : (page : List (List Cell)) (line width : ℕ) → line_from (From line) width page ≡ line_resized width (line_at page line)
 line_from-resized page line width = map_same _ _ 0 width (λ column.
     rw (before_on_line (From line) Old line (λ c. refl) column, after_on_line (From line) Old line width (λ c. refl) column)
-        (settled_on_line page line (source_before Old column) (Old column) (source_after Old width column)))
+    (settled_on_line page line (source_before Old column) (Old column) (source_after Old width column)))
 
 pub length-page_resized : (rows columns : ℕ) (page : List (List Cell)) → length (page_resized rows columns page) ≡ rows
 length-page_resized rows columns page = length-map-range_with_len _ 0 rows
@@ -72,7 +72,7 @@ IsGrid-page_resized rows columns page well size = IsGrid-is rows columns (page_r
       paired = λ line. ⊎_elim
           (λ (h : line < rows). subst IsPaired (sym (line_at-page_resized rows columns page line h)) (IsPaired-line_from (From line) columns (length page) (length (line_at page 0)) page well))
           (λ (h : rows ≤ line). subst IsPaired (sym (get_or_past (page_resized rows columns page) line [] (rw (length-page_resized rows columns page) h))) IsPaired-nil)
-          (cases_lt line rows)
+          (cases_lt line rows);
     })
     size
 

@@ -36,10 +36,10 @@ pub struct Rendition {
 /// character, its rendition and its protection; the left one alone holds its marks.
 #[derive(Clone, Copy, Debug, PartialEq, Eq)]
 pub struct Cell {
-    pub shape: Shape,
     pub character: char,
     pub marks: Marks,
     pub rendition: Rendition,
+    pub shape: Shape,
     /// Whether a selective erasure spares it (VT220 Programmer Reference Manual, DECSCA).
     pub is_protected: bool,
 }
@@ -84,11 +84,10 @@ impl Cell {
         ensures { result ≡ narrow_cell character rendition is_protected }
     {
         Cell {
-            shape: Shape::Narrow,
             character,
-            marks: Marks::Bare,
             rendition,
             is_protected,
+            ..Cell::BLANK
         }
     }
 

@@ -135,7 +135,7 @@ impl Line {
         ensures { IfOk result (λ line. line ≡ line_resized width self.now) }
     {
         let mut line = Line::blank(alloc, width)?;
-        let kept = width.min(self.cells.len());
+        let kept = width.min(self.width());
         line.put(0, &self.cells[..kept]);
         Ok(line)
     }

@@ -80,10 +80,11 @@ units-append Utf8 front later h =
     ∙ ap (λ us. (us, (codes later).1)) (map-append (λ c. Code c) (codes front).0 (codes later).0)
 units-append Ecma35 front later h = ap (λ us. (us, [])) (map-append unit_of_byte front later)
 
-pub units-can : (bytes : List ℕ) → units Utf8 (bytes ++ 0x18 ∷ []) ≡ ((units Utf8 bytes).0 ++ Code 0x18 ∷ [], [])
-units-can bytes =
+pub units-can : (coding : Coding) (bytes : List ℕ) → units coding (bytes ++ 0x18 ∷ []) ≡ ((units coding bytes).0 ++ Code 0x18 ∷ [], [])
+units-can Utf8 bytes =
     ap (λ (p : List ℕ × List ℕ). (map (λ c. Code c) p.0, p.1)) (cut-append 0 bytes (0x18 ∷ []) (omega arith) ∙ ap (with_front (codes bytes).0) (can_after (codes bytes).1 (rest_begun 0 bytes)))
     ∙ ap (λ us. (us, [])) (map-append (λ c. Code c) (codes bytes).0 (0x18 ∷ []))
+units-can Ecma35 bytes = ap (λ us. (us, [])) (map-append unit_of_byte bytes (0x18 ∷ []))
 
 pub units-go_on : (coding : Coding) (front later : List ℕ)
     → units coding (front ++ later) ≡ ((units coding front).0 ++ (units coding ((units coding front).1 ++ later)).0, (units coding ((units coding front).1 ++ later)).1)

@@ -19,7 +19,8 @@ pub fn whole_ones_join()
 
 /// CAN ends a character that has begun, which gives nothing.
 pub fn can_ends_all()
-    ensures { (bytes : List ℕ) → units Utf8 (bytes ++ 0x18 ∷ []) ≡ ((units Utf8 bytes).0 ++ Code 0x18 ∷ [], []) }
+    ensures { (coding : Coding) (bytes : List ℕ) →
+        units coding (bytes ++ 0x18 ∷ []) ≡ ((units coding bytes).0 ++ Code 0x18 ∷ [], []) }
 {}
 
 /// A character as UTF-8 is read as it.

@@ -2,4 +2,10 @@ pub mod Parts
 pub mod Reading
 pub mod Lines
 pub mod Values
-pub mod Judging
+pub mod MaskFaults
+pub mod Names
+pub mod Table
+pub mod Meaning
+pub mod Relation
+pub mod FirstWord
+pub mod Printing

@@ -1,5 +1,9 @@
 //! A command is built from its name and words, once they have been judged.
 
+ghost use Rattle.std.specs.Prelude.{◌≡◌, ◌∷◌, [], IfOk, map};
+ghost use Rattle.command_lang.specs.Values.{number_in, mask_of};
+ghost use Rattle.command_lang.specs.Meaning.{bare, with_word, with_words, command_of, texts_of};
+
 use crate::command::{Command, Masks};
 use crate::text::Text;
 use crate::values::{
@@ -10,7 +14,9 @@ use acl::CommandName;
 use std::alloc::{AllocError, Global};
 
 /// The command that takes no word, if the name is one's.
-fn bare(name: CommandName) -> Option<Command> {
+fn bare(name: CommandName) -> Option<Command>
+    ensures { result ≡ bare name }
+{
     match name {
         CommandName::Detach => Some(Command::Detach),
         CommandName::Next => Some(Command::Next),
@@ -32,8 +38,19 @@ fn bare(name: CommandName) -> Option<Command> {
     }
 }
 
+/// One mask.
+fn lone_mask(alloc: Global, text: &str) -> Result<Masks, AllocError>
+    ensures { IfOk result (λ m. m ≡ mask_of text.now ∷ []) }
+{
+    let mut masks = Masks::new(alloc);
+    masks.push(mask(alloc, text)?)?;
+    Ok(masks)
+}
+
 /// The number of a window.
-fn window_number(text: &str) -> Option<u8> {
+fn window_number(text: &str) -> Option<u8>
+    ensures { result ≡ number_in 39 text.now }
+{
     match number(text.as_bytes(), 39) {
         Some(n) => Some(n as u8),
         None => None,
@@ -41,36 +58,36 @@ fn window_number(text: &str) -> Option<u8> {
 }
 
 /// The command of one word.
-fn with_word(alloc: Global, name: CommandName, text: &str) -> Result<Option<Command>, AllocError> {
-    let command = match name {
-        CommandName::Acladd => Some(Command::Acladd(users(alloc, text)?)),
-        CommandName::Acldel => Some(Command::Acldel(Text::of(alloc, text)?)),
-        CommandName::Aclgrp => Some(Command::Aclgrp {
+fn with_word(alloc: Global, name: CommandName, text: &str) -> Result<Option<Command>, AllocError>
+    ensures { IfOk result (λ c. c ≡ with_word name text.now) }
+{
+    match name {
+        CommandName::Acladd => Ok(Some(Command::Acladd(users(alloc, text)?))),
+        CommandName::Acldel => Ok(Some(Command::Acldel(Text::of(alloc, text)?))),
+        CommandName::Aclgrp => Ok(Some(Command::Aclgrp {
             user: Text::of(alloc, text)?,
             leader: None,
-        }),
-        CommandName::Writelock => lock_mode(text).map(Command::Writelock),
-        CommandName::Defwritelock => lock_mode(text).map(Command::Defwritelock),
-        CommandName::Multiuser => switch(text).map(Command::Multiuser),
-        CommandName::Wall => Some(Command::Wall(Text::of(alloc, text)?)),
-        CommandName::Select => Some(Command::Select(Text::of(alloc, text)?)),
-        CommandName::Title => Some(Command::Title(Text::of(alloc, text)?)),
-        CommandName::Number => window_number(text).map(Command::Number),
-        CommandName::Split => if is_vertical(text) {
-            Some(Command::Split { vertical: true })
-        } else {
-            None
-        },
-        CommandName::Scrollview => number(text.as_bytes(), 2000).map(Command::Scrollview),
-        CommandName::Encoding => coding(text).map(Command::Encoding),
-        CommandName::Stuff => Some(Command::Stuff(Text::of(alloc, text)?)),
-        _ => None,
-    };
-    Ok(command)
+        })),
+        CommandName::Aclumask => Ok(Some(Command::Aclumask(lone_mask(alloc, text)?))),
+        CommandName::Writelock => Ok(lock_mode(text).map(Command::Writelock)),
+        CommandName::Defwritelock => Ok(lock_mode(text).map(Command::Defwritelock)),
+        CommandName::Multiuser => Ok(switch(text).map(Command::Multiuser)),
+        CommandName::Wall => Ok(Some(Command::Wall(Text::of(alloc, text)?))),
+        CommandName::Select => Ok(Some(Command::Select(Text::of(alloc, text)?))),
+        CommandName::Title => Ok(Some(Command::Title(Text::of(alloc, text)?))),
+        CommandName::Number => Ok(window_number(text).map(Command::Number)),
+        CommandName::Split if is_vertical(text) => Ok(Some(Command::Split { vertical: true })),
+        CommandName::Scrollview => Ok(number(text.as_bytes(), 2000).map(Command::Scrollview)),
+        CommandName::Encoding => Ok(coding(text).map(Command::Encoding)),
+        CommandName::Stuff => Ok(Some(Command::Stuff(Text::of(alloc, text)?))),
+        _ => Ok(None),
+    }
 }
 
 /// The masks of words.
-fn masks(alloc: Global, words: &[Word]) -> Result<Masks, AllocError> {
+fn masks(alloc: Global, words: &[Word]) -> Result<Masks, AllocError>
+    ensures { IfOk result (λ m. m ≡ map mask_of (texts_of words.now)) }
+{
     let mut masks = Masks::new(alloc);
     for word in words {
         masks.push(mask(alloc, word.text.as_str())?)?;
@@ -83,7 +100,9 @@ fn with_words(
     alloc: Global,
     name: CommandName,
     words: &[Word],
-) -> Result<Option<Command>, AllocError> {
+) -> Result<Option<Command>, AllocError>
+    ensures { IfOk result (λ c. c ≡ with_words name (texts_of words.now)) }
+{
     match (name, words) {
         (CommandName::Aclchg, [first, second, third]) => Ok(Some(Command::Aclchg {
             users: users(alloc, first.text.as_str())?,
@@ -94,6 +113,7 @@ fn with_words(
             user: Text::of(alloc, first.text.as_str())?,
             leader: Some(leader(alloc, second.text.as_str())?),
         })),
+        (CommandName::Aclumask, _) => Ok(Some(Command::Aclumask(masks(alloc, words)?))),
         _ => Ok(None),
     }
 }
@@ -103,10 +123,9 @@ pub fn build(
     alloc: Global,
     name: CommandName,
     words: &[Word],
-) -> Result<Option<Command>, AllocError> {
-    if name == CommandName::Aclumask {
-        return Ok(Some(Command::Aclumask(masks(alloc, words)?)));
-    }
+) -> Result<Option<Command>, AllocError>
+    ensures { IfOk result (λ c. c ≡ command_of name (texts_of words.now)) }
+{
     match words {
         [] => Ok(bare(name)),
         [word] => with_word(alloc, name, word.text.as_str()),

@@ -1,9 +1,14 @@
 //! The names of the commands.
 
+ghost use Rattle.std.specs.Prelude.{◌≡◌};
+ghost use Rattle.command_lang.specs.Names.{name_text, alias_text, is_called, command_named};
+
 use acl::CommandName;
 
 /// The word that names a command.
-pub fn name_text(name: CommandName) -> &'static str {
+pub fn name_text(name: CommandName) -> &'static str
+    ensures { result.now ≡ name_text name }
+{
     match name {
         CommandName::Acladd => "acladd",
         CommandName::Aclchg => "aclchg",
@@ -40,7 +45,9 @@ pub fn name_text(name: CommandName) -> &'static str {
 }
 
 /// Another word for a command; its name where it has none.
-fn alias_text(name: CommandName) -> &'static str {
+fn alias_text(name: CommandName) -> &'static str
+    ensures { result.now ≡ alias_text name }
+{
     match name {
         CommandName::Acladd => "addacl",
         CommandName::Aclchg => "chacl",
@@ -50,16 +57,18 @@ fn alias_text(name: CommandName) -> &'static str {
 }
 
 /// Whether the word is the command's name or alias.
-fn is_called(name: CommandName, word: &str) -> bool {
+fn is_called(name: CommandName, word: &str) -> bool
+    ensures { result ≡ is_called word.now name }
+{
     name_text(name) == word || alias_text(name) == word
 }
 
 /// The command that a word names, by its name or alias.
-pub fn command_named(word: &str) -> Option<CommandName> {
-    for name in CommandName::ALL {
-        if is_called(name, word) {
-            return Some(name);
-        }
-    }
-    None
+pub fn command_named(word: &str) -> Option<CommandName>
+    ensures { result ≡ command_named word.now }
+{
+    CommandName::ALL
+        .iter()
+        .find(|name| is_called(**name, word))
+        .copied()
 }

@@ -1,8 +1,11 @@
 //! A line is a command, or has a fault.
 
-ghost use Rattle.std.specs.Prelude.{◌≡◌, ◌≤◌, length, IfOk};
+ghost use Rattle.std.specs.Prelude.{◌≡◌, ◌≤◌, ◌⊎◌, [], length, IfOk, IfErr, Some};
 ghost use Rattle.std.specs.Str.{chars};
 ghost use Rattle.command_lang.specs.Lines.{words};
+ghost use Rattle.command_lang.specs.Table.{first_of};
+ghost use Rattle.command_lang.specs.Meaning.{line_command};
+ghost use Rattle.command_lang.specs.Relation.{line_faults, Relates, Refuses, no_memory};
 
 use crate::build::build;
 use crate::command::Command;
@@ -17,7 +20,9 @@ use std::str;
 pub const LONGEST_LINE: usize = 1024;
 
 /// Want of memory, at no place.
-fn no_memory() -> ParseFault {
+fn no_memory() -> ParseFault
+    ensures { result ≡ no_memory }
+{
     ParseFault {
         kind: FaultKind::NoMemory,
         place: 0,
@@ -34,7 +39,10 @@ fn text_words(alloc: Global, text: &str) -> Result<Vec<Word>, AllocError>
 }
 
 /// The command of a line's words; the line has that length.
-fn command_of(alloc: Global, line: &[Word], end: usize) -> Result<Command, ParseFault> {
+fn command_of(alloc: Global, line: &[Word], end: usize) -> Result<Command, ParseFault>
+    ensures ok { IfOk result (λ c. (line_faults end line.now ≡ []) × (line_command line.now ≡ Some c)) }
+    ensures err { IfErr result (λ f. (f ≡ no_memory) ⊎ (first_of (line_faults end line.now) ≡ Some f)) }
+{
     let Some((first, rest)) = line.split_first() else {
         return Err(ParseFault {
             kind: FaultKind::MissingWord,
@@ -47,13 +55,16 @@ fn command_of(alloc: Global, line: &[Word], end: usize) -> Result<Command, Parse
     }
     match build(alloc, name, rest) {
         Ok(Some(command)) => Ok(command),
-        Ok(None) => Err(no_memory()),
+        Ok(None) => unreachable!(),
         Err(_) => Err(no_memory()),
     }
 }
 
 /// The command of a line.
-pub fn parse(alloc: Global, line: &[u8]) -> Result<Command, ParseFault> {
+pub fn parse(alloc: Global, line: &[u8]) -> Result<Command, ParseFault>
+    ensures ok { IfOk result (λ c. Relates line.now c) }
+    ensures err { IfErr result (λ f. (f ≡ no_memory) ⊎ Refuses line.now f) }
+{
     if line.len() > LONGEST_LINE {
         return Err(ParseFault {
             kind: FaultKind::TooLong,

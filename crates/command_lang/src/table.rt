@@ -1,5 +1,11 @@
 //! The words that each command takes, and the faults of words.
 
+ghost use Rattle.std.specs.Prelude.{◌≡◌};
+ghost use Rattle.command_lang.specs.Names.{command_named};
+ghost use Rattle.command_lang.specs.Table.{row, least, kind_at, kind_fault, word_fault, words_faults, first_of, at};
+ghost use Rattle.command_lang.specs.MaskFaults.{unless};
+ghost use Rattle.command_lang.specs.FirstWord.{name_in};
+
 use crate::fault::{FaultKind, ParseFault};
 use crate::names::command_named;
 use crate::values::{
@@ -38,7 +44,9 @@ pub enum Words {
 }
 
 /// The table of commands.
-pub fn words_of(name: CommandName) -> Words {
+pub fn words_of(name: CommandName) -> Words
+    ensures { result ≡ row name }
+{
     match name {
         CommandName::Acladd => Words::One(Kind::Items),
         CommandName::Aclchg => Words::Three(Kind::Items, Kind::Bits, Kind::Items),
@@ -75,7 +83,9 @@ pub fn words_of(name: CommandName) -> Words {
 }
 
 /// How many words there are at least.
-fn least(words: Words) -> usize {
+fn least(words: Words) -> usize
+    ensures { result ≡ least words }
+{
     match words {
         Words::Nothing | Words::Perhaps(_) => 0,
         Words::One(_) | Words::OneOrTwo(_, _) | Words::Several(_) => 1,
@@ -84,7 +94,9 @@ fn least(words: Words) -> usize {
 }
 
 /// What the word with this number has to be, from 0 on; none where there may be none.
-fn kind_at(words: Words, i: usize) -> Option<Kind> {
+fn kind_at(words: Words, i: usize) -> Option<Kind>
+    ensures { result ≡ kind_at words i }
+{
     match words {
         Words::Nothing => None,
         Words::One(first) | Words::Perhaps(first) => if i == 0 { Some(first) } else { None },
@@ -104,12 +116,16 @@ fn kind_at(words: Words, i: usize) -> Option<Kind> {
 }
 
 /// The fault that a word is in if a test failed.
-fn fault_unless(fine: bool, kind: FaultKind) -> Option<FaultKind> {
+fn fault_unless(fine: bool, kind: FaultKind) -> Option<FaultKind>
+    ensures { result ≡ unless fine kind }
+{
     if fine { None } else { Some(kind) }
 }
 
 /// Why a text isn't what a word has to be.
-fn judge(kind: Kind, text: &str) -> Option<FaultKind> {
+fn judge(kind: Kind, text: &str) -> Option<FaultKind>
+    ensures { result ≡ kind_fault kind text.now }
+{
     match kind {
         Kind::Text => None,
         Kind::Items => fault_unless(!has_empty_item(text), FaultKind::BadWord),
@@ -129,7 +145,9 @@ fn judge(kind: Kind, text: &str) -> Option<FaultKind> {
 }
 
 /// The fault of a word that stands where this kind is wanted, or none.
-fn word_fault(kind: Option<Kind>, word: &Word) -> Option<ParseFault> {
+fn word_fault(kind: Option<Kind>, word: &Word) -> Option<ParseFault>
+    ensures { result ≡ word_fault kind word.now }
+{
     let fault = if !word.whole {
         Some(FaultKind::BadQuote)
     } else if let Some(kind) = kind {
@@ -147,7 +165,9 @@ fn word_fault(kind: Option<Kind>, word: &Word) -> Option<ParseFault> {
 }
 
 /// The first fault of a command's words, in a line of that length.
-pub fn words_fault(taken: Words, words: &[Word], end: usize) -> Option<ParseFault> {
+pub fn words_fault(taken: Words, words: &[Word], end: usize) -> Option<ParseFault>
+    ensures { result ≡ first_of (words_faults taken 0 end words.now) }
+{
     for i in 0..words.len() {
         let fault = word_fault(kind_at(taken, i), &words[i]);
         if fault.is_some() {
@@ -165,7 +185,9 @@ pub fn words_fault(taken: Words, words: &[Word], end: usize) -> Option<ParseFaul
 }
 
 /// The command that a line's first word names.
-pub fn first_name(word: &Word) -> Result<CommandName, ParseFault> {
+pub fn first_name(word: &Word) -> Result<CommandName, ParseFault>
+    ensures { result ≡ name_in word.now }
+{
     if !word.whole {
         return Err(ParseFault {
             kind: FaultKind::BadQuote,

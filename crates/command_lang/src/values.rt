@@ -2,7 +2,7 @@
 
 ghost use Rattle.std.specs.Prelude.{◌≡◌, ◌≤◌, length, true, IfOk};
 ghost use Rattle.command_lang.specs.Values as mean;
-ghost use Rattle.command_lang.specs.Judging as judging;
+ghost use Rattle.command_lang.specs.MaskFaults as judging;
 
 use crate::bit_list::BitList;
 use crate::command::{Coding, Leader, Mask, Users};

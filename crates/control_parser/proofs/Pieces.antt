@@ -18,7 +18,7 @@ use Rattle.control_parser.proofs.Machine.{machine, functions_behind-machine}
 use Rattle.control_parser.proofs.Openings.{functions-go_on}
 use Rattle.control_parser.proofs.Spelled.{both, all_more, print_reads}
 
-functions-none : functions [] ≡ ([], nothing)
+pub functions-none : functions [] ≡ ([], nothing)
 unfolding functions_behind
 functions-none = refl
 

@@ -56,3 +56,7 @@ IsGiven (Csi mark params is last) = IfSome mark (λ m. is_mark m ≡ true) × (0
 -- the functions of some bytes, and no rest
 abbrev pub ReadsAs : Coding → List ℕ → List Func → Type 0
 ReadsAs coding bytes given = ((units coding bytes).1 ≡ []) × (functions (units coding bytes).0 ≡ (given, nothing))
+
+-- a function that bytes give in UTF-8
+abbrev pub IsGivenInUtf8 : Func → Type 0
+IsGivenInUtf8 f = IsGiven f × (coding_of f ≡ Utf8)

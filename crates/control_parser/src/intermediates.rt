@@ -13,8 +13,7 @@ pub struct Intermediates {
 
 impl Model for Intermediates {
     ghost use Rattle.std.specs.Prelude.{List, ℕ, take, length};
-    ghost use Rattle.std.proofs.Common.{arith, length-take-le};
-    ghost use Rattle.control_parser.specs.Arrays.{IsFront, array_of, array_of-take};
+    ghost use Rattle.control_parser.specs.Arrays.{IsFront, array_of, array_of-take, length-front};
 
     ghost Value = { List ℕ };
 
@@ -26,7 +25,7 @@ impl Model for Intermediates {
 
     ghost inverse_ok = { λ a h i. record {
       bytes = array_of-take 2 a.count a.bytes h i;
-      count = length-take-le a.count a.bytes (omega (arith, h.0, h.1)) i;
+      count = length-front 2 a.count a.bytes h i;
     } };
 }
 

@@ -3,16 +3,30 @@
 ghost use Rattle.std.specs.Prelude.{◌≡◌, ℕ, List, [], ◌∷◌, ◌++◌, map, true};
 ghost use Rattle.std.specs.List.{AllByRecursion, flat_map, list_all};
 ghost use Rattle.charsets.specs.Units.{is_plain, IsUnit};
+ghost use Rattle.charsets.specs.declared.unit.Coding.{Coding};
+ghost use Rattle.charsets.specs.declared.unit.Coding.TheVariants.{Utf8};
 ghost use Rattle.charsets.specs.declared.unit.Unit.{Unit};
 ghost use Rattle.charsets.specs.declared.unit.Unit.TheVariants.{Code};
+ghost use Rattle.control_parser.specs.declared.func.Func.{Func};
 ghost use Rattle.control_parser.specs.declared.func.Func.TheVariants.{Print};
 ghost use Rattle.control_parser.specs.Grammar.{functions, is_graphic, nothing, with_front};
-ghost use Rattle.control_parser.specs.Spelling.{IsGiven};
+ghost use Rattle.control_parser.specs.Spelling.{spelling, IsGiven, IsGivenInUtf8, ReadsAs};
 ghost use Rattle.control_parser.specs.Kept.{opening, functions_of_pieces};
 
 /// Units give nothing but functions that have a spelling.
 pub fn each_is_spelled()
     ensures { (units : List Unit) → AllByRecursion IsUnit units → AllByRecursion IsGiven (functions units).0 }
+{}
+
+/// Bytes that leave no rest are read for themselves, one list behind another.
+pub fn readings_join()
+    ensures { (coding : Coding) (front later : List ℕ) (fs gs : List Func) →
+        ReadsAs coding front fs → ReadsAs coding later gs → ReadsAs coding (front ++ later) (fs ++ gs) }
+{}
+
+/// Functions that are spelled one behind another read back as they are.
+pub fn spelled_ones_read_back()
+    ensures { (fs : List Func) → AllByRecursion IsGivenInUtf8 fs → ReadsAs Utf8 (flat_map spelling fs) fs }
 {}
 
 /// Where nothing is unended, units are read for themselves.

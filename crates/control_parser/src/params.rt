@@ -18,8 +18,7 @@ pub struct Params {
 
 impl Model for Params {
     ghost use Rattle.std.specs.Prelude.{List, ℕ, ◌<◌, take, length};
-    ghost use Rattle.std.proofs.Common.{arith, length-take-le};
-    ghost use Rattle.control_parser.specs.Arrays.{IsFront, array_of, array_of-take};
+    ghost use Rattle.control_parser.specs.Arrays.{IsFront, array_of, array_of-take, length-front};
 
     ghost Value = { List ℕ };
 
@@ -31,7 +30,7 @@ impl Model for Params {
 
     ghost inverse_ok = { λ a h i. record {
       values = array_of-take 16 a.count a.values h.1 i;
-      count = length-take-le a.count a.values (omega (arith, h.1.0, h.1.1)) i;
+      count = length-front 16 a.count a.values h.1 i;
     } };
 }
 

@@ -100,7 +100,10 @@ fn rows_at_every_cut(rt: HostRuntime) -> Result<(), Fail> {
         (b"\xe2\x82\x41", "P\u{FFFD} PA "),
         (b"\xe6\xbc\x18\xa2", "P\u{FFFD} "),
         (b"\xe6\xbc\xa2", "P\u{6F22} "),
-        (b"e\xcc\x81\xcc\x82\xcc\x83", "Pe P\u{301} P\u{302} P\u{303} "),
+        (
+            b"e\xcc\x81\xcc\x82\xcc\x83",
+            "Pe P\u{301} P\u{302} P\u{303} ",
+        ),
         (b"\x1b%@\x1b*<", "E%@ E*< "),
         (b"\x1b+0\x1bOqq", "E+0 EO Pq Pq "),
         (b"\xed\xa0\x80", "P\u{FFFD} P\u{FFFD} P\u{FFFD} "),
@@ -119,10 +122,7 @@ fn rows_at_every_cut(rt: HostRuntime) -> Result<(), Fail> {
             "S?5;h E(0 EM ED ",
         ),
         (b"\x1b[1\x1a2\x1a\x18\x7f\x1b$$$~3", "P\u{FFFD} P2 P3 "),
-        (
-            b"\x1b[1\xc3\xa92\x1b[\x1b[mx",
-            "P\u{e9} P2 S0;m Px ",
-        ),
+        (b"\x1b[1\xc3\xa92\x1b[\x1b[mx", "P\u{e9} P2 S0;m Px "),
         (b"\x1b[;;1\"q\x1b[0!p\x1b[>c", "S0;0;1;\"q S0;!p S>0;c "),
     ];
     for (bytes, want) in rows {
@@ -158,7 +158,10 @@ fn long_ones(rt: HostRuntime) -> Result<(), Fail> {
     }
     assert!(rt; !transcript.parser.is_idle());
     transcript.read(rt.alloc(), b"\x07a")?;
-    assert_eq!(rt; transcript.text.as_str(), "S1;1;1;1;1;1;1;1;1;1;1;1;1;1;1;1;H Pa Pa ");
+    assert_eq!(rt;
+        transcript.text.as_str(),
+        "S1;1;1;1;1;1;1;1;1;1;1;1;1;1;1;1;H Pa Pa "
+    );
     Ok(())
 }
 
@@ -181,7 +184,10 @@ fn spellings(rt: HostRuntime) -> Result<(), Fail> {
     spell(&designation, &mut out)?;
     spell(&Func::Print('\u{6F22}'), &mut out)?;
     spell(&Func::High(0xA9), &mut out)?;
-    assert_eq!(rt; out.as_slice(), b"A\x1b[24;1000H\x1b(0\xe6\xbc\xa2\xa9".as_slice());
+    assert_eq!(rt;
+        out.as_slice(),
+        b"A\x1b[24;1000H\x1b(0\xe6\xbc\xa2\xa9".as_slice()
+    );
     assert_eq!(rt; Params::from_slice(&[24, 1000]).get(1), 1000);
     assert_eq!(rt; Params::absent().get(1), 0);
     Ok(())

@@ -1,2 +1,3 @@
 pub mod Meanings
 pub mod Acting
+pub mod Counted

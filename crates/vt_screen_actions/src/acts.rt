@@ -1,8 +1,9 @@
 //! The actions of a control function.
 
-ghost use Rattle.std.specs.Prelude.{◌≡◌};
+ghost use Rattle.std.specs.Prelude.{◌≡◌, IfSome};
 ghost use Rattle.terminal_model.specs.Functions.{actions_of, alone};
 ghost use Rattle.vt_screen_actions.specs.Acting.{actions_in};
+ghost use Rattle.vt_screen_actions.specs.Counted.{AreCounted, IsCounted};
 
 use crate::escapes::{control_action, escape_action};
 use crate::sequences::sequence_acts;
@@ -25,7 +26,8 @@ pub enum Acts<'a> {
 impl<'a> Acts<'a> {
     /// One action, or nothing.
     pub fn of(action: Option<Action>) -> Acts<'a>
-        ensures { actions_in result ≡ alone action }
+        ensures value { actions_in result ≡ alone action }
+        ensures counted { IfSome action IsCounted → AreCounted result }
     {
         match action {
             Some(action) => Acts::One(action),
@@ -36,7 +38,8 @@ impl<'a> Acts<'a> {
 
 /// The actions of a control function.
 pub fn acts_of(func: &Func) -> Acts<'_>
-    ensures { actions_in result ≡ actions_of func.now }
+    ensures value { actions_in result ≡ actions_of func.now }
+    ensures counted { AreCounted result }
 {
     match func {
         Func::Print(character) => Acts::One(Action::Print(Unit::Code(*character))),

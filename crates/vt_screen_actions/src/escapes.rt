@@ -1,14 +1,16 @@
 //! C0 controls and escape sequences.
 
-ghost use Rattle.std.specs.Prelude.{◌≡◌, Option};
+ghost use Rattle.std.specs.Prelude.{◌≡◌, IfSome};
 ghost use Rattle.terminal_model.specs.Functions.{alone, control_action, designated_set, designation, escape_action, escape_actions, intermediate_action};
+ghost use Rattle.vt_screen_actions.specs.Counted.{IsCounted};
 
 use charsets::{CharacterSet, Coding, Place, Shift};
 use terminal_model::Action;
 
 /// The action of a C0 control (ECMA-48, 8.3; VT220 Programmer Reference Manual, chapter 2); None where it is ignored.
 pub fn control_action(control: u8) -> Option<Action>
-    ensures { result ≡ control_action control }
+    ensures value { result ≡ control_action control }
+    ensures counted { IfSome result IsCounted }
 {
     match control {
         0x08 => Some(Action::Backspace),
@@ -23,7 +25,8 @@ pub fn control_action(control: u8) -> Option<Action>
 
 /// The action of an escape sequence; None where it is ignored.
 pub fn escape_action(intermediates: &[u8], last: u8) -> Option<Action>
-    ensures { alone result ≡ escape_actions intermediates.now last }
+    ensures value { alone result ≡ escape_actions intermediates.now last }
+    ensures counted { IfSome result IsCounted }
 {
     match intermediates {
         [] => plain_escape_action(last),
@@ -34,7 +37,8 @@ pub fn escape_action(intermediates: &[u8], last: u8) -> Option<Action>
 
 /// ESC and a final byte (ECMA-48, 8.3; VT220 Programmer Reference Manual, chapter 4).
 fn plain_escape_action(last: u8) -> Option<Action>
-    ensures { result ≡ escape_action last }
+    ensures value { result ≡ escape_action last }
+    ensures counted { IfSome result IsCounted }
 {
     match last {
         b'7' => Some(Action::Save),
@@ -59,7 +63,8 @@ fn plain_escape_action(last: u8) -> Option<Action>
 
 /// ESC, an intermediate and a final byte.
 fn intermediate_action(intermediate: u8, last: u8) -> Option<Action>
-    ensures { result ≡ intermediate_action intermediate last }
+    ensures value { result ≡ intermediate_action intermediate last }
+    ensures counted { IfSome result IsCounted }
 {
     match (intermediate, last) {
         (b' ', b'F') => Some(Action::SetEightBitReports(false)),
@@ -77,7 +82,8 @@ fn intermediate_action(intermediate: u8, last: u8) -> Option<Action>
 
 /// The designation of a set by its final byte (ECMA-35; VT220 Programmer Reference Manual, SCS).
 fn designation(place: Place, last: u8) -> Option<Action>
-    ensures { result ≡ designation (Some place) (designated_set last) }
+    ensures value { result ≡ designation (Some place) (designated_set last) }
+    ensures counted { IfSome result IsCounted }
 {
     match last {
         b'B' => Some(Action::Designate(place, CharacterSet::Ascii)),

@@ -1,8 +1,9 @@
 //! Control sequences.
 
-ghost use Rattle.std.specs.Prelude.{◌≡◌, ◌-◌, slice_index_or};
+ghost use Rattle.std.specs.Prelude.{◌≡◌, ◌-◌, IfSome, slice_index_or};
 ghost use Rattle.terminal_model.specs.Functions.{alone, between_sequence, count, last_line, part_of, plain_sequence, private_sequence, protection, sequence_actions, status_reported, tab_cleared};
 ghost use Rattle.vt_screen_actions.specs.Acting.{actions_in};
+ghost use Rattle.vt_screen_actions.specs.Counted.{AreCounted, IsCounted};
 
 use crate::acts::Acts;
 use crate::values::Setting;
@@ -15,7 +16,8 @@ pub fn sequence_acts<'a>(
     intermediates: &[u8],
     last: u8,
 ) -> Acts<'a>
-    ensures { actions_in result ≡ sequence_actions mark params.now intermediates.now last }
+    ensures value { actions_in result ≡ sequence_actions mark params.now intermediates.now last }
+    ensures counted { AreCounted result }
 {
     match intermediates {
         [] => match mark {
@@ -36,7 +38,8 @@ pub fn sequence_acts<'a>(
 
 /// CSI, parameters, an intermediate and a final byte.
 fn intermediate_action(params: &[u16], intermediate: u8, last: u8) -> Option<Action>
-    ensures { alone result ≡ between_sequence params.now intermediate last }
+    ensures value { alone result ≡ between_sequence params.now intermediate last }
+    ensures counted { IfSome result IsCounted }
 {
     match (intermediate, last) {
         (b'!', b'p') => Some(Action::SoftReset),
@@ -48,7 +51,8 @@ fn intermediate_action(params: &[u16], intermediate: u8, last: u8) -> Option<Act
 /// CSI, parameters and a final byte (ECMA-48, 8.3; VT220 Programmer Reference Manual, chapter 4).
 #[tactic(auto, unfolding(terminal_model::specs::Functions::plain_sequence))]
 fn plain_acts(params: &[u16], last: u8) -> Acts<'_>
-    ensures { actions_in result ≡ plain_sequence params.now last }
+    ensures value { actions_in result ≡ plain_sequence params.now last }
+    ensures counted { AreCounted result }
 {
     match last {
         b'@' => Acts::One(Action::InsertCells(count(params))),
@@ -77,7 +81,8 @@ fn plain_acts(params: &[u16], last: u8) -> Acts<'_>
 /// CSI ?, parameters and a final byte (VT220 Programmer Reference Manual, chapter 4).
 #[tactic(auto, unfolding(terminal_model::specs::Functions::private_sequence))]
 fn private_acts(params: &[u16], last: u8) -> Acts<'_>
-    ensures { actions_in result ≡ private_sequence params.now last }
+    ensures value { actions_in result ≡ private_sequence params.now last }
+    ensures counted { AreCounted result }
 {
     match last {
         b'J' => Acts::of(part(params).map(Action::EraseUnprotectedInPage)),
@@ -135,7 +140,8 @@ fn margins(params: &[u16]) -> Action
 
 /// DSR (ECMA-48, 8.3.35).
 fn status(value: u16) -> Option<Action>
-    ensures { result ≡ status_reported value }
+    ensures value { result ≡ status_reported value }
+    ensures counted { IfSome result IsCounted }
 {
     match value {
         5 => Some(Action::ReportStatus),
@@ -146,7 +152,8 @@ fn status(value: u16) -> Option<Action>
 
 /// TBC (ECMA-48, 8.3.154).
 fn tabs(value: u16) -> Option<Action>
-    ensures { result ≡ tab_cleared value }
+    ensures value { result ≡ tab_cleared value }
+    ensures counted { IfSome result IsCounted }
 {
     match value {
         0 => Some(Action::ClearTab),
@@ -157,7 +164,8 @@ fn tabs(value: u16) -> Option<Action>
 
 /// DECSCA (VT220 Programmer Reference Manual).
 fn protection(value: u16) -> Option<Action>
-    ensures { result ≡ protection value }
+    ensures value { result ≡ protection value }
+    ensures counted { IfSome result IsCounted }
 {
     match value {
         0 | 2 => Some(Action::Protect(false)),

@@ -1,8 +1,9 @@
 //! The functions that name several values.
 
-ghost use Rattle.std.specs.Prelude.{◌≡◌};
+ghost use Rattle.std.specs.Prelude.{◌≡◌, IfSome};
 ghost use Rattle.terminal_model.specs.Functions.{mode_set, private_mode_set, rendered};
 ghost use Rattle.vt_screen_actions.specs.Meanings.{meaning};
+ghost use Rattle.vt_screen_actions.specs.Counted.{IsCounted};
 
 use terminal_model::{Action, Attribute, Mode};
 
@@ -20,7 +21,8 @@ pub enum Setting {
 impl Setting {
     /// What one value does; None where it isn't named.
     pub fn action(self, value: u16) -> Option<Action>
-        ensures { result ≡ meaning self value }
+        ensures value { result ≡ meaning self value }
+        ensures counted { IfSome result IsCounted }
     {
         match self {
             Setting::Rendition => rendition_action(value),
@@ -32,7 +34,8 @@ impl Setting {
 
 /// A value of SGR (ECMA-48, 8.3.117).
 fn rendition_action(value: u16) -> Option<Action>
-    ensures { result ≡ rendered value }
+    ensures value { result ≡ rendered value }
+    ensures counted { IfSome result IsCounted }
 {
     match value {
         0 => Some(Action::Render(Attribute::Plain)),
@@ -50,7 +53,8 @@ fn rendition_action(value: u16) -> Option<Action>
 
 /// A value of SM or RM (ECMA-48, 7.2).
 fn mode_action(is_set: bool, value: u16) -> Option<Action>
-    ensures { result ≡ mode_set is_set value }
+    ensures value { result ≡ mode_set is_set value }
+    ensures counted { IfSome result IsCounted }
 {
     match value {
         4 => Some(Action::SetMode(Mode::Insert, is_set)),
@@ -61,7 +65,8 @@ fn mode_action(is_set: bool, value: u16) -> Option<Action>
 
 /// A value of DECSM or DECRM (VT220 Programmer Reference Manual, chapter 4).
 fn private_mode_action(is_set: bool, value: u16) -> Option<Action>
-    ensures { result ≡ private_mode_set is_set value }
+    ensures value { result ≡ private_mode_set is_set value }
+    ensures counted { IfSome result IsCounted }
 {
     match value {
         1 => Some(Action::SetMode(Mode::Arrows, is_set)),

@@ -1,6 +1,6 @@
 //! The cursor.
 
-ghost use Rattle.std.specs.Prelude.{◌≡◌, ◌+◌, ◌-◌, ◌<◌, ◌≤◌, min};
+ghost use Rattle.std.specs.Prelude.{◌≡◌, ◌+◌, ◌-◌, ◌<◌, ◌≤◌, ◌&&◌, min};
 ghost use Rattle.terminal_model.specs.Table.{advanced, apart, following, home, lacks_room, line_down, line_named, line_up, moved_to, settled};
 
 use terminal_model::{Position, State};
@@ -28,6 +28,14 @@ pub fn move_to(state: &mut State, line: usize, column: usize)
     state.line = line;
     state.column = column;
     settle(state);
+}
+
+/// CR (ECMA-48, 8.3.15): the cursor goes to the first column.
+pub fn go_to_first_column(state: &mut State)
+    ensures { state.new ≡ moved_to state.old state.old.line 0 }
+{
+    let line = state.line;
+    move_to(state, line, 0);
 }
 
 /// The cursor goes home: to the page's first place, or to that of the margins with ?6 set (VT220 Programmer Reference
@@ -114,6 +122,14 @@ pub fn lacks_room(state: &State) -> bool
     ensures { result ≡ lacks_room state.now }
 {
     state.column + 1 == state.columns
+}
+
+/// Whether a wide character goes to the next line first: with ?7 set, where it has no room.
+pub fn needs_line(state: &State) -> bool
+    requires { state.now.column < state.now.columns }
+    ensures { result ≡ (lacks_room state.now && state.now.modes.wraps) }
+{
+    lacks_room(state) && state.modes.wraps
 }
 
 /// The column whose old cell follows so many new ones at the cursor: with IRM set the one that stood there (ECMA-48,

@@ -10,8 +10,8 @@ mod saved;
 mod tabs;
 
 pub use cursor::{
-    advance, following, go_down, go_home, go_left, go_right, go_to, go_up, lacks_room, move_to,
-    separate, settle,
+    advance, following, go_down, go_home, go_left, go_right, go_to, go_to_first_column, go_up,
+    lacks_room, move_to, needs_line, separate, settle,
 };
 pub use erasing::{end_after, end_column, end_line, first_column, first_line};
 pub use margins::{fit, is_in_margins, set_margins, use_whole_page};

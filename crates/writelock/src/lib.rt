@@ -1,6 +1,8 @@
 //! The write locks of a session's windows.
 #![tactic(auto)]
 
+mod lock;
 mod locks;
 
-pub use locks::{Lock, LockDenial, Locks};
+pub use lock::{Lock, LockDenial};
+pub use locks::Locks;

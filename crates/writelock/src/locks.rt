@@ -1,26 +1,7 @@
-use acl::{Act, Bit, Follower, Lists, LockMode, Object, Slots, UserId};
-
-/// A window's mode, and who holds its lock.
-#[derive(Clone, Copy, PartialEq, Eq, Debug)]
-pub struct Lock {
-    pub mode: LockMode,
-    pub holder: Option<UserId>,
-}
-
-/// Who holds the lock that stops a user.
-#[derive(Clone, Copy, PartialEq, Eq, Debug)]
-pub struct LockDenial {
-    pub window: u32,
-    pub holder: UserId,
-}
-
-/// The locks of open windows, and the mode of new ones.
-#[derive(Clone, Copy, PartialEq, Eq, Debug)]
-pub struct Locks {
-    windows: Slots,
-    locks: [Lock; 40],
-    default: LockMode,
-}
+use crate::lock::{
+    Lock, LockDenial, after_act, entered_by, left_by, lock_by, opened_by, without_holder,
+};
+use acl::{Act, Follower, Lists, LockMode, Slots, UserId};
 
 /// A lock that nobody holds.
 const FREE: Lock = Lock {
@@ -28,100 +9,32 @@ const FREE: Lock = Lock {
     holder: None,
 };
 
-/// Whether the act by itself frees what the user holds on the window.
-fn frees(act: Act, user: UserId, window: u32) -> bool {
-    match act {
-        Act::Set {
-            user: other,
-            bit: Bit::Write,
-            object: Object::Window(named),
-            value: false,
-        } => other == user && named == window,
-        Act::Gone { user: other } => other == user,
-        _ => false,
-    }
-}
-
-/// Who holds on after an act of rights, with these lists after it.
-fn remaining(lists: &Lists, act: Act, window: u32, holder: Option<UserId>) -> Option<UserId> {
-    let user = holder?;
-    if frees(act, user, window) || lists.may(user, Bit::Write, Object::Window(window)).is_err() {
-        None
-    } else {
-        Some(user)
-    }
-}
-
-/// The lock after the user sets its mode.
-fn lock_by(by: UserId, mode: LockMode) -> Lock {
-    match mode {
-        LockMode::Off => Lock { mode, holder: None },
-        _ => Lock {
-            mode,
-            holder: Some(by),
-        },
-    }
-}
-
-/// The lock of a window that the user opens while this is the default.
-fn opened_by(by: UserId, mode: LockMode) -> Lock {
-    match mode {
-        LockMode::On => Lock {
-            mode,
-            holder: Some(by),
-        },
-        _ => Lock { mode, holder: None },
-    }
-}
-
-/// The lock after the user leaves its window.
-fn left_by(lock: Lock, user: UserId) -> Lock {
-    match (lock.mode, lock.holder) {
-        (LockMode::Auto, Some(holder)) => if user == holder {
-            Lock {
-                mode: lock.mode,
-                holder: None,
-            }
-        } else {
-            lock
-        },
-        _ => lock,
-    }
-}
-
-/// The lock after the user, who may write or not, enters its window.
-fn entered_by(lock: Lock, user: UserId, may_write: bool) -> Lock {
-    match (lock.mode, lock.holder) {
-        (LockMode::Auto, None) => if may_write {
-            Lock {
-                mode: lock.mode,
-                holder: Some(user),
-            }
-        } else {
-            lock
-        },
-        _ => lock,
-    }
-}
-
-/// The lock once the user has no client.
-fn without_holder(lock: Lock, user: UserId) -> Lock {
-    match lock.holder {
-        Some(holder) => if user == holder {
-            Lock {
-                mode: lock.mode,
-                holder: None,
-            }
-        } else {
-            lock
-        },
-        None => lock,
-    }
+/// The locks of open windows, and the mode of new ones. Windows are named by serial numbers.
+#[derive(Clone, Copy, PartialEq, Eq, Debug)]
+pub struct Locks {
+    windows: Slots,
+    locks: [Lock; 40],
+    default: LockMode,
 }
 
 impl Locks {
+    ghost use Rattle.std.specs.Prelude.{◌≡◌, ◌<◌, ◌∷◌, [], ℕ, true, false, Some, None, nat_eq, is_ok, length, IfErr, if◌then◌else◌};
+    ghost use Rattle.std.specs.Option.{option_map, option_map_or};
+    ghost use Rattle.acl.specs.Same.{same_user};
+    ghost use Rattle.acl.specs.History.{History, is_known, is_open, open_count, may};
+    ghost use Rattle.acl.specs.Commands.{IsAllowed};
+    ghost use Rattle.acl.specs.Table.{StandsFor};
+    ghost use Rattle.acl.specs.Lists.{table_of};
+    ghost use Rattle.acl.specs.declared.act.Act.TheVariants.{Opened, Closed, Parted, Entered, Left, Mode, Default};
+    ghost use Rattle.acl.specs.declared.bits.Bit.TheVariants.{Write};
+    ghost use Rattle.acl.specs.declared.act.Object.TheVariants.{Window};
+    ghost use Rattle.writelock.specs.Holding.{is_off, mode_of, holder, loses_last};
+    ghost use Rattle.writelock.specs.LockTable.{LocksStandFor, lock_in, stops_nobody_but};
+
     /// No window is open, and new ones are not locked.
-    pub fn new() -> Locks {
+    pub fn new() -> Locks
+        ensures { (owner : UserId) → LocksStandFor result owner [] }
+    {
         Locks {
             windows: Slots::new(),
             locks: [FREE; 40],
@@ -130,28 +43,31 @@ impl Locks {
     }
 
     /// The lock of an open window.
-    fn lock_of(&self, window: u32) -> Option<Lock> {
+    fn lock_of(&self, window: u32) -> Option<Lock>
+        ensures { result ≡ lock_in self.now window }
+    {
         match self.windows.slot_of(window) {
-            Some(slot) => if slot < 40 {
-                Some(self.locks[slot])
-            } else {
-                None
-            },
+            Some(slot) => Some(self.locks[slot]),
             None => None,
         }
     }
 
     /// Changes the lock of an open window.
-    fn put(&mut self, window: u32, lock: Lock) {
+    fn put(&mut self, window: u32, lock: Lock)
+        ensures locks { (q : ℕ) → lock_in self.new q ≡ (if nat_eq window q then option_map (λ _. lock) (lock_in self.old q) else lock_in self.old q) }
+        ensures windows { self.new.windows ≡ self.old.windows }
+        ensures default { self.new.default ≡ self.old.default }
+        ensures all { length self.new.locks ≡ length self.old.locks }
+    {
         if let Some(slot) = self.windows.slot_of(window) {
-            if slot < 40 {
-                self.locks[slot] = lock;
-            }
+            self.locks[slot] = lock;
         }
     }
 
     /// Who holds the lock of a window.
-    pub fn holder(&self, window: u32) -> Option<UserId> {
+    pub fn holder(&self, window: u32) -> Option<UserId>
+        ensures { (owner : UserId) (h : History) → LocksStandFor self.now owner h → result ≡ holder owner h window }
+    {
         match self.lock_of(window) {
             Some(lock) => lock.holder,
             None => None,
@@ -159,7 +75,9 @@ impl Locks {
     }
 
     /// The mode of an open window.
-    pub fn mode(&self, window: u32) -> Option<LockMode> {
+    pub fn mode(&self, window: u32) -> Option<LockMode>
+        ensures { (owner : UserId) (h : History) → LocksStandFor self.now owner h → result ≡ (if is_open h window then Some (mode_of h window) else None) }
+    {
         match self.lock_of(window) {
             Some(lock) => Some(lock.mode),
             None => None,
@@ -167,7 +85,10 @@ impl Locks {
     }
 
     /// Whether no other user holds the lock of a window, or else who does.
-    pub fn may_type(&self, user: UserId, window: u32) -> Result<(), LockDenial> {
+    pub fn may_type(&self, user: UserId, window: u32) -> Result<(), LockDenial>
+        ensures free { (owner : UserId) (h : History) → LocksStandFor self.now owner h → is_ok result ≡ stops_nobody_but user (holder owner h window) }
+        ensures denial { IfErr result (λ d. (d.window ≡ window) × ((owner : UserId) (h : History) → LocksStandFor self.now owner h → holder owner h window ≡ Some d.holder)) }
+    {
         match self.holder(window) {
             Some(holder) => if holder == user {
                 Ok(())
@@ -179,62 +100,79 @@ impl Locks {
     }
 
     /// `defwritelock`: sets the mode of windows that are opened later.
-    pub fn set_default(&mut self, mode: LockMode) {
+    pub fn set_default(&mut self, mode: LockMode)
+        ensures { (owner : UserId) (h : History) → LocksStandFor self.old owner h → LocksStandFor self.new owner (Default mode ∷ h) }
+    {
         self.default = mode;
     }
 
     /// A user opened a window, whose serial number is new. At most 39 others are open.
-    pub fn opened(&mut self, by: UserId, window: u32) {
+    pub fn opened(&mut self, by: UserId, window: u32)
+        ensures { (owner : UserId) (h : History) → LocksStandFor self.old owner h → is_open h window ≡ false → open_count h < 40 → LocksStandFor self.new owner (Opened by window ∷ h) }
+    {
         if let Some(slot) = self.windows.free_slot() {
+            self.locks[slot] = opened_by(by, self.default);
             self.windows.put(slot, window);
-            self.put(window, opened_by(by, self.default));
         }
     }
 
     /// A window was closed.
-    pub fn closed(&mut self, window: u32) {
+    pub fn closed(&mut self, window: u32)
+        ensures { (owner : UserId) (h : History) → LocksStandFor self.old owner h → LocksStandFor self.new owner (Closed window ∷ h) }
+    {
         self.windows.close(window);
     }
 
-    /// A user entered a window; `may_write` tells whether he may write there.
-    pub fn entered(&mut self, user: UserId, window: u32, may_write: bool) {
+    /// A user entered an open window; `may_write` tells truly whether he may write there.
+    pub fn entered(&mut self, user: UserId, window: u32, may_write: bool)
+        ensures { (owner : UserId) (h : History) → LocksStandFor self.old owner h → is_open h window ≡ true → may_write ≡ may owner h user Write (Window window) → LocksStandFor self.new owner (Entered user window ∷ h) }
+    {
         if let Some(lock) = self.lock_of(window) {
             self.put(window, entered_by(lock, user, may_write));
         }
     }
 
     /// A user left a window: no focused region of his shows it any more.
-    pub fn left(&mut self, user: UserId, window: u32) {
+    pub fn left(&mut self, user: UserId, window: u32)
+        ensures { (owner : UserId) (h : History) → LocksStandFor self.old owner h → LocksStandFor self.new owner (Left user window ∷ h) }
+    {
         if let Some(lock) = self.lock_of(window) {
             self.put(window, left_by(lock, user));
         }
     }
 
-    /// A client went; `last` is its user where it was his last one.
-    pub fn parted(&mut self, last: Option<UserId>) {
-        if let Some(user) = last {
-            for i in 0..self.locks.len() {
-                self.locks[i] = without_holder(self.locks[i], user);
-            }
+    /// A client went; `last` is the user whose last one it was, if it was one's last.
+    pub fn parted(&mut self, last: Option<UserId>)
+        ensures { (owner : UserId) (h : History) (client : ℕ) → LocksStandFor self.old owner h → ((u : UserId) → loses_last h client u ≡ option_map_or (same_user u) last false) → LocksStandFor self.new owner (Parted client ∷ h) }
+    {
+        for i in 0..self.locks.len() {
+            self.locks[i] = without_holder(self.locks[i], last);
         }
     }
 
-    /// `writelock`: sets the mode of an open window. The lock is the user's, or in mode off nobody's.
-    pub fn set_mode(&mut self, by: UserId, window: u32, mode: LockMode) {
+    /// `writelock`: sets the mode of an open window. The lock is the user's, who may write there, or in mode off nobody's.
+    pub fn set_mode(&mut self, by: UserId, window: u32, mode: LockMode)
+        ensures { (owner : UserId) (h : History) → LocksStandFor self.old owner h → is_open h window ≡ true → (is_off mode ≡ false → may owner h by Write (Window window) ≡ true) → LocksStandFor self.new owner (Mode by window mode ∷ h) }
+    {
         self.put(window, lock_by(by, mode));
     }
 
-    /// Frees the locks that an act of rights releases, with the lists after it.
-    pub fn withdraw(&mut self, lists: &Lists, act: Act) {
+    /// Frees the locks that an act of a list command releases, with the lists after it.
+    pub fn withdraw(&mut self, lists: &Lists, act: Act)
+        ensures { (owner : UserId) (h : History) → LocksStandFor self.old owner h → IsAllowed owner h act → StandsFor (table_of lists.now) owner (act ∷ h) → LocksStandFor self.new owner (act ∷ h) }
+    {
         for i in 0..self.locks.len() {
-            if let Some(window) = self.windows.serial_at(i) {
-                self.locks[i].holder = remaining(lists, act, window, self.locks[i].holder);
-            }
+            self.locks[i] = after_act(lists, act, self.windows.serial_at(i), self.locks[i]);
         }
     }
 }
 
+/// The locks follow each act of a list command.
 impl Follower for Locks {
+    ghost use Rattle.writelock.specs.LockTable.{LocksStandFor};
+
+    ghost follows = { λ locks owner h. LocksStandFor locks owner h };
+
     fn follow(&mut self, lists: &Lists, act: Act) {
         self.withdraw(lists, act);
     }

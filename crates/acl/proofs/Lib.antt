@@ -1,0 +1,9 @@
+pub mod AllowedLemmas
+pub mod BitSetLemmas
+pub mod InPlace
+pub mod NameLemmas
+pub mod PlanLemmas
+pub mod RowLemmas
+pub mod SlotLemmas
+pub mod StandsForLemmas
+pub mod WordLemmas

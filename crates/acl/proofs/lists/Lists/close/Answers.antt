@@ -1,0 +1,17 @@
+use Rattle.std.proofs.Common.{◌∙◌, ap, subst, sym, ◌∷◌}
+use Rattle.acl.specs.declared.act.Act.TheVariants.{Closed}
+use Rattle.acl.specs.Slots.{slot_of}
+use Rattle.acl.specs.Table.{StandsFor, Table}
+use Rattle.acl.specs.History.{is_open, open_count}
+use Rattle.acl.specs.Lists.{table_of}
+use Rattle.acl.proofs.SlotLemmas.{slot_of-closed, slots-closed}
+use Rattle.acl.proofs.StandsForLemmas.{StandsFor-Closed}
+use Rattle.acl.proofs.lists.Lists.close.Goals as goal
+
+pub returns : goal.returns
+returns c =
+    let t = table_of c.args.self.now in
+    let w = c.args.window in
+    λ owner h s.
+    subst (λ ws. StandsFor (let u : Table = record t { windows = ws } in u) owner (Closed w ∷ h)) (sym c.close.ensures)
+    (StandsFor-Closed t owner h s _ w (slot_of-closed t.windows w) (slots-closed t.windows (is_open h) (open_count h) s.slots w))

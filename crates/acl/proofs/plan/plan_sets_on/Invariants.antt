@@ -1,0 +1,10 @@
+use Rattle.std.proofs.Common.{◌≡◌, ◌++◌, drop}
+use Rattle.acl.specs.Commands.{Keeps, sets_on}
+use Rattle.acl.proofs.plan.plan_sets_on.Given as goal
+
+-- what is done, and what is left
+abbrev pub invariant-loop-change : goal.invariant-loop-change
+invariant-loop-change l = record {
+  left : l.acts.items ++ sets_on l.user (drop l.change-index l.changes) l.object ≡ l.fn.acts.items ++ sets_on l.user l.changes l.object;
+  kept : Keeps l.fn.acts.items l.acts.items;
+}

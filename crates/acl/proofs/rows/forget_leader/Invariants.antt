@@ -1,0 +1,12 @@
+use Rattle.std.proofs.Common.{◌≡◌}
+use Rattle.indexmap.specs.IndexMap.{spare}
+use Rattle.acl.specs.Table.{without_leader}
+use Rattle.acl.proofs.InPlace.{mapped_below}
+use Rattle.acl.proofs.rows.forget_leader.Given as goal
+
+-- the rows so far are done, and the others are as they were
+abbrev pub invariant-loop-i : goal.invariant-loop-i
+invariant-loop-i l = record {
+  done : l.rows.entries ≡ mapped_below (λ e. (e.0, without_leader l.gone e.1)) l.i l.fn.rows.entries;
+  room : spare l.rows ≡ spare l.fn.rows;
+}

@@ -1,0 +1,166 @@
+-- The list commands of the GNU Screen manual (acladd, aclchg, acldel, aclgrp, aclumask): the fault that refuses one, which is the
+-- first from the left, and the acts of one that is done. A name is none where its word is no name.
+use Rattle.std.specs.Prelude.{◌≡◌, ℕ, Bool, true, false, not, ◌||◌, ◌&&◌, nat_lt, List, [], ◌∷◌, ◌++◌, Option, Some, None, Result, Ok, Err, map, length, if◌then◌else◌}
+use Rattle.std.specs.Option.{option_or}
+use Rattle.acl.specs.Same.{same_user}
+use Rattle.acl.specs.History.{History, is_known, among, there, followed_by}
+use Rattle.acl.specs.declared.user_id.UserId.{UserId}
+use Rattle.acl.specs.declared.bits.Bit.{Bit}
+use Rattle.acl.specs.declared.bits.Bit.TheVariants.{Read, Write, Execute}
+use Rattle.acl.specs.declared.bits.BitChange.{BitChange}
+use Rattle.acl.specs.declared.act.Object.{Object}
+use Rattle.acl.specs.declared.act.Act.{Act}
+use Rattle.acl.specs.declared.act.Act.TheVariants.{Known, Gone, Set, Grouped, Masked, Preset}
+use Rattle.acl.specs.declared.faults.AclFault.{AclFault}
+use Rattle.acl.specs.declared.faults.AclFault.TheVariants.{UnknownUser, OwnerKept, TooManyUsers, ReservedName, NoSuchGroup, NoMemory}
+use Rattle.acl.specs.declared.entries.NewLeader.{NewLeader}
+use Rattle.acl.specs.declared.entries.NewLeader.TheVariants.{Nobody, Named}
+use Rattle.acl.specs.declared.entries.MaskEntry.{MaskEntry}
+use Rattle.acl.specs.declared.entries.MaskScope.{MaskScope}
+use Rattle.acl.specs.declared.entries.MaskScope.TheVariants as scope
+
+-- the answer is the fault, where there is one, or that memory was refused
+abbrev pub Answers : {X : Type 0} → Result X AclFault → Option AclFault → Type 0
+Answers (Ok x) fault = fault ≡ None
+Answers (Err NoMemory) fault = Unit {0}
+Answers (Err f) fault = fault ≡ Some f
+
+-- a fault's number
+abbrev pub number_of_fault : AclFault → ℕ
+number_of_fault UnknownUser = 1
+number_of_fault OwnerKept = 2
+number_of_fault TooManyUsers = 3
+number_of_fault ReservedName = 4
+number_of_fault NoSuchGroup = 5
+number_of_fault NoMemory = 6
+
+-- the list of acts is the old one, with perhaps more at its end
+abbrev pub Keeps : List Act → List Act → Type 0
+Keeps before after = (more : List Act) × (after ≡ before ++ more)
+
+-- the user whom a word names, not the owner
+abbrev pub new_name : UserId → Option UserId → Result UserId AclFault
+new_name owner None = Err ReservedName
+new_name owner (Some u) = if same_user owner u then Err OwnerKept else Ok u
+
+-- whether a word names the user
+abbrev pub names_user : UserId → Option UserId → Bool
+names_user u None = false
+names_user u (Some v) = same_user u v
+
+-- acladd, aclchg: a name that may become known. At most 64 users are known
+abbrev pub new_name_fault : UserId → List UserId → Option UserId → Option AclFault
+new_name_fault owner users None = Some ReservedName
+new_name_fault owner users (Some u) =
+    if same_user owner u then Some OwnerKept
+    else (if among users u || nat_lt (length users) 64 then None else Some TooManyUsers)
+
+-- the known users, once those of a name are known
+abbrev pub with_name : List UserId → Option UserId → List UserId
+with_name users None = users
+with_name users (Some u) = if among users u then users else users ++ u ∷ []
+
+-- and those of each of these names
+abbrev pub with_names : List UserId → List (Option UserId) → List UserId
+with_names users [] = users
+with_names users (name ∷ names) = with_names (with_name users name) names
+
+abbrev pub change_fault : UserId → List UserId → List (Option UserId) → Option AclFault
+change_fault owner users [] = None
+change_fault owner users (name ∷ names) = option_or (new_name_fault owner users name) (change_fault owner (with_name users name) names)
+
+-- the sets of a user's bits on one object, as they are written
+abbrev pub sets_on : UserId → List BitChange → Object → List Act
+sets_on u changes object = map (λ change. Set u change.bit object change.value) changes
+
+-- and object by object
+abbrev pub sets : UserId → List BitChange → List Object → List Act
+sets u changes [] = []
+sets u changes (object ∷ objects) = sets_on u changes object ++ sets u changes objects
+
+-- a name that isn't known becomes known first
+abbrev pub user_acts : Bool → UserId → List BitChange → List Object → List Act
+user_acts true u changes objects = sets u changes objects
+user_acts false u changes objects = Known u ∷ sets u changes objects
+
+abbrev pub name_acts : List UserId → Option UserId → List BitChange → List Object → List Act
+name_acts users None changes objects = []
+name_acts users (Some u) changes objects = user_acts (among users u) u changes objects
+
+-- a change of bits, user by user
+abbrev pub change_acts : List UserId → List (Option UserId) → List BitChange → List Object → List Act
+change_acts users [] changes objects = []
+change_acts users (name ∷ names) changes objects = name_acts users name changes objects ++ change_acts (with_name users name) names changes objects
+
+-- what a name that is added gets: +rwx
+abbrev pub added : List BitChange
+added = record { bit = Read; value = true } ∷ record { bit = Write; value = true } ∷ record { bit = Execute; value = true } ∷ []
+
+-- acldel, aclgrp, aclumask: a name that is known
+abbrev pub known_name_fault : UserId → List UserId → Option UserId → Option AclFault
+known_name_fault owner users None = Some ReservedName
+known_name_fault owner users (Some u) = if same_user owner u then Some OwnerKept else (if among users u then None else Some UnknownUser)
+
+abbrev pub removal_acts : Option UserId → List Act
+removal_acts None = []
+removal_acts (Some u) = Gone u ∷ []
+
+-- a leader is known, and neither the owner nor the user himself
+abbrev pub leader_fault : UserId → List UserId → Option UserId → NewLeader → Option AclFault
+leader_fault owner users name Nobody = None
+leader_fault owner users name (Named None) = Some NoSuchGroup
+leader_fault owner users None (Named (Some leader)) = None
+leader_fault owner users (Some u) (Named (Some leader)) =
+    if same_user owner leader then Some OwnerKept else (if among users leader && not (same_user u leader) then None else Some NoSuchGroup)
+
+abbrev pub group_fault : UserId → List UserId → Option UserId → NewLeader → Option AclFault
+group_fault owner users name leader = option_or (known_name_fault owner users name) (leader_fault owner users name leader)
+
+abbrev pub chosen_leader : NewLeader → Option UserId
+chosen_leader Nobody = None
+chosen_leader (Named leader) = leader
+
+abbrev pub group_acts : Option UserId → NewLeader → List Act
+group_acts None leader = []
+group_acts (Some u) leader = Grouped u (chosen_leader leader) ∷ []
+
+-- aclumask, bit by bit
+abbrev pub scope_fault : UserId → List UserId → MaskScope → Option AclFault
+scope_fault owner users (scope.Preset kind) = None
+scope_fault owner users (scope.User name) = known_name_fault owner users name
+
+abbrev pub mask_fault : UserId → List UserId → List MaskEntry → Option AclFault
+mask_fault owner users [] = None
+mask_fault owner users (e ∷ entries) = option_or (scope_fault owner users e.scope) (mask_fault owner users entries)
+
+abbrev pub scope_acts : UserId → MaskScope → Bit → Bool → List Act
+scope_acts by (scope.Preset kind) bit value = Preset kind bit value ∷ []
+scope_acts by (scope.User None) bit value = []
+scope_acts by (scope.User (Some u)) bit value = Masked by u bit value ∷ []
+
+abbrev pub mask_acts : UserId → List MaskEntry → List Act
+mask_acts by [] = []
+mask_acts by (e ∷ entries) = scope_acts by e.scope e.bit e.value ++ mask_acts by entries
+
+-- an act of a list command that may come after h: it names users who are known, or not yet, and objects that are there
+abbrev pub IsAllowed : UserId → History → Act → Type 0
+IsAllowed owner h (Known u) = is_known owner h u ≡ false
+IsAllowed owner h (Gone u) = same_user owner u ≡ false
+IsAllowed owner h (Set u bit object value) = (is_known owner h u ≡ true) × (there h object ≡ true)
+IsAllowed owner h (Grouped u leader) = is_known owner h u ≡ true
+IsAllowed owner h (Masked by u bit value) = Unit {0}
+IsAllowed owner h (Preset kind bit value) = Unit {0}
+IsAllowed owner h _ = ⊥
+
+abbrev pub AllAllowed : UserId → History → List Act → Type 0
+AllAllowed owner h [] = Unit {0}
+AllAllowed owner h (a ∷ acts) = IsAllowed owner h a × AllAllowed owner (a ∷ h) acts
+
+-- whether the act needs a row, or a mask
+abbrev pub makes_known : Act → Bool
+makes_known (Known u) = true
+makes_known _ = false
+
+abbrev pub sets_mask : Act → Bool
+sets_mask (Masked by u bit value) = true
+sets_mask _ = false

@@ -1,0 +1,139 @@
+-- What the acts of a session decide: who is known, who has which right, who leads whom. A history is a list of acts, the newest
+-- first. The rules are those of the GNU Screen manual, section "Multiuser Session", with the entries named below; what those leave
+-- open (what a name that becomes known gets, when a mask counts, groups of one leader) is this project's own profile.
+use Rattle.std.specs.Prelude.{ℕ, Bool, true, false, not, ◌||◌, ◌&&◌, ◌==◌, ◌+◌, ◌-◌, List, [], ◌∷◌, Option, Some, None, unwrap_or, filter, ◌++◌, if◌then◌else◌}
+use Rattle.std.specs.List.{list_any}
+use Rattle.acl.specs.Same.{same_user, same_bit, same_object, same_preset}
+use Rattle.acl.specs.declared.user_id.UserId.{UserId}
+use Rattle.acl.specs.declared.bits.Bit.{Bit}
+use Rattle.acl.specs.declared.act.Object.{Object}
+use Rattle.acl.specs.declared.act.Object.TheVariants.{Window, Command}
+use Rattle.acl.specs.declared.act.PresetKind.{PresetKind}
+use Rattle.acl.specs.declared.act.PresetKind.TheVariants as preset
+use Rattle.acl.specs.declared.act.Act.{Act}
+use Rattle.acl.specs.declared.act.Act.TheVariants.{Known, Gone, Set, Grouped, Masked, Preset, Opened, Closed}
+
+abbrev pub History : Type 0
+History = List Act
+
+-- the history, and then these acts, the first of them first
+abbrev pub followed_by : History → List Act → History
+followed_by h [] = h
+followed_by h (a ∷ acts) = followed_by (a ∷ h) acts
+
+-- a value, where the fact holds
+abbrev pub decided : {X : Type 0} → Bool → X → Option X
+decided c x = if c then Some x else None
+
+-- the value of the latest act that decides, and else `first`
+abbrev pub latest : {X : Type 0} → (Act → Option X) → X → History → X
+latest decides first [] = first
+latest decides first (a ∷ h) = unwrap_or (decides a) (latest decides first h)
+
+-- acladd, acldel: whether the act makes u known, or gone
+abbrev pub decides_known : UserId → Act → Option Bool
+decides_known u (Known v) = decided (same_user v u) true
+decides_known u (Gone v) = decided (same_user v u) false
+decides_known u _ = None
+
+-- the owner is known from the start
+abbrev pub is_known : UserId → History → UserId → Bool
+is_known owner h u = same_user owner u || latest (decides_known u) false h
+
+-- whether the name is among these
+abbrev pub among : List UserId → UserId → Bool
+among users u = list_any (same_user u) users
+
+-- the users, without this one
+abbrev pub without_user : UserId → List UserId → List UserId
+without_user u [] = []
+without_user u (v ∷ users) = if same_user u v then users else v ∷ without_user u users
+
+-- the known users in the order in which they became known, the owner first
+abbrev pub users_after : Act → List UserId → List UserId
+users_after (Known u) before = before ++ u ∷ []
+users_after (Gone u) before = without_user u before
+users_after _ before = before
+
+abbrev pub users_of : UserId → History → List UserId
+users_of owner [] = owner ∷ []
+users_of owner (a ∷ h) = users_after a (users_of owner h)
+
+abbrev pub decides_open : ℕ → Act → Option Bool
+decides_open w (Opened by v) = decided (v == w) true
+decides_open w (Closed v) = decided (v == w) false
+decides_open w _ = None
+
+abbrev pub is_open : History → ℕ → Bool
+is_open h w = latest (decides_open w) false h
+
+-- how many windows are open, where each that is opened is a new one
+abbrev pub open_count : History → ℕ
+open_count [] = 0
+open_count (Opened by w ∷ h) = open_count h + 1
+open_count (Closed w ∷ h) = if is_open h w then open_count h - 1 else open_count h
+open_count (_ ∷ h) = open_count h
+
+-- aclumask: what the masks of `by` say of u's bit on windows that `by` opens later. A mask counts since both became known
+abbrev pub decides_mask : UserId → UserId → Bit → Act → Option Bool
+decides_mask by u bit (Masked b v c value) = decided (same_user b by && same_user v u && same_bit c bit) value
+decides_mask by u bit (Known v) = decided (same_user v by || same_user v u) true
+decides_mask by u bit (Gone v) = decided (same_user v by || same_user v u) true
+decides_mask by u bit _ = None
+
+abbrev pub mask : History → UserId → UserId → Bit → Bool
+mask h by u bit = latest (decides_mask by u bit) true h
+
+-- aclumask with ? or ??: the preset of windows, and that of commands
+abbrev pub decides_preset : PresetKind → Bit → Act → Option Bool
+decides_preset kind bit (Preset k c value) = decided (same_preset k kind && same_bit c bit) value
+decides_preset kind bit _ = None
+
+abbrev pub preset_of : History → PresetKind → Bit → Bool
+preset_of h kind bit = latest (decides_preset kind bit) true h
+
+-- what a name that becomes known gets: `?` on each open window, `??` on each command
+abbrev pub greeting : History → Bit → Object → Option Bool
+greeting h bit (Window w) = decided (is_open h w) (preset_of h preset.Windows bit)
+greeting h bit (Command c) = Some (preset_of h preset.Commands bit)
+
+-- what u gets on a window that `by` opens: each bit where he opened it, else what the mask says of a known user
+abbrev pub opening : UserId → History → UserId → UserId → Bit → Option Bool
+opening owner h by u bit = if same_user by u then Some true else decided (is_known owner h u) (mask h by u bit)
+
+-- aclchg and the others: what an act after the history h decides of u's bit on an object
+abbrev pub decision : UserId → Act → History → UserId → Bit → Object → Option Bool
+decision owner (Known v) h u bit object = if same_user v u then greeting h bit object else None
+decision owner (Gone v) h u bit object = decided (same_user v u) false
+decision owner (Set v c place value) h u bit object = decided (same_user v u && same_bit c bit && same_object place object) value
+decision owner (Opened by w) h u bit object = if same_object (Window w) object then opening owner h by u bit else None
+decision owner _ h u bit object = None
+
+-- the value of the latest act that decides u's bit on the object, and false if none does
+abbrev pub has : UserId → History → UserId → Bit → Object → Bool
+has owner [] u bit object = false
+has owner (a ∷ h) u bit object = unwrap_or (decision owner a h u bit object) (has owner h u bit object)
+
+abbrev pub listed : Option UserId → List UserId
+listed None = []
+listed (Some leader) = leader ∷ []
+
+-- aclgrp: the leaders of u after an act. The latest `grouped` of u names them, unless u or the leader is gone since
+abbrev pub leaders_after : Act → UserId → List UserId → List UserId
+leaders_after (Grouped v leader) u before = if same_user v u then listed leader else before
+leaders_after (Gone v) u before = if same_user v u then [] else filter (λ leader. not (same_user v leader)) before
+leaders_after _ u before = before
+
+abbrev pub leaders_of : History → UserId → List UserId
+leaders_of [] u = []
+leaders_of (a ∷ h) u = leaders_after a u (leaders_of h u)
+
+-- u is the owner, or has the bit, or a leader of his has it. A leader's own leader isn't asked
+abbrev pub may : UserId → History → UserId → Bit → Object → Bool
+may owner h u bit object =
+    same_user owner u || has owner h u bit object || list_any (λ leader. has owner h leader bit object) (leaders_of h u)
+
+-- an object that is there: a command, or an open window
+abbrev pub there : History → Object → Bool
+there h (Window w) = is_open h w
+there h (Command c) = true

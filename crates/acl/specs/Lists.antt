@@ -1,0 +1,13 @@
+-- The table that the lists are.
+use Rattle.acl.specs.Table.{Table}
+use Rattle.acl.specs.declared.lists.Lists.{Lists}
+
+abbrev pub table_of : Lists → Table
+table_of l = record {
+  owner = l.owner;
+  rows = l.rows.entries;
+  masks = l.masks.entries;
+  windows = l.windows.serials;
+  window_preset = l.window_preset;
+  command_preset = l.command_preset;
+}

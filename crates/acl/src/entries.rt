@@ -1,0 +1,34 @@
+use crate::act::{Object, PresetKind};
+use crate::bits::Bit;
+use crate::user_id::UserId;
+
+/// Why a check of a bit failed: neither this user's entry nor his leader's has it.
+#[derive(Clone, Copy, PartialEq, Eq, Debug)]
+pub struct EntryDenial {
+    pub user: UserId,
+    pub bit: Bit,
+    pub object: Object,
+    pub leader: Option<UserId>,
+}
+
+/// Whom a user is to follow: nobody, or the leader whom a word names (none where it is no name).
+#[derive(Clone, Copy, PartialEq, Eq, Debug)]
+pub enum NewLeader {
+    Nobody,
+    Named(Option<UserId>),
+}
+
+/// Whose mask is set: a preset, or the mask of the user whom a word names (none where it is no name).
+#[derive(Clone, Copy, PartialEq, Eq, Debug)]
+pub enum MaskScope {
+    Preset(PresetKind),
+    User(Option<UserId>),
+}
+
+/// A bit of a mask that is given or taken.
+#[derive(Clone, Copy, PartialEq, Eq, Debug)]
+pub struct MaskEntry {
+    pub scope: MaskScope,
+    pub bit: Bit,
+    pub value: bool,
+}

@@ -1,0 +1,34 @@
+-- What is spelled, function after function.
+use Rattle.std.proofs.Common.{ℕ, List, [], ◌∷◌, ◌++◌, ap, ◌∙◌, subst}
+use Rattle.std.specs.List.{AllByRecursion, flat_map}
+use Rattle.charsets.specs.Units.{units}
+use Rattle.charsets.specs.declared.unit.Coding.{Coding}
+use Rattle.charsets.specs.declared.unit.Coding.TheVariants.{Utf8}
+use Rattle.charsets.specs.declared.unit.Unit.{Unit}
+use Rattle.charsets.proofs.Joins.{units-append}
+use Rattle.charsets.proofs.Pushes.{units-none}
+use Rattle.control_parser.specs.declared.func.Func.{Func}
+use Rattle.control_parser.specs.Grammar.{Rest, with_front, functions}
+use Rattle.control_parser.specs.Spelling.{spelling, IsGivenInUtf8, ReadsAs}
+use Rattle.control_parser.proofs.Keeping.{functions-append}
+use Rattle.control_parser.proofs.Pieces.{functions-none}
+use Rattle.control_parser.proofs.Spelled.{spelled_reads}
+
+pub reads-append : (coding : Coding) (front later : List ℕ) (fs gs : List Func) → ReadsAs coding front fs → ReadsAs coding later gs
+    → ReadsAs coding (front ++ later) (fs ++ gs)
+reads-append coding front later fs gs h k =
+    let us = (units coding front).0 in
+    let vs = (units coding later).0 in
+    let e = units-append coding front later h.0 in (
+      ap (λ (x : List Unit × List ℕ). x.1) e ∙ k.0,
+      ap (λ (x : List Unit × List ℕ). functions x.0) e
+          ∙ functions-append us vs (ap (λ (x : List Func × Rest). x.1) h.1)
+          ∙ ap (λ (x : List Func × Rest). with_front x.0 (functions vs)) h.1
+          ∙ ap (with_front fs) k.1,
+    )
+
+pub reads-spelled : (fs : List Func) → AllByRecursion IsGivenInUtf8 fs → ReadsAs Utf8 (flat_map spelling fs) fs
+reads-spelled [] h = (ap (λ x. x.1) (units-none Utf8), ap (λ (x : List Unit × List ℕ). functions x.0) (units-none Utf8) ∙ functions-none)
+reads-spelled (f ∷ fs) h =
+    let P : Coding → Type 0 = λ coding. ReadsAs coding (spelling f) (f ∷ []) in
+    reads-append Utf8 (spelling f) (flat_map spelling fs) (f ∷ []) fs (subst P h.0.1 (spelled_reads f h.0.0)) (reads-spelled fs h.1)

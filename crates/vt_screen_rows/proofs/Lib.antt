@@ -1,0 +1,4 @@
+pub mod Widths
+pub mod KeptLines
+pub mod Unprotected
+pub mod WideLemmas

@@ -1,0 +1,16 @@
+//! A page with all that control functions change beside it.
+
+use scrollback::Ring;
+use terminal_model::{Saved, State};
+use vt_screen_page::Page;
+use vt_screen_state::Tabs;
+
+/// A page with its state, its tab stops, its saved place and its scrollback.
+#[derive(Drop)]
+pub struct Display {
+    pub state: State,
+    pub tabs: Tabs,
+    pub saved: Option<Saved>,
+    pub page: Page,
+    pub ring: Ring,
+}

@@ -1,0 +1,123 @@
+//! Rows that erase (ECMA-48, 8.3.38, 8.3.39 and 8.3.41; VT220 Programmer Reference Manual, erasing).
+
+ghost use Rattle.std.specs.Prelude.{◌≡◌, ◌<◌, ◌≤◌, length};
+ghost use Rattle.cells.specs.Page.{IsPage, line_at, page_from};
+ghost use Rattle.terminal_model.specs.declared.action.Action.TheVariants.{EraseCells, EraseInLine, EraseInPage, EraseUnprotectedInLine, EraseUnprotectedInPage};
+ghost use Rattle.terminal_model.specs.Table.{acted, line_erased, part_erased, part_unprotected, unprotected_lines};
+ghost use Rattle.vt_screen_rows.specs.Displays.{IsFit, screen_of};
+
+use crate::display::Display;
+use terminal_model::{Part, State};
+use vt_screen_page::Page;
+use vt_screen_state::{end_after, end_column, end_line, first_column, first_line, settle};
+
+impl Display {
+    /// EL.
+    pub fn erase_in_line(&mut self, part: Part)
+        requires { IsFit self.old }
+        ensures screen { screen_of self.new ≡ acted (screen_of self.old) (EraseInLine part) }
+        ensures width { self.new.ring.columns ≡ self.old.ring.columns }
+    {
+        erase_part(&mut self.page, &self.state, part);
+        settle(&mut self.state);
+    }
+
+    /// ED: in the cursor's line as EL, and then the other lines.
+    pub fn erase_in_page(&mut self, part: Part)
+        requires { IsFit self.old }
+        ensures screen { screen_of self.new ≡ acted (screen_of self.old) (EraseInPage part) }
+        ensures width { self.new.ring.columns ≡ self.old.ring.columns }
+    {
+        erase_part(&mut self.page, &self.state, part);
+        let first = first_line(part, &self.state);
+        let end = end_line(part, &self.state);
+        self.page.erase_lines(first, end);
+        settle(&mut self.state);
+    }
+
+    /// ECH.
+    pub fn erase_cells(&mut self, count: usize)
+        requires fit { IsFit self.old }
+        requires some { 0 < count }
+        ensures screen { screen_of self.new ≡ acted (screen_of self.old) (EraseCells count) }
+        ensures width { self.new.ring.columns ≡ self.old.ring.columns }
+    {
+        let from = self.state.column;
+        let end = end_after(&self.state, count);
+        erase_columns(&mut self.page, &self.state, from, end);
+        settle(&mut self.state);
+    }
+
+    /// DECSEL.
+    pub fn erase_unprotected_in_line(&mut self, part: Part)
+        requires { IsFit self.old }
+        ensures screen { screen_of self.new ≡ acted (screen_of self.old) (EraseUnprotectedInLine part) }
+        ensures width { self.new.ring.columns ≡ self.old.ring.columns }
+    {
+        erase_unprotected_part(&mut self.page, &self.state, part);
+        settle(&mut self.state);
+    }
+
+    /// DECSED: in the cursor's line as DECSEL, and then the other lines.
+    pub fn erase_unprotected_in_page(&mut self, part: Part)
+        requires { IsFit self.old }
+        ensures screen { screen_of self.new ≡ acted (screen_of self.old) (EraseUnprotectedInPage part) }
+        ensures width { self.new.ring.columns ≡ self.old.ring.columns }
+    {
+        erase_unprotected_part(&mut self.page, &self.state, part);
+        let first = first_line(part, &self.state);
+        let end = end_line(part, &self.state);
+        erase_unprotected_lines(&mut self.page, &self.state, first, end);
+        settle(&mut self.state);
+    }
+}
+
+/// Makes the columns from `from` on and below `end` of the cursor's line blank.
+fn erase_columns(page: &mut Page, state: &State, from: usize, end: usize)
+    requires page { IsPage state.now.rows state.now.columns page.old }
+    requires line_inside { state.now.line < state.now.rows }
+    requires order { from < end }
+    requires inside { end ≤ state.now.columns }
+    ensures { page.new ≡ line_erased state.now from end page.old }
+{
+    page.splice(state.line, from, end - from, end);
+}
+
+/// Makes a part of the cursor's line blank.
+fn erase_part(page: &mut Page, state: &State, part: Part)
+    requires page { IsPage state.now.rows state.now.columns page.old }
+    requires line_inside { state.now.line < state.now.rows }
+    requires column_inside { state.now.column < state.now.columns }
+    ensures value { page.new ≡ part_erased state.now part page.old }
+    ensures page { IsPage state.now.rows state.now.columns page.new }
+{
+    let from = first_column(part, state);
+    let end = end_column(part, state);
+    erase_columns(page, state, from, end);
+}
+
+/// Makes a part of the cursor's line blank, but for protected cells.
+fn erase_unprotected_part(page: &mut Page, state: &State, part: Part)
+    requires page { IsPage state.now.rows state.now.columns page.old }
+    requires line_inside { state.now.line < state.now.rows }
+    requires column_inside { state.now.column < state.now.columns }
+    ensures value { page.new ≡ part_unprotected state.now part page.old }
+    ensures page { IsPage state.now.rows state.now.columns page.new }
+{
+    let from = first_column(part, state);
+    let end = end_column(part, state);
+    page.erase_unprotected(state.line, from, end);
+}
+
+/// Makes the lines from `first` on and below `end` blank, but for protected cells.
+fn erase_unprotected_lines(page: &mut Page, state: &State, first: usize, end: usize)
+    requires page { IsPage state.now.rows state.now.columns page.old }
+    requires order { first ≤ end }
+    requires inside { end ≤ state.now.rows }
+    ensures { page.new ≡ page_from (unprotected_lines page.old state.now.columns first end) page.old }
+{
+    let columns = state.columns;
+    for line in first..end {
+        page.erase_unprotected(line, 0, columns);
+    }
+}

@@ -1,0 +1,13 @@
+//! The rows of the screen table.
+#![tactic(auto, using(crate::proofs::Widths::line_width), unfolding(terminal_model::specs::Table::acted_from))]
+
+mod act;
+mod display;
+mod editing;
+mod erasing;
+mod moving;
+mod printing;
+mod resetting;
+mod sizing;
+
+pub use display::Display;

@@ -1,0 +1,147 @@
+//! Print.
+
+ghost use Rattle.std.specs.Prelude.{◌≡◌, ◌<◌, ◌+◌, Some};
+ghost use Rattle.unicode_width.specs.Width.{char_width};
+ghost use Rattle.terminal_model.specs.Table.{acted, columns_of, drawn, drawn_as, marked_at, placed_narrow, placed_wide, printed, printed_as, wide_or_none, widely, wrapped};
+ghost use Rattle.terminal_model.specs.declared.action.Action.TheVariants.{Print};
+ghost use Rattle.vt_screen_rows.specs.Displays.{IsFit, screen_of};
+
+use crate::display::Display;
+use cells::{Cell, glyph_width};
+use charsets::Unit;
+use unicode_width::UnicodeWidthChar;
+use vt_screen_state::{advance, following, lacks_room, needs_line, separate};
+
+/// What is drawn of a character of width 3.
+const REPLACEMENT: char = '\u{FFFD}';
+
+impl Display {
+    /// Prints a graphic unit, through the sets; a single shift is spent.
+    pub fn print(&mut self, unit: Unit)
+        requires { IsFit self.old }
+        ensures screen { screen_of self.new ≡ acted (screen_of self.old) (Print unit) }
+        ensures width { self.new.ring.columns ≡ self.old.ring.columns }
+    {
+        if let Some(character) = self.state.shifts.map(unit) {
+            self.print_character(character);
+        }
+    }
+
+    /// Prints a character by its width.
+    fn print_character(&mut self, character: char)
+        requires { IsFit self.old }
+        ensures screen { screen_of self.new ≡ printed (Some character) (screen_of self.old) }
+        ensures width { self.new.ring.columns ≡ self.old.ring.columns }
+    {
+        self.print_as(columns_of(character), drawn(character));
+    }
+
+    /// Prints a character in so many columns: none for a mark.
+    fn print_as(&mut self, columns: u8, character: char)
+        requires { IsFit self.old }
+        ensures screen { screen_of self.new ≡ printed_as columns character (screen_of self.old) }
+        ensures width { self.new.ring.columns ≡ self.old.ring.columns }
+    {
+        if columns == 0 {
+            self.join(character);
+        } else {
+            self.wrap(self.state.is_wrap_pending);
+            if columns == 1 {
+                self.place_narrow(character);
+            } else {
+                self.print_wide(character);
+            }
+        }
+    }
+
+    /// A mark joins the cell that was printed last, where nothing came between; else it is dropped.
+    fn join(&mut self, mark: char)
+        requires { IsFit self.old }
+        ensures screen { screen_of self.new ≡ marked_at self.old.state.joining mark (screen_of self.old) }
+        ensures width { self.new.ring.columns ≡ self.old.ring.columns }
+    {
+        if let Some(place) = self.state.joining {
+            self.page.mark(place.line, place.column, mark);
+        }
+    }
+
+    /// Does a wrap that is due: the first column, and an index.
+    fn wrap(&mut self, is_due: bool)
+        requires { IsFit self.old }
+        ensures screen { screen_of self.new ≡ wrapped is_due (screen_of self.old) }
+        ensures fit { IsFit self.new }
+        ensures width { self.new.ring.columns ≡ self.old.ring.columns }
+    {
+        if is_due {
+            self.go_to_next_line();
+        }
+    }
+
+    fn place_narrow(&mut self, character: char)
+        requires { IsFit self.old }
+        ensures screen { screen_of self.new ≡ placed_narrow character (screen_of self.old) }
+        ensures width { self.new.ring.columns ≡ self.old.ring.columns }
+    {
+        let state = &self.state;
+        let cell = Cell::narrow(character, state.rendition, state.is_protecting);
+        let rest = following(state, 1);
+        self.page
+            .put_narrow(self.state.line, self.state.column, cell, rest);
+        advance(&mut self.state, 1);
+    }
+
+    /// A wide character in the last column goes to the next line with ?7 set, and isn't printed with ?7 reset.
+    fn print_wide(&mut self, character: char)
+        requires { IsFit self.old }
+        ensures screen { screen_of self.new ≡ widely character (screen_of self.old) }
+        ensures width { self.new.ring.columns ≡ self.old.ring.columns }
+    {
+        let is_due = needs_line(&self.state);
+        self.wrap(is_due);
+        if lacks_room(&self.state) {
+            separate(&mut self.state);
+        } else {
+            self.place_wide(character);
+        }
+    }
+
+    fn place_wide(&mut self, character: char)
+        requires fit { IsFit self.old }
+        requires room { self.old.state.column + 1 < self.old.state.columns }
+        ensures screen { screen_of self.new ≡ placed_wide character (screen_of self.old) }
+        ensures width { self.new.ring.columns ≡ self.old.ring.columns }
+    {
+        let state = &self.state;
+        let left = Cell::left(character, state.rendition, state.is_protecting);
+        let right = Cell::right(character, state.rendition, state.is_protecting);
+        let rest = following(state, 2);
+        self.page
+            .put_wide(self.state.line, self.state.column, left, right, rest);
+        advance(&mut self.state, 2);
+    }
+}
+
+/// The columns that a character takes.
+#[tactic(auto, unfolding(terminal_model::specs::Table::columns_of))]
+fn columns_of(character: char) -> u8
+    ensures { result ≡ columns_of character }
+{
+    glyph_width(character)
+}
+
+/// What is drawn of a character: U+FFFD where its width is 3.
+#[tactic(auto, unfolding(terminal_model::specs::Table::drawn))]
+fn drawn(character: char) -> char
+    ensures { result ≡ drawn character }
+{
+    drawn_as(character.width(), character)
+}
+
+fn drawn_as(width: Option<usize>, character: char) -> char
+    ensures { result ≡ drawn_as width character }
+{
+    match width {
+        Some(width) if width == 3 => REPLACEMENT,
+        _ => character,
+    }
+}

@@ -1,0 +1,118 @@
+//! Tab stops, saved places, and rows that make the page anew.
+
+ghost use Rattle.std.specs.Prelude.{◌≡◌};
+ghost use Rattle.terminal_model.specs.Table.{acted};
+ghost use Rattle.terminal_model.specs.declared.action.Action.TheVariants.{Align, BlankPage, ClearTab, ClearTabs, Reset, Restore, Save, SetTab, SoftReset, Tab};
+ghost use Rattle.vt_screen_rows.specs.Displays.{IsFit, screen_of};
+
+use crate::display::Display;
+use cells::{Cell, Rendition};
+use vt_screen_state::{
+    go_home, move_to, restore, saved_of, settle, soft_reset, starting_state, use_whole_page,
+};
+
+impl Display {
+    /// HT (ECMA-48, 8.3.60): the next tab stop behind the cursor, or else the last column.
+    pub fn tab(&mut self)
+        requires { IsFit self.old }
+        ensures screen { screen_of self.new ≡ acted (screen_of self.old) Tab }
+        ensures width { self.new.ring.columns ≡ self.old.ring.columns }
+    {
+        let line = self.state.line;
+        let column = self.tabs.next(self.state.column);
+        move_to(&mut self.state, line, column);
+    }
+
+    /// HTS (ECMA-48, 8.3.62): a stop at the cursor's column.
+    pub fn set_tab(&mut self)
+        requires { IsFit self.old }
+        ensures screen { screen_of self.new ≡ acted (screen_of self.old) SetTab }
+        ensures width { self.new.ring.columns ≡ self.old.ring.columns }
+    {
+        self.tabs.set(self.state.column);
+        settle(&mut self.state);
+    }
+
+    /// TBC 0 (ECMA-48, 8.3.154): no stop at the cursor's column.
+    pub fn clear_tab(&mut self)
+        requires { IsFit self.old }
+        ensures screen { screen_of self.new ≡ acted (screen_of self.old) ClearTab }
+        ensures width { self.new.ring.columns ≡ self.old.ring.columns }
+    {
+        self.tabs.clear(self.state.column);
+        settle(&mut self.state);
+    }
+
+    /// TBC 3 (ECMA-48, 8.3.154): no stop anywhere.
+    pub fn clear_tabs(&mut self)
+        requires { IsFit self.old }
+        ensures screen { screen_of self.new ≡ acted (screen_of self.old) ClearTabs }
+        ensures width { self.new.ring.columns ≡ self.old.ring.columns }
+    {
+        self.tabs.clear_all();
+        settle(&mut self.state);
+    }
+
+    /// DECSC (VT220 Programmer Reference Manual, cursor positioning): the pending wrap is saved, and then cleared.
+    pub fn save(&mut self)
+        ensures screen { screen_of self.new ≡ acted (screen_of self.old) Save }
+        ensures width { self.new.ring.columns ≡ self.old.ring.columns }
+    {
+        self.saved = Some(saved_of(&self.state));
+        settle(&mut self.state);
+    }
+
+    /// DECRC (VT220 Programmer Reference Manual, cursor positioning).
+    pub fn restore(&mut self)
+        requires { IsFit self.old }
+        ensures screen { screen_of self.new ≡ acted (screen_of self.old) Restore }
+        ensures width { self.new.ring.columns ≡ self.old.ring.columns }
+    {
+        restore(&mut self.state, self.saved);
+    }
+
+    /// RIS (ECMA-48, 8.3.105): all starting values, and a blank page; coding and scrollback stay.
+    pub fn reset(&mut self)
+        requires { IsFit self.old }
+        ensures screen { screen_of self.new ≡ acted (screen_of self.old) Reset }
+        ensures width { self.new.ring.columns ≡ self.old.ring.columns }
+    {
+        self.state = starting_state(self.state.rows, self.state.columns, self.state.coding);
+        self.tabs.start();
+        self.saved = None;
+        self.page.clear();
+    }
+
+    /// DECSTR (VT220 Programmer Reference Manual, terminal reset).
+    pub fn soft_reset(&mut self)
+        requires { IsFit self.old }
+        ensures screen { screen_of self.new ≡ acted (screen_of self.old) SoftReset }
+        ensures width { self.new.ring.columns ≡ self.old.ring.columns }
+    {
+        soft_reset(&mut self.state);
+        self.saved = None;
+    }
+
+    /// DECALN (VT220 Programmer Reference Manual, tests): every cell is an `E`.
+    pub fn align(&mut self)
+        requires { IsFit self.old }
+        ensures screen { screen_of self.new ≡ acted (screen_of self.old) Align }
+        ensures width { self.new.ring.columns ≡ self.old.ring.columns }
+    {
+        self.page.fill(Cell::narrow('E', Rendition::PLAIN, false));
+        use_whole_page(&mut self.state);
+        go_home(&mut self.state);
+    }
+
+    /// The value ?3 of DECSM and DECRM (VT220 Programmer Reference Manual, DECCOLM): the page is blank, and its width
+    /// stays.
+    pub fn blank_page(&mut self)
+        requires { IsFit self.old }
+        ensures screen { screen_of self.new ≡ acted (screen_of self.old) BlankPage }
+        ensures width { self.new.ring.columns ≡ self.old.ring.columns }
+    {
+        self.page.clear();
+        use_whole_page(&mut self.state);
+        go_home(&mut self.state);
+    }
+}

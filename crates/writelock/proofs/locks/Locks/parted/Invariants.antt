@@ -1,0 +1,12 @@
+use Rattle.std.proofs.Common.{◌≡◌}
+use Rattle.writelock.specs.LockTable.{without_holder}
+use Rattle.writelock.proofs.SlotViews.{ChangedBelow}
+use Rattle.writelock.proofs.locks.Locks.parted.Given as goal
+
+-- the locks so far are done
+abbrev pub invariant-loop-i : goal.invariant-loop-i
+invariant-loop-i l = record {
+  done : ChangedBelow (λ _. without_holder l.last) l.fn.self.windows.serials l.i l.fn.self.locks l.self.locks;
+  windows : l.self.windows ≡ l.fn.self.windows;
+  default : l.self.default ≡ l.fn.self.default;
+}

@@ -1,0 +1,13 @@
+use Rattle.std.proofs.Common.{◌≡◌}
+use Rattle.acl.specs.Lists.{table_of}
+use Rattle.writelock.specs.LockTable.{after_act}
+use Rattle.writelock.proofs.SlotViews.{ChangedBelow}
+use Rattle.writelock.proofs.locks.Locks.withdraw.Given as goal
+
+-- the locks so far are done
+abbrev pub invariant-loop-i : goal.invariant-loop-i
+invariant-loop-i l = record {
+  done : ChangedBelow (after_act (table_of l.lists) l.act) l.fn.self.windows.serials l.i l.fn.self.locks l.self.locks;
+  windows : l.self.windows ≡ l.fn.self.windows;
+  default : l.self.default ≡ l.fn.self.default;
+}
