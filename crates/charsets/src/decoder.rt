@@ -69,7 +69,8 @@ impl Decoder {
         ensures coding { self.new.coding ≡ self.old.coding }
         ensures next { units self.old.coding (self.old.rest ++ byte ∷ []) ≡ (unit_list result, self.new.rest) }
         // Whatever bytes were read, this one is read behind them.
-        ensures stands { (bytes : List ℕ) → StandsFor self.old bytes → StandsFor self.new (bytes ++ byte ∷ []) }
+        ensures stands { (bytes : List ℕ) → StandsFor self.old bytes →
+            StandsFor self.new (bytes ++ byte ∷ []) }
         ensures gives { (bytes : List ℕ) → StandsFor self.old bytes →
             (units self.old.coding (bytes ++ byte ∷ [])).0 ≡ (units self.old.coding bytes).0 ++ unit_list result }
     {

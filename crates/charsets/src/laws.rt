@@ -14,7 +14,8 @@ ghost use Rattle.charsets.specs.Units.{units, units_of_pieces, is_plain, IsUnit}
 /// Bytes behind whole characters are read for themselves.
 pub fn whole_ones_join()
     ensures { (coding : Coding) (front later : List ℕ) → (units coding front).1 ≡ [] →
-        units coding (front ++ later) ≡ ((units coding front).0 ++ (units coding later).0, (units coding later).1) }
+        units coding (front ++ later)
+        ≡ ((units coding front).0 ++ (units coding later).0, (units coding later).1) }
 {}
 
 /// CAN ends a character that has begun, which gives nothing.
@@ -31,13 +32,16 @@ pub fn characters_read_back()
 /// More bytes are read behind a beginning as behind itself.
 pub fn beginnings_go_on()
     ensures go_on { (coding : Coding) (front later : List ℕ) → let rest = (units coding front).1 in
-        units coding (front ++ later) ≡ ((units coding front).0 ++ (units coding (rest ++ later)).0, (units coding (rest ++ later)).1) }
-    ensures own { (coding : Coding) (bytes : List ℕ) → units coding (units coding bytes).1 ≡ ([], (units coding bytes).1) }
+        units coding (front ++ later)
+        ≡ ((units coding front).0 ++ (units coding (rest ++ later)).0, (units coding (rest ++ later)).1) }
+    ensures own { (coding : Coding) (bytes : List ℕ) →
+        units coding (units coding bytes).1 ≡ ([], (units coding bytes).1) }
 {}
 
 /// Reading in pieces is reading the whole, however it is cut.
 pub fn pieces_are_whole()
-    ensures { (coding : Coding) (pieces : List (List ℕ)) → units_of_pieces coding [] pieces ≡ units coding (concat pieces) }
+    ensures { (coding : Coding) (pieces : List (List ℕ)) →
+        units_of_pieces coding [] pieces ≡ units coding (concat pieces) }
 {}
 
 /// Bytes 20 to 7E are each a unit, in both codings.
@@ -53,7 +57,7 @@ pub fn each_is_a_unit()
 
 /// Where GL has ASCII and no single shift waits, a graphic code stands for itself and changes no shift.
 pub fn ascii_stands_for_itself()
-    ensures maps { (s : Shifts) (c : ℕ) → set_at s s.gl ≡ Ascii → s.single ≡ None → is_graphic (Code c) ≡ true →
-        mapped s (Code c) ≡ Some c }
+    ensures maps { (s : Shifts) (c : ℕ) → set_at s s.gl ≡ Ascii → s.single ≡ None →
+        is_graphic (Code c) ≡ true → mapped s (Code c) ≡ Some c }
     ensures spends { (s : Shifts) (c : ℕ) → s.single ≡ None → spent s (Code c) ≡ s }
 {}

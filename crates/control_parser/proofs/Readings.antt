@@ -1,17 +1,19 @@
 -- What is spelled, function after function.
-use Rattle.std.proofs.Common.{ℕ, List, [], ◌∷◌, ◌++◌, ap, ◌∙◌, subst}
-use Rattle.std.specs.List.{AllByRecursion, flat_map}
-use Rattle.charsets.specs.Units.{units}
+use Rattle.std.proofs.Common.{◌≡◌, ℕ, List, [], ◌∷◌, ◌++◌, map, true, ap, ◌∙◌, subst}
+use Rattle.std.specs.List.{AllByRecursion, flat_map, list_all}
+use Rattle.charsets.specs.Units.{units, is_plain}
 use Rattle.charsets.specs.declared.unit.Coding.{Coding}
 use Rattle.charsets.specs.declared.unit.Coding.TheVariants.{Utf8}
 use Rattle.charsets.specs.declared.unit.Unit.{Unit}
 use Rattle.charsets.proofs.Joins.{units-append}
+use Rattle.charsets.proofs.Pieces.{units-plain}
 use Rattle.charsets.proofs.Pushes.{units-none}
 use Rattle.control_parser.specs.declared.func.Func.{Func}
+use Rattle.control_parser.specs.declared.func.Func.TheVariants.{Print}
 use Rattle.control_parser.specs.Grammar.{Rest, with_front, functions}
 use Rattle.control_parser.specs.Spelling.{spelling, IsGivenInUtf8, ReadsAs}
 use Rattle.control_parser.proofs.Keeping.{functions-append}
-use Rattle.control_parser.proofs.Pieces.{functions-none}
+use Rattle.control_parser.proofs.Pieces.{functions-none, functions-plain}
 use Rattle.control_parser.proofs.Spelled.{spelled_reads}
 
 pub reads-append : (coding : Coding) (front later : List ℕ) (fs gs : List Func) → ReadsAs coding front fs → ReadsAs coding later gs
@@ -32,3 +34,8 @@ reads-spelled [] h = (ap (λ x. x.1) (units-none Utf8), ap (λ (x : List Unit ×
 reads-spelled (f ∷ fs) h =
     let P : Coding → Type 0 = λ coding. ReadsAs coding (spelling f) (f ∷ []) in
     reads-append Utf8 (spelling f) (flat_map spelling fs) (f ∷ []) fs (subst P h.0.1 (spelled_reads f h.0.0)) (reads-spelled fs h.1)
+
+pub reads-plain : (coding : Coding) (bytes : List ℕ) → list_all is_plain bytes ≡ true → ReadsAs coding bytes (map (λ b. Print b) bytes)
+reads-plain coding bytes h =
+    let e = units-plain coding bytes h in
+    (ap (λ (x : List Unit × List ℕ). x.1) e, ap (λ (x : List Unit × List ℕ). functions x.0) e ∙ functions-plain bytes h)

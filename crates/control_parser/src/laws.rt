@@ -15,7 +15,8 @@ ghost use Rattle.control_parser.specs.Kept.{opening, functions_of_pieces};
 
 /// Units give nothing but functions that have a spelling.
 pub fn each_is_spelled()
-    ensures { (units : List Unit) → AllByRecursion IsUnit units → AllByRecursion IsGiven (functions units).0 }
+    ensures { (units : List Unit) → AllByRecursion IsUnit units →
+        AllByRecursion IsGiven (functions units).0 }
 {}
 
 /// Bytes that leave no rest are read for themselves, one list behind another.
@@ -31,7 +32,8 @@ pub fn spelled_ones_read_back()
 
 /// Where nothing is unended, units are read for themselves.
 pub fn whole_ones_join()
-    ensures { (us vs : List Unit) → (functions us).1 ≡ nothing → functions (us ++ vs) ≡ with_front (functions us).0 (functions vs) }
+    ensures { (us vs : List Unit) → (functions us).1 ≡ nothing →
+        functions (us ++ vs) ≡ with_front (functions us).0 (functions vs) }
 {}
 
 /// CAN ends what is unended, and gives nothing.
@@ -41,13 +43,15 @@ pub fn can_ends_all()
 
 /// More units are read behind what is unended as behind the units that begin it.
 pub fn unended_go_on()
-    ensures go_on { (us vs : List Unit) → functions (us ++ vs) ≡ with_front (functions us).0 (functions (opening (functions us).1 ++ vs)) }
+    ensures go_on { (us vs : List Unit) →
+        functions (us ++ vs) ≡ with_front (functions us).0 (functions (opening (functions us).1 ++ vs)) }
     ensures own { (us : List Unit) → functions (opening (functions us).1) ≡ ([], (functions us).1) }
 {}
 
 /// Reading in pieces is reading the whole, however it is cut.
 pub fn pieces_are_whole()
-    ensures { (pieces : List (List Unit)) → functions_of_pieces nothing pieces ≡ functions (flat_map (λ piece. piece) pieces) }
+    ensures { (pieces : List (List Unit)) →
+        functions_of_pieces nothing pieces ≡ functions (flat_map (λ piece. piece) pieces) }
 {}
 
 /// Graphic codes, as 20 to 7E, are printed where nothing is unended.
@@ -56,4 +60,10 @@ pub fn graphic_codes_print()
         functions (map (λ c. Code c) codes) ≡ (map (λ c. Print c) codes, nothing) }
     ensures plain { (codes : List ℕ) → list_all is_plain codes ≡ true →
         functions (map (λ c. Code c) codes) ≡ (map (λ c. Print c) codes, nothing) }
+{}
+
+/// Bytes 20 to 7E are printed, in either coding.
+pub fn plain_bytes_print()
+    ensures { (coding : Coding) (bytes : List ℕ) → list_all is_plain bytes ≡ true →
+        ReadsAs coding bytes (map (λ b. Print b) bytes) }
 {}

@@ -13,8 +13,8 @@ mod state;
 pub use func::Func;
 pub use intermediates::Intermediates;
 pub use laws::{
-    can_ends_all, each_is_spelled, graphic_codes_print, pieces_are_whole, readings_join,
-    spelled_ones_read_back, unended_go_on, whole_ones_join,
+    can_ends_all, each_is_spelled, graphic_codes_print, pieces_are_whole, plain_bytes_print,
+    readings_join, spelled_ones_read_back, unended_go_on, whole_ones_join,
 };
 pub use params::Params;
 pub use parser::Parser;

@@ -2,7 +2,7 @@
 
 ghost use Rattle.std.specs.Prelude.{◌≡◌, ◌==◌, ◌∷◌, [], true, false, Some, None, length};
 ghost use Rattle.control_parser.specs.Text.{is_intermediate};
-ghost use Rattle.control_parser.specs.Steps.{text_grown, begun_step, broken_step, escape_step, control_step, breaks_string, is_final_from, step_of, alone_of};
+ghost use Rattle.control_parser.specs.Steps.{no_text, text_grown, begun_step, broken_step, escape_step, control_step, breaks_string, is_final_from, step_of, alone_of};
 ghost use Rattle.control_parser.specs.Grammar.{code, is_control, is_c1, is_sequence_text};
 
 use crate::func::Func;
@@ -85,7 +85,7 @@ fn ends_string(c: u32) -> bool
 
 impl Text {
     fn empty() -> Text
-        ensures { result ≡ record { begun = false; mark = None; params = 0 ∷ []; over = false; intermediates = [] } }
+        ensures { result ≡ no_text }
     {
         Text {
             begun: false,

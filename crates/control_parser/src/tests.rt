@@ -3,8 +3,8 @@ use charsets::{Coding, Decoder, Unit, Units};
 use std::alloc::{AllocError, Global};
 use std::test::*;
 
-// What was read, written out: P and a character, H, C and a control's letter, E and an escape sequence, S and a control
-// sequence, whose numbers each end in a semicolon.
+// What was read, written out: P and a character, H, C and a control's letter, E and an escape
+// sequence, S and a control sequence, whose numbers each end in a semicolon.
 #[derive(Drop)]
 struct Transcript {
     decoder: Decoder,
