@@ -1,6 +1,7 @@
 -- Words without a fault are those that the table wants, and mean a command.
-use Rattle.std.proofs.Common.{◌≡◌, ℕ, ◌+◌, Bool, true, false, cond, List, [], ◌∷◌, ◌++◌, refl, sym, ap, ◌∙◌, Option, Some, None, option_to_list, true≢false}
+use Rattle.std.proofs.Common.{◌≡◌, ℕ, ◌+◌, Bool, true, false, cond, List, [], ◌∷◌, ◌++◌, refl, sym, ap, ◌∙◌, Option, Some, None, option_to_list, true≢false, ◌<◌, arith}
 use Rattle.std.specs.Prelude.{nat_lt}
+use Rattle.std.proofs.lemmas.Bool.Decides.{nat_tests}
 use Rattle.std.specs.Option.{is_some, option_map}
 use Rattle.acl.specs.declared.command_name.CommandName.{CommandName}
 use Rattle.acl.specs.declared.command_name.CommandName.TheVariants as name
@@ -18,20 +19,20 @@ use Rattle.command_lang.specs.Values.{number_in, is_number, number_after, is_ver
 use Rattle.command_lang.specs.Table.{row, least, kind_at, kind_fault, at_place, word_fault, words_faults, first_of}
 use Rattle.command_lang.specs.Meaning.{bare, with_word, with_words, command_of, texts_of}
 
--- the words are those that the row wants
-abbrev pub AllFit : Kind → List Word → Type 0
+-- the texts are those that the row wants
+abbrev pub AllFit : Kind → List (List ℕ) → Type 0
 AllFit k [] = Unit {0}
-AllFit k (w ∷ ws) = (kind_fault k w.text ≡ None) × AllFit k ws
+AllFit k (t ∷ ts) = (kind_fault k t ≡ None) × AllFit k ts
 
-abbrev pub Fits : Words → List Word → Type 0
+abbrev pub Fits : Words → List (List ℕ) → Type 0
 Fits Nothing [] = Unit {0}
-Fits (One a) (w ∷ []) = kind_fault a w.text ≡ None
+Fits (One a) (t ∷ []) = kind_fault a t ≡ None
 Fits (Perhaps a) [] = Unit {0}
-Fits (Perhaps a) (w ∷ []) = kind_fault a w.text ≡ None
-Fits (OneOrTwo a b) (v ∷ []) = kind_fault a v.text ≡ None
-Fits (OneOrTwo a b) (v ∷ w ∷ []) = (kind_fault a v.text ≡ None) × (kind_fault b w.text ≡ None)
-Fits (Three a b c) (u ∷ v ∷ w ∷ []) = (kind_fault a u.text ≡ None) × (kind_fault b v.text ≡ None) × (kind_fault c w.text ≡ None)
-Fits (Several a) (w ∷ ws) = AllFit a (w ∷ ws)
+Fits (Perhaps a) (t ∷ []) = kind_fault a t ≡ None
+Fits (OneOrTwo a b) (t ∷ []) = kind_fault a t ≡ None
+Fits (OneOrTwo a b) (t ∷ u ∷ []) = (kind_fault a t ≡ None) × (kind_fault b u ≡ None)
+Fits (Three a b c) (t ∷ u ∷ v ∷ []) = (kind_fault a t ≡ None) × (kind_fault b u ≡ None) × (kind_fault c v ≡ None)
+Fits (Several a) (t ∷ ts) = AllFit a (t ∷ ts)
 Fits _ _ = ⊥
 
 split : (o : Option ParseFault) (fs : List ParseFault) → first_of (option_to_list o ++ fs) ≡ None → (o ≡ None) × (first_of fs ≡ None)
@@ -62,11 +63,11 @@ missing : (r : Words) (i end : ℕ) → nat_lt i (least r) ≡ true → first_of
 unfolding words_faults
 missing r i end t h = true≢false (sym (ap (λ b. is_some (first_of (cond {A = List ParseFault} b (record { kind = faults.MissingWord; place = end } ∷ []) []))) t) ∙ ap is_some h)
 
-all_fit : (a : Kind) (i end : ℕ) (ws : List Word) → first_of (words_faults (Several a) i end ws) ≡ None → AllFit a ws
+all_fit : (a : Kind) (i end : ℕ) (ws : List Word) → first_of (words_faults (Several a) i end ws) ≡ None → AllFit a (texts_of ws)
 all_fit a i end [] h = tt
 all_fit a i end (w ∷ ws) h = let m = more (Several a) i end w ws h in (fitting a w m.0, all_fit a (i + 1) end ws m.1)
 
-pub fits : (r : Words) (end : ℕ) (ws : List Word) → first_of (words_faults r 0 end ws) ≡ None → Fits r ws
+pub fits : (r : Words) (end : ℕ) (ws : List Word) → first_of (words_faults r 0 end ws) ≡ None → Fits r (texts_of ws)
 fits Nothing end [] h = tt
 fits Nothing end (w ∷ ws) h = extra w (more Nothing 0 end w ws h).0
 fits (One a) end [] h = missing (One a) 0 end refl h
@@ -94,7 +95,7 @@ fits (Three a b c) end (u ∷ v ∷ w ∷ x ∷ ws) h =
 fits (Several a) end [] h = missing (Several a) 0 end refl h
 fits (Several a) end (w ∷ ws) h = all_fit a 0 end (w ∷ ws) h
 
-passes : (b : Bool) (k : FaultKind) → unless b k ≡ None → b ≡ true
+pub passes : (b : Bool) (k : FaultKind) → unless b k ≡ None → b ≡ true
 passes true k h = refl
 passes false k h = absurd (true≢false (ap is_some h))
 
@@ -138,50 +139,94 @@ bare_is name.Windows h = refl
 bare_is name.Displays h = refl
 bare_is name.Quit h = refl
 
-one_is : (n : CommandName) (w : Word) → Fits (row n) (w ∷ []) → is_some (with_word n w.text) ≡ true
-one_is name.Acladd w h = refl
-one_is name.Aclchg w h = absurd h
-one_is name.Acldel w h = refl
-one_is name.Aclgrp w h = refl
-one_is name.Aclumask w h = refl
-one_is name.Writelock w h = mapped _ _ faults.BadWord h
-one_is name.Defwritelock w h = mapped _ _ faults.BadWord h
-one_is name.Multiuser w h = mapped _ _ faults.BadWord h
-one_is name.Wall w h = refl
-one_is name.Detach w h = absurd h
-one_is name.Select w h = refl
-one_is name.Next w h = absurd h
-one_is name.Prev w h = absurd h
-one_is name.Other w h = absurd h
-one_is name.Title w h = refl
-one_is name.Number w h = numbered _ 39 w.text h
-one_is name.Kill w h = absurd h
-one_is name.Screen w h = absurd h
-one_is name.Split w h = ap (λ b. is_some (cond {A = Option Command} b (Some (command.Split true)) None)) (passes (is_vertical w.text) faults.BadWord h)
-one_is name.Focus w h = absurd h
-one_is name.Remove w h = absurd h
-one_is name.Only w h = absurd h
-one_is name.Fit w h = absurd h
-one_is name.Scrollview w h = numbered _ 2000 w.text h
-one_is name.Clear w h = absurd h
-one_is name.Reset w h = absurd h
-one_is name.Encoding w h = mapped _ _ faults.BadWord h
-one_is name.Stuff w h = refl
-one_is name.Windows w h = absurd h
-one_is name.Displays w h = absurd h
-one_is name.Quit w h = absurd h
+one_is : (n : CommandName) (t : List ℕ) → Fits (row n) (t ∷ []) → is_some (with_word n t) ≡ true
+one_is name.Acladd t h = refl
+one_is name.Aclchg t h = absurd h
+one_is name.Acldel t h = refl
+one_is name.Aclgrp t h = refl
+one_is name.Aclumask t h = refl
+one_is name.Writelock t h = mapped _ _ faults.BadWord h
+one_is name.Defwritelock t h = mapped _ _ faults.BadWord h
+one_is name.Multiuser t h = mapped _ _ faults.BadWord h
+one_is name.Wall t h = refl
+one_is name.Detach t h = absurd h
+one_is name.Select t h = refl
+one_is name.Next t h = absurd h
+one_is name.Prev t h = absurd h
+one_is name.Other t h = absurd h
+one_is name.Title t h = refl
+one_is name.Number t h = numbered _ 39 t h
+one_is name.Kill t h = absurd h
+one_is name.Screen t h = absurd h
+one_is name.Split t h = ap (λ b. is_some (cond {A = Option Command} b (Some (command.Split true)) None)) (passes (is_vertical t) faults.BadWord h)
+one_is name.Focus t h = absurd h
+one_is name.Remove t h = absurd h
+one_is name.Only t h = absurd h
+one_is name.Fit t h = absurd h
+one_is name.Scrollview t h = numbered _ 2000 t h
+one_is name.Clear t h = absurd h
+one_is name.Reset t h = absurd h
+one_is name.Encoding t h = mapped _ _ faults.BadWord h
+one_is name.Stuff t h = refl
+one_is name.Windows t h = absurd h
+one_is name.Displays t h = absurd h
+one_is name.Quit t h = absurd h
 
-several_is : (n : CommandName) (v w : Word) (ws : List Word) → Fits (row n) (v ∷ w ∷ ws) → is_some (with_words n (texts_of (v ∷ w ∷ ws))) ≡ true
-several_is name.Aclumask v w ws h = refl
-several_is name.Aclgrp v w [] h = refl
-several_is name.Aclgrp v w (x ∷ ws) h = absurd h
-several_is name.Aclchg v w [] h = absurd h
-several_is name.Aclchg v w (x ∷ []) h = refl
-several_is name.Aclchg v w (x ∷ y ∷ ws) h = absurd h
-several_is _ v w ws h = absurd h
+several_is : (n : CommandName) (t u : List ℕ) (ts : List (List ℕ)) → Fits (row n) (t ∷ u ∷ ts) → is_some (with_words n (t ∷ u ∷ ts)) ≡ true
+several_is name.Aclumask t u ts h = refl
+several_is name.Aclgrp t u [] h = refl
+several_is name.Aclgrp t u (v ∷ ts) h = absurd h
+several_is name.Aclchg t u [] h = absurd h
+several_is name.Aclchg t u (v ∷ []) h = refl
+several_is name.Aclchg t u (v ∷ w ∷ ts) h = absurd h
+several_is _ t u ts h = absurd h
 
--- words that fit mean a command
-pub means_one : (n : CommandName) (ws : List Word) → Fits (row n) ws → is_some (command_of n (texts_of ws)) ≡ true
+-- texts that fit mean a command
+pub means_one : (n : CommandName) (ts : List (List ℕ)) → Fits (row n) ts → is_some (command_of n ts) ≡ true
 means_one n [] h = bare_is n h
-means_one n (w ∷ []) h = one_is n w h
-means_one n (v ∷ w ∷ ws) h = several_is n v w ws h
+means_one n (t ∷ []) h = one_is n t h
+means_one n (t ∷ u ∷ ts) h = several_is n t u ts h
+
+-- Words that fit have no fault.
+abbrev pub AllWhole : List Word → Type 0
+AllWhole [] = Unit {0}
+AllWhole (w ∷ ws) = (w.whole ≡ true) × AllWhole ws
+
+fine : (k : Kind) (w : Word) → w.whole ≡ true → kind_fault k w.text ≡ None → word_fault (Some k) w ≡ None
+fine k w e f = ap (λ b. at_place w.place (cond b (kind_fault k w.text) (Some faults.BadQuote))) e ∙ ap (at_place w.place) f
+
+word-fine : (r : Words) (i end : ℕ) (w : Word) (ws : List Word) → word_fault (kind_at r i) w ≡ None → words_faults r (i + 1) end ws ≡ [] → words_faults r i end (w ∷ ws) ≡ []
+unfolding words_faults
+word-fine r i end w ws e f = ap (λ o. option_to_list o ++ words_faults r (i + 1) end ws) e ∙ f
+
+end-fine : (r : Words) (i end : ℕ) → nat_lt i (least r) ≡ false → words_faults r i end [] ≡ []
+unfolding words_faults
+end-fine r i end e = ap (λ b. cond {A = List ParseFault} b (record { kind = faults.MissingWord; place = end } ∷ []) []) e
+
+rest-fine : (a : Kind) (i end : ℕ) (ws : List Word) → 0 < i → AllWhole ws → AllFit a (texts_of ws) → words_faults (Several a) i end ws ≡ []
+rest-fine a i end [] h g f = end-fine (Several a) i end (grind (arith, nat_tests))
+rest-fine a i end (w ∷ ws) h g f = word-fine (Several a) i end w ws (fine a w g.0 f.0) (rest-fine a (i + 1) end ws (omega (arith, h)) g.1 f.1)
+
+pub no_faults : (r : Words) (end : ℕ) (ws : List Word) → AllWhole ws → Fits r (texts_of ws) → words_faults r 0 end ws ≡ []
+no_faults Nothing end [] g f = end-fine Nothing 0 end refl
+no_faults Nothing end (w ∷ ws) g f = absurd f
+no_faults (One a) end [] g f = absurd f
+no_faults (One a) end (w ∷ []) g f = word-fine (One a) 0 end w [] (fine a w g.0 f) (end-fine (One a) 1 end refl)
+no_faults (One a) end (v ∷ w ∷ ws) g f = absurd f
+no_faults (Perhaps a) end [] g f = end-fine (Perhaps a) 0 end refl
+no_faults (Perhaps a) end (w ∷ []) g f = word-fine (Perhaps a) 0 end w [] (fine a w g.0 f) (end-fine (Perhaps a) 1 end refl)
+no_faults (Perhaps a) end (v ∷ w ∷ ws) g f = absurd f
+no_faults (OneOrTwo a b) end [] g f = absurd f
+no_faults (OneOrTwo a b) end (w ∷ []) g f = word-fine (OneOrTwo a b) 0 end w [] (fine a w g.0 f) (end-fine (OneOrTwo a b) 1 end refl)
+no_faults (OneOrTwo a b) end (v ∷ w ∷ []) g f =
+    word-fine (OneOrTwo a b) 0 end v (w ∷ []) (fine a v g.0 f.0) (word-fine (OneOrTwo a b) 1 end w [] (fine b w g.1.0 f.1) (end-fine (OneOrTwo a b) 2 end refl))
+no_faults (OneOrTwo a b) end (u ∷ v ∷ w ∷ ws) g f = absurd f
+no_faults (Three a b c) end [] g f = absurd f
+no_faults (Three a b c) end (u ∷ []) g f = absurd f
+no_faults (Three a b c) end (u ∷ v ∷ []) g f = absurd f
+no_faults (Three a b c) end (u ∷ v ∷ w ∷ []) g f =
+    word-fine (Three a b c) 0 end u (v ∷ w ∷ []) (fine a u g.0 f.0)
+    (word-fine (Three a b c) 1 end v (w ∷ []) (fine b v g.1.0 f.1) (word-fine (Three a b c) 2 end w [] (fine c w g.1.1.0 f.2) (end-fine (Three a b c) 3 end refl)))
+no_faults (Three a b c) end (u ∷ v ∷ w ∷ x ∷ ws) g f = absurd f
+no_faults (Several a) end [] g f = absurd f
+no_faults (Several a) end (w ∷ ws) g f = word-fine (Several a) 0 end w ws (fine a w g.0 f.0) (rest-fine a 1 end ws (omega arith) g.1 f.1)

@@ -6,3 +6,9 @@ pub mod WordFaults
 pub mod Fits
 pub mod Whole
 pub mod Appends
+pub mod Scalars
+pub mod Canonical
+pub mod Quoting
+pub mod Sound
+pub mod Spelled
+pub mod ReadBack

@@ -9,3 +9,4 @@ pub mod Meaning
 pub mod Relation
 pub mod FirstWord
 pub mod Printing
+pub mod ReadsBack

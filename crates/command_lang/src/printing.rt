@@ -1,9 +1,11 @@
 //! A command is printed as a line.
 
-ghost use Rattle.std.specs.Prelude.{◌≡◌, ◌++◌, ◌∷◌, ◌<◌, ◌+◌, IfOk, OnOk};
+ghost use Rattle.std.specs.Prelude.{◌≡◌, ◌++◌, ◌∷◌, ◌<◌, ◌+◌, ℕ, List, IfOk, OnOk};
 ghost use Rattle.std.specs.String.{string_bytes};
 ghost use Rattle.std.specs.Str.{chars, encode_utf8_all};
 ghost use Rattle.command_lang.specs.Printing.{is_plain, octal, escaped, quoted, needs_no_quotes, printed_word, printed};
+ghost use Rattle.command_lang.specs.Relation.{Relates};
+ghost use Rattle.command_lang.specs.ReadsBack.{ReadsBack};
 
 use crate::command::Command;
 use crate::command_words::command_words;
@@ -87,9 +89,9 @@ fn put_word(text: &str, out: &mut String) -> Result<(), AllocError>
     }
 }
 
-/// The line of a command: its name and its words with one blank between them.
-pub fn print(alloc: Global, command: &Command) -> Result<String, AllocError>
-    ensures text { IfOk result (λ t. string_bytes t ≡ printed command.now) }
+/// The name and the words of a command with one blank between them.
+fn command_line(alloc: Global, command: &Command) -> Result<String, AllocError>
+    ensures { IfOk result (λ t. string_bytes t ≡ printed command.now) }
 {
     let words = command_words(alloc, command)?;
     let mut out = String::from_str(alloc, name_text(command.name()))?;
@@ -98,4 +100,16 @@ pub fn print(alloc: Global, command: &Command) -> Result<String, AllocError>
         put_word(word.as_str(), &mut out)?;
     }
     Ok(out)
+}
+
+/// The line of a command: its name and its words with one blank between them.
+///
+/// A word that is empty, or that holds another character than ASCII's letters and digits and `_ - + , # ? *`, stands
+/// between `"`. Numbers and bits are written in one form: `number 007` is printed as `number 7`.
+pub fn print(alloc: Global, command: &Command) -> Result<String, AllocError>
+    ensures text { IfOk result (λ t. string_bytes t ≡ printed command.now) }
+    // What any line gives, this line gives too, where it isn't too long.
+    ensures reads_back { IfOk result (λ t. (line : List ℕ) → Relates line command.now → ReadsBack (string_bytes t) command.now) }
+{
+    command_line(alloc, command)
 }
