@@ -9,6 +9,8 @@ mod message;
 mod reader;
 mod reading;
 mod side;
+#[cfg(test)]
+mod tests;
 mod why;
 mod writing;
 

@@ -1,13 +1,15 @@
 //! Bytes to units, one byte at a time.
 
-ghost use Rattle.std.specs.Prelude.{◌≡◌, ◌↔◌, ℕ, List, [], ◌∷◌, ◌++◌, IsTrue};
+ghost use Rattle.std.specs.Prelude.{◌≡◌, ◌↔◌, ℕ, List, [], ◌∷◌, ◌++◌, map, IsTrue};
+ghost use Rattle.charsets.specs.Units.{unit_of_byte, unit_list};
+ghost use Rattle.charsets.specs.Partial.{chars_of};
 
 use crate::unit::{Coding, Unit, Units};
 use crate::utf8::{Chars, Partial, step};
 use std::marker::Model;
 
 /// Reads bytes in one coding, and keeps the beginning of a character.
-#[derive(Drop)]
+#[derive(Debug, Drop)]
 pub struct Decoder {
     coding: Coding,
     partial: Partial,
@@ -25,7 +27,7 @@ impl Model for Decoder {
 }
 
 impl Decoder {
-    ghost use Rattle.charsets.specs.Units.{Decoding, units, unit_list, StandsFor, HasGiven};
+    ghost use Rattle.charsets.specs.Units.{Decoding, units, StandsFor, HasGiven};
     ghost use Rattle.charsets.specs.declared.unit.Coding.TheVariants.{Utf8};
 
     /// A decoder that has read nothing, in UTF-8.
@@ -81,10 +83,6 @@ impl Decoder {
         }
     }
 }
-
-ghost use Rattle.charsets.specs.Units.{unit_of_byte, unit_list};
-ghost use Rattle.charsets.specs.Partial.{chars_of};
-ghost use Rattle.std.specs.Prelude.{map};
 
 fn unit_of_byte(byte: u8) -> Unit
     ensures { result ≡ unit_of_byte byte }

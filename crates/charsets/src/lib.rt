@@ -10,7 +10,7 @@ mod utf8;
 
 pub use decoder::Decoder;
 pub use laws::{
-    ascii_stands_for_itself, beginnings_go_on, can_ends_all, characters_read_back,
+    ascii_stands_for_itself, beginnings_go_on, can_ends_all, characters_read_back, each_is_a_unit,
     pieces_are_whole, plain_bytes_stand, whole_ones_join,
 };
 pub use sets::CharacterSet;

@@ -5,3 +5,4 @@ pub mod Signs
 pub mod WordFaults
 pub mod Fits
 pub mod Whole
+pub mod Appends

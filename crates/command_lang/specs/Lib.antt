@@ -8,3 +8,4 @@ pub mod Table
 pub mod Meaning
 pub mod Relation
 pub mod FirstWord
+pub mod Printing

@@ -4,6 +4,7 @@
 mod bit_list;
 mod build;
 mod command;
+mod command_words;
 mod cut;
 mod fault;
 mod names;

@@ -13,7 +13,7 @@ use Rattle.control_parser.specs.declared.state.State.TheVariants as state
 use Rattle.control_parser.specs.Text.{is_intermediate, is_well_formed, fields}
 use Rattle.control_parser.specs.Grammar.{code, ESC, SUB, is_control, is_c1, is_graphic, is_sequence_text, Rest, nothing, escape, control, string, osc, escape_of, control_of, is_string_opener, alone, with_front, functions_behind, functions}
 use Rattle.control_parser.specs.Steps.{text_grown, first_func, alone_of, begun_step, broken_step, grown_step, step_of, breaks_string, is_final_from}
-use Rattle.control_parser.specs.Kept.{parts, kept_text, kept, StandsFor, HasGiven}
+use Rattle.control_parser.specs.Kept.{opening, parts, kept_text, kept, StandsFor, HasGiven}
 use Rattle.control_parser.proofs.Machine.{rest_begun, rest_anew, rest_broken, rest_step, machine, machine-append, functions_behind-machine}
 use Rattle.control_parser.proofs.Texts.{grown, parts-push}
 
@@ -154,6 +154,14 @@ pub gives-push : (old : State) (u : Unit) (us : List Unit) → StandsFor old us 
 gives-push old u us h =
     ap (λ (x : List Func × Rest). x.0) (functions-push us u)
     ∙ ap (λ l. (functions us).0 ++ l) (sym (step_tracks (functions us).1 u).funcs ∙ ap (λ s. option_to_list (step_of s u).0) (sym h))
+
+pub next-push : (old : State) (u : Unit) (rest : Rest) → functions (opening rest) ≡ ([], rest) → old ≡ kept rest
+    → ((functions (opening rest ++ u ∷ [])).0 ≡ option_to_list (step_of old u).0) × ((step_of old u).1 ≡ kept (functions (opening rest ++ u ∷ [])).1)
+next-push old u rest proper h =
+    let s : StandsFor old (opening rest) = h ∙ ap (λ (x : List Func × Rest). kept x.1) (sym proper) in (
+      gives-push old u (opening rest) s ∙ ap (λ (x : List Func × Rest). x.0 ++ option_to_list (step_of old u).0) proper,
+      stands-push old u (opening rest) s,
+    )
 
 pub none_given : (old : State) (given : List Func) → old ≡ state.Ground → given ≡ [] → HasGiven old given []
 unfolding kept functions_behind

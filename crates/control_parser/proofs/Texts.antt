@@ -164,10 +164,13 @@ single mark front c = by (is_intermediate c)
 abbrev pair : {A B : Type 0} → A → B → A × B
 pair a b = (a, b)
 
+digit_apart : (c : ℕ) → is_digit c ≡ true → (c == 0x3B) ≡ false
+digit_apart c h = grind (arith, nat_tests)
+
 digit_found : (begun : Bool) (mark : Option ℕ) (front : List ℕ) (c : ℕ) → is_digit c ≡ true → let t = found begun mark front [] in
     Some (found true mark (front ++ c ∷ []) []) ≡ Some (record t { begun = true; params = cond t.over t.params (digit_added t.params (c - 0x30)) })
 digit_found begun mark front c h =
-    let no : (c == 0x3B) ≡ false = grind (arith, nat_tests) in
+    let no = digit_apart c h in
     let vs = values front in
     let e : values (front ++ c ∷ []) ≡ digit_added vs (c - 0x30) = values-digit front c no in
     let a : take 16 (values (front ++ c ∷ [])) ≡ cond (nat_lt 16 (length vs)) (take 16 vs) (digit_added (take 16 vs) (c - 0x30)) = ap (take 16) e ∙ params-digit vs (c - 0x30) in

@@ -1,1 +1,3 @@
 pub mod Shadow
+pub mod Commands
+pub mod Drawing

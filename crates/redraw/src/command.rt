@@ -1,6 +1,9 @@
 //! The control functions that frames are made of.
 
-ghost use Rattle.std.specs.Prelude.{◌≡◌, ◌<◌, ◌≤◌};
+ghost use Rattle.std.specs.Prelude.{◌≡◌, ◌<◌, ◌≤◌, ◌+◌, ◌++◌, [], length, OnOk};
+ghost use Rattle.control_parser.specs.declared.func.Func.TheVariants.{Csi, Esc};
+ghost use Rattle.control_parser.specs.Spelling.{spelling};
+ghost use Rattle.redraw.specs.Commands.{switched, rendition_params, place_params, switch, func_of, IsPlaced};
 
 use cells::Rendition;
 use control_parser::{Func, Intermediates, Params, spell};
@@ -13,25 +16,27 @@ pub enum Command {
     Glyph(char),
     /// CUP, to a line and column from 0.
     MoveTo { line: u16, column: u16 },
+    /// NEL.
+    NextLine,
+    /// CUF.
+    Forward(u16),
     /// SGR, none but these.
     Render(Rendition),
     /// ECH.
     EraseCells(u16),
     /// EL, to the end.
     EraseToEnd,
-    /// DECSM or DECRM of one mode.
-    Switch { mode: u16, on: bool },
+    /// Cursor keys mode (DECCKM).
+    Arrows(bool),
+    /// Text cursor enable mode (DECTCEM).
+    ShowCursor(bool),
     /// DECKPAM or DECKPNM.
-    Keypad { is_application: bool },
+    Keypad(bool),
 }
 
-/// Text cursor enable mode (DECTCEM).
-pub const CURSOR_ENABLED: u16 = 25;
-
-/// Cursor keys mode (DECCKM).
-pub const CURSOR_KEYS: u16 = 1;
-
-fn csi(mark: Option<u8>, params: Params, last: u8) -> Func {
+fn csi(mark: Option<u8>, params: Params, last: u8) -> Func
+    ensures { result ≡ Csi mark params [] last }
+{
     Func::Csi {
         mark,
         params,
@@ -40,49 +45,81 @@ fn csi(mark: Option<u8>, params: Params, last: u8) -> Func {
     }
 }
 
+fn escape(last: u8) -> Func
+    ensures { result ≡ Esc [] last }
+{
+    Func::Esc {
+        intermediates: Intermediates::none(),
+        last,
+    }
+}
+
+/// DECSM or DECRM of one mode.
+fn switch_mode(mode: u16, on: bool) -> Func
+    ensures { result ≡ switch mode on }
+{
+    csi(Some(b'?'), Params::one(mode), if on { b'h' } else { b'l' })
+}
+
+fn push_if(params: &mut Params, on: bool, value: u16)
+    requires { length params.old < 16 }
+    ensures params { params.new ≡ params.old ++ switched on value }
+    ensures few { length params.new ≤ length params.old + 1 }
+{
+    if on {
+        params.push(value);
+    }
+}
+
 /// The parameters of SGR: 0, and then what is on.
-fn rendition_params(rendition: Rendition) -> Params {
+fn sgr(rendition: Rendition) -> Params
+    ensures { result ≡ rendition_params rendition }
+{
     let mut params = Params::one(0);
-    if rendition.is_bold {
-        params.push(1);
-    }
-    if rendition.is_underlined {
-        params.push(4);
-    }
-    if rendition.is_blinking {
-        params.push(5);
-    }
-    if rendition.is_reversed {
-        params.push(7);
+    push_if(&mut params, rendition.is_bold, 1);
+    push_if(&mut params, rendition.is_underlined, 4);
+    push_if(&mut params, rendition.is_blinking, 5);
+    push_if(&mut params, rendition.is_reversed, 7);
+    params
+}
+
+/// The parameters of CUP.
+fn place(line: u16, column: u16) -> Params
+    requires { (line < 9999) × (column < 9999) }
+    ensures { result ≡ place_params line column }
+{
+    let mut params = Params::one(line + 1);
+    if column != 0 {
+        params.push(column + 1);
     }
     params
 }
 
 impl Command {
     /// The control function.
-    pub fn func(self) -> Func {
+    pub fn func(self) -> Func
+        requires { IsPlaced self }
+        ensures { result ≡ func_of self }
+    {
         match self {
             Command::Glyph(character) => Func::Print(character),
-            Command::MoveTo { line, column } => {
-                let mut place = Params::one(line.saturating_add(1));
-                place.push(column.saturating_add(1));
-                csi(None, place, b'H')
-            }
-            Command::Render(rendition) => csi(None, rendition_params(rendition), b'm'),
+            Command::MoveTo { line, column } => csi(None, place(line, column), b'H'),
+            Command::NextLine => escape(b'E'),
+            Command::Forward(count) => csi(None, Params::one(count), b'C'),
+            Command::Render(rendition) => csi(None, sgr(rendition), b'm'),
             Command::EraseCells(count) => csi(None, Params::one(count), b'X'),
             Command::EraseToEnd => csi(None, Params::one(0), b'K'),
-            Command::Switch { mode, on } => {
-                csi(Some(b'?'), Params::one(mode), if on { b'h' } else { b'l' })
-            }
-            Command::Keypad { is_application } => Func::Esc {
-                intermediates: Intermediates::none(),
-                last: if is_application { b'=' } else { b'>' },
-            },
+            Command::Arrows(on) => switch_mode(1, on),
+            Command::ShowCursor(on) => switch_mode(25, on),
+            Command::Keypad(on) => escape(if on { b'=' } else { b'>' }),
         }
     }
 
     /// Appends the function's bytes.
-    pub fn put(self, out: &mut Vec<u8>) -> Result<(), AllocError> {
+    pub fn put(self, out: &mut Vec<u8>) -> Result<(), AllocError>
+        requires { IsPlaced self }
+        ensures { OnOk result (out.new.items ≡ out.old.items ++ spelling (func_of self)) }
+    {
         let func = self.func();
         spell(&func, out)?;
         Ok(())

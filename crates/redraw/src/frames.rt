@@ -34,7 +34,7 @@ fn next_bytes(old: &View, view: &View, out: &mut Vec<u8>) -> Result<(), AllocErr
     requires { HasSize (length old.now.page) (length (line_at old.now.page 0)) view.now }
 {
     let (line, column, was_shown) = match old.cursor() {
-        Cursor::Hidden => (0, u16::MAX, false),
+        Cursor::Hidden => (u16::MAX, u16::MAX, false),
         Cursor::Shown { line, column } => (line, column, true),
     };
     let mut pen = Pen {

@@ -1,58 +1,70 @@
 //! From one page to another.
 
-ghost use Rattle.std.specs.Prelude.{◌≡◌, ◌+◌, ◌<◌, ◌≤◌, length};
+ghost use Rattle.std.specs.Prelude.{◌≡◌, ◌+◌, ◌<◌, ◌≤◌, ℕ, OnOk, IfOk, IfSome, length};
+ghost use Rattle.cells.specs.Line.{blank, cell_at};
 ghost use Rattle.cells.specs.Page.{line_at};
-ghost use Rattle.view.specs.View.{HasSize};
+ghost use Rattle.view.specs.View.{HasSize, place_of};
 
-use crate::command::{CURSOR_ENABLED, CURSOR_KEYS, Command};
+use crate::command::Command;
 use crate::pen::Pen;
-use cells::{Cell, next_unlike};
+use cells::{Cell, Shape, next_unlike};
 use std::alloc::AllocError;
 use view::{Cursor, KeyModes, View};
 
-/// So many blanks are erased by ECH where they aren't printed.
+/// So many blanks are erased where they aren't printed: the bytes of the erasure are fewer.
 const FEWEST_ERASED: usize = 5;
+
+/// So many, where more is drawn behind them: the bytes of the erasure and of the way over it are fewer.
+const FEWEST_ERASED_WITHIN: usize = 11;
 
 /// How many blanks stand in the line from a column on.
 fn blank_run(cells: &[Cell], from: usize) -> usize
     requires { from ≤ length cells.now }
     ensures inside { from + result ≤ length cells.now }
+    ensures blanks { (c : ℕ) → from ≤ c → c < from + result → cell_at cells.now c ≡ blank }
 {
-    cells
-        .iter()
-        .skip(from)
-        .take_while(|cell| **cell == Cell::BLANK)
-        .count()
+    let mut end = from;
+    while end < cells.len() && cells[end].is_like(&Cell::BLANK) && !cells[end].is_protected {
+        end += 1;
+    }
+    end - from
 }
 
-/// Draws the places from `start` on and below `end`, which differ.
-fn draw_run(
+/// Draws a line at a column where it differs, up to the column that it returns: the differing columns end
+/// at `end`.
+fn draw_piece(
     pen: &mut Pen,
     line: u16,
     after: &[Cell],
-    start: usize,
+    column: usize,
     end: usize,
     out: &mut Vec<u8>,
-) -> Result<(), AllocError>
-    requires inside { end ≤ length after.now }
+) -> Result<usize, AllocError>
+    requires line { line < 9999 }
+    requires inside { column < end }
+    requires end { end ≤ length after.now }
     requires few { length after.now ≤ 300 }
+    ensures forth { IfOk result (λ next. (column < next) × (next ≤ length after.now + 1)) }
 {
-    let mut column = start;
-    while column < end {
-        let blanks = blank_run(after, column);
-        if blanks >= FEWEST_ERASED && column + blanks == after.len() {
-            return pen.erase_to_end(line, column as u16, out);
-        }
-        let erased = blanks.min(end - column);
-        if erased >= FEWEST_ERASED {
-            pen.erase_cells(line, column as u16, erased as u16, out)?;
-            column += erased;
-        } else {
-            pen.put_cell(line, column as u16, after[column], out)?;
-            column += 1;
-        }
+    let blanks = blank_run(after, column);
+    if blanks >= FEWEST_ERASED && column + blanks == after.len() {
+        pen.erase_to_end(line, column as u16, out)?;
+        return Ok(after.len());
     }
-    Ok(())
+    let erased = blanks.min(end - column);
+    let fewest = if column + erased == end {
+        FEWEST_ERASED
+    } else {
+        FEWEST_ERASED_WITHIN
+    };
+    if erased >= fewest {
+        pen.erase_cells(line, column as u16, erased as u16, out)?;
+        return Ok(column + erased);
+    }
+    let cell = after[column];
+    let width = if cell.is_left() { 2 } else { 1 };
+    pen.put_cell(line, column as u16, width as u16, cell, out)?;
+    Ok(column + width)
 }
 
 /// Draws the places of a line that differ, from left to right.
@@ -63,13 +75,13 @@ fn draw_line(
     after: &[Cell],
     out: &mut Vec<u8>,
 ) -> Result<(), AllocError>
+    requires line { line < 9999 }
     requires same_width { length before.now ≡ length after.now }
     requires few { length after.now ≤ 300 }
 {
     let mut column = 0;
     while let Some((start, end)) = next_unlike(before, after, column) {
-        draw_run(pen, line, after, start, end, out)?;
-        column = end;
+        column = draw_piece(pen, line, after, start, end, out)?;
     }
     Ok(())
 }
@@ -77,17 +89,10 @@ fn draw_line(
 /// Sets the modes of the keyboard that differ.
 fn draw_modes(old: KeyModes, new: KeyModes, out: &mut Vec<u8>) -> Result<(), AllocError> {
     if old.has_application_arrows != new.has_application_arrows {
-        Command::Switch {
-            mode: CURSOR_KEYS,
-            on: new.has_application_arrows,
-        }
-        .put(out)?;
+        Command::Arrows(new.has_application_arrows).put(out)?;
     }
     if old.has_application_keypad != new.has_application_keypad {
-        Command::Keypad {
-            is_application: new.has_application_keypad,
-        }
-        .put(out)?;
+        Command::Keypad(new.has_application_keypad).put(out)?;
     }
     Ok(())
 }
@@ -98,7 +103,9 @@ fn draw_cursor(
     was_shown: bool,
     new: Cursor,
     out: &mut Vec<u8>,
-) -> Result<(), AllocError> {
+) -> Result<(), AllocError>
+    requires { IfSome (place_of new) (λ p. (p.line < 9999) × (p.column < 9999)) }
+{
     let is_shown = match new {
         Cursor::Hidden => false,
         Cursor::Shown { line, column } => {
@@ -107,11 +114,7 @@ fn draw_cursor(
         }
     };
     if was_shown != is_shown {
-        Command::Switch {
-            mode: CURSOR_ENABLED,
-            on: is_shown,
-        }
-        .put(out)?;
+        Command::ShowCursor(is_shown).put(out)?;
     }
     Ok(())
 }

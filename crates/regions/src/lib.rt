@@ -9,6 +9,8 @@ mod node;
 mod rect;
 mod rects;
 mod shown;
+#[cfg(test)]
+mod tests;
 mod way;
 
 pub use fault::RegionFault;

@@ -119,28 +119,12 @@ impl Node {
         match self {
             Node::Region => out.push(r)?,
             Node::Split(Way::Below, upper, lower) => {
-                let half = (r.rows + 1) / 2;
-                upper.put_boxes(Rect { rows: half, ..r }, out)?;
-                lower.put_boxes(
-                    Rect {
-                        line: r.line + half,
-                        rows: r.rows / 2,
-                        ..r
-                    },
-                    out,
-                )?;
+                upper.put_boxes(r.upper(), out)?;
+                lower.put_boxes(r.lower(), out)?;
             }
             Node::Split(Way::Right, left, right) => {
-                let half = r.cols.saturating_sub(1) / 2;
-                left.put_boxes(Rect { cols: half, ..r }, out)?;
-                right.put_boxes(
-                    Rect {
-                        column: r.column + half + 1,
-                        cols: r.cols / 2,
-                        ..r
-                    },
-                    out,
-                )?;
+                left.put_boxes(r.left(), out)?;
+                right.put_boxes(r.right(), out)?;
             }
         }
         Ok(())
@@ -158,33 +142,13 @@ impl Node {
         match self {
             Node::Region => {}
             Node::Split(Way::Below, upper, lower) => {
-                let half = (r.rows + 1) / 2;
-                upper.put_separators(Rect { rows: half, ..r }, out)?;
-                lower.put_separators(
-                    Rect {
-                        line: r.line + half,
-                        rows: r.rows / 2,
-                        ..r
-                    },
-                    out,
-                )?;
+                upper.put_separators(r.upper(), out)?;
+                lower.put_separators(r.lower(), out)?;
             }
             Node::Split(Way::Right, left, right) => {
-                let half = r.cols.saturating_sub(1) / 2;
-                out.push(Rect {
-                    column: r.column + half,
-                    cols: 1,
-                    ..r
-                })?;
-                left.put_separators(Rect { cols: half, ..r }, out)?;
-                right.put_separators(
-                    Rect {
-                        column: r.column + half + 1,
-                        cols: r.cols / 2,
-                        ..r
-                    },
-                    out,
-                )?;
+                out.push(r.between())?;
+                left.put_separators(r.left(), out)?;
+                right.put_separators(r.right(), out)?;
             }
         }
         Ok(())

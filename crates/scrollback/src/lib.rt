@@ -4,3 +4,6 @@
 mod ring;
 
 pub use ring::{NoMemory, Ring};
+
+#[cfg(test)]
+mod tests;

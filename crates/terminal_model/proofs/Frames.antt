@@ -162,10 +162,6 @@ pub line-quiet : (x : Screen) → report x (Csi None (0 ∷ []) [] 0x4B) ≡ []
 unfolding plain_sequence
 line-quiet x = refl
 
-pub rendered-quiet : (x : Screen) (n : ℕ) (a : Attribute) → rendered n ≡ Some (Render a) → report x (Csi None (n ∷ []) [] 0x6D) ≡ []
-unfolding plain_sequence
-rendered-quiet x n a h = ap (λ m. all_answered x (option_to_list m ++ [])) h
-
 pub mode-quiet : (x : Screen) (on : Bool) (n : ℕ) (m : Mode) → private_mode_set on n ≡ Some (SetMode m on) → report x (Csi (Some 0x3F) (n ∷ []) [] (mode_final on)) ≡ []
 unfolding private_sequence
 mode-quiet x true n m h = ap (λ v. all_answered x (option_to_list v ++ [])) h

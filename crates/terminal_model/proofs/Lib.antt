@@ -8,3 +8,6 @@ pub mod Sound
 pub mod Terminals
 pub mod Places
 pub mod Frames
+pub mod Shown
+pub mod Further
+pub mod Renditions

@@ -1,8 +1,7 @@
 -- What a first frame begins with brings every terminal of a size to one screen.
-use Rattle.std.proofs.Common.{◌≡◌, ℕ, List, [], ◌∷◌, ◌++◌, Some, refl, ap, ◌∙◌, subst, arith, append-nil}
+use Rattle.std.proofs.Common.{◌≡◌, ℕ, List, [], ◌∷◌, ◌++◌, Some, refl, ap, ◌∙◌, arith, append-nil}
 use Rattle.charsets.specs.declared.unit.Unit.TheVariants as codes
 use Rattle.charsets.specs.declared.unit.Coding.{Coding}
-use Rattle.charsets.specs.declared.unit.Coding.TheVariants.{Utf8, Ecma35}
 use Rattle.charsets.specs.Units.{units}
 use Rattle.charsets.proofs.Joins.{units-can}
 use Rattle.control_parser.specs.declared.func.Func.TheVariants.{Esc, Csi}
@@ -20,8 +19,7 @@ use Rattle.terminal_model.specs.Drawing.{frame_bytes, frame_start}
 use Rattle.terminal_model.proofs.Spellings.{done, silent, ending, escape-opens, percent-goes_on}
 
 cancel-units : (c : Coding) (rest : List ℕ) → units c rest ≡ ([], rest) → units c (rest ++ 0x18 ∷ []) ≡ (codes.Code 0x18 ∷ [], [])
-cancel-units Utf8 rest h = units-can rest ∙ ap (λ v. (v.0 ++ codes.Code 0x18 ∷ [], [])) h
-cancel-units Ecma35 rest h = subst (λ (r : List ℕ). units Ecma35 (r ++ 0x18 ∷ []) ≡ (codes.Code 0x18 ∷ [], [])) (ap (λ v. v.1) h) refl
+cancel-units c rest h = units-can c rest ∙ ap (λ v. (v.0 ++ codes.Code 0x18 ∷ [], [])) h
 
 cancel-functions : (u : Rest) → functions (opening u) ≡ ([], u) → functions (opening u ++ codes.Code 0x18 ∷ []) ≡ ([], nothing)
 cancel-functions u h = functions-can (opening u) ∙ ap (λ v. (v.0, nothing)) h

@@ -213,7 +213,7 @@ printed-sound (Some c) x h = printed_as-sound (Table.columns_of c) (Table.drawn 
 
 -- the other rows
 
-IsPage-blank : (rows columns : ℕ) → IsPage rows columns (blank_page rows columns)
+pub IsPage-blank : (rows columns : ℕ) → IsPage rows columns (blank_page rows columns)
 IsPage-blank rows columns = record {
   height = length-replicate rows (replicate columns blank);
   width = λ line h. ap length (get_or-replicate rows line (replicate columns blank) [] h) ∙ length-replicate columns blank;
@@ -301,7 +301,7 @@ deleted-sound true n x h =
     (IsPage-page_from (scrolled_up s.line s.bottom (min n (s.bottom + 1 - s.line))) s.rows s.columns x.page h.sized)
 deleted-sound false n x h = with-state x (Table.settled x.state) h (same-place x h)
 
-tabs-start : (columns : ℕ) → length (starting_tabs columns) ≡ columns
+pub tabs-start : (columns : ℕ) → length (starting_tabs columns) ≡ columns
 tabs-start columns = length-map-range_with_len _ 0 columns
 
 pub IsSound-acted : (x : Screen) (a : Action) → IsSound x → IsSound (Table.acted x a)

@@ -1,6 +1,7 @@
 -- What a frame may hold, and what is known of a terminal that has read it.
 use Rattle.std.specs.Prelude.{◌≡◌, ℕ, zero, suc, ◌+◌, ◌<◌, ◌⊎◌, Bool, true, false, if◌then◌else◌, ◌==◌, ◌&&◌, nat_le, max, List, [], ◌∷◌, length, Option, Some, None, is_some, MatchOption}
-use Rattle.std.specs.List.{AllByRecursion, list_all}
+use Rattle.std.specs.List.{AllByRecursion, flat_map, list_all}
+use Rattle.control_parser.specs.Spelling.{spelling}
 use Rattle.charsets.specs.declared.unit.Unit.{Unit}
 use Rattle.charsets.specs.declared.unit.Unit.TheVariants as units
 use Rattle.charsets.specs.Shifts.{mapped}
@@ -125,6 +126,10 @@ pub record PrintsNew (old page : Page) (a : Act) : Type 0 where
 
 abbrev pub IsSpare : Page → Page → Act → Type 0
 IsSpare old page a = MatchOption (unit_of a.func) (Prim.Unit {0}) (λ u. PrintsNew old page a)
+
+-- the bytes are the spellings of the functions that acted and nothing else: no string, and no byte that does nothing
+abbrev pub AreSpelled : List ℕ → List Act → Type 0
+AreSpelled bytes acts = bytes ≡ flat_map (λ a. spelling a.func) acts
 
 -- all acts are discreet and spare
 pub record Draws (old page : Page) (acts : List Act) : Type 0 where

@@ -7,3 +7,4 @@ pub mod Writing
 pub mod Shows
 pub mod Drawing
 pub mod Places
+pub mod Rows

@@ -1,8 +1,9 @@
 -- What stands at a place afterwards.
-use Rattle.std.specs.Prelude.{◌≡◌, ℕ, ◌+◌, ◌-◌, ◌==◌, Bool, true, false, ◌&&◌, nat_lt, nat_le, if◌then◌else◌, List, [], ◌∷◌, length, None}
+use Rattle.std.specs.Prelude.{◌≡◌, ℕ, ◌+◌, ◌-◌, ◌==◌, Bool, true, false, ◌&&◌, nat_lt, nat_le, if◌then◌else◌, List, [], ◌∷◌, length, None, cond, ◌++◌}
 use Rattle.charsets.specs.declared.sets.CharacterSet.TheVariants.{Ascii}
 use Rattle.charsets.specs.Shifts.{set_at}
 use Rattle.cells.specs.declared.cell.Cell.{Cell}
+use Rattle.cells.specs.declared.cell.Rendition.{Rendition}
 use Rattle.cells.specs.Line.{blank, cell_at, is_left, is_right, marked, narrow_cell, left_cell, right_cell}
 use Rattle.cells.specs.Page.{line_at}
 use Rattle.terminal_model.specs.declared.state.Position.{Position}
@@ -65,3 +66,10 @@ mode_final false = 0x6C
 abbrev pub keypad_final : Bool → ℕ
 keypad_final true = 0x3D
 keypad_final false = 0x3E
+
+-- the values of SGR that make a rendition of any other: 0, and what is on
+abbrev pub value_if : Bool → ℕ → List ℕ
+value_if b n = cond b (n ∷ []) []
+
+abbrev pub rendition_values : Rendition → List ℕ
+rendition_values r = 0 ∷ (value_if r.is_bold 1 ++ (value_if r.is_underlined 4 ++ (value_if r.is_blinking 5 ++ value_if r.is_reversed 7)))

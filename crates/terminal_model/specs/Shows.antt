@@ -4,7 +4,7 @@ use Rattle.cells.specs.declared.cell.Cell.{Cell}
 use Rattle.cells.specs.Line.{cell_at, unprotected}
 use Rattle.cells.specs.Page.{line_at, IsPage}
 use Rattle.terminal_model.specs.declared.state.Position.{Position}
-use Rattle.terminal_model.specs.Screen.{Page, Screen}
+use Rattle.terminal_model.specs.Screen.{Page, Screen, blank_page}
 use Rattle.terminal_model.specs.Reading.{Terminal, IsTerminal, reads}
 
 -- what a terminal is to show: cells, the cursor's place, or none where it is hidden, and what its keys are to send
@@ -13,6 +13,15 @@ pub record View : Type 0 where
   pub cursor : Option Position
   pub has_application_arrows : Bool
   pub has_application_keypad : Bool
+
+-- nothing but blanks, and the cursor in the first place
+abbrev pub blank_view : ℕ → ℕ → View
+blank_view rows columns = record {
+  page = blank_page rows columns;
+  cursor = Some (record { line = 0; column = 0 });
+  has_application_arrows = false;
+  has_application_keypad = false;
+}
 
 -- what is seen at a place: its cell, protection aside
 abbrev pub seen_at : Page → ℕ → ℕ → Cell

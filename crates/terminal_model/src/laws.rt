@@ -1,27 +1,30 @@
 //! Laws of the definitions, for the crates above.
 
-ghost use Rattle.std.specs.Prelude.{◌≡◌, ℕ, ◌+◌, ◌-◌, ◌<◌, ◌≤◌, ◌==◌, Bool, true, false, nat_lt, if◌then◌else◌, List, [], ◌∷◌, ◌++◌, length, replicate, Option, Some, None};
+ghost use Rattle.std.specs.Prelude.{◌≡◌, ℕ, ◌+◌, ◌-◌, ◌<◌, ◌≤◌, ◌==◌, Bool, true, false, nat_lt, if◌then◌else◌, List, [], ◌∷◌, ◌++◌, length, take, reverse, replicate, Option, Some, None};
 ghost use Rattle.std.specs.List.{AllByRecursion};
 ghost use Rattle.charsets.specs.declared.unit.Unit.TheVariants.{Code};
 ghost use Rattle.charsets.specs.Shifts.{is_graphic};
 ghost use Rattle.cells.specs.declared.cell.Cell.{Cell};
+ghost use Rattle.cells.specs.declared.cell.Rendition.{Rendition};
 ghost use Rattle.cells.specs.Line.{blank, IsPaired, spliced};
 ghost use Rattle.cells.specs.Page.{line_at, IsPage, IsGridSize, page_from, page_marked, edited};
 ghost use Rattle.control_parser.specs.declared.func.Func.{Func};
 ghost use Rattle.control_parser.specs.declared.func.Func.TheVariants.{Print, Esc, Csi};
 ghost use Rattle.control_parser.specs.Spelling.{IsGiven, coding_of, spelling};
+ghost use Rattle.terminal_model.specs.declared.action.Action.{Action};
 ghost use Rattle.terminal_model.specs.declared.action.Action.TheVariants.{SetMargins, Render, SetMode};
 ghost use Rattle.terminal_model.specs.declared.action.Attribute.{Attribute};
 ghost use Rattle.terminal_model.specs.declared.action.Mode.{Mode};
 ghost use Rattle.terminal_model.specs.declared.state.Position.{Position};
-ghost use Rattle.terminal_model.specs.Screen.{Page, Screen, IsSound, starting, blank_page};
+ghost use Rattle.terminal_model.specs.Screen.{Page, Screen, IsSound, starting, blank_page, all_taken_in};
 ghost use Rattle.terminal_model.specs.Functions.{actions_of, rendered, private_mode_set};
 ghost use Rattle.terminal_model.specs.Table.{acted, effect, bottom_of, resized, advanced, settled, apart, moved_to, with_state, homed, rendition_with, modes_with, columns_of, drawn};
 ghost use Rattle.terminal_model.specs.Reports.{report};
-ghost use Rattle.terminal_model.specs.Reading.{Terminal, IsTerminal, ready, joined, reads};
+ghost use Rattle.terminal_model.specs.Reading.{Act, Terminal, IsTerminal, ready, joined, reads};
 ghost use Rattle.terminal_model.specs.Writing.{Writing, IsWriting, Output, writes_all};
-ghost use Rattle.terminal_model.specs.Drawing.{frame_bytes, frame_start};
-ghost use Rattle.terminal_model.specs.Places.{place, over, with_mark, IsPlain, narrow_at, wide_at, PutsOver, PutsMark, mode_final, keypad_final};
+ghost use Rattle.terminal_model.specs.Shows.{blank_view};
+ghost use Rattle.terminal_model.specs.Drawing.{frame_bytes, frame_start, Draws, IsListed, IsDrawn, AreSpelled};
+ghost use Rattle.terminal_model.specs.Places.{place, over, with_mark, IsPlain, narrow_at, wide_at, PutsOver, PutsMark, mode_final, keypad_final, rendition_values};
 
 /// Reading in two pieces is reading the whole, and so it is with a window's writing.
 pub fn pieces_are_whole()
@@ -43,6 +46,12 @@ pub fn ignored_ones_change_nothing()
 pub fn frames_start_anew()
     ensures terminal { (t : Terminal) → IsTerminal t → (reads t frame_bytes).terminal ≡ ready (frame_start t.screen) }
     ensures reports { (t : Terminal) → IsTerminal t → (reads t frame_bytes).reports ≡ [] }
+{}
+
+/// The cleared screen is sound, a printed character goes into the cursor's place, and it has the blank view drawn.
+pub fn frames_start_plain()
+    ensures plain { (x : Screen) → IsSound x → IsPlain (frame_start x) }
+    ensures drawn { (x : Screen) → IsSound x → IsDrawn (blank_view x.state.rows x.state.columns) (ready (frame_start x)) }
 {}
 
 /// A spelled function that is read by a terminal between characters and functions is that function's effect and answer, and no other.
@@ -103,7 +112,9 @@ pub fn renditions_and_modes_change_alone()
         effect x (Csi (Some 0x3F) (n ∷ []) [] (mode_final on)) ≡ with_state x (homed m (record x.state { modes = modes_with x.state.modes m on })) }
     ensures keypad { (x : Screen) (on : Bool) →
         effect x (Esc [] (keypad_final on)) ≡ with_state x (settled (record x.state { modes = record x.state.modes { has_application_keypad = on } })) }
-    ensures rendition_quiet { (x : Screen) (n : ℕ) (a : Attribute) → rendered n ≡ Some (Render a) → report x (Csi None (n ∷ []) [] 0x6D) ≡ [] }
+    ensures whole_rendition { (x : Screen) (r : Rendition) →
+        effect x (Csi None (rendition_values r) [] 0x6D) ≡ with_state x (apart (record x.state { rendition = r })) }
+    ensures rendition_quiet { (x : Screen) (values : List ℕ) → report x (Csi None values [] 0x6D) ≡ [] }
     ensures mode_quiet { (x : Screen) (on : Bool) (n : ℕ) (m : Mode) → private_mode_set on n ≡ Some (SetMode m on) →
         report x (Csi (Some 0x3F) (n ∷ []) [] (mode_final on)) ≡ [] }
     ensures keypad_quiet { (x : Screen) (on : Bool) → report x (Esc [] (keypad_final on)) ≡ [] }
@@ -117,4 +128,27 @@ pub fn pages_at_places()
     ensures marked { (rows columns at from mark : ℕ) (page : Page) → IsPage rows columns page → at < rows → from < columns → (line column : ℕ) →
         place (page_marked at from mark page) line column ≡ with_mark at from mark page line column }
     ensures blank_page { (rows columns line column : ℕ) → place (blank_page rows columns) line column ≡ blank }
+{}
+
+/// The scrollback has the last lines of all that were taken in, the newest first.
+pub fn last_lines_stay()
+    ensures { (keep : ℕ) (lines : Page) → all_taken_in keep lines [] ≡ take keep (reverse lines) }
+{}
+
+/// Acts that are discreet and spare are so behind each other, and so are bytes that are their spellings alone.
+pub fn draws_join()
+    ensures spelled { (a b : List ℕ) (first second : List Act) → AreSpelled a first → AreSpelled b second → AreSpelled (a ++ b) (first ++ second) }
+    ensures one { (x : Screen) (f : Func) → AreSpelled (spelling f) (record { before = x; func = f } ∷ []) }
+    ensures draws { (old page : Page) (a b : List Act) → Draws old page a → Draws old page b → Draws old page (a ++ b) }
+{}
+
+/// The functions that frames are made of beside print are listed, with values that are named.
+pub fn frame_functions_are_listed()
+    ensures cursor { (line column : ℕ) → IsListed (Csi None (line ∷ column ∷ []) [] 0x48) }
+    ensures cells { (n : ℕ) → IsListed (Csi None (n ∷ []) [] 0x58) }
+    ensures line { IsListed (Csi None (0 ∷ []) [] 0x4B) }
+    ensures rendition { (n : ℕ) (a : Action) → rendered n ≡ Some a → IsListed (Csi None (n ∷ []) [] 0x6D) }
+    ensures whole_rendition { (r : Rendition) → IsListed (Csi None (rendition_values r) [] 0x6D) }
+    ensures mode { (on : Bool) (n : ℕ) (a : Action) → private_mode_set on n ≡ Some a → IsListed (Csi (Some 0x3F) (n ∷ []) [] (mode_final on)) }
+    ensures keypad { (on : Bool) → IsListed (Esc [] (keypad_final on)) }
 {}

@@ -33,18 +33,21 @@ impl Report {
         }
     }
 
+    /// How many bytes.
     pub fn len(&self) -> usize
         ensures { result ≡ length self.now }
     {
-        self.count
+        self.as_slice().len()
     }
 
+    /// Whether there is none.
     pub fn is_empty(&self) -> bool
         ensures { result ≡ (length self.now == 0) }
     {
         self.count == 0
     }
 
+    /// The bytes.
     pub fn as_slice(&self) -> &[u8]
         ensures items { result.now ≡ self.now }
         ensures few { length result.now ≤ 24 }
@@ -52,6 +55,7 @@ impl Report {
         &self.bytes[..self.count]
     }
 
+    /// Appends a byte.
     pub fn push(&mut self, byte: u8)
         requires { length self.old < 24 }
         ensures { self.new ≡ self.old ++ byte ∷ [] }

@@ -156,7 +156,7 @@ impl View {
         }
         if is_focused {
             self.modes = contents.modes;
-            self.cursor = cursor_in(rect, contents, first);
+            self.set_cursor(cursor_in(rect, contents, first));
         }
         Ok(())
     }

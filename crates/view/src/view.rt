@@ -1,6 +1,6 @@
 //! A client's page as it is to be shown.
 
-ghost use Rattle.std.specs.Prelude.{◌≡◌, ◌<◌, ◌≤◌, ◌↔◌, Err, length, replicate, IfOk};
+ghost use Rattle.std.specs.Prelude.{◌≡◌, ◌<◌, ◌≤◌, ◌↔◌, Err, None, false, length, replicate, IfOk, IfSome};
 ghost use Rattle.cells.specs.Line.{blank};
 ghost use Rattle.cells.specs.Page.{IsGrid, IsGridSize, line_at};
 
@@ -39,24 +39,26 @@ pub struct View {
 }
 
 impl Model for View {
-    ghost use Rattle.view.specs.View.{Shown};
+    ghost use Rattle.terminal_model.specs.Shows.{View as Shown};
+    ghost use Rattle.view.specs.View.{place_of};
 
     ghost Value = { Shown };
 
-    ghost view = { λ v. record { page = v.grid; cursor = v.cursor; modes = v.modes } };
+    ghost view = { λ v. record { page = v.grid; cursor = place_of v.cursor; has_application_arrows = v.modes.has_application_arrows; has_application_keypad = v.modes.has_application_keypad } };
 
-    ghost use Rattle.cells.specs.Page.{IsGrid};
+    ghost use Rattle.view.specs.View.{IsView};
 
-    ghost invariant = { λ v. IsGrid v.grid };
+    ghost invariant = { λ v. IsView v.grid (place_of v.cursor) };
 }
 
 impl View {
-    ghost use Rattle.view.specs.View.{Shown, HasSize};
+    ghost use Rattle.view.specs.View.{HasSize, place_of};
+    ghost use Rattle.terminal_model.specs.Screen.{IsInside};
 
     /// A blank page of this size, its cursor hidden. It is `BadSize` outside 2 to 200 lines by 2 to 300
     /// columns.
     pub fn blank(alloc: Global, rows: usize, cols: usize) -> Result<View, GridFault>
-        ensures ok { IfOk result (λ v. v ≡ record { page = replicate rows (replicate cols blank); cursor = Cursor.Hidden; modes = KeyModes.NORMAL }) }
+        ensures ok { IfOk result (λ v. v ≡ record { page = replicate rows (replicate cols blank); cursor = None; has_application_arrows = false; has_application_keypad = false }) }
         ensures bad_size { (result ≡ Err GridFault.BadSize) ↔ (¬ IsGridSize rows cols) }
     {
         Ok(View {
@@ -92,13 +94,14 @@ impl View {
     }
 
     pub fn cursor(&self) -> Cursor
-        ensures { result ≡ self.now.cursor }
+        ensures cursor { place_of result ≡ self.now.cursor }
+        ensures inside { IfSome self.now.cursor (λ p. IsInside (length self.now.page) (length (line_at self.now.page 0)) p.line p.column) }
     {
         self.cursor
     }
 
     pub fn modes(&self) -> KeyModes
-        ensures { result ≡ self.now.modes }
+        ensures { result ≡ record { has_application_arrows = self.now.has_application_arrows; has_application_keypad = self.now.has_application_keypad } }
     {
         self.modes
     }
@@ -116,6 +119,19 @@ impl View {
         copy.cursor = self.cursor;
         copy.modes = self.modes;
         Ok(copy)
+    }
+
+    /// Shows the cursor at a place, or hides it; it is hidden where the page has no such place.
+    pub(crate) fn set_cursor(&mut self, cursor: Cursor)
+        ensures size { HasSize (length self.old.page) (length (line_at self.old.page 0)) self.new }
+    {
+        self.cursor = match cursor {
+            Cursor::Shown { line, column }
+                if (line as usize) < self.grid.rows() && (column as usize) < self.grid.cols() => {
+                cursor
+            }
+            _ => Cursor::Hidden,
+        };
     }
 
     /// Puts cells at a place, counted from 0; nothing where the page has no such place.

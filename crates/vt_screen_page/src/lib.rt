@@ -5,3 +5,6 @@ mod page;
 mod store;
 
 pub use page::Page;
+
+#[cfg(test)]
+mod tests;

@@ -19,4 +19,8 @@ returns-then-cells-cols c =
 pub invariant_of-self : goal.invariant_of-self
 invariant_of-self c =
     let page : List (List Cell) = c.self.inside.grid in
-    rw c.write.ensures (IsGrid-page_from (edited c.args.line (spliced c.args.column c.args.cells.now (c.args.column + length c.args.cells.now) (length (line_at page c.args.line)))) page c.self.invariant)
+    let source = spliced c.args.column c.args.cells.now (c.args.column + length c.args.cells.now) (length (line_at page c.args.line)) in
+    rw c.write.ensures record {
+      grid = IsGrid-page_from (edited c.args.line source) page c.self.invariant.grid;
+      inside = rw (length-page_from (edited c.args.line source) page, width-page_from (edited c.args.line source) page 0) c.self.invariant.inside;
+    }

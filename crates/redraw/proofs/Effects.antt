@@ -1,0 +1,197 @@
+-- What each command does to a screen on which a frame is drawn.
+use Rattle.std.proofs.Common.{◌≡◌, ℕ, zero, suc, ◌+◌, ◌-◌, ◌<◌, ◌≤◌, min, max, Bool, true, false, ◌&&◌, cond, eqb, ltb, List, [], ◌∷◌, ◌++◌, length, replicate, Option, Some, None, refl, sym, ap, ◌∙◌, subst, arith, ⊎_elim, eq-eqb, inl, inr}
+use Rattle.std.proofs.lemmas.Bool.{cases_lt, cases_eq, cases_Bool, ne_eqb, lt-ltb, le-ltb}
+use Rattle.std.proofs.lemmas.List.{get_or-replicate, length-replicate}
+use Rattle.charsets.specs.declared.unit.Coding.TheVariants.{Utf8}
+use Rattle.charsets.specs.declared.unit.Unit.TheVariants.{Code}
+use Rattle.charsets.specs.Shifts.{mapped, spent, starting as starting_shifts}
+use Rattle.charsets.specs.Sets.{character_at}
+use Rattle.cells.specs.declared.cell.Cell.{Cell}
+use Rattle.cells.specs.declared.cell.Rendition.{Rendition}
+use Rattle.cells.specs.Line.{blank, cell_at}
+use Rattle.control_parser.specs.declared.func.Func.{Func}
+use Rattle.control_parser.specs.declared.func.Func.TheVariants.{Print, Esc, Csi}
+use Rattle.control_parser.specs.Spelling.{spelling, coding_of, IsGiven}
+use Rattle.terminal_model.specs.declared.state.State.{State}
+use Rattle.terminal_model.specs.declared.state.Modes.{Modes}
+use Rattle.terminal_model.specs.declared.state.Position.{Position}
+use Rattle.terminal_model.specs.Screen.{Page, Screen, IsSound}
+use Rattle.terminal_model.specs.Functions.{first, second, plain_sequence, private_sequence, actions_of}
+use Rattle.terminal_model.specs.Table.{effect, acted_from, moved_to, settled, apart, with_state, printed_as}
+use Rattle.terminal_model.specs.Reports.{report}
+use Rattle.terminal_model.specs.Reading.{Act, ready, reads}
+use Rattle.terminal_model.specs.Drawing.{drawn_state, IsDiscreet, IsSpare, IsListed}
+use Rattle.terminal_model.proofs.Spellings.{spelled-acts}
+use Rattle.redraw.specs.declared.pen.Pen.{Pen}
+use Rattle.redraw.specs.declared.command.Command.{Command}
+use Rattle.redraw.specs.declared.command.Command.TheVariants.{Glyph, MoveTo, NextLine, Forward, Render, EraseCells, EraseToEnd, Arrows, ShowCursor, Keypad}
+use Rattle.redraw.specs.Commands.{func_of, IsCommand, place_params, rendition_params}
+use Rattle.redraw.specs.Drawing.{seen, Drawing, Leads, Keeps}
+use Rattle.terminal_model.proofs.Sound.{IsSound-effect}
+
+-- THE FUNCTIONS
+
+no_report : (x : Screen) (c : Command) → report x (func_of c) ≡ []
+unfolding plain_sequence private_sequence
+no_report x (Glyph c) = refl
+no_report x (MoveTo line column) = refl
+no_report x NextLine = refl
+no_report x (Forward n) = refl
+no_report x (Render r) = render_quiet r.is_bold r.is_underlined r.is_blinking r.is_reversed
+  where
+    render_quiet : (a b c d : Bool) → report x (func_of (Render (record { is_bold = a; is_underlined = b; is_blinking = c; is_reversed = d }))) ≡ []
+    render_quiet true true true true = refl
+    render_quiet true true true false = refl
+    render_quiet true true false true = refl
+    render_quiet true true false false = refl
+    render_quiet true false true true = refl
+    render_quiet true false true false = refl
+    render_quiet true false false true = refl
+    render_quiet true false false false = refl
+    render_quiet false true true true = refl
+    render_quiet false true true false = refl
+    render_quiet false true false true = refl
+    render_quiet false true false false = refl
+    render_quiet false false true true = refl
+    render_quiet false false true false = refl
+    render_quiet false false false true = refl
+    render_quiet false false false false = refl
+no_report x (EraseCells n) = refl
+no_report x EraseToEnd = refl
+no_report x (Arrows true) = refl
+no_report x (Arrows false) = refl
+no_report x (ShowCursor true) = refl
+no_report x (ShowCursor false) = refl
+no_report x (Keypad true) = refl
+no_report x (Keypad false) = refl
+
+small : (n : ℕ) → n < 10000 → ltb n 10000 ≡ true
+small n h = lt-ltb n 10000 h
+
+given : (c : Command) → IsCommand c → IsGiven (func_of c)
+given (Glyph c) h = h
+given (MoveTo line column) h = ⊎_elim
+    (λ (e : eqb column 0 ≡ true). rw (e, small (line + 1) (omega arith)) (tt, omega arith, omega arith, refl, refl, omega arith, omega arith))
+    (λ (e : eqb column 0 ≡ false). rw (e, small (line + 1) (omega arith), small (column + 1) (omega arith)) (tt, omega arith, omega arith, refl, refl, omega arith, omega arith))
+    (cases_Bool (eqb column 0))
+given NextLine h = (refl, omega arith, omega arith, refl)
+given (Forward n) h = (tt, omega arith, omega arith, rw (small n (omega arith)) refl, refl, omega arith, omega arith)
+given (Render r) h = render_given r.is_bold r.is_underlined r.is_blinking r.is_reversed
+  where
+    render_given : (a b c d : Bool) → IsGiven (func_of (Render (record { is_bold = a; is_underlined = b; is_blinking = c; is_reversed = d })))
+    render_given true true true true = (tt, omega arith, omega arith, refl, refl, omega arith, omega arith)
+    render_given true true true false = (tt, omega arith, omega arith, refl, refl, omega arith, omega arith)
+    render_given true true false true = (tt, omega arith, omega arith, refl, refl, omega arith, omega arith)
+    render_given true true false false = (tt, omega arith, omega arith, refl, refl, omega arith, omega arith)
+    render_given true false true true = (tt, omega arith, omega arith, refl, refl, omega arith, omega arith)
+    render_given true false true false = (tt, omega arith, omega arith, refl, refl, omega arith, omega arith)
+    render_given true false false true = (tt, omega arith, omega arith, refl, refl, omega arith, omega arith)
+    render_given true false false false = (tt, omega arith, omega arith, refl, refl, omega arith, omega arith)
+    render_given false true true true = (tt, omega arith, omega arith, refl, refl, omega arith, omega arith)
+    render_given false true true false = (tt, omega arith, omega arith, refl, refl, omega arith, omega arith)
+    render_given false true false true = (tt, omega arith, omega arith, refl, refl, omega arith, omega arith)
+    render_given false true false false = (tt, omega arith, omega arith, refl, refl, omega arith, omega arith)
+    render_given false false true true = (tt, omega arith, omega arith, refl, refl, omega arith, omega arith)
+    render_given false false true false = (tt, omega arith, omega arith, refl, refl, omega arith, omega arith)
+    render_given false false false true = (tt, omega arith, omega arith, refl, refl, omega arith, omega arith)
+    render_given false false false false = (tt, omega arith, omega arith, refl, refl, omega arith, omega arith)
+given (EraseCells n) h = (tt, omega arith, omega arith, rw (small n (omega arith)) refl, refl, omega arith, omega arith)
+given EraseToEnd h = (tt, omega arith, omega arith, refl, refl, omega arith, omega arith)
+given (Arrows true) h = (refl, omega arith, omega arith, refl, refl, omega arith, omega arith)
+given (Arrows false) h = (refl, omega arith, omega arith, refl, refl, omega arith, omega arith)
+given (ShowCursor true) h = (refl, omega arith, omega arith, refl, refl, omega arith, omega arith)
+given (ShowCursor false) h = (refl, omega arith, omega arith, refl, refl, omega arith, omega arith)
+given (Keypad true) h = (refl, omega arith, omega arith, refl)
+given (Keypad false) h = (refl, omega arith, omega arith, refl)
+
+utf8_read : (c : Command) → coding_of (func_of c) ≡ Utf8
+utf8_read (Glyph c) = refl
+utf8_read (MoveTo line column) = refl
+utf8_read NextLine = refl
+utf8_read (Forward n) = refl
+utf8_read (Render r) = refl
+utf8_read (EraseCells n) = refl
+utf8_read EraseToEnd = refl
+utf8_read (Arrows on) = refl
+utf8_read (ShowCursor on) = refl
+utf8_read (Keypad on) = refl
+
+-- a command that prints nothing
+abbrev pub PrintsNone : Command → Type 0
+PrintsNone (Glyph c) = ⊥
+PrintsNone other = Prim.Unit {0}
+
+listed_render : (a b c d : Bool) → IsListed (func_of (Render (record { is_bold = a; is_underlined = b; is_blinking = c; is_reversed = d })))
+unfolding plain_sequence
+listed_render true true true true = record { acts = omega arith; named = refl }
+listed_render true true true false = record { acts = omega arith; named = refl }
+listed_render true true false true = record { acts = omega arith; named = refl }
+listed_render true true false false = record { acts = omega arith; named = refl }
+listed_render true false true true = record { acts = omega arith; named = refl }
+listed_render true false true false = record { acts = omega arith; named = refl }
+listed_render true false false true = record { acts = omega arith; named = refl }
+listed_render true false false false = record { acts = omega arith; named = refl }
+listed_render false true true true = record { acts = omega arith; named = refl }
+listed_render false true true false = record { acts = omega arith; named = refl }
+listed_render false true false true = record { acts = omega arith; named = refl }
+listed_render false true false false = record { acts = omega arith; named = refl }
+listed_render false false true true = record { acts = omega arith; named = refl }
+listed_render false false true false = record { acts = omega arith; named = refl }
+listed_render false false false true = record { acts = omega arith; named = refl }
+listed_render false false false false = record { acts = omega arith; named = refl }
+
+listed : (c : Command) → PrintsNone c → IsListed (func_of c)
+unfolding plain_sequence private_sequence
+listed (Glyph c) h = absurd h
+listed (MoveTo line column) h = record {
+  acts = omega arith;
+  named = ⊎_elim (λ (e : eqb column 0 ≡ true). rw e refl) (λ (e : eqb column 0 ≡ false). rw e refl) (cases_Bool (eqb column 0));
+}
+listed NextLine h = record { acts = omega arith; named = refl }
+listed (Forward n) h = record { acts = omega arith; named = refl }
+listed (Render r) h = listed_render r.is_bold r.is_underlined r.is_blinking r.is_reversed
+listed (EraseCells n) h = record { acts = omega arith; named = refl }
+listed EraseToEnd h = record { acts = omega arith; named = refl }
+listed (Arrows true) h = record { acts = omega arith; named = refl }
+listed (Arrows false) h = record { acts = omega arith; named = refl }
+listed (ShowCursor true) h = record { acts = omega arith; named = refl }
+listed (ShowCursor false) h = record { acts = omega arith; named = refl }
+listed (Keypad true) h = record { acts = omega arith; named = refl }
+listed (Keypad false) h = record { acts = omega arith; named = refl }
+
+discreet_one : (page : Page) (x : Screen) (c : Command) → PrintsNone c → IsDiscreet page (record { before = x; func = func_of c })
+discreet_one page x (Glyph c) h = absurd h
+discreet_one page x (MoveTo line column) h = listed (MoveTo line column) h
+discreet_one page x NextLine h = listed NextLine h
+discreet_one page x (Forward n) h = listed (Forward n) h
+discreet_one page x (Render r) h = listed (Render r) h
+discreet_one page x (EraseCells n) h = listed (EraseCells n) h
+discreet_one page x EraseToEnd h = listed EraseToEnd h
+discreet_one page x (Arrows on) h = listed (Arrows on) h
+discreet_one page x (ShowCursor on) h = listed (ShowCursor on) h
+discreet_one page x (Keypad on) h = listed (Keypad on) h
+
+spare_one : (old page : Page) (x : Screen) (c : Command) → PrintsNone c → IsSpare old page (record { before = x; func = func_of c })
+spare_one old page x (Glyph c) h = absurd h
+spare_one old page x (MoveTo line column) h = tt
+spare_one old page x NextLine h = tt
+spare_one old page x (Forward n) h = tt
+spare_one old page x (Render r) h = tt
+spare_one old page x (EraseCells n) h = tt
+spare_one old page x EraseToEnd h = tt
+spare_one old page x (Arrows on) h = tt
+spare_one old page x (ShowCursor on) h = tt
+spare_one old page x (Keypad on) h = tt
+
+-- a command leads to its effect
+pub one_leads : (old new : Page) (x : Screen) (c : Command) → x.state.coding ≡ Utf8 → IsCommand c → IsDiscreet new (record { before = x; func = func_of c }) → IsSpare old new (record { before = x; func = func_of c })
+    → Leads old new x (spelling (func_of c)) (effect x (func_of c))
+one_leads old new x c utf8 is discreet spare = record {
+  acts = record { before = x; func = func_of c } ∷ [];
+  reading = spelled-acts x (func_of c) (given c is) (utf8 ∙ sym (utf8_read c))
+      ∙ ap (λ r. record { terminal = ready (effect x (func_of c)); reports = r; acts = record { before = x; func = func_of c } ∷ [] }) (no_report x c);
+  draws = record { discreet = (discreet, tt); spare = (spare, tt) };
+}
+
+pub silent_leads : (old new : Page) (x : Screen) (c : Command) → x.state.coding ≡ Utf8 → IsCommand c → PrintsNone c → Leads old new x (spelling (func_of c)) (effect x (func_of c))
+silent_leads old new x c utf8 is none = one_leads old new x c utf8 is (discreet_one new x c none) (spare_one old new x c none)

@@ -1,0 +1,4 @@
+pub mod Rows
+pub mod Writing
+pub mod Effects
+pub mod Screens

@@ -1,0 +1,226 @@
+-- A screen on which a frame is drawn, after each command.
+use Rattle.std.proofs.Common.{◌≡◌, ℕ, zero, suc, ◌+◌, ◌-◌, ◌<◌, ◌≤◌, min, max, Bool, true, false, ◌&&◌, cond, eqb, ltb, List, [], ◌∷◌, ◌++◌, length, replicate, Option, Some, None, refl, sym, ap, ◌∙◌, subst, arith, ⊎_elim, eq-eqb, inl, inr}
+use Rattle.std.proofs.lemmas.Bool.{cases_lt, cases_eq, cases_Bool, ne_eqb, lt-ltb, le-ltb, eqb-true}
+use Rattle.std.proofs.lemmas.List.{get_or-replicate, get_or_past, length-replicate}
+use Rattle.charsets.specs.declared.unit.Coding.TheVariants.{Utf8}
+use Rattle.cells.specs.declared.cell.Cell.{Cell}
+use Rattle.cells.specs.declared.cell.Rendition.{Rendition}
+use Rattle.cells.specs.Line.{blank, cell_at, unprotected, fresh_at, is_left, is_right, spliced}
+use Rattle.cells.specs.Page.{line_at, page_from, edited, IsPage}
+use Rattle.control_parser.specs.Spelling.{spelling}
+use Rattle.terminal_model.specs.declared.state.State.{State}
+use Rattle.terminal_model.specs.declared.state.Modes.{Modes}
+use Rattle.terminal_model.specs.declared.state.Position.{Position}
+use Rattle.terminal_model.specs.Screen.{Page, Screen, IsSound}
+use Rattle.terminal_model.specs.Functions.{first, second, plain_sequence, private_sequence, actions_of}
+use Rattle.terminal_model.specs.Table.{effect, acted_from, moved_to, settled, apart, with_state, line_named, line_below}
+use Rattle.terminal_model.specs.Drawing.{drawn_state}
+use Rattle.terminal_model.proofs.Sound.{IsSound-effect}
+use Rattle.redraw.specs.declared.pen.Pen.{Pen}
+use Rattle.redraw.specs.declared.command.Command.{Command}
+use Rattle.redraw.specs.declared.command.Command.TheVariants.{Glyph, MoveTo, NextLine, Forward, Render, EraseCells, EraseToEnd, Arrows, ShowCursor, Keypad}
+use Rattle.redraw.specs.Commands.{func_of, IsCommand, place_params}
+use Rattle.redraw.specs.Drawing.{Row, seen, over, Drawing, Leads, Keeps, Writes, KnowsRendition, IsWay}
+use Rattle.redraw.proofs.Writing.{written, written_here, written_elsewhere}
+use Rattle.redraw.proofs.Effects.{silent_leads, PrintsNone}
+
+-- THE STATE that frames keep
+
+moved_drawn : (s : State) (l c : ℕ) → s ≡ drawn_state s → moved_to s l c ≡ drawn_state (moved_to s l c)
+moved_drawn s l c e = ap (λ z. moved_to z l c) e
+
+settled_drawn : (s : State) → s ≡ drawn_state s → settled s ≡ drawn_state (settled s)
+settled_drawn s e = ap settled e
+
+rendered_drawn : (s : State) (r : Rendition) → s ≡ drawn_state s → apart (record s { rendition = r }) ≡ drawn_state (apart (record s { rendition = r }))
+rendered_drawn s r e = ap (λ (z : State). apart (record z { rendition = r })) e
+
+module _ (rows columns : ℕ) where
+  module _ (pen : Pen) (x : Screen) (d : Drawing rows columns pen x) where
+    pub utf8 : x.state.coding ≡ Utf8
+    utf8 = ap (λ (s : State). s.coding) d.state_is
+
+    pub no_origin : x.state.modes.counts_from_margin ≡ false
+    no_origin = ap (λ (s : State). s.modes.counts_from_margin) d.state_is
+
+    pub no_insert : x.state.modes.inserts ≡ false
+    no_insert = ap (λ (s : State). s.modes.inserts) d.state_is
+
+    pub no_wrap : x.state.modes.wraps ≡ false
+    no_wrap = ap (λ (s : State). s.modes.wraps) d.state_is
+
+    pub none_pending : x.state.is_wrap_pending ≡ false
+    none_pending = ap (λ (s : State). s.is_wrap_pending) d.state_is
+
+    pub none_protecting : x.state.is_protecting ≡ false
+    none_protecting = ap (λ (s : State). s.is_protecting) d.state_is
+
+    pub last_line : x.state.bottom ≡ x.state.rows - 1
+    last_line = ap (λ (s : State). s.bottom) d.state_is
+
+    pub sized : IsPage rows columns x.page
+    sized = subst (λ n. IsPage n columns x.page) d.rows_are (subst (λ n. IsPage x.state.rows n x.page) d.columns_are d.sound.sized)
+
+  abbrev pub pen_at : Pen → ℕ → ℕ → Pen
+  pen_at pen line column = record pen { line = line; column = column }
+
+  -- a command leads to a screen of which R holds
+  abbrev pub LeadsTo : Page → Page → Screen → List ℕ → (Screen → Type 0) → Type 0
+  LeadsTo old new x bytes R = (y : Screen) × Leads old new x bytes y × R y
+
+  first_place : (line column : ℕ) → first (place_params line column) ≡ line + 1
+  first_place line column = ⊎_elim (λ (e : eqb column 0 ≡ true). rw e refl) (λ (e : eqb column 0 ≡ false). rw e refl) (cases_Bool (eqb column 0))
+
+  second_place : (line column : ℕ) → second (place_params line column) - 1 ≡ column
+  second_place line column = ⊎_elim
+      (λ (e : eqb column 0 ≡ true). let z : column ≡ 0 = eqb-true column 0 e in rw e (sym z))
+      (λ (e : eqb column 0 ≡ false). rw e (omega arith))
+      (cases_Bool (eqb column 0))
+
+  module _ (old new : Page) (pen : Pen) (x : Screen) (d : Drawing rows columns pen x) where
+    move_leads : (line column : ℕ) → line < rows → rows < 9999 → column < columns → columns < 9999
+        → LeadsTo old new x (spelling (func_of (MoveTo line column))) (Keeps rows columns (pen_at pen line column) x)
+    unfolding acted_from plain_sequence
+    move_leads line column lh rh ch cl =
+        let s : State = x.state in
+        let l : ℕ = line_named s (first (place_params line column) - 1) in
+        let c : ℕ = min (second (place_params line column) - 1) (s.columns - 1) in
+        let there : l ≡ line = rw (no_origin pen x d, first_place line column) (omega (arith, d.rows_are)) in
+        let across : c ≡ column = rw (second_place line column) (omega (arith, d.columns_are)) in (
+          effect x (func_of (MoveTo line column)),
+          silent_leads old new x (MoveTo line column) (utf8 pen x d) (omega arith, omega arith) tt,
+          record {
+            drawing = record {
+              sound = IsSound-effect x (func_of (MoveTo line column)) d.sound;
+              rows_are = d.rows_are;
+              columns_are = d.columns_are;
+              state_is = moved_drawn s l c d.state_is;
+              tabs_are = d.tabs_are;
+              none_saved = d.none_saved;
+              line_is = λ h. there;
+              column_is = λ h. across;
+              rendition_is = d.rendition_is;
+            };
+            cells = λ i k. refl;
+            modes = refl;
+          },
+        )
+
+    next_leads : (pen.line + 1 < rows) → 0 < columns → LeadsTo old new x (spelling (func_of NextLine)) (Keeps rows columns (pen_at pen (pen.line + 1) 0) x)
+    unfolding acted_from
+    next_leads lh ch =
+        let s : State = x.state in
+        let at : s.line ≡ pen.line = d.line_is (omega arith) in
+        let bottom = last_line pen x d in
+        let above : eqb s.line s.bottom ≡ false = ne_eqb s.line s.bottom (λ e. absurd (omega (arith, d.rows_are))) in
+        let below : line_below (moved_to s s.line 0) ≡ pen.line + 1 = rw above (omega (arith, d.rows_are)) in (
+          effect x (func_of NextLine),
+          silent_leads old new x NextLine (utf8 pen x d) tt tt,
+          record {
+            drawing = record {
+              sound = IsSound-effect x (func_of NextLine) d.sound;
+              rows_are = d.rows_are;
+              columns_are = d.columns_are;
+              state_is = moved_drawn (moved_to s s.line 0) (line_below (moved_to s s.line 0)) 0 (moved_drawn s s.line 0 d.state_is);
+              tabs_are = d.tabs_are;
+              none_saved = d.none_saved;
+              line_is = λ h. below;
+              column_is = λ h. refl;
+              rendition_is = d.rendition_is;
+            };
+            cells = λ i k. rw above refl;
+            modes = refl;
+          },
+        )
+
+    forward_leads : (n : ℕ) → pen.line < rows → pen.column + n < columns → 0 < n → n < 9999
+        → LeadsTo old new x (spelling (func_of (Forward n))) (Keeps rows columns (pen_at pen pen.line (pen.column + n)) x)
+    unfolding acted_from plain_sequence
+    forward_leads n lh ch some few =
+        let s : State = x.state in
+        let at : s.column ≡ pen.column = d.column_is (omega arith) in
+        let c : ℕ = min (s.column + max 1 n) (s.columns - 1) in
+        let across : c ≡ pen.column + n = omega (arith, d.columns_are) in (
+          effect x (func_of (Forward n)),
+          silent_leads old new x (Forward n) (utf8 pen x d) (some, few) tt,
+          record {
+            drawing = record {
+              sound = IsSound-effect x (func_of (Forward n)) d.sound;
+              rows_are = d.rows_are;
+              columns_are = d.columns_are;
+              state_is = moved_drawn s s.line c d.state_is;
+              tabs_are = d.tabs_are;
+              none_saved = d.none_saved;
+              line_is = λ h. d.line_is lh;
+              column_is = λ h. across;
+              rendition_is = d.rendition_is;
+            };
+            cells = λ i k. refl;
+            modes = refl;
+          },
+        )
+
+    -- no rendition but these
+    abbrev with_rendition : Rendition → Screen
+    with_rendition r = with_state x (apart (record x.state { rendition = r }))
+
+    rendered_is : (a b c e : Bool) → effect x (func_of (Render (record { is_bold = a; is_underlined = b; is_blinking = c; is_reversed = e }))) ≡ with_rendition (record { is_bold = a; is_underlined = b; is_blinking = c; is_reversed = e })
+    unfolding acted_from plain_sequence
+    rendered_is true true true true = refl
+    rendered_is true true true false = refl
+    rendered_is true true false true = refl
+    rendered_is true true false false = refl
+    rendered_is true false true true = refl
+    rendered_is true false true false = refl
+    rendered_is true false false true = refl
+    rendered_is true false false false = refl
+    rendered_is false true true true = refl
+    rendered_is false true true false = refl
+    rendered_is false true false true = refl
+    rendered_is false true false false = refl
+    rendered_is false false true true = refl
+    rendered_is false false true false = refl
+    rendered_is false false false true = refl
+    rendered_is false false false false = refl
+
+    pub render_leads : (r : Rendition) → LeadsTo old new x (spelling (func_of (Render r))) (Keeps rows columns (record pen { rendition = Some r }) x)
+    render_leads r =
+        let is : effect x (func_of (Render r)) ≡ with_rendition r = rendered_is r.is_bold r.is_underlined r.is_blinking r.is_reversed in
+        let leads = silent_leads old new x (Render r) (utf8 pen x d) tt tt in (
+          with_rendition r,
+          subst (Leads old new x (spelling (func_of (Render r)))) is leads,
+          record {
+            drawing = record {
+              sound = subst IsSound is (IsSound-effect x (func_of (Render r)) d.sound);
+              rows_are = d.rows_are;
+              columns_are = d.columns_are;
+              state_is = rendered_drawn x.state r d.state_is;
+              tabs_are = d.tabs_are;
+              none_saved = d.none_saved;
+              line_is = d.line_is;
+              column_is = d.column_is;
+              rendition_is = refl;
+            };
+            cells = λ i k. refl;
+            modes = refl;
+          },
+        )
+
+    pub way_leads : (line column : ℕ) (way : Command) → line < rows → rows < 9999 → column < columns → columns < 9999 → IsWay pen line column (Some way)
+        → LeadsTo old new x (spelling (func_of way)) (Keeps rows columns (pen_at pen line column) x)
+    way_leads line column (MoveTo l c) lh rh ch cl is =
+        subst (λ k. LeadsTo old new x (spelling (func_of (MoveTo k c))) (Keeps rows columns (pen_at pen line column) x)) (sym is.0)
+        (subst (λ k. LeadsTo old new x (spelling (func_of (MoveTo line k))) (Keeps rows columns (pen_at pen line column) x)) (sym is.1) (move_leads line column lh rh ch cl))
+    way_leads line column NextLine lh rh ch cl is =
+        subst (λ k. LeadsTo old new x (spelling (func_of NextLine)) (Keeps rows columns (pen_at pen k column) x)) is.0
+        (subst (λ k. LeadsTo old new x (spelling (func_of NextLine)) (Keeps rows columns (pen_at pen (pen.line + 1) k) x)) is.1 (next_leads (omega (arith, is.0)) (omega arith)))
+    way_leads line column (Forward n) lh rh ch cl is =
+        subst (λ k. LeadsTo old new x (spelling (func_of (Forward n))) (Keeps rows columns (pen_at pen k column) x)) is.0
+        (subst (λ k. LeadsTo old new x (spelling (func_of (Forward n))) (Keeps rows columns (pen_at pen pen.line k) x)) is.1 (forward_leads n (omega (arith, is.0)) (omega (arith, is.1)) is.2 (omega (arith, is.1))))
+    way_leads line column (Glyph c) lh rh ch cl is = absurd is
+    way_leads line column (Render r) lh rh ch cl is = absurd is
+    way_leads line column (EraseCells n) lh rh ch cl is = absurd is
+    way_leads line column EraseToEnd lh rh ch cl is = absurd is
+    way_leads line column (Arrows on) lh rh ch cl is = absurd is
+    way_leads line column (ShowCursor on) lh rh ch cl is = absurd is
+    way_leads line column (Keypad on) lh rh ch cl is = absurd is

@@ -1,0 +1,50 @@
+-- The control functions that frames are made of.
+use Rattle.std.specs.Prelude.{◌≡◌, ℕ, ◌+◌, ◌==◌, ◌<◌, Bool, true, false, if◌then◌else◌, List, [], ◌∷◌, ◌++◌, Option, Some, None}
+use Rattle.cells.specs.declared.cell.Rendition.{Rendition}
+use Rattle.control_parser.specs.declared.func.Func.{Func}
+use Rattle.control_parser.specs.declared.func.Func.TheVariants.{Print, Esc, Csi}
+use Rattle.control_parser.specs.Spelling.{IsGiven}
+use Rattle.redraw.specs.declared.command.Command.{Command}
+use Rattle.redraw.specs.declared.command.Command.TheVariants.{Glyph, MoveTo, NextLine, Forward, Render, EraseCells, EraseToEnd, Arrows, ShowCursor, Keypad}
+
+abbrev pub switched : Bool → ℕ → List ℕ
+switched true n = n ∷ []
+switched false n = []
+
+-- SGR: 0, and then what is on (ECMA-48, 8.3.117)
+abbrev pub rendition_params : Rendition → List ℕ
+rendition_params r =
+    (((0 ∷ [] ++ switched r.is_bold 1) ++ switched r.is_underlined 4) ++ switched r.is_blinking 5) ++ switched r.is_reversed 7
+
+-- CUP: the line, and the column where it isn't the first one (ECMA-48, 8.3.21)
+abbrev pub place_params : ℕ → ℕ → List ℕ
+place_params line column = if column == 0 then (line + 1) ∷ [] else (line + 1) ∷ (column + 1) ∷ []
+
+-- DECSM and DECRM (VT220 manual, chapter 4, "Modes")
+abbrev pub switch : ℕ → Bool → Func
+switch mode on = Csi (Some 0x3F) (mode ∷ []) [] (if on then 0x68 else 0x6C)
+
+abbrev pub func_of : Command → Func
+func_of (Glyph c) = Print c
+func_of (MoveTo line column) = Csi None (place_params line column) [] 0x48
+func_of NextLine = Esc [] 0x45
+func_of (Forward n) = Csi None (n ∷ []) [] 0x43
+func_of (Render r) = Csi None (rendition_params r) [] 0x6D
+func_of (EraseCells n) = Csi None (n ∷ []) [] 0x58
+func_of EraseToEnd = Csi None (0 ∷ []) [] 0x4B
+func_of (Arrows on) = switch 1 on
+func_of (ShowCursor on) = switch 25 on
+func_of (Keypad on) = Esc [] (if on then 0x3D else 0x3E)
+
+-- a place that a page can have
+abbrev pub IsPlaced : Command → Type 0
+IsPlaced (MoveTo line column) = (line < 9999) × (column < 9999)
+IsPlaced other = Unit {0}
+
+-- what can be spelled: a character that is no control, places and counts of a page
+abbrev pub IsCommand : Command → Type 0
+IsCommand (Glyph c) = IsGiven (Print c)
+IsCommand (MoveTo line column) = (line < 9999) × (column < 9999)
+IsCommand (Forward n) = (0 < n) × (n < 9999)
+IsCommand (EraseCells n) = (0 < n) × (n < 9999)
+IsCommand other = Unit {0}

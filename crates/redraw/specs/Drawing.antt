@@ -1,0 +1,102 @@
+-- What frames do to a terminal, step by step.
+use Rattle.std.specs.Prelude.{◌≡◌, ℕ, ◌+◌, ◌==◌, ◌<◌, Bool, ◌&&◌, cond, nat_lt, List, [], ◌++◌, Option, Some, None}
+use Rattle.cells.specs.declared.cell.Cell.{Cell}
+use Rattle.cells.specs.declared.cell.Rendition.{Rendition}
+use Rattle.cells.specs.Line.{blank, is_left, is_right}
+use Rattle.terminal_model.specs.Screen.{Page, Screen, IsSound, starting_tabs}
+use Rattle.terminal_model.specs.Reading.{Act, ready, reads}
+use Rattle.terminal_model.specs.Shows.{seen_at}
+use Rattle.terminal_model.specs.Drawing.{Draws, drawn_state}
+use Rattle.redraw.specs.declared.pen.Pen.{Pen}
+use Rattle.redraw.specs.declared.command.Command.{Command}
+use Rattle.redraw.specs.declared.command.Command.TheVariants.{Glyph, MoveTo, NextLine, Forward, Render, EraseCells, EraseToEnd, Arrows, ShowCursor, Keypad}
+
+-- a line by its columns
+abbrev pub Row : Type 0
+Row = ℕ → Cell
+
+-- what is seen on a screen
+abbrev pub seen : Screen → ℕ → Row
+seen x line column = seen_at x.page line column
+
+-- New cells in n columns from `at` on: what is cut in two on either side is a blank.
+abbrev pub over : Row → ℕ → ℕ → Row → Row
+over row at n fresh c =
+    cond (nat_lt c at) (cond ((c + 1 == at) && is_left (row c).shape) blank (row c))
+    (cond (nat_lt c (at + n)) (fresh c) (cond ((c == at + n) && is_right (row c).shape) blank (row c)))
+
+-- A line that is drawn up to a column: what was cut in two there is a blank.
+abbrev pub mixed : Row → Row → ℕ → Row
+mixed old new at c = cond (nat_lt c at) (new c) (cond ((c == at) && is_right (old c).shape) blank (old c))
+
+abbrev pub KnowsRendition : Option Rendition → Rendition → Type 0
+KnowsRendition None r = Prim.Unit {0}
+KnowsRendition (Some known) r = r ≡ known
+
+-- A screen on which a frame is drawn, and what is known of its cursor and rendition. A line or a column past the page isn't known.
+pub record Drawing (rows columns : ℕ) (pen : Pen) (x : Screen) : Type 0 where
+  pub sound : IsSound x
+  pub rows_are : x.state.rows ≡ rows
+  pub columns_are : x.state.columns ≡ columns
+  pub state_is : x.state ≡ drawn_state x.state
+  pub tabs_are : x.tabs ≡ starting_tabs x.state.columns
+  pub none_saved : x.saved ≡ None
+  pub line_is : pen.line < rows → x.state.line ≡ pen.line
+  pub column_is : pen.column < columns → x.state.column ≡ pen.column
+  pub rendition_is : KnowsRendition pen.rendition x.state.rendition
+
+-- the bytes lead from one screen to another, without an answer, by acts that are discreet and spare
+pub record Leads (old new : Page) (x : Screen) (bytes : List ℕ) (y : Screen) : Type 0 where
+  pub acts : List Act
+  pub reading : reads (ready x) bytes ≡ record { terminal = ready y; reports = []; acts = acts }
+  pub draws : Draws old new acts
+
+-- bytes were appended that lead each screen of one kind to one that is related to it
+pub record Takes (old new : Page) (P : Screen → Type 0) (R : Screen → Screen → Type 0) (before after : List ℕ) : Type 0 where
+  pub bytes : List ℕ
+  pub appended : after ≡ before ++ bytes
+  pub leads : (x : Screen) → P x → (y : Screen) × Leads old new x bytes y × R x y
+
+-- the cells and the modes stay
+pub record Keeps (rows columns : ℕ) (pen : Pen) (x y : Screen) : Type 0 where
+  pub drawing : Drawing rows columns pen y
+  pub cells : (l c : ℕ) → seen y l c ≡ seen x l c
+  pub modes : y.state.modes ≡ x.state.modes
+
+-- a line gets new cells in n columns from `at` on
+pub record Writes (rows columns : ℕ) (pen : Pen) (line at n : ℕ) (fresh : Row) (x y : Screen) : Type 0 where
+  pub drawing : Drawing rows columns pen y
+  pub here : (c : ℕ) → c < columns → seen y line c ≡ over (seen x line) at n fresh c
+  pub elsewhere : (l c : ℕ) → (l ≡ line → ⊥) → seen y l c ≡ seen x l c
+  pub modes : y.state.modes ≡ x.state.modes
+
+-- a line is drawn up to a column
+pub record DrawsLine (rows columns : ℕ) (pen : Pen) (line : ℕ) (before after : Row) (at : ℕ) (x y : Screen) : Type 0 where
+  pub drawing : Drawing rows columns pen y
+  pub here : (c : ℕ) → c < columns → seen y line c ≡ mixed before after at c
+  pub elsewhere : (l c : ℕ) → (l ≡ line → ⊥) → seen y l c ≡ seen x l c
+  pub modes : y.state.modes ≡ x.state.modes
+
+-- lines are drawn up to a line
+pub record DrawsPage (rows columns : ℕ) (pen : Pen) (old new : Page) (at : ℕ) (x y : Screen) : Type 0 where
+  pub drawing : Drawing rows columns pen y
+  pub above : (l c : ℕ) → l < at → c < columns → seen y l c ≡ seen_at new l c
+  pub below : (l c : ℕ) → (l < at → ⊥) → l < rows → c < columns → seen y l c ≡ seen_at old l c
+  pub modes : y.state.modes ≡ x.state.modes
+
+-- the screen shows a line, a page
+pub record HasLine (rows columns : ℕ) (pen : Pen) (line : ℕ) (row : Row) (x : Screen) : Type 0 where
+  pub drawing : Drawing rows columns pen x
+  pub cells : (c : ℕ) → c < columns → seen x line c ≡ row c
+
+pub record HasPage (rows columns : ℕ) (pen : Pen) (page : Page) (x : Screen) : Type 0 where
+  pub drawing : Drawing rows columns pen x
+  pub cells : (l c : ℕ) → l < rows → c < columns → seen x l c ≡ seen_at page l c
+
+-- a way of the pen to a place
+abbrev pub IsWay : Pen → ℕ → ℕ → Option Command → Type 0
+IsWay pen line column None = (pen.line ≡ line) × (pen.column ≡ column)
+IsWay pen line column (Some (MoveTo l c)) = (l ≡ line) × (c ≡ column)
+IsWay pen line column (Some NextLine) = (pen.line + 1 ≡ line) × (0 ≡ column)
+IsWay pen line column (Some (Forward n)) = (pen.line ≡ line) × (pen.column + n ≡ column) × (0 < n)
+IsWay pen line column (Some other) = ⊥

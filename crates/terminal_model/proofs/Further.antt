@@ -1,0 +1,124 @@
+-- The scrollback, first frames, acts behind each other, and the functions that frames are made of.
+use Rattle.std.proofs.Common.{◌≡◌, ℕ, zero, suc, ◌<◌, Bool, true, false, List, [], ◌∷◌, ◌++◌, length, take, reverse, Option, Some, None, refl, sym, ap, ◌∙◌, subst, arith, append_assoc, append-nil}
+use Rattle.std.proofs.lemmas.List.{reverse-append}
+use Rattle.std.proofs.lemmas.Grind.{flat_map-append}
+use Rattle.std.specs.Prelude.{is_some, option_to_list, ◌&&◌}
+use Rattle.std.specs.List.{AllByRecursion, flat_map}
+use Rattle.control_parser.specs.Spelling.{spelling}
+use Rattle.control_parser.specs.declared.func.Func.TheVariants.{Esc, Csi}
+use Rattle.control_parser.specs.declared.func.Func.{Func}
+use Rattle.terminal_model.specs.declared.action.Action.{Action}
+use Rattle.terminal_model.specs.Screen.{Page, Screen, IsSound, all_taken_in}
+use Rattle.terminal_model.specs.Functions.{plain_sequence, private_sequence, rendered, private_mode_set}
+use Rattle.terminal_model.specs.Reading.{Act, ready}
+use Rattle.terminal_model.specs.Shows.{blank_view}
+use Rattle.terminal_model.specs.Drawing.{Draws, IsDiscreet, IsSpare, IsListed, IsDrawn, AreSpelled, frame_start}
+use Rattle.terminal_model.specs.Places.{IsPlain, mode_final, keypad_final}
+use Rattle.terminal_model.proofs.Sound.{IsPage-blank, tabs-start}
+
+-- the last lines of all that were taken in
+
+take-again : {X : Type 0} → (n : ℕ) (xs : List X) → take n (take n xs) ≡ take n xs
+take-again zero xs = refl
+take-again (suc n) [] = refl
+take-again (suc n) (x ∷ xs) = ap (λ l. x ∷ l) (take-again n xs)
+
+take-shorter : {X : Type 0} → (n : ℕ) (xs : List X) → take n (take (suc n) xs) ≡ take n xs
+take-shorter zero xs = refl
+take-shorter (suc n) [] = refl
+take-shorter (suc n) (x ∷ xs) = ap (λ l. x ∷ l) (take-shorter n xs)
+
+one_more : {X : Type 0} → (n : ℕ) (x : X) (xs : List X) → take n (x ∷ take n xs) ≡ take n (x ∷ xs)
+one_more zero x xs = refl
+one_more (suc n) x xs = ap (λ l. x ∷ l) (take-shorter n xs)
+
+all-taken : (keep : ℕ) (lines old : Page) → all_taken_in keep lines (take keep old) ≡ take keep (reverse lines ++ old)
+all-taken keep [] old = refl
+all-taken keep (line ∷ later) old =
+    ap (all_taken_in keep later) (one_more keep line old)
+    ∙ all-taken keep later (line ∷ old)
+    ∙ ap (take keep) (sym (append_assoc (reverse later) (line ∷ []) old))
+    ∙ ap (λ l. take keep (l ++ old)) (sym (reverse-append (line ∷ []) later))
+
+take-nil : {X : Type 0} → (n : ℕ) → take {A = X} n [] ≡ []
+take-nil zero = refl
+take-nil (suc n) = refl
+
+pub last-taken : (keep : ℕ) (lines : Page) → all_taken_in keep lines [] ≡ take keep (reverse lines)
+last-taken keep lines = ap (all_taken_in keep lines) (sym (take-nil keep)) ∙ all-taken keep lines [] ∙ ap (take keep) (append-nil (reverse lines))
+
+-- what a first frame begins with
+
+pub IsSound-frame_start : (x : Screen) → IsSound x → IsSound (frame_start x)
+IsSound-frame_start x h = record {
+  size = h.size;
+  sized = IsPage-blank x.state.rows x.state.columns;
+  cursor = (omega (arith, h.cursor.0), omega (arith, h.cursor.1));
+  margins = omega (arith, h.size.least_rows);
+  bottom_inside = omega (arith, h.size.least_rows);
+  tabs = tabs-start x.state.columns;
+  joined = tt;
+  saved = tt;
+  kept = h.kept;
+  few = h.few;
+}
+
+pub IsPlain-frame_start : (x : Screen) → IsSound x → IsPlain (frame_start x)
+IsPlain-frame_start x h = record { sound = IsSound-frame_start x h; none_pending = refl; none_moved = refl; ascii = refl; none_shifted = refl }
+
+pub IsDrawn-frame_start : (x : Screen) → IsSound x → IsDrawn (blank_view x.state.rows x.state.columns) (ready (frame_start x))
+IsDrawn-frame_start x h = record {
+  shows = record { size = IsPage-blank x.state.rows x.state.columns; cells = λ line column. refl; upright = refl; cursor = (refl, refl, refl); arrows = refl; keypad = refl };
+  state_is = refl;
+  tabs_are = refl;
+  none_saved = refl;
+  ready_is = refl;
+}
+
+-- acts behind each other
+
+all-append : {X : Type 0} → (P : X → Type 0) → (a b : List X) → AllByRecursion P a → AllByRecursion P b → AllByRecursion P (a ++ b)
+all-append P [] b h k = k
+all-append P (x ∷ a) b h k = (h.0, all-append P a b h.1 k)
+
+pub draws-append : (old page : Page) (a b : List Act) → Draws old page a → Draws old page b → Draws old page (a ++ b)
+draws-append old page a b h k = record { discreet = all-append (IsDiscreet page) a b h.discreet k.discreet; spare = all-append (IsSpare old page) a b h.spare k.spare }
+
+pub spelled-append : (a b : List ℕ) (as' bs : List Act) → AreSpelled a as' → AreSpelled b bs → AreSpelled (a ++ b) (as' ++ bs)
+spelled-append a b as' bs h k = ap (λ v. v ++ b) h ∙ ap (λ v. flat_map (λ c. spelling c.func) as' ++ v) k ∙ sym (flat_map-append (λ c. spelling c.func) as' bs)
+
+pub spelled-one : (x : Screen) (f : Func) → AreSpelled (spelling f) (record { before = x; func = f } ∷ [])
+spelled-one x f = sym (append-nil (spelling f))
+
+-- listed functions
+
+pub cursor-listed : (line column : ℕ) → IsListed (Csi None (line ∷ column ∷ []) [] 0x48)
+unfolding plain_sequence
+cursor-listed line column = record { acts = omega arith; named = refl }
+
+pub cells-listed : (n : ℕ) → IsListed (Csi None (n ∷ []) [] 0x58)
+unfolding plain_sequence
+cells-listed n = record { acts = omega arith; named = refl }
+
+pub line-listed : IsListed (Csi None (0 ∷ []) [] 0x4B)
+unfolding plain_sequence
+line-listed = record { acts = omega arith; named = refl }
+
+some-acts : (o : Option Action) (a : Action) → o ≡ Some a → 0 < length (option_to_list o ++ [])
+some-acts o a h = subst (λ (v : Option Action). 0 < length (option_to_list v ++ [])) (sym h) (omega arith)
+
+some-named : (o : Option Action) (a : Action) → o ≡ Some a → (is_some o && true) ≡ true
+some-named o a h = ap (λ (v : Option Action). is_some v && true) h
+
+pub rendered-listed : (n : ℕ) (a : Action) → rendered n ≡ Some a → IsListed (Csi None (n ∷ []) [] 0x6D)
+unfolding plain_sequence
+rendered-listed n a h = record { acts = some-acts (rendered n) a h; named = some-named (rendered n) a h }
+
+pub mode-listed : (on : Bool) (n : ℕ) (a : Action) → private_mode_set on n ≡ Some a → IsListed (Csi (Some 0x3F) (n ∷ []) [] (mode_final on))
+unfolding private_sequence
+mode-listed true n a h = record { acts = some-acts (private_mode_set true n) a h; named = some-named (private_mode_set true n) a h }
+mode-listed false n a h = record { acts = some-acts (private_mode_set false n) a h; named = some-named (private_mode_set false n) a h }
+
+pub keypad-listed : (on : Bool) → IsListed (Esc [] (keypad_final on))
+keypad-listed true = record { acts = omega arith; named = refl }
+keypad-listed false = record { acts = omega arith; named = refl }

@@ -1,0 +1,17 @@
+use Rattle.terminal_model.proofs.Shown.{protected_stay, place_in_margins, eight_bits, scrollback, insertion_outside_margins, margins_ignored, tab_stops, no_tab_stops, scrollback_in_margins, deletion_keeps_nothing, smaller}
+use Rattle.terminal_model.proofs.rows.edited_rows.Goals as goal
+
+pub returns : goal.returns
+returns c = record {
+  protected_stay = protected_stay;
+  place_in_margins = place_in_margins;
+  eight_bits = eight_bits;
+  scrollback = scrollback;
+  insertion_outside_margins = insertion_outside_margins;
+  margins_ignored = margins_ignored;
+  tab_stops = tab_stops;
+  no_tab_stops = no_tab_stops;
+  scrollback_in_margins = scrollback_in_margins;
+  deletion_keeps_nothing = deletion_keeps_nothing;
+  smaller = smaller;
+}

@@ -1,0 +1,49 @@
+-- Worked rows: what a fresh window shows when it has read some bytes.
+use Rattle.std.specs.Prelude.{ℕ, true, false, List, [], ◌∷◌, map}
+use Rattle.cells.specs.declared.cell.Cell.{Cell}
+use Rattle.cells.specs.Line.{plain, narrow_cell, left_cell, right_cell}
+use Rattle.terminal_model.specs.Screen.{Page, Screen, starting}
+use Rattle.terminal_model.specs.Reading.{ready, Read, reads}
+
+abbrev pub fresh_reads : ℕ → ℕ → ℕ → List ℕ → Read
+fresh_reads rows columns keep bytes = reads (ready (starting rows columns keep)) bytes
+
+-- letters, one a cell, and blanks; protected letters; a wide character, in two cells
+abbrev pub letters : List ℕ → List Cell
+letters text = map (λ c. narrow_cell c plain false) text
+
+abbrev pub protected_letters : List ℕ → List Cell
+protected_letters text = map (λ c. narrow_cell c plain true) text
+
+abbrev pub wide : ℕ → List Cell
+wide c = left_cell c plain false ∷ right_cell c plain false ∷ []
+
+-- what is seen of a screen: its page, and its cursor, from 0
+pub record Seen : Type 0 where
+  pub page : Page
+  pub line : ℕ
+  pub column : ℕ
+
+abbrev pub seen : Screen → Seen
+seen x = record { page = x.page; line = x.state.line; column = x.state.column }
+
+abbrev pub shown : ℕ → ℕ → List ℕ → Seen
+shown rows columns bytes = seen (fresh_reads rows columns 0 bytes).terminal.screen
+
+-- the same with lines that are kept, the newest first
+abbrev pub shown_keeping : ℕ → ℕ → ℕ → List ℕ → Seen × Page
+shown_keeping rows columns keep bytes =
+    let x : Screen = (fresh_reads rows columns keep bytes).terminal.screen in
+    (seen x, x.kept)
+
+-- CSI
+abbrev pub csi : List ℕ → List ℕ
+csi text = 0x1B ∷ 0x5B ∷ text
+
+-- U+6F22 as UTF-8
+abbrev pub kanji : List ℕ
+kanji = 0xE6 ∷ 0xBC ∷ 0xA2 ∷ []
+
+-- CR LF
+abbrev pub new_line : List ℕ
+new_line = 0x0D ∷ 0x0A ∷ []

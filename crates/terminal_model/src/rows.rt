@@ -1,0 +1,51 @@
+//! Worked rows: what a fresh window shows when it has read some bytes, computed from the definitions.
+
+ghost use Rattle.std.specs.Prelude.{◌≡◌, false, List, [], ◌∷◌, ◌++◌, codes};
+ghost use Rattle.cells.specs.Line.{plain, narrow_cell, marked};
+ghost use Rattle.terminal_model.specs.Screen.{blank_page, starting};
+ghost use Rattle.terminal_model.specs.Table.{resized};
+ghost use Rattle.terminal_model.specs.Reading.{ready};
+ghost use Rattle.terminal_model.specs.Writing.{Output, writes_all};
+ghost use Rattle.terminal_model.specs.Rows.{fresh_reads, letters, protected_letters, wide, seen, shown, shown_keeping, csi, kanji, new_line};
+
+/// What is printed: the pending wrap, wide characters and their halves, marks.
+pub fn printed_rows()
+    ensures fresh { shown 24 80 [] ≡ record { page = blank_page 24 80; line = 0; column = 0 } }
+    ensures wrap { shown 2 5 (codes "abcdef") ≡ record { page = letters (codes "abcde") ∷ letters (codes "f    ") ∷ []; line = 1; column = 1 } }
+    ensures wrap_ended { shown 2 5 (codes "abcde" ++ 0x08 ∷ codes "X") ≡ record { page = letters (codes "abcXe") ∷ letters (codes "     ") ∷ []; line = 0; column = 4 } }
+    ensures wide_at_the_edge { shown 2 3 (codes "ab" ++ kanji) ≡ record { page = letters (codes "ab ") ∷ (wide 0x6F22 ++ letters (codes " ")) ∷ []; line = 1; column = 2 } }
+    ensures half_overwritten { shown 2 5 (kanji ++ codes "x" ++ 0x0D ∷ codes "a") ≡ record { page = letters (codes "a x  ") ∷ letters (codes "     ") ∷ []; line = 0; column = 1 } }
+    ensures wide_moved { shown 2 5 (kanji ++ codes "x" ++ (0x0D ∷ []) ++ csi (codes "4h") ++ codes "a") ≡ record { page = (letters (codes "a") ++ wide 0x6F22 ++ letters (codes "x ")) ∷ letters (codes "     ") ∷ []; line = 0; column = 1 } }
+    ensures wide_cut { shown 2 5 (codes "a" ++ kanji ++ codes "b" ++ csi (codes "1;3H") ++ csi (codes "P")) ≡ record { page = letters (codes "a b  ") ∷ letters (codes "     ") ∷ []; line = 0; column = 2 } }
+    ensures third_mark_dropped { shown 2 5 (0x65 ∷ 0xCC ∷ 0x81 ∷ 0xCC ∷ 0x82 ∷ 0xCC ∷ 0x83 ∷ []) ≡ record { page = (marked (marked (narrow_cell 0x65 plain false) 0x301) 0x302 ∷ letters (codes "    ")) ∷ letters (codes "     ") ∷ []; line = 0; column = 1 } }
+    ensures mark_apart_dropped { shown 2 5 (0x65 ∷ 0x08 ∷ 0x61 ∷ 0x0D ∷ 0xCC ∷ 0x81 ∷ []) ≡ record { page = letters (codes "a    ") ∷ letters (codes "     ") ∷ []; line = 0; column = 0 } }
+{}
+
+/// What is read: sets, codings, broken characters and sequences.
+pub fn coded_rows()
+    ensures sets { shown 2 5 (0x1B ∷ codes "(0q" ++ 0x1B ∷ codes "(Bq" ++ 0xE2 ∷ 0x82 ∷ 0x41 ∷ []) ≡ record { page = letters (0x2500 ∷ 0x71 ∷ 0xFFFD ∷ 0x41 ∷ 0x20 ∷ []) ∷ letters (codes "     ") ∷ []; line = 0; column = 4 } }
+    ensures supplemental { shown 2 5 (0x1B ∷ codes "%@" ++ 0x1B ∷ codes "*<" ++ 0xA9 ∷ []) ≡ record { page = letters (0xA9 ∷ codes "    ") ∷ letters (codes "     ") ∷ []; line = 0; column = 1 } }
+    ensures single_shift { shown 2 5 (0x1B ∷ codes "+0" ++ 0x1B ∷ codes "Oqq") ≡ record { page = letters (0x2500 ∷ codes "q   ") ∷ letters (codes "     ") ∷ []; line = 0; column = 2 } }
+    ensures character_cancelled { shown 2 5 (0xE6 ∷ 0xBC ∷ 0x18 ∷ 0xA2 ∷ []) ≡ record { page = letters (0xFFFD ∷ codes "    ") ∷ letters (codes "     ") ∷ []; line = 0; column = 1 } }
+    ensures surrogate_broken { shown 2 5 (0xED ∷ 0xA0 ∷ 0x80 ∷ []) ≡ record { page = letters (0xFFFD ∷ 0xFFFD ∷ 0xFFFD ∷ codes "  ") ∷ blank_page 1 5; line = 0; column = 3 } }
+    ensures beginning_broken { shown 2 5 (0xF0 ∷ 0x90 ∷ 0x80 ∷ 0x41 ∷ []) ≡ record { page = letters (0xFFFD ∷ codes "A   ") ∷ blank_page 1 5; line = 0; column = 2 } }
+    ensures sequence_in_pieces { seen (writes_all (ready (starting 2 5 0)) (Output (codes "abc") ∷ Output (0x1B ∷ []) ∷ Output (codes "[") ∷ Output (codes "2") ∷ Output (codes "J") ∷ [])).terminal.screen ≡ record { page = blank_page 2 5; line = 0; column = 3 } }
+    ensures great_parameter { shown 2 5 (csi (codes "99999999999999999999;2H")) ≡ record { page = blank_page 2 5; line = 1; column = 1 } }
+    ensures ill_formed_ignored { shown 2 5 (csi (codes "1$$$p") ++ csi (codes "?1?h") ++ csi (codes "1:2H") ++ codes "a") ≡ record { page = letters (codes "a    ") ∷ blank_page 1 5; line = 0; column = 1 } }
+    ensures string_dropped { shown 2 5 (0x1B ∷ codes "Px" ++ 0x07 ∷ codes "y" ++ 0x18 ∷ codes "a") ≡ record { page = letters (codes "a    ") ∷ blank_page 1 5; line = 0; column = 1 } }
+{}
+
+/// Margins, tab stops, protection, scrollback, reports, a change of size.
+pub fn edited_rows()
+    ensures protected_stay { shown 2 5 (csi (0x31 ∷ 0x22 ∷ codes "qab") ++ csi (0x30 ∷ 0x22 ∷ codes "qc") ++ csi (codes "?2J")) ≡ record { page = (protected_letters (codes "ab") ++ letters (codes "   ")) ∷ letters (codes "     ") ∷ []; line = 0; column = 3 } }
+    ensures place_in_margins { (fresh_reads 24 80 0 (csi (codes "2;4r") ++ csi (codes "?6h") ++ csi (codes "6n"))).reports ≡ 0x1B ∷ 0x5B ∷ 0x31 ∷ 0x3B ∷ 0x31 ∷ 0x52 ∷ [] }
+    ensures eight_bits { (fresh_reads 24 80 0 (0x1B ∷ codes " G" ++ csi (codes "c"))).reports ≡ 0xC2 ∷ 0x9B ∷ 0x3F ∷ 0x36 ∷ 0x32 ∷ 0x3B ∷ 0x36 ∷ 0x63 ∷ [] }
+    ensures scrollback { shown_keeping 2 5 1 (codes "a" ++ new_line ++ codes "b" ++ new_line ++ codes "c" ++ new_line ++ codes "d") ≡ (record { page = letters (codes "c    ") ∷ letters (codes "d    ") ∷ []; line = 1; column = 1 }, letters (codes "b    ") ∷ []) }
+    ensures insertion_outside_margins { shown 4 5 (csi (codes "2;3r") ++ codes "a" ++ csi (codes "L")) ≡ record { page = letters (codes "a    ") ∷ blank_page 3 5; line = 0; column = 1 } }
+    ensures margins_ignored { shown 2 5 (codes "ab" ++ csi (codes "2;2r")) ≡ record { page = letters (codes "ab   ") ∷ blank_page 1 5; line = 0; column = 2 } }
+    ensures tab_stops { shown 24 80 (0x09 ∷ 0x09 ∷ 0x09 ∷ []) ≡ record { page = blank_page 24 80; line = 0; column = 24 } }
+    ensures no_tab_stops { shown 24 80 (0x09 ∷ 0x09 ∷ 0x09 ∷ csi (codes "3g") ++ 0x0D ∷ 0x09 ∷ []) ≡ record { page = blank_page 24 80; line = 0; column = 79 } }
+    ensures scrollback_in_margins { shown_keeping 3 5 5 (csi (codes "1;2r") ++ codes "a" ++ new_line ++ codes "b" ++ new_line ++ codes "c") ≡ (record { page = letters (codes "b    ") ∷ letters (codes "c    ") ∷ blank_page 1 5; line = 1; column = 1 }, letters (codes "a    ") ∷ []) }
+    ensures deletion_keeps_nothing { shown_keeping 3 5 5 (codes "a" ++ new_line ++ codes "b" ++ csi (codes "H") ++ csi (codes "M")) ≡ (record { page = letters (codes "b    ") ∷ blank_page 2 5; line = 0; column = 0 }, []) }
+    ensures smaller { seen (resized 2 4 (fresh_reads 3 6 3 (codes "abc" ++ kanji ++ codes "d" ++ new_line ++ codes "xy")).terminal.screen) ≡ record { page = letters (codes "abc ") ∷ letters (codes "xy  ") ∷ []; line = 1; column = 2 } }
+{}
