@@ -1,3 +1,4 @@
 pub mod Meanings
 pub mod Acting
 pub mod Counted
+pub mod Silent

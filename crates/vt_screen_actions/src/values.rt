@@ -4,6 +4,7 @@ ghost use Rattle.std.specs.Prelude.{◌≡◌, IfSome};
 ghost use Rattle.terminal_model.specs.Functions.{mode_set, private_mode_set, rendered};
 ghost use Rattle.vt_screen_actions.specs.Meanings.{meaning};
 ghost use Rattle.vt_screen_actions.specs.Counted.{IsCounted};
+ghost use Rattle.vt_screen_actions.specs.Silent.{IsSilent};
 
 use terminal_model::{Action, Attribute, Mode};
 
@@ -23,6 +24,7 @@ impl Setting {
     pub fn action(self, value: u16) -> Option<Action>
         ensures value { result ≡ meaning self value }
         ensures counted { IfSome result IsCounted }
+        ensures silent { IfSome result IsSilent }
     {
         match self {
             Setting::Rendition => rendition_action(value),
@@ -36,6 +38,7 @@ impl Setting {
 fn rendition_action(value: u16) -> Option<Action>
     ensures value { result ≡ rendered value }
     ensures counted { IfSome result IsCounted }
+    ensures silent { IfSome result IsSilent }
 {
     match value {
         0 => Some(Action::Render(Attribute::Plain)),
@@ -55,6 +58,7 @@ fn rendition_action(value: u16) -> Option<Action>
 fn mode_action(is_set: bool, value: u16) -> Option<Action>
     ensures value { result ≡ mode_set is_set value }
     ensures counted { IfSome result IsCounted }
+    ensures silent { IfSome result IsSilent }
 {
     match value {
         4 => Some(Action::SetMode(Mode::Insert, is_set)),
@@ -67,6 +71,7 @@ fn mode_action(is_set: bool, value: u16) -> Option<Action>
 fn private_mode_action(is_set: bool, value: u16) -> Option<Action>
     ensures value { result ≡ private_mode_set is_set value }
     ensures counted { IfSome result IsCounted }
+    ensures silent { IfSome result IsSilent }
 {
     match value {
         1 => Some(Action::SetMode(Mode::Arrows, is_set)),

@@ -2,3 +2,4 @@ pub mod Widths
 pub mod KeptLines
 pub mod Unprotected
 pub mod WideLemmas
+pub mod SizeLemmas

@@ -1,12 +1,14 @@
 -- The size of a display's page.
-use Rattle.std.proofs.Common.{◌≡◌, length, refl, sym, ap, ◌∙◌}
-use Rattle.cells.specs.Page.{line_at}
+use Rattle.std.proofs.Common.{◌≡◌, ℕ, length, refl, sym, ap, ◌∙◌}
+use Rattle.cells.specs.Page.{IsGridSize, line_at}
+use Rattle.terminal_model.specs.declared.action.Action.{Action}
 use Rattle.terminal_model.specs.declared.action.Action.TheVariants.{NextLine}
-use Rattle.terminal_model.specs.Screen.{Screen, IsSound}
-use Rattle.terminal_model.specs.Table.{acted_from, indexed, moved_to, with_state}
-use Rattle.terminal_model.proofs.Sound.{IsSound-acted}
+use Rattle.terminal_model.specs.Screen.{Screen, IsSound, starting}
+use Rattle.terminal_model.specs.Table.{acted, acted_from, indexed, moved_to, resized, with_state}
+use Rattle.terminal_model.proofs.Sound.{IsSound-acted, IsSound-resized, IsSound-starting}
 use Rattle.vt_screen_rows.specs.declared.display.Display.{Display}
 use Rattle.vt_screen_rows.specs.Displays.{IsFit, screen_of}
+use Rattle.vt_screen_rows.proofs.SizeLemmas.{acted_columns}
 
 -- the cursor's line is as wide as the page
 pub line_width : (d : Display) → IsFit d → length (line_at d.page d.state.line) ≡ d.state.columns
@@ -26,3 +28,22 @@ fit_after d later x fit e sound w ring = record {
 pub next_line_fit : (d later : Display) → IsFit d → screen_of later ≡ indexed (with_state (screen_of d) (moved_to d.state d.state.line 0)) → later.ring.columns ≡ d.ring.columns → IsFit later
 unfolding acted_from
 next_line_fit d later fit e ring = fit_after d later (indexed (with_state (screen_of d) (moved_to d.state d.state.line 0))) fit e (IsSound-acted (screen_of d) NextLine fit.sound) refl ring
+
+-- so is one that did an action
+pub acted_fit : (d later : Display) (a : Action) → IsFit d → screen_of later ≡ acted (screen_of d) a → later.ring.columns ≡ d.ring.columns → IsFit later
+acted_fit d later a fit e ring = fit_after d later (acted (screen_of d) a) fit e (IsSound-acted (screen_of d) a fit.sound) (acted_columns (screen_of d) a) ring
+
+-- so is a new one
+pub starting_fit : (d : Display) (rows columns keep : ℕ) → IsGridSize rows columns → screen_of d ≡ starting rows columns keep → d.ring.columns ≡ columns → IsFit d
+starting_fit d rows columns keep size e ring = record {
+  sound = rw e (IsSound-starting rows columns keep size);
+  columns = ring ∙ sym (ap (λ (y : Screen). y.state.columns) e);
+}
+
+-- so is one that took another size
+pub resized_fit : (later : Display) (x : Screen) (rows columns : ℕ) → IsGridSize rows columns → IsSound x → screen_of later ≡ resized rows columns x → later.ring.columns ≡ columns → IsFit later
+unfolding resized
+resized_fit later x rows columns size sound e ring = record {
+  sound = rw e (IsSound-resized rows columns x size sound);
+  columns = ring ∙ sym (ap (λ (y : Screen). y.state.columns) e);
+}

@@ -20,7 +20,7 @@ impl Display {
         requires fit { IsFit self.old }
         requires counted { IsCounted action }
         ensures screen { screen_of self.new ≡ acted (screen_of self.old) action }
-        ensures width { self.new.ring.columns ≡ self.old.ring.columns }
+        ensures fit { IsFit self.new }
         ensures report { result ≡ answer self.old.state action }
         ensures few { length result ≤ 12 }
     {
@@ -31,6 +31,15 @@ impl Display {
 
     /// Does one action: one row of the screen table.
     pub fn change(&mut self, action: Action)
+        requires fit { IsFit self.old }
+        requires counted { IsCounted action }
+        ensures screen { screen_of self.new ≡ acted (screen_of self.old) action }
+        ensures fit { IsFit self.new }
+    {
+        self.dispatch(action);
+    }
+
+    fn dispatch(&mut self, action: Action)
         requires fit { IsFit self.old }
         requires counted { IsCounted action }
         ensures screen { screen_of self.new ≡ acted (screen_of self.old) action }

@@ -6,6 +6,7 @@ mod display;
 mod editing;
 mod erasing;
 mod moving;
+mod performing;
 mod printing;
 mod resetting;
 mod sizing;

@@ -1,0 +1,142 @@
+//! A screen.
+
+ghost use Rattle.std.specs.Prelude.{◌≡◌, ◌<◌, ◌≤◌, ◌↔◌, Err, IfOk, OnOk, OnErr, length, option_copied, slice_get};
+ghost use Rattle.cells.specs.Page.{IsGridSize, line_at};
+ghost use Rattle.cells.specs.Line.{cell_at};
+ghost use Rattle.terminal_model.specs.Screen.{IsSound, starting};
+ghost use Rattle.terminal_model.specs.Table.{effect, resized};
+ghost use Rattle.terminal_model.specs.Reports.{report};
+ghost use Rattle.vt_screen.specs.Sizes.{IsScreenSize};
+
+use cells::{Cell, GridFault};
+use charsets::Coding;
+use control_parser::Func;
+use std::alloc::Global;
+use std::marker::Model;
+use terminal_model::{MAX_KEEP, Modes, Report};
+use vt_screen_actions::acts_of;
+use vt_screen_rows::Display;
+
+/// The screen of a VT220: its page with all that control functions change, and its scrollback. Lines and columns count
+/// from 0. Only `new` and changes of size take memory.
+#[derive(Drop)]
+pub struct Screen {
+    display: Display,
+}
+
+impl Model for Screen {
+    ghost use Rattle.terminal_model.specs.Screen.{Screen};
+    ghost use Rattle.vt_screen_rows.specs.Displays.{IsFit, screen_of};
+
+    ghost Value = { Screen };
+
+    ghost view = { λ s. screen_of s.display };
+
+    ghost invariant = { λ s. IsFit s.display };
+}
+
+impl Screen {
+    /// A screen as it starts, which keeps at most `keep` of the lines that scroll off its page. It is `BadSize` outside 2
+    /// to 200 lines by 2 to 300 columns, and above 2,000 lines to keep.
+    pub fn new(alloc: Global, rows: usize, cols: usize, keep: usize) -> Result<Screen, GridFault>
+        ensures ok { IfOk result (λ screen. screen ≡ starting rows cols keep) }
+        ensures size { IfOk result (λ _. IsScreenSize rows cols keep) }
+        ensures bad_size { (result ≡ Err GridFault.BadSize) ↔ (¬ IsScreenSize rows cols keep) }
+    {
+        if keep > MAX_KEEP {
+            return Err(GridFault::BadSize);
+        }
+        let display = Display::new(alloc, rows, cols, keep)?;
+        Ok(Screen { display })
+    }
+
+    /// Does a control function, as the screen table says, and gives what is answered. It takes no memory.
+    pub fn apply(&mut self, func: &Func) -> Report
+        ensures effect { self.new ≡ effect self.old func.now }
+        ensures report { result ≡ report self.old func.now }
+        ensures few { length result ≤ 12 }
+    {
+        self.display.perform(acts_of(func))
+    }
+
+    /// Takes another size. It keeps the upper left part, of the kept lines too; the cursor and the saved place go to the
+    /// nearest place, no wrap is pending, and margins and tab stops start anew. It is `BadSize` outside 2 to 200 lines by
+    /// 2 to 300 columns; a refusal leaves everything as it was.
+    pub fn resized(&mut self, rows: usize, cols: usize) -> Result<(), GridFault>
+        ensures ok { OnOk result (self.new ≡ resized rows cols self.old) }
+        ensures size { OnOk result (IsGridSize rows cols) }
+        ensures err { OnErr result (self.new ≡ self.old) }
+        ensures bad_size { (result ≡ Err GridFault.BadSize) ↔ (¬ IsGridSize rows cols) }
+    {
+        self.display.resized(rows, cols)?;
+        Ok(())
+    }
+
+    /// The number of lines of the page.
+    pub fn rows(&self) -> usize
+        ensures value { result ≡ self.now.state.rows }
+        ensures sound { IsSound self.now }
+    {
+        self.display.state.rows
+    }
+
+    /// The number of columns.
+    pub fn cols(&self) -> usize
+        ensures { result ≡ self.now.state.columns }
+    {
+        self.display.state.columns
+    }
+
+    /// The cells of a line of the page.
+    pub fn row(&self, line: usize) -> &[Cell]
+        requires { line < self.now.state.rows }
+        ensures cells { result.now ≡ line_at self.now.page line }
+        ensures width { length result.now ≡ self.now.state.columns }
+    {
+        self.display.page.row(line)
+    }
+
+    /// The number of lines that are kept.
+    pub fn kept_count(&self) -> usize
+        ensures { result ≡ length self.now.kept }
+    {
+        self.display.ring.len()
+    }
+
+    /// The cells of a kept line, of which the newest is line 0.
+    pub fn kept(&self, n: usize) -> Option<&[Cell]>
+        ensures { option_copied result ≡ slice_get self.now.kept n }
+    {
+        self.display.ring.line(n)
+    }
+
+    /// The cell of a place of the page.
+    pub fn cell(&self, line: usize, column: usize) -> Cell
+        requires line_inside { line < self.now.state.rows }
+        requires column_inside { column < self.now.state.columns }
+        ensures { result ≡ cell_at (line_at self.now.page line) column }
+    {
+        self.row(line)[column]
+    }
+
+    /// The cursor's line and column.
+    pub fn cursor(&self) -> (usize, usize)
+        ensures { result ≡ (self.now.state.line, self.now.state.column) }
+    {
+        (self.display.state.line, self.display.state.column)
+    }
+
+    /// The modes as they are set.
+    pub fn modes(&self) -> Modes
+        ensures { result ≡ self.now.state.modes }
+    {
+        self.display.state.modes
+    }
+
+    /// The coding that the window writes in.
+    pub fn coding(&self) -> Coding
+        ensures { result ≡ self.now.state.coding }
+    {
+        self.display.state.coding
+    }
+}

@@ -1,0 +1,106 @@
+-- No action changes the number of columns.
+use Rattle.std.proofs.Common.{◌≡◌, ℕ, zero, suc, Bool, true, false, ◌&&◌, nat_lt, Option, Some, None, refl, ◌∙◌}
+use Rattle.charsets.specs.Shifts.{mapped, spent}
+use Rattle.terminal_model.specs.declared.state.Position.{Position}
+use Rattle.terminal_model.specs.declared.state.State.{State}
+use Rattle.terminal_model.specs.declared.action.Mode.{Mode}
+use Rattle.terminal_model.specs.declared.action.Mode.TheVariants as modes
+use Rattle.terminal_model.specs.declared.action.Action.{Action}
+use Rattle.terminal_model.specs.declared.action.Action.TheVariants.{Print, Backspace, Tab, LineFeed, CarriageReturn, Shift, Designate, SetCoding, Index, NextLine, ReverseIndex, SetTab, Save, Restore, SetEightBitReports, SetApplicationKeypad, Reset, Align, Up, Down, Right, Left, MoveTo, SetMargins, ClearTab, ClearTabs, EraseInPage, EraseInLine, EraseCells, EraseUnprotectedInPage, EraseUnprotectedInLine, InsertCells, DeleteCells, InsertLines, DeleteLines, Protect, Render, SetMode, BlankPage, SoftReset, ReportStatus, ReportPlace, ReportPrinter, ReportAttributes, ReportSecondaryAttributes}
+use Rattle.terminal_model.specs.Screen.{Screen}
+use Rattle.terminal_model.specs.Table.{acted, acted_from, bottom_of, columns_of, drawn, homed, is_in_margins, lacks_room, lines_deleted, lines_inserted, margins_or_none, marked_at, printed, printed_as, wide_or_none, widely, with_state, wrapped}
+
+wrapped_columns : (b : Bool) (x : Screen) → (wrapped b x).state.columns ≡ x.state.columns
+wrapped_columns true x = refl
+wrapped_columns false x = refl
+
+wide_columns : (b : Bool) (c : ℕ) (x : Screen) → (wide_or_none b c x).state.columns ≡ x.state.columns
+wide_columns true c x = refl
+wide_columns false c x = refl
+
+marked_columns : (p : Option Position) (c : ℕ) (x : Screen) → (marked_at p c x).state.columns ≡ x.state.columns
+marked_columns None c x = refl
+marked_columns (Some p) c x = refl
+
+widely_columns : (c : ℕ) (x : Screen) → (widely c x).state.columns ≡ x.state.columns
+widely_columns c x =
+    let due : Bool = lacks_room x.state && x.state.modes.wraps in
+    wide_columns (lacks_room (wrapped due x).state) c (wrapped due x) ∙ wrapped_columns due x
+
+printed_as_columns : (n c : ℕ) (x : Screen) → (printed_as n c x).state.columns ≡ x.state.columns
+printed_as_columns zero c x = marked_columns x.state.joining c x
+printed_as_columns (suc zero) c x = wrapped_columns x.state.is_wrap_pending x
+printed_as_columns (suc (suc more)) c x = widely_columns c (wrapped x.state.is_wrap_pending x) ∙ wrapped_columns x.state.is_wrap_pending x
+
+printed_columns : (c : Option ℕ) (x : Screen) → (printed c x).state.columns ≡ x.state.columns
+printed_columns None x = refl
+printed_columns (Some c) x = printed_as_columns (columns_of c) (drawn c) x
+
+inserted_columns : (b : Bool) (n : ℕ) (x : Screen) → (lines_inserted b n x).state.columns ≡ x.state.columns
+inserted_columns true n x = refl
+inserted_columns false n x = refl
+
+deleted_columns : (b : Bool) (n : ℕ) (x : Screen) → (lines_deleted b n x).state.columns ≡ x.state.columns
+deleted_columns true n x = refl
+deleted_columns false n x = refl
+
+margins_columns : (b : Bool) (top bottom : ℕ) (s : State) → (margins_or_none b top bottom s).columns ≡ s.columns
+margins_columns true top bottom s = refl
+margins_columns false top bottom s = refl
+
+homed_columns : (mode : Mode) (s : State) → (homed mode s).columns ≡ s.columns
+homed_columns modes.Origin s = refl
+homed_columns modes.Insert s = refl
+homed_columns modes.NewLine s = refl
+homed_columns modes.Arrows s = refl
+homed_columns modes.Inverted s = refl
+homed_columns modes.Wrap s = refl
+homed_columns modes.Cursor s = refl
+
+pub acted_columns : (x : Screen) (a : Action) → (acted x a).state.columns ≡ x.state.columns
+unfolding acted_from
+acted_columns x (Print u) = printed_columns (mapped x.state.shifts u) (with_state x (record x.state { shifts = spent x.state.shifts u }))
+acted_columns x (SetMargins top bottom) = margins_columns (nat_lt top (bottom_of x.state.rows bottom)) top (bottom_of x.state.rows bottom) x.state
+acted_columns x (SetMode mode on) = homed_columns mode _
+acted_columns x (InsertLines n) = inserted_columns (is_in_margins x.state) n x
+acted_columns x (DeleteLines n) = deleted_columns (is_in_margins x.state) n x
+acted_columns x Backspace = refl
+acted_columns x Tab = refl
+acted_columns x LineFeed = refl
+acted_columns x CarriageReturn = refl
+acted_columns x (Shift shift) = refl
+acted_columns x (Designate place set) = refl
+acted_columns x (SetCoding coding) = refl
+acted_columns x Index = refl
+acted_columns x NextLine = refl
+acted_columns x ReverseIndex = refl
+acted_columns x SetTab = refl
+acted_columns x Save = refl
+acted_columns x Restore = refl
+acted_columns x (SetEightBitReports on) = refl
+acted_columns x (SetApplicationKeypad on) = refl
+acted_columns x Reset = refl
+acted_columns x Align = refl
+acted_columns x (Up n) = refl
+acted_columns x (Down n) = refl
+acted_columns x (Right n) = refl
+acted_columns x (Left n) = refl
+acted_columns x (MoveTo line column) = refl
+acted_columns x ClearTab = refl
+acted_columns x ClearTabs = refl
+acted_columns x (EraseInPage part) = refl
+acted_columns x (EraseInLine part) = refl
+acted_columns x (EraseCells n) = refl
+acted_columns x (EraseUnprotectedInPage part) = refl
+acted_columns x (EraseUnprotectedInLine part) = refl
+acted_columns x (InsertCells n) = refl
+acted_columns x (DeleteCells n) = refl
+acted_columns x (Protect on) = refl
+acted_columns x (Render attribute) = refl
+acted_columns x BlankPage = refl
+acted_columns x SoftReset = refl
+acted_columns x ReportStatus = refl
+acted_columns x ReportPlace = refl
+acted_columns x ReportPrinter = refl
+acted_columns x ReportAttributes = refl
+acted_columns x ReportSecondaryAttributes = refl

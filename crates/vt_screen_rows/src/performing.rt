@@ -1,0 +1,49 @@
+//! All the actions of a control function.
+
+ghost use Rattle.std.specs.Prelude.{◌≡◌, ◌≤◌, [], length};
+ghost use Rattle.terminal_model.specs.Functions.{each};
+ghost use Rattle.terminal_model.specs.Reports.{all_answered};
+ghost use Rattle.terminal_model.specs.Table.{all_acted};
+ghost use Rattle.vt_screen_actions.specs.Acting.{actions_in};
+ghost use Rattle.vt_screen_actions.specs.Counted.{AreCounted};
+ghost use Rattle.vt_screen_actions.specs.Meanings.{meaning};
+ghost use Rattle.vt_screen_rows.specs.Displays.{IsFit, screen_of};
+
+use crate::display::Display;
+use terminal_model::Report;
+use vt_screen_actions::{Acts, Setting};
+
+impl Display {
+    /// Does the actions of a control function, in turn, and gives what is answered.
+    pub fn perform(&mut self, acts: Acts<'_>) -> Report
+        requires fit { IsFit self.old }
+        requires counted { AreCounted acts }
+        ensures screen { screen_of self.new ≡ all_acted (screen_of self.old) (actions_in acts.entry) }
+        ensures fit { IsFit self.new }
+        ensures report { result ≡ all_answered (screen_of self.old) (actions_in acts.entry) }
+        ensures few { length result ≤ 12 }
+    {
+        match acts {
+            Acts::Nothing => Report::none(),
+            Acts::One(action) => self.act(action),
+            Acts::Each(setting, values) => {
+                self.set_each(setting, values);
+                Report::none()
+            }
+        }
+    }
+
+    /// Does the action of each value that is named, in turn; nothing is answered.
+    fn set_each(&mut self, setting: Setting, values: &[u16])
+        requires { IsFit self.old }
+        ensures screen { screen_of self.new ≡ all_acted (screen_of self.old) (each (meaning setting) values.now) }
+        ensures fit { IsFit self.new }
+        ensures silent { all_answered (screen_of self.old) (each (meaning setting) values.now) ≡ [] }
+    {
+        for value in values {
+            if let Some(action) = setting.action(*value) {
+                self.change(action);
+            }
+        }
+    }
+}
