@@ -1,12 +1,13 @@
 -- New cells in place of as many old ones.
-use Rattle.std.proofs.Common.{◌≡◌, ℕ, zero, suc, ◌+◌, ◌-◌, ◌<◌, ◌≤◌, min, Bool, true, false, ◌&&◌, cond, List, [], ◌∷◌, ◌++◌, length, take, drop, set, replicate, refl, sym, ap, ◌∙◌, ◌⊎◌, inl, inr, subst, arith, ⊎_elim, eq-eqb, length-take}
+use Rattle.std.proofs.Common.{◌≡◌, ℕ, zero, suc, ◌+◌, ◌-◌, ◌<◌, ◌≤◌, min, Bool, true, false, ◌&&◌, cond, List, [], ◌∷◌, ◌++◌, length, take, drop, set, replicate, refl, sym, ap, ◌∙◌, ◌⊎◌, inl, inr, subst, arith, ⊎_elim, eq-eqb, length-take, get_or}
 use Rattle.std.proofs.lemmas.List.FromFn.{length-map-range_with_len, get_or-map-range_with_len}
-use Rattle.std.proofs.lemmas.List.{ext_get_or, get_or-take, get_or-replicate, length-set, get_or-set_same, get_or-set_other, length-replicate, take_at}
+use Rattle.std.proofs.lemmas.List.{ext_get_or, get_or-take, get_or-replicate, length-set, get_or-set_same, get_or-set_other, length-replicate, take_at, length-map, get_or-map}
 use Rattle.std.proofs.lemmas.Bool.{cases_lt, cases_eq}
 use Rattle.cells.specs.declared.cell.Cell.{Cell}
+use Rattle.cells.specs.declared.cell.Rendition.{Rendition}
 use Rattle.cells.specs.declared.cell.Shape.{Shape}
 use Rattle.cells.specs.declared.cell.Shape.TheVariants.{Narrow, Left, Right}
-use Rattle.cells.specs.Line.{blank, cell_at, is_left, is_right, IsPaired, Source, Fresh, Old, taken, are_halves, kept, settled, source_before, source_after, cells_from, cut_of, spliced, fresh_at, right_follows}
+use Rattle.cells.specs.Line.{blank, cell_at, is_left, is_right, IsPaired, Source, Fresh, Old, taken, are_halves, kept, settled, source_before, source_after, cells_from, cut_of, spliced, fresh_at, right_follows, narrow_cell, narrow_cells}
 use Rattle.cells.specs.Resizing.{line_resized}
 use Rattle.cells.proofs.Settling.{cell_at_past, true≢false, settled_at, cells_from-is, after_inside, after_last, length-cut_of, length-cells_from, cell_at-cells_from, IsPaired-cells_from, and_false}
 use Rattle.cells.proofs.Pages.{cells_from-old}
@@ -322,3 +323,25 @@ module _ (width : ℕ) (cells fresh : List Cell) (paired : IsPaired cells) (firs
       settled_blank source line k here (ap (λ x. cell_at x k) blank_line ∙ get_or-replicate width k blank blank (omega arith))
       ∙ sym (cell_at-line_resized width cells k (omega arith) ∙ resized_blank width cells k (cell_at_past cells k (omega arith))))
       (cases_lt k (length fresh)))
+
+-- a run of characters of width 1
+module _ (codes : List ℕ) (rendition : Rendition) (is_protected : Bool) where
+  pub length-narrow_cells : length (narrow_cells codes rendition is_protected) ≡ length codes
+  length-narrow_cells = length-map codes (λ code. narrow_cell code rendition is_protected)
+
+  pub narrow_at : (j : ℕ) → j < length codes → fresh_at (narrow_cells codes rendition is_protected) j ≡ narrow_cell (get_or codes j 0) rendition is_protected
+  narrow_at j h =
+      let is : cell_at (narrow_cells codes rendition is_protected) j ≡ narrow_cell (get_or codes j 0) rendition is_protected =
+      get_or-map (λ code. narrow_cell code rendition is_protected) codes j 0 blank h in
+      ap (λ (x : Cell). kept x.shape x (is_left x.shape && is_right (cell_at (narrow_cells codes rendition is_protected) (suc j)).shape) (right_follows (narrow_cells codes rendition is_protected) j)) is
+
+  pub run_is : (at : ℕ) (cells line : List Cell) → at + length codes ≤ length cells → 0 < length codes → IsPaired cells → length line ≡ length cells
+      → IsPutSoFar at (narrow_cells codes rendition is_protected) (cut_of (at + length codes) (cut_of at cells)) (length codes) line
+      → line ≡ cells_from (spliced at (narrow_cells codes rendition is_protected) (at + length codes) (length cells)) cells
+  run_is at cells line room some paired same so_far =
+      let fresh : List Cell = narrow_cells codes rendition is_protected in
+      let n : length fresh ≡ length codes = length-narrow_cells in
+      let far : IsPutSoFar at fresh (cut_of (at + length fresh) (cut_of at cells)) (length fresh) line =
+      subst (λ m. IsPutSoFar at fresh (cut_of (at + m) (cut_of at cells)) m line) (sym n) so_far in
+      put_is at fresh cells (rw n room) (rw n some) paired line same far.outside far.new
+      ∙ ap (λ m. cells_from (spliced at fresh (at + m) (length cells)) cells) n

@@ -25,6 +25,10 @@ left_cell character rendition is_protected = record { shape = Left; character = 
 abbrev pub right_cell : ℕ → Rendition → Bool → Cell
 right_cell character rendition is_protected = record { shape = Right; character = character; marks = Bare; rendition = rendition; is_protected = is_protected }
 
+-- a run of characters of width 1
+abbrev pub narrow_cells : List ℕ → Rendition → Bool → List Cell
+narrow_cells characters rendition is_protected = map (λ character. narrow_cell character rendition is_protected) characters
+
 -- marks and one more, which is dropped where there are two (Unicode core specification, section 5.13)
 abbrev pub joined : Marks → ℕ → Marks
 joined Bare mark = One mark

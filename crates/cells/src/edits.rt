@@ -1,9 +1,9 @@
 //! Edits of a line's cells.
 
 ghost use Rattle.std.specs.Prelude.{◌≡◌, ◌+◌, ◌<◌, ◌≤◌, length, replicate, [], ◌∷◌};
-ghost use Rattle.cells.specs.Line.{cells_from, IsPaired, cut_of, spliced, blank, unprotected_erased, fresh_at};
+ghost use Rattle.cells.specs.Line.{cells_from, IsPaired, cut_of, spliced, blank, unprotected_erased, fresh_at, narrow_cells};
 
-use crate::cell::{Cell, Shape};
+use crate::cell::{Cell, Rendition, Shape};
 
 /// Blanks a wide character that stands on both sides of the boundary before `at`.
 pub fn cut(cells: &mut [Cell], at: usize)
@@ -101,6 +101,28 @@ pub fn put(cells: &mut [Cell], at: usize, fresh: &[Cell])
     cut(cells, at + fresh.len());
     for column in 0..fresh.len() {
         cells[at + column] = settled_fresh(fresh, column);
+    }
+}
+
+/// Puts a run of characters of width 1 in place of as many old cells: `codes` has their code points.
+pub fn put_run(
+    cells: &mut [Cell],
+    at: usize,
+    codes: &[u8],
+    rendition: Rendition,
+    is_protected: bool,
+)
+    requires paired { IsPaired cells.old }
+    requires room { at + length codes.now ≤ length cells.old }
+    ensures { cells.new ≡ cells_from (spliced at (narrow_cells codes.now rendition is_protected) (at + length codes.now) (length cells.old)) cells.old }
+{
+    if codes.is_empty() {
+        return;
+    }
+    cut(cells, at);
+    cut(cells, at + codes.len());
+    for column in 0..codes.len() {
+        cells[at + column] = Cell::narrow(codes[column] as char, rendition, is_protected);
     }
 }
 

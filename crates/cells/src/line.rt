@@ -1,10 +1,10 @@
 //! A line of cells.
 
 ghost use Rattle.std.specs.Prelude.{◌≡◌, ◌+◌, ◌<◌, ◌≤◌, [], ◌∷◌, length, replicate, IfOk, slice_set};
-ghost use Rattle.cells.specs.Line.{cells_from, cell_at, marked, IsPaired, spliced, blank, unprotected_erased};
+ghost use Rattle.cells.specs.Line.{cells_from, cell_at, marked, IsPaired, spliced, blank, unprotected_erased, narrow_cells};
 ghost use Rattle.cells.specs.Resizing.{line_resized};
 
-use crate::cell::{Cell, Shape};
+use crate::cell::{Cell, Rendition, Shape};
 use crate::edits;
 use std::alloc::{AllocError, Global};
 use std::marker::Model;
@@ -109,6 +109,21 @@ impl Line {
         ensures { self.new ≡ cells_from (spliced at fresh.now (at + length fresh.now) (length self.old)) self.old }
     {
         edits::put(self.cells.as_mut_slice(), at, fresh);
+    }
+
+    /// Puts a run of characters of width 1 in place of as many old cells: `codes` has their code points.
+    /// What is torn at either end becomes blank.
+    pub fn put_run(&mut self, at: usize, codes: &[u8], rendition: Rendition, is_protected: bool)
+        requires room { at + length codes.now ≤ length self.old }
+        ensures { self.new ≡ cells_from (spliced at (narrow_cells codes.now rendition is_protected) (at + length codes.now) (length self.old)) self.old }
+    {
+        edits::put_run(
+            self.cells.as_mut_slice(),
+            at,
+            codes,
+            rendition,
+            is_protected,
+        );
     }
 
     /// Erases the cells from `from` on and below `end`, but for protected ones.

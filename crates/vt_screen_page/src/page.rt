@@ -1,14 +1,14 @@
 //! The page of a screen.
 
 ghost use Rattle.std.specs.Prelude.{◌≡◌, ◌+◌, ◌-◌, ◌<◌, ◌≤◌, ◌↔◌, [], ◌∷◌, length, replicate, IfOk, OnOk, OnErr, Err, IsTrue};
-ghost use Rattle.cells.specs.Line.{blank, spliced, unprotected_erased};
+ghost use Rattle.cells.specs.Line.{blank, spliced, unprotected_erased, narrow_cells};
 ghost use Rattle.cells.specs.Page.{IsGrid, IsGridSize, line_at, page_from, page_marked, edited};
 ghost use Rattle.cells.specs.Moves.{scrolled_up, scrolled_down, erased_lines, filled};
 ghost use Rattle.cells.specs.Resizing.{page_resized};
 ghost use Rattle.scrollback.specs.Kept.{taken_in, Continues};
 
 use crate::store;
-use cells::{Cell, GridFault, Line, Shape};
+use cells::{Cell, GridFault, Line, Rendition, Shape};
 use scrollback::Ring;
 use std::alloc::{AllocError, Global};
 use std::marker::Model;
@@ -141,6 +141,24 @@ impl Page {
     {
         let place = self.places[line];
         self.stored[place].put_wide(at, left, right, rest);
+    }
+
+    /// Puts a run of characters of width 1 into a line, in place of as many old cells: `codes` has their
+    /// code points. What is torn at either end becomes blank.
+    pub fn put_run(
+        &mut self,
+        line: usize,
+        at: usize,
+        codes: &[u8],
+        rendition: Rendition,
+        is_protected: bool,
+    )
+        requires line_inside { line < length self.old }
+        requires room { at + length codes.now ≤ length (line_at self.old line) }
+        ensures { self.new ≡ page_from (edited line (spliced at (narrow_cells codes.now rendition is_protected) (at + length codes.now) (length (line_at self.old line)))) self.old }
+    {
+        let place = self.places[line];
+        self.stored[place].put_run(at, codes, rendition, is_protected);
     }
 
     /// Erases the cells of a line from `from` on and below `end`, but for protected ones.
