@@ -1,4 +1,5 @@
 pub mod AllowedLemmas
+pub mod AsideLemmas
 pub mod BitSetLemmas
 pub mod InPlace
 pub mod NameLemmas

@@ -33,7 +33,7 @@ impl Lists {
     ghost use Rattle.acl.specs.declared.act.Act.TheVariants.{Known, Gone, Set, Grouped, Masked, Preset, Opened, Closed};
 
     /// The lists of a session that only its owner has entered.
-    pub fn new(alloc: Global, owner: UserId) -> Result<Self, AllocError>
+    pub(crate) fn new(alloc: Global, owner: UserId) -> Result<Self, AllocError>
         ensures { IfOk result (λ lists. StandsFor (table_of lists) owner []) }
     {
         let mut rows = IndexMap::new(alloc);
@@ -107,12 +107,15 @@ impl Lists {
         ensures denial { IfErr result (λ d. (d.user ≡ user) × (d.bit ≡ bit) × (d.object ≡ object) × (listed d.leader ≡ led_by (table_of self.now) user)) }
         ensures entries { IfErr result (λ d. (owner : UserId) (h : History) → StandsFor (table_of self.now) owner h → there h object ≡ true → (has owner h user bit object ≡ false) × All (λ leader. has owner h leader bit object ≡ false) (leaders_of h user)) }
     {
+        if self.owner == user || self.is_granted(user, bit, object) {
+            return Ok(());
+        }
         let leader = self.leader_of(user);
         let by_leader = match leader {
             Some(leader) => self.is_granted(leader, bit, object),
             None => false,
         };
-        if self.owner == user || self.is_granted(user, bit, object) || by_leader {
+        if by_leader {
             Ok(())
         } else {
             Err(EntryDenial {
@@ -193,7 +196,7 @@ impl Lists {
     }
 
     /// A known user opened a window, whose serial number is new. At most 39 others are open.
-    pub fn open(&mut self, by: UserId, window: u32)
+    pub(crate) fn open(&mut self, by: UserId, window: u32)
         ensures { (owner : UserId) (h : History) → StandsFor (table_of self.old) owner h → is_known owner h by ≡ true → is_open h window ≡ false → open_count h < 40 → StandsFor (table_of self.new) owner (Opened by window ∷ h) }
     {
         if let Some(slot) = self.windows.free_slot() {
@@ -203,14 +206,14 @@ impl Lists {
     }
 
     /// A window was closed.
-    pub fn close(&mut self, window: u32)
+    pub(crate) fn close(&mut self, window: u32)
         ensures { (owner : UserId) (h : History) → StandsFor (table_of self.old) owner h → StandsFor (table_of self.new) owner (Closed window ∷ h) }
     {
         self.windows.close(window);
     }
 
     /// Does one act of a list command, where room was made for it.
-    pub fn apply(&mut self, act: Act)
+    pub(crate) fn apply(&mut self, act: Act)
         requires rows_room { makes_known act ≡ true → 0 < spare self.old.rows }
         requires masks_room { sets_mask act ≡ true → 0 < spare self.old.masks }
         ensures stands { (owner : UserId) (h : History) → StandsFor (table_of self.old) owner h → IsAllowed owner h act → StandsFor (table_of self.new) owner (act ∷ h) }
