@@ -10,3 +10,4 @@ pub mod Relation
 pub mod FirstWord
 pub mod Printing
 pub mod ReadsBack
+pub mod FaultNumbers

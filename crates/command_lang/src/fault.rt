@@ -32,8 +32,13 @@ pub struct ParseFault {
 }
 
 impl ParseFault {
+    ghost use Rattle.std.specs.Prelude.{◌≡◌};
+    ghost use Rattle.command_lang.specs.FaultNumbers.{number_of};
+
     /// The fault's number, 1 to 9.
-    pub fn number(self) -> u8 {
+    pub fn number(self) -> u8
+        ensures { result ≡ number_of self.kind }
+    {
         match self.kind {
             FaultKind::UnknownCommand => 1,
             FaultKind::MissingWord => 2,
@@ -48,7 +53,9 @@ impl ParseFault {
     }
 
     /// The place of the fault: the first byte of its word, or the line's length where a word is missing.
-    pub fn place(self) -> usize {
+    pub fn place(self) -> usize
+        ensures { result ≡ self.place }
+    {
         self.place
     }
 }

@@ -22,3 +22,6 @@ pub use names::{command_named, name_text};
 pub use printing::print;
 pub use reading::{LONGEST_LINE, parse};
 pub use text::{Text, Texts};
+
+#[cfg(test)]
+mod tests;
