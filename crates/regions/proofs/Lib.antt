@@ -1,3 +1,5 @@
 pub mod Room
 pub mod Counting
 pub mod Tiling
+pub mod Undone
+pub mod Halving
