@@ -3,3 +3,4 @@ pub mod Counting
 pub mod Tiling
 pub mod Undone
 pub mod Halving
+pub mod Keeping
