@@ -1,4 +1,5 @@
--- The front of a stream: a frame, a fault, or less than a whole frame.
+-- The front of a stream, read from the left: a whole frame, a fault, or less than a whole frame. That it tells what `Streams` and `Spelling` say is proved
+-- of each function that cites it.
 use Rattle.std.specs.Prelude.{ℕ, ◌+◌, ◌*◌, Bool, true, false, nat_lt, ◌==◌, if◌then◌else◌, List, [], ◌∷◌, length, take, drop, Option, Some, None}
 use Rattle.attach_proto.specs.declared.fault.ProtoFault.TheVariants.{BadKind, TooLong, BadPayload, WrongSide}
 use Rattle.attach_proto.specs.declared.side.Side.{Side}

@@ -30,5 +30,6 @@ token_of bytes = if is_token bytes then Some bytes else None
 abbrev pub text_of : List ℕ → Option (List ℕ)
 text_of bytes = if is_utf8 bytes then Some bytes else None
 
+-- UTF-8 (Unicode core specification, section 3.9, table 3-7)
 abbrev pub IsText : List ℕ → Type 0
 IsText text = is_utf8 text ≡ true

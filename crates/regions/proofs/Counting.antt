@@ -17,7 +17,7 @@ regions_split way n (split w a b) = elim (cases_lt n (regions a)) [
   | inr le ↦ rw (le-ltb n (regions a) le) (omega (arith, regions_split way (n - regions a) b))
 ]
 
-which : (s : Shape) → ((is_region s ≡ true) × (regions s ≡ 1)) ⊎ ((is_region s ≡ false) × (1 < regions s))
+pub which : (s : Shape) → ((is_region s ≡ true) × (regions s ≡ 1)) ⊎ ((is_region s ≡ false) × (1 < regions s))
 which region = inl (refl, refl)
 which (split w a b) = inr (refl, omega (arith, some_region a, some_region b))
 

@@ -1,3 +1,6 @@
 pub mod Room
 pub mod Counting
 pub mod Tiling
+pub mod Undone
+pub mod Halving
+pub mod Keeping

@@ -17,6 +17,12 @@ wide region rows cols h = ltb-true _ _ (both_true (ltb 1 rows) (ltb 1 cols) h).1
 wide (split Below a b) rows cols h = wide a ((rows + 1) / 2) cols (both_true (fits a ((rows + 1) / 2) cols) (fits b (rows / 2) cols) h).0
 wide (split Right a b) rows cols h = omega (arith, wide a rows ((cols - 1) / 2) (both_true (fits a rows ((cols - 1) / 2)) (fits b rows (cols / 2)) h).0)
 
+-- two rows at least
+pub tall : (s : Shape) (rows cols : ℕ) → fits s rows cols ≡ true → 1 < rows
+tall region rows cols h = ltb-true _ _ (both_true (ltb 1 rows) (ltb 1 cols) h).0
+tall (split Below a b) rows cols h = omega (arith, tall b (rows / 2) cols (both_true (fits a ((rows + 1) / 2) cols) (fits b (rows / 2) cols) h).1)
+tall (split Right a b) rows cols h = tall a rows ((cols - 1) / 2) (both_true (fits a rows ((cols - 1) / 2)) (fits b rows (cols / 2)) h).0
+
 and_assoc : (a b c : Bool) → ((a && b) && c) ≡ (a && (b && c))
 and_assoc true b c = refl
 and_assoc false b c = refl

@@ -6,7 +6,7 @@ use Rattle.regions.specs.declared.rect.Rect.{Rect}
 use Rattle.regions.specs.declared.way.Way.TheVariants.{Below, Right}
 use Rattle.regions.specs.Shapes.{Shape, region, split, upper, lower, left, right, boxes, separators, fits}
 use Rattle.regions.specs.Pages.{box_of, status_of, has_room, inner, caption, parts, among, has, one_if, times, TilesPage}
-use Rattle.regions.proofs.Room.{both_true, wide, room_fits}
+use Rattle.regions.proofs.Room.{both_true, wide, tall, room_fits}
 
 times_append : (xs ys : List Rect) (l c : ℕ) → times (xs ++ ys) l c ≡ times xs l c + times ys l c
 times_append [] ys l c = omega arith
@@ -82,11 +82,6 @@ covers (split Right a b) r l c h =
       times_map caption (boxes a (left r)) (boxes b (right r)) l c,
       times_append (separators a (left r)) (separators b (right r)) l c,
     )
-
-tall : (s : Shape) (rows cols : ℕ) → fits s rows cols ≡ true → 1 < rows
-tall region rows cols h = ltb-true _ _ (both_true (ltb 1 rows) (ltb 1 cols) h).0
-tall (split Below a b) rows cols h = omega (arith, tall b (rows / 2) cols (both_true (fits a ((rows + 1) / 2) cols) (fits b (rows / 2) cols) h).1)
-tall (split Right a b) rows cols h = tall a rows ((cols - 1) / 2) (both_true (fits a rows ((cols - 1) / 2)) (fits b rows (cols / 2)) h).0
 
 pub page_once : (s : Shape) (rows cols : ℕ) → has_room s rows cols ≡ true → TilesPage rows cols (parts (boxes s (box_of rows cols)) (separators s (box_of rows cols)) (status_of rows cols))
 page_once s rows cols h l c =

@@ -1,7 +1,7 @@
 //! The layout of a client's page.
 
-ghost use Rattle.std.specs.Prelude.{◌≡◌, ◌<◌, ◌≤◌, ◌+◌, ◌⊎◌, ◌↔◌, length, map, OnOk, OnErr, IfOk, IfErr, IfNone, IsOk, Some, None, Ok, Err, true, false, slice_get, slice_set, unwrap_or, if◌then◌else◌};
-ghost use Rattle.regions.specs.Shapes.{split_at};
+ghost use Rattle.std.specs.Prelude.{◌≡◌, ℕ, ◌<◌, ◌≤◌, ◌+◌, ◌⊎◌, ◌↔◌, length, map, OnOk, OnErr, IfOk, IfErr, IfNone, IsOk, Some, None, Ok, Err, true, false, slice_get, slice_set, unwrap_or, if◌then◌else◌};
+ghost use Rattle.regions.specs.Shapes.{region, split_at};
 ghost use Rattle.regions.specs.Pages.{has_room, IsRects, TilesPage, parts};
 ghost use Rattle.regions.specs.Layouts.{Arrangement, one_region, split_focused, remove_focused, next_focus, split_fault, emptied, kept_alone};
 
@@ -107,7 +107,8 @@ impl Layout {
 
     /// Keeps the focused region alone.
     pub fn only(&mut self)
-        ensures { self.new ≡ kept_alone self.old }
+        ensures alone { self.new ≡ kept_alone self.old }
+        ensures room { (rows cols : ℕ) → has_room self.old.shape rows cols ≡ true → has_room self.new.shape rows cols ≡ true }
     {
         let kept = self.shown[self.focus];
         self.shown.truncate(1);
@@ -118,7 +119,8 @@ impl Layout {
 
     /// The page has this size now: where a region would be too small, the focused one stays alone.
     pub fn resized(&mut self, rows: u16, cols: u16)
-        ensures { self.new ≡ (if has_room self.old.shape rows cols then self.old else kept_alone self.old) }
+        ensures fits { self.new ≡ (if has_room self.old.shape rows cols then self.old else kept_alone self.old) }
+        ensures room { has_room region rows cols ≡ true → has_room self.new.shape rows cols ≡ true }
     {
         if !self.tree.has_room(rows, cols) {
             self.only();
@@ -134,6 +136,7 @@ impl Layout {
         cols: u16,
     ) -> Result<(), RegionFault>
         ensures ok { OnOk result ((split_fault way self.old rows cols ≡ None) × (self.new ≡ split_focused way self.old)) }
+        ensures room { OnOk result (has_room self.new.shape rows cols ≡ true) }
         ensures err { OnErr result (self.new ≡ self.old) }
         ensures fault { IfErr result (λ f. f ≡ unwrap_or (split_fault way self.old rows cols) RegionFault.NoMemory) }
     {
@@ -152,6 +155,7 @@ impl Layout {
     /// Closes the focused region. Its sibling has its room, and the sibling's first region the focus.
     pub fn remove(&mut self) -> Result<(), RegionFault>
         ensures ok { OnOk result (self.new ≡ remove_focused self.old) }
+        ensures room { (rows cols : ℕ) → has_room self.old.shape rows cols ≡ true → has_room self.new.shape rows cols ≡ true }
         ensures err { IfErr result (λ f. (f ≡ RegionFault.LastRegion) × (self.new ≡ self.old)) }
         ensures last { IsOk result ↔ (1 < length self.old.shown) }
     {

@@ -14,7 +14,7 @@ mod tests;
 mod way;
 
 pub use fault::RegionFault;
-pub use laws::each_place_once;
+pub use laws::{a_removed_split_is_undone, a_split_halves_one_box, each_place_once};
 pub use layout::{Layout, REGIONS};
 pub use rect::Rect;
 pub use rects::Rects;
