@@ -1,0 +1,332 @@
+//! The session.
+
+ghost use Rattle.std.specs.Prelude.{◌≡◌, ◌≤◌, ◌<◌, length, IfOk, IfSome};
+
+use crate::bytes::Bytes;
+use crate::clients::{Client, Clients};
+use crate::event::{Done, Effect, Event, Ran, Reply};
+use crate::keys::KeyReader;
+use crate::notes::Notes;
+use crate::refusal::{Refusal, WindowsFault};
+use crate::windows::{Window, Windows, is_title};
+use acl::{Act, UserId};
+use cells::GridFault;
+use emulator::Emulator;
+use redraw::Shadow;
+use regions::Rects;
+use std::alloc::{AllocError, Global};
+use terminal_model::{MAX_COLUMNS, MAX_KEEP, MAX_ROWS, MIN_COLUMNS, MIN_ROWS, REPORT_BYTES};
+use view::{Pane, View, compose};
+
+/// At most so many windows are open.
+const MOST_WINDOWS: usize = 1;
+
+/// At most so many clients are attached.
+const MOST_CLIENTS: usize = 1;
+
+/// A session of one owner: its windows, and the clients that show them.
+#[derive(Drop)]
+pub struct Session {
+    alloc: Global,
+    owner: UserId,
+    windows: Windows,
+    clients: Clients,
+}
+
+/// What was taken of an event.
+enum Taken {
+    /// All of it, with the reply of its last step.
+    Whole(Reply),
+    /// So many bytes: there was no memory for more.
+    Part(usize),
+}
+
+/// Whether a step was refused for want of memory.
+fn wants_memory(reply: &Reply) -> bool {
+    matches!(reply, Err(Refusal::NoMemory))
+}
+
+/// Whether a client's terminal may have this size.
+fn is_client_size(rows: u16, cols: u16) -> bool {
+    (4..=200).contains(&rows) && (20..=300).contains(&cols)
+}
+
+/// Whether a window may have this size and keep so many lines.
+fn is_window_size(rows: u16, cols: u16, keep: u16) -> bool {
+    (MIN_ROWS..=MAX_ROWS).contains(&(rows as usize))
+        && (MIN_COLUMNS..=MAX_COLUMNS).contains(&(cols as usize))
+        && keep as usize <= MAX_KEEP
+}
+
+impl Session {
+    /// A session that has taken no event.
+    pub fn new(alloc: Global, owner: UserId) -> Result<Session, Refusal> {
+        Ok(Session {
+            alloc,
+            owner,
+            windows: Windows::new(alloc),
+            clients: Clients::new(alloc),
+        })
+    }
+
+    /// Takes one event: its effects are appended, and the notes are its acts. A refusal for want of memory
+    /// leaves everything as it was; any other leaves all but the notes.
+    pub fn step(&mut self, event: Event, effects: &mut Vec<Effect>, notes: &mut Notes) -> Reply {
+        let reply = match event {
+            Event::Attach { user, rows, cols } => return self.attach(user, rows, cols, notes),
+            Event::Open {
+                user,
+                rows,
+                cols,
+                keep,
+                title,
+            } => return self.open(user, [rows, cols, keep], title, notes),
+            Event::Keys { client, bytes } => self.keys(client, bytes, effects),
+            Event::Output { window, bytes } => self.output(window, bytes, effects),
+            Event::Draw { client } => self.draw(client, effects),
+        };
+        settled(reply, notes)
+    }
+
+    /// Takes events until one finds no memory. Each event that is wholly taken has one reply.
+    pub fn run(
+        &mut self,
+        events: &[Event],
+        effects: &mut Vec<Effect>,
+        replies: &mut Vec<Reply>,
+    ) -> Ran {
+        let mut notes = Notes::new(self.alloc);
+        for (taken, event) in events.iter().enumerate() {
+            let part = match replies.reserve(1) {
+                Err(_) => 0,
+                Ok(()) => match self.take(*event, effects, &mut notes) {
+                    Taken::Part(part) => part,
+                    Taken::Whole(reply) => {
+                        let _ = replies.push(reply);
+                        continue;
+                    }
+                },
+            };
+            return Ran {
+                taken,
+                part,
+                stopped: true,
+            };
+        }
+        Ran {
+            taken: events.len(),
+            part: 0,
+            stopped: false,
+        }
+    }
+
+    /// What a client is to see now.
+    pub fn view(&self, client: u32) -> Result<View, Refusal> {
+        let Some(client) = self.clients.get(client) else {
+            return Err(Refusal::NoWindow);
+        };
+        Ok(self.view_for(client)?)
+    }
+
+    /// The least serial of a client from there on.
+    pub fn clients_from(&self, serial: u32) -> Option<u32>
+        ensures { IfSome result (λ least. serial ≤ least) }
+    {
+        self.clients.from(serial)
+    }
+
+    /// Takes one event, in as many steps as it needs.
+    fn take(&mut self, event: Event, effects: &mut Vec<Effect>, notes: &mut Notes) -> Taken {
+        let reply = self.step(event, effects, notes);
+        if wants_memory(&reply) {
+            return Taken::Part(0);
+        }
+        Taken::Whole(reply)
+    }
+
+    fn view_for(&self, client: &Client) -> Result<View, AllocError> {
+        let rects = Rects::lone(self.alloc, client.rows, client.cols)?;
+        let window = match client.window {
+            Some(serial) => self.windows.get(serial),
+            None => None,
+        };
+        let status = client.message.as_slice();
+        match window {
+            None => composed(self.alloc, &rects, Pane::Empty, status),
+            Some(window) => {
+                let lines = window.lines(self.alloc)?;
+                composed(
+                    self.alloc,
+                    &rects,
+                    Pane::Readable(window.contents(&lines)),
+                    status,
+                )
+            }
+        }
+    }
+
+    fn attach(&mut self, user: UserId, rows: u16, cols: u16, notes: &mut Notes) -> Reply {
+        if user != self.owner {
+            return settled(Err(Refusal::UnknownUser), notes);
+        }
+        if !is_client_size(rows, cols) {
+            return settled(Err(Refusal::BadSize), notes);
+        }
+        if self.clients.len() >= MOST_CLIENTS {
+            return settled(Err(Refusal::TooManyClients), notes);
+        }
+        let made = self.clients.len() as u32;
+        let acts = noted(self.alloc, Act::Attached { client: made, user })?;
+        self.clients.push(Client {
+            serial: made,
+            user,
+            rows,
+            cols,
+            keys: KeyReader::new(),
+            window: self.windows.first().map(|window| window.serial),
+            message: Bytes::new(self.alloc),
+            shadow: Shadow::unknown(rows, cols),
+        })?;
+        *notes = acts;
+        Ok(Done {
+            made,
+            ..Done::plain()
+        })
+    }
+
+    fn open(
+        &mut self,
+        user: UserId,
+        [rows, cols, keep]: [u16; 3],
+        title: &str,
+        notes: &mut Notes,
+    ) -> Reply {
+        if user != self.owner {
+            return settled(Err(Refusal::UnknownUser), notes);
+        }
+        if !is_window_size(rows, cols, keep) {
+            return settled(Err(Refusal::BadSize), notes);
+        }
+        if self.windows.len() >= MOST_WINDOWS {
+            return settled(Err(Refusal::Windows(WindowsFault::Full)), notes);
+        }
+        if !is_title(title) {
+            return settled(Err(Refusal::Windows(WindowsFault::BadTitle)), notes);
+        }
+        let serial = self.windows.len() as u32;
+        let emulator = match Emulator::new(
+            self.alloc,
+            rows as usize,
+            cols as usize,
+            keep as usize,
+        ) {
+            Ok(emulator) => emulator,
+            Err(GridFault::BadSize) => return settled(Err(Refusal::BadSize), notes),
+            Err(GridFault::NoMemory) => return Err(Refusal::NoMemory),
+        };
+        let acts = noted(
+            self.alloc,
+            Act::Opened {
+                by: user,
+                window: serial,
+            },
+        )?;
+        let title = String::from_str(self.alloc, title)?;
+        self.windows.push(Window {
+            serial,
+            number: 0,
+            title,
+            emulator,
+        })?;
+        *notes = acts;
+        Ok(Done {
+            made: serial,
+            ..Done::plain()
+        })
+    }
+
+    fn keys(&mut self, client: u32, bytes: &[u8], effects: &mut Vec<Effect>) -> Reply {
+        let Some(row) = self.clients.get(client) else {
+            return Err(Refusal::NoWindow);
+        };
+        let window = row.window;
+        let mut keys = row.keys;
+        let typed = read_keys(self.alloc, &mut keys, bytes)?;
+        let mut message = Bytes::new(self.alloc);
+        if !typed.is_empty() {
+            effects.reserve(1)?;
+            let effect = match window {
+                Some(window) => Effect::Input(window, typed),
+                None => {
+                    let text = Refusal::NoWindow.as_bytes();
+                    message = Bytes::of(self.alloc, text)?;
+                    Effect::Say(client, Bytes::of(self.alloc, text)?)
+                }
+            };
+            effects.push(effect)?;
+        }
+        self.clients.set_read(client, keys, message);
+        Ok(Done {
+            taken: bytes.len(),
+            ..Done::plain()
+        })
+    }
+
+    fn output(&mut self, window: u32, bytes: &[u8], effects: &mut Vec<Effect>) -> Reply {
+        if self.windows.get(window).is_none() {
+            return Err(Refusal::NoWindow);
+        }
+        let room = bytes.len().saturating_mul(REPORT_BYTES);
+        let mut reports = Vec::with_capacity(self.alloc, room)?;
+        effects.reserve(1)?;
+        if self.windows.feed_all(window, bytes, &mut reports).is_err() {
+            return Err(Refusal::NoMemory);
+        }
+        if !reports.is_empty() {
+            effects.push(Effect::Input(window, Bytes::from_vec(reports)))?;
+        }
+        Ok(Done::plain())
+    }
+
+    fn draw(&mut self, client: u32, effects: &mut Vec<Effect>) -> Reply {
+        let view = self.view(client)?;
+        if self.clients.needs_draw(client, &view) {
+            effects.reserve(1)?;
+            let mut bytes = Vec::new(self.alloc);
+            self.clients.draw(self.alloc, client, &view, &mut bytes)?;
+            effects.push(Effect::Deliver(client, Bytes::from_vec(bytes)))?;
+        }
+        Ok(Done::plain())
+    }
+}
+
+/// What the keys type.
+fn read_keys(alloc: Global, reader: &mut KeyReader, keys: &[u8]) -> Result<Bytes, AllocError> {
+    let mut typed = Bytes::new(alloc);
+    for key in keys {
+        if let Some(byte) = reader.push(*key) {
+            typed.push(byte)?;
+        }
+    }
+    Ok(typed)
+}
+
+/// The view of one pane.
+fn composed(alloc: Global, rects: &Rects, pane: Pane, status: &[u8]) -> Result<View, AllocError> {
+    compose(alloc, rects, &[pane], status)
+}
+
+/// Notes of one act.
+fn noted(alloc: Global, act: Act) -> Result<Notes, AllocError> {
+    let mut notes = Notes::new(alloc);
+    notes.push(act)?;
+    Ok(notes)
+}
+
+/// Forgets the acts of the step before, unless there was no memory for this one, which has none.
+fn settled(reply: Reply, notes: &mut Notes) -> Reply {
+    if !wants_memory(&reply) {
+        notes.clear();
+    }
+    reply
+}
