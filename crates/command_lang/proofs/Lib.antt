@@ -12,3 +12,4 @@ pub mod Quoting
 pub mod Sound
 pub mod Spelled
 pub mod ReadBack
+pub mod Places

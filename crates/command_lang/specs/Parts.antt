@@ -1,4 +1,5 @@
--- How the characters of a line are cut into words.
+-- How the characters of a line are cut into words: blanks between them, and parts in ' and in ", as in the GNU Screen
+-- manual, chapter Customizing Screen, section The .screenrc File. Octal from 000 to 177 is this project's choice.
 use Rattle.std.specs.Prelude.{ℕ, zero, suc, ◌+◌, ◌-◌, ◌*◌, Bool, true, false, ◌&&◌, nat_lt, ◌==◌, if◌then◌else◌, List, [], ◌∷◌, ◌++◌}
 
 -- A part of a word: the text that it gives, how many characters it has, and whether the line doesn't end inside it.

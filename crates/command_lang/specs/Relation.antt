@@ -1,5 +1,5 @@
 -- Lines and commands.
-use Rattle.std.specs.Prelude.{◌≡◌, ℕ, nat_lt, if◌then◌else◌, List, [], ◌∷◌, length, Option, Some, None}
+use Rattle.std.specs.Prelude.{◌≡◌, ℕ, ◌≤◌, nat_lt, if◌then◌else◌, List, [], ◌∷◌, length, Option, Some, None}
 use Rattle.std.specs.Str.{chars, is_utf8}
 use Rattle.acl.specs.declared.command_name.CommandName.{CommandName}
 use Rattle.command_lang.specs.declared.command.Command.{Command}
@@ -35,6 +35,11 @@ pub record Relates (line : List ℕ) (c : Command) : Type 0 where
 -- The line is no command, and this is its first fault.
 abbrev pub Refuses : List ℕ → ParseFault → Type 0
 Refuses line f = first_of (faults_of line) ≡ Some f
+
+-- no fault is at a place before this one
+abbrev pub NoneBefore : ℕ → List ParseFault → Type 0
+NoneBefore place [] = Unit {0}
+NoneBefore place (f ∷ fs) = (place ≤ f.place) × NoneBefore place fs
 
 -- want of memory, at no place
 abbrev pub no_memory : ParseFault

@@ -14,7 +14,8 @@ use Rattle.command_lang.specs.declared.fault.ParseFault.{ParseFault}
 use Rattle.command_lang.specs.Values.{is_number, lock_mode_in, switch_in, coding_in, is_vertical, is_bits, has_empty_item}
 use Rattle.command_lang.specs.MaskFaults.{unless, mask_fault}
 
--- The table of commands.
+-- The table of commands, by their entries in the GNU Screen manual; scrollview, writelock's three words and the numbers'
+-- limits are this project's own.
 abbrev pub row : CommandName → Words
 row name.Acladd = One kind.Items
 row name.Aclchg = Three kind.Items kind.Bits kind.Items

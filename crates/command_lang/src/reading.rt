@@ -5,7 +5,7 @@ ghost use Rattle.std.specs.Str.{chars};
 ghost use Rattle.command_lang.specs.Lines.{words};
 ghost use Rattle.command_lang.specs.Table.{first_of};
 ghost use Rattle.command_lang.specs.Meaning.{line_command};
-ghost use Rattle.command_lang.specs.Relation.{line_faults, Relates, Refuses, no_memory};
+ghost use Rattle.command_lang.specs.Relation.{line_faults, faults_of, NoneBefore, Relates, Refuses, no_memory};
 
 use crate::build::build;
 use crate::command::Command;
@@ -60,8 +60,8 @@ fn command_of(alloc: Global, line: &[Word], end: usize) -> Result<Command, Parse
     }
 }
 
-/// The command of a line.
-pub fn parse(alloc: Global, line: &[u8]) -> Result<Command, ParseFault>
+/// The command of a line, or its first fault.
+fn command_in(alloc: Global, line: &[u8]) -> Result<Command, ParseFault>
     ensures ok { IfOk result (λ c. Relates line.now c) }
     ensures err { IfErr result (λ f. (f ≡ no_memory) ⊎ Refuses line.now f) }
 {
@@ -81,4 +81,17 @@ pub fn parse(alloc: Global, line: &[u8]) -> Result<Command, ParseFault>
         Ok(words) => command_of(alloc, words.as_slice(), line.len()),
         Err(_) => Err(no_memory()),
     }
+}
+
+/// The command of a line, or why it is none.
+///
+/// A line of more than 1,024 bytes is TooLong at 1,024, and one that isn't UTF-8 is BadWord at 0. Else the fault of the
+/// least place is answered; at one word BadQuote goes first, then the lower number. NoMemory is at 0.
+pub fn parse(alloc: Global, line: &[u8]) -> Result<Command, ParseFault>
+    ensures ok { IfOk result (λ c. Relates line.now c) }
+    ensures err { IfErr result (λ f. (f ≡ no_memory) ⊎ Refuses line.now f) }
+    // No fault of the line is at a place before the one that is answered.
+    ensures least { IfErr result (λ f. (f ≡ no_memory) ⊎ NoneBefore f.place (faults_of line.now)) }
+{
+    command_in(alloc, line)
 }

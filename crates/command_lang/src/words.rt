@@ -1,9 +1,9 @@
-//! A line is cut into words.
+//! The parts of a word, from its front.
 
 ghost use Rattle.std.specs.Prelude.{◌≡◌, ◌≤◌, ◌+◌, ◌&&◌, ◌++◌, ℕ, List, length, OnOk, IfOk, Result, nat_lt};
 ghost use Rattle.std.specs.String.{string_bytes};
 ghost use Rattle.std.specs.Str.{encode_utf8_all};
-ghost use Rattle.command_lang.specs.Parts.{Part, escape, plain, in_single, in_double, part, word, is_octal};
+ghost use Rattle.command_lang.specs.Parts.{Part, gives, escape, plain, in_single, in_double, part, word, is_octal};
 ghost use Rattle.command_lang.specs.Reading.{Reads};
 
 use crate::text::Text;
@@ -16,25 +16,29 @@ pub struct Extent {
     pub whole: bool,
 }
 
+/// Whether the character is an octal digit.
 fn is_octal_digit(c: char) -> bool
     ensures { result ≡ is_octal c }
 {
     '0' <= c && c <= '7'
 }
 
+/// Whether both are true.
 fn both(a: bool, b: bool) -> bool
     ensures { result ≡ (a && b) }
 {
     a && b
 }
 
+/// Appends a character, which stands for itself and as many more.
 fn put_char(c: char, count: usize, out: &mut String) -> Result<Extent, AllocError>
-    ensures { IfOk result (λ e. Reads (string_bytes out.old) (string_bytes out.new) e (Rattle.command_lang.specs.Parts.gives c count)) }
+    ensures { IfOk result (λ e. Reads (string_bytes out.old) (string_bytes out.new) e (gives c count)) }
 {
     out.push(c)?;
     Ok(Extent { count, whole: true })
 }
 
+/// Appends what stands behind a backslash: three octal digits of value at most 177, or another character.
 fn put_escape(after: &[char], out: &mut String) -> Result<Extent, AllocError>
     ensures { IfOk result (λ e. Reads (string_bytes out.old) (string_bytes out.new) e (escape after.now)) }
 {
@@ -52,6 +56,7 @@ fn put_escape(after: &[char], out: &mut String) -> Result<Extent, AllocError>
     }
 }
 
+/// Appends a character that is no quote, or what stands behind it where it is a backslash.
 fn put_plain(c: char, after: &[char], out: &mut String) -> Result<Extent, AllocError>
     ensures { IfOk result (λ e. Reads (string_bytes out.old) (string_bytes out.new) e (plain c after.now)) }
 {
@@ -62,6 +67,7 @@ fn put_plain(c: char, after: &[char], out: &mut String) -> Result<Extent, AllocE
     }
 }
 
+/// Appends what stands behind `'`.
 fn put_single(after: &[char], out: &mut String) -> Result<Extent, AllocError>
     ensures { IfOk result (λ e. Reads (string_bytes out.old) (string_bytes out.new) e (in_single after.now)) }
 {
@@ -81,6 +87,7 @@ fn put_single(after: &[char], out: &mut String) -> Result<Extent, AllocError>
     })
 }
 
+/// Appends what stands behind `"`.
 fn put_double(after: &[char], out: &mut String) -> Result<Extent, AllocError>
     ensures { IfOk result (λ e. Reads (string_bytes out.old) (string_bytes out.new) e (in_double 0 after.now)) }
 {
@@ -107,6 +114,7 @@ fn put_double(after: &[char], out: &mut String) -> Result<Extent, AllocError>
     })
 }
 
+/// Appends the part of a word that begins with this character.
 #[tactic(auto, unfolding(crate::specs::Parts::part))]
 fn put_part(c: char, after: &[char], out: &mut String) -> Result<Extent, AllocError>
     ensures { IfOk result (λ e. Reads (string_bytes out.old) (string_bytes out.new) e (part c after.now)) }
