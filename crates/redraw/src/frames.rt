@@ -95,7 +95,7 @@ pub fn frame(
     out: &mut Vec<u8>,
 ) -> Result<(), AllocError>
     requires size { HasSize shadow.old.rows shadow.old.columns view.now }
-    ensures same_size { (shadow.new.rows ≡ shadow.old.rows) × (shadow.new.columns ≡ shadow.old.columns) }
+    ensures known { OnOk result (shadow.new ≡ record shadow.old { known = Some view.now }) }
     ensures err { OnErr result ((out.new.items ≡ out.old.items) × (shadow.new ≡ shadow.old)) }
     ensures drawn { OnOk result (CanBeShown shadow.old.known → IsDrawable view.now → (bytes : List ℕ) × (out.new.items ≡ out.old.items ++ bytes) × Redraws shadow.old.rows shadow.old.columns shadow.old.known view.now bytes) }
 {

@@ -1,6 +1,6 @@
 //! A client's page as it is to be shown.
 
-ghost use Rattle.std.specs.Prelude.{◌≡◌, ◌<◌, ◌≤◌, ◌↔◌, Err, None, false, length, replicate, IfOk, IfSome};
+ghost use Rattle.std.specs.Prelude.{◌≡◌, ◌+◌, ◌<◌, ◌≤◌, ◌↔◌, Err, None, false, length, replicate, IfOk, IfSome};
 ghost use Rattle.cells.specs.Line.{blank, IsPaired};
 ghost use Rattle.cells.specs.Page.{IsGrid, IsGridSize, line_at};
 
@@ -52,7 +52,7 @@ impl Model for View {
 }
 
 impl View {
-    ghost use Rattle.view.specs.View.{HasSize, place_of};
+    ghost use Rattle.view.specs.View.{HasSize, place_of, written};
     ghost use Rattle.terminal_model.specs.Screen.{IsInside};
 
     /// A blank page of this size, its cursor hidden. It is `BadSize` outside 2 to 200 lines by 2 to 300
@@ -113,7 +113,7 @@ impl View {
     /// The same view once more.
     pub fn try_copy(&self, alloc: Global) -> Result<View, AllocError>
         ensures grid { IsGrid self.now.page }
-        ensures size { IfOk result (λ v. HasSize (length self.now.page) (length (line_at self.now.page 0)) v) }
+        ensures copy { IfOk result (λ v. v ≡ self.now) }
     {
         let Ok(mut copy) = View::blank(alloc, self.rows(), self.cols()) else {
             return Err(AllocError);
@@ -141,7 +141,9 @@ impl View {
 
     /// Puts cells at a place, counted from 0; nothing where the page has no such place.
     pub(crate) fn put(&mut self, line: usize, column: usize, cells: &[Cell])
+        ensures grid { IsGrid self.old.page }
         ensures size { HasSize (length self.old.page) (length (line_at self.old.page 0)) self.new }
+        ensures value { line < length self.old.page → column + length cells.now ≤ length (line_at self.old.page 0) → self.new ≡ record self.old { page = written line column cells.now self.old.page } }
     {
         let cols = self.grid.cols();
         if line < self.grid.rows() && column <= cols && cells.len() <= cols - column {
