@@ -44,12 +44,16 @@ pen_of (Some p) = record { line = p.line; column = p.column; rendition = None }
 abbrev pub EndsAs : ℕ → ℕ → View → Screen → Type 0
 EndsAs rows columns v y = Final rows columns (pen_of None) v.page v.has_application_arrows v.has_application_keypad v.cursor y
 
+-- a screen that shows a view, as a frame left it
+abbrev pub Begins : ℕ → ℕ → View → Screen → Type 0
+Begins rows columns old x = Final rows columns (pen_of old.cursor) old.page old.has_application_arrows old.has_application_keypad old.cursor x
+
 -- bytes from one view to another
 abbrev pub NextBytes : View → View → List ℕ → List ℕ → Type 0
 NextBytes old v before after =
     let rows : ℕ = length v.page in
     let columns : ℕ = length (line_at v.page 0) in
-    Takes old.page v.page (Stage rows columns (pen_of old.cursor) old.page old.has_application_arrows old.has_application_keypad (is_some old.cursor)) (λ x y. EndsAs rows columns v y) before after
+    Takes old.page v.page (Begins rows columns old) (λ x y. EndsAs rows columns v y) before after
 
 -- bytes from the reset on
 pub record FirstBytes (v : View) (before after : List ℕ) : Type 0 where

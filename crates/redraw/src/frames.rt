@@ -8,10 +8,11 @@ ghost use Rattle.view.specs.View.{HasSize, place_of};
 ghost use Rattle.view.specs.Drawable.{IsDrawable, HaveHalves};
 ghost use Rattle.redraw.specs.Drawing.{Takes, Stage, Final};
 ghost use Rattle.redraw.specs.Frames.{Redraws, CanBeShown, pen_of, FirstBytes, NextBytes, DrawsBytes};
+ghost use Rattle.redraw.specs.Shadow.{NeedsDraw};
 
 use crate::painting::paint;
 use crate::pen::Pen;
-use crate::shadow::Shadow;
+use crate::shadow::{Shadow, is_same};
 use cells::Rendition;
 use std::alloc::{AllocError, Global};
 use view::{Cursor, View};
@@ -76,10 +77,12 @@ fn next_bytes(old: &View, view: &View, out: &mut Vec<u8>) -> Result<(), AllocErr
 /// Appends the bytes from what is known of a terminal to a view.
 fn draw(alloc: Global, shadow: &Shadow, view: &View, out: &mut Vec<u8>) -> Result<(), AllocError>
     requires size { HasSize shadow.now.rows shadow.now.columns view.now }
-    ensures { OnOk result (CanBeShown shadow.now.known → IsDrawable view.now → DrawsBytes shadow.now.known view.now out.old.items out.new.items) }
+    ensures draws { OnOk result (CanBeShown shadow.now.known → IsDrawable view.now → DrawsBytes shadow.now.known view.now out.old.items out.new.items) }
+    ensures spares { OnOk result ((NeedsDraw shadow.now.known view.now → ⊥) → out.new.items ≡ out.old.items) }
 {
     match &shadow.known {
         None => first_bytes(alloc, view, out)?,
+        Some(last) if is_same(last, view) => {}
         Some(last) => next_bytes(last, view, out)?,
     }
     Ok(())
@@ -97,6 +100,7 @@ pub fn frame(
     requires size { HasSize shadow.old.rows shadow.old.columns view.now }
     ensures known { OnOk result (shadow.new ≡ record shadow.old { known = Some view.now }) }
     ensures err { OnErr result ((out.new.items ≡ out.old.items) × (shadow.new ≡ shadow.old)) }
+    ensures unchanged { OnOk result ((NeedsDraw shadow.old.known view.now → ⊥) → out.new.items ≡ out.old.items) }
     ensures drawn { OnOk result (CanBeShown shadow.old.known → IsDrawable view.now → (bytes : List ℕ) × (out.new.items ≡ out.old.items ++ bytes) × Redraws shadow.old.rows shadow.old.columns shadow.old.known view.now bytes) }
 {
     let mut bytes = Vec::new(alloc);

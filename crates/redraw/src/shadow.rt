@@ -2,7 +2,7 @@
 
 ghost use Rattle.std.specs.Prelude.{◌≡◌, ◌<◌, ◌≤◌, ◌↔◌, ℕ, None, IsTrue, length};
 ghost use Rattle.terminal_model.specs.Shows.{seen_at};
-ghost use Rattle.cells.specs.Page.{line_at};
+ghost use Rattle.cells.specs.Page.{line_at, IsGrid};
 ghost use Rattle.view.specs.View.{HasSize, place_of};
 ghost use Rattle.redraw.specs.Shadow.{LooksLike, NeedsDraw};
 
@@ -75,9 +75,10 @@ fn is_same_page(old: &View, new: &View) -> bool
 }
 
 /// Whether two views show the same.
-fn is_same(old: &View, new: &View) -> bool
+pub fn is_same(old: &View, new: &View) -> bool
     requires { HasSize (length old.now.page) (length (line_at old.now.page 0)) new.now }
-    ensures { IsTrue result ↔ LooksLike old.now new.now }
+    ensures same { IsTrue result ↔ LooksLike old.now new.now }
+    ensures grid { IsGrid new.now.page }
 {
     if !is_same_cursor(old.cursor(), new.cursor()) {
         return false;

@@ -2,7 +2,8 @@ use Rattle.std.proofs.Common.{◌≡◌, ℕ, Bool, length, ap, ◌∙◌, subst
 use Rattle.cells.specs.Page.{line_at, IsGridSize}
 use Rattle.redraw.specs.declared.pen.Pen.{Pen}
 use Rattle.redraw.specs.Drawing.{Takes, Stage}
-use Rattle.redraw.specs.Frames.{pen_of, EndsAs}
+use Rattle.redraw.specs.Frames.{pen_of, EndsAs, Begins}
+use Rattle.redraw.proofs.Takings.{takes_given}
 use Rattle.redraw.proofs.Ends.{ended}
 use Rattle.redraw.proofs.frames.next_bytes.Goals as goal
 
@@ -17,5 +18,6 @@ returns c od nd =
     (omega (arith, few.most_rows, c.requires.rows_are)) (omega (arith, few.most_columns, c.requires.columns_are)) (c.in_ok-paint.ensures od nd) in
     let pen : c.pen_at-pen.result ≡ pen_of old.cursor = c.pen_at-pen.ensures ∙ ap pen_of c.cursor-cursor.ensures.cursor in
     let shown : c.is_shown.result ≡ is_some old.cursor = c.is_shown.ensures ∙ ap is_some c.cursor-cursor.ensures.cursor in
-    subst (λ (p : Pen). Takes old.page v.page (Stage rows columns p old.page old.has_application_arrows old.has_application_keypad (is_some old.cursor)) (λ x y. EndsAs rows columns v y) c.args.out.now.items c.paint.new.out.items) pen
-    (subst (λ (b : Bool). Takes old.page v.page (Stage rows columns c.pen_at-pen.result old.page old.has_application_arrows old.has_application_keypad b) (λ x y. EndsAs rows columns v y) c.args.out.now.items c.paint.new.out.items) shown drawn)
+    let stage = subst (λ (p : Pen). Takes old.page v.page (Stage rows columns p old.page old.has_application_arrows old.has_application_keypad (is_some old.cursor)) (λ x y. EndsAs rows columns v y) c.args.out.now.items c.paint.new.out.items) pen
+    (subst (λ (b : Bool). Takes old.page v.page (Stage rows columns c.pen_at-pen.result old.page old.has_application_arrows old.has_application_keypad b) (λ x y. EndsAs rows columns v y) c.args.out.now.items c.paint.new.out.items) shown drawn) in
+    takes_given old.page v.page (Stage rows columns (pen_of old.cursor) old.page old.has_application_arrows old.has_application_keypad (is_some old.cursor)) (Begins rows columns old) (λ x y. EndsAs rows columns v y) c.args.out.now.items c.paint.new.out.items (λ x f. f.stage) stage

@@ -2,8 +2,8 @@ use Rattle.std.proofs.Common.{rules, ◌≡◌, IsTrue, sym, ap, ◌∙◌}
 use Rattle.view.specs.declared.view.KeyModes.{KeyModes}
 use Rattle.redraw.proofs.shadow.is_same.Goals as goal
 
-pub returns : goal.returns
-returns c =
+pub returns-clause-same : goal.returns-clause-same
+returns-clause-same c =
     let cursors : IsTrue c.is_same_cursor.result = search rules in
     let modes : IsTrue c.is_same_modes.result = search rules in
     let same : c.modes.result ≡ c.modes-2.result = c.is_same_modes.ensures.0 modes in (
