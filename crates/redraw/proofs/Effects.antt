@@ -1,33 +1,19 @@
 -- What each command does to a screen on which a frame is drawn.
-use Rattle.std.proofs.Common.{◌≡◌, ℕ, zero, suc, ◌+◌, ◌-◌, ◌<◌, ◌≤◌, min, max, Bool, true, false, ◌&&◌, cond, eqb, ltb, List, [], ◌∷◌, ◌++◌, length, replicate, Option, Some, None, refl, sym, ap, ◌∙◌, subst, arith, ⊎_elim, eq-eqb, inl, inr}
-use Rattle.std.proofs.lemmas.Bool.{cases_lt, cases_eq, cases_Bool, ne_eqb, lt-ltb, le-ltb}
-use Rattle.std.proofs.lemmas.List.{get_or-replicate, length-replicate}
+use Rattle.std.proofs.Common.{◌≡◌, ℕ, ◌+◌, ◌<◌, Bool, true, false, eqb, ltb, [], ◌∷◌, refl, sym, ap, ◌∙◌, arith, ⊎_elim}
+use Rattle.std.proofs.lemmas.Bool.{cases_Bool, lt-ltb}
 use Rattle.charsets.specs.declared.unit.Coding.TheVariants.{Utf8}
-use Rattle.charsets.specs.declared.unit.Unit.TheVariants.{Code}
-use Rattle.charsets.specs.Shifts.{mapped, spent, starting as starting_shifts}
-use Rattle.charsets.specs.Sets.{character_at}
-use Rattle.cells.specs.declared.cell.Cell.{Cell}
-use Rattle.cells.specs.declared.cell.Rendition.{Rendition}
-use Rattle.cells.specs.Line.{blank, cell_at}
-use Rattle.control_parser.specs.declared.func.Func.{Func}
-use Rattle.control_parser.specs.declared.func.Func.TheVariants.{Print, Esc, Csi}
 use Rattle.control_parser.specs.Spelling.{spelling, coding_of, IsGiven}
-use Rattle.terminal_model.specs.declared.state.State.{State}
-use Rattle.terminal_model.specs.declared.state.Modes.{Modes}
-use Rattle.terminal_model.specs.declared.state.Position.{Position}
-use Rattle.terminal_model.specs.Screen.{Page, Screen, IsSound}
-use Rattle.terminal_model.specs.Functions.{first, second, plain_sequence, private_sequence, actions_of}
-use Rattle.terminal_model.specs.Table.{effect, acted_from, moved_to, settled, apart, with_state, printed_as}
+use Rattle.terminal_model.specs.Screen.{Page, Screen}
+use Rattle.terminal_model.specs.Functions.{plain_sequence, private_sequence}
+use Rattle.terminal_model.specs.Table.{effect}
 use Rattle.terminal_model.specs.Reports.{report}
-use Rattle.terminal_model.specs.Reading.{Act, ready, reads}
-use Rattle.terminal_model.specs.Drawing.{drawn_state, IsDiscreet, IsSpare, IsListed}
+use Rattle.terminal_model.specs.Reading.{ready}
+use Rattle.terminal_model.specs.Drawing.{IsDiscreet, IsSpare, IsListed}
 use Rattle.terminal_model.proofs.Spellings.{spelled-acts}
-use Rattle.redraw.specs.declared.pen.Pen.{Pen}
 use Rattle.redraw.specs.declared.command.Command.{Command}
 use Rattle.redraw.specs.declared.command.Command.TheVariants.{Glyph, MoveTo, NextLine, Forward, Render, EraseCells, EraseToEnd, Arrows, ShowCursor, Keypad}
-use Rattle.redraw.specs.Commands.{func_of, IsCommand, place_params, rendition_params}
-use Rattle.redraw.specs.Drawing.{seen, Drawing, Leads, Keeps}
-use Rattle.terminal_model.proofs.Sound.{IsSound-effect}
+use Rattle.redraw.specs.Commands.{func_of, IsCommand}
+use Rattle.redraw.specs.Drawing.{Leads}
 
 -- THE FUNCTIONS
 

@@ -2,3 +2,9 @@ pub mod Rows
 pub mod Writing
 pub mod Effects
 pub mod Screens
+pub mod Printing
+pub mod Takings
+pub mod Inking
+pub mod Pieces
+pub mod Stages
+pub mod Ends

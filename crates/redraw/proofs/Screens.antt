@@ -1,28 +1,22 @@
 -- A screen on which a frame is drawn, after each command.
-use Rattle.std.proofs.Common.{◌≡◌, ℕ, zero, suc, ◌+◌, ◌-◌, ◌<◌, ◌≤◌, min, max, Bool, true, false, ◌&&◌, cond, eqb, ltb, List, [], ◌∷◌, ◌++◌, length, replicate, Option, Some, None, refl, sym, ap, ◌∙◌, subst, arith, ⊎_elim, eq-eqb, inl, inr}
-use Rattle.std.proofs.lemmas.Bool.{cases_lt, cases_eq, cases_Bool, ne_eqb, lt-ltb, le-ltb, eqb-true}
-use Rattle.std.proofs.lemmas.List.{get_or-replicate, get_or_past, length-replicate}
+use Rattle.std.proofs.Common.{◌≡◌, ℕ, ◌+◌, ◌-◌, ◌<◌, min, max, Bool, true, false, eqb, List, Some, refl, sym, ap, subst, arith, ⊎_elim}
+use Rattle.std.proofs.lemmas.Bool.{cases_Bool, ne_eqb, eqb-true}
 use Rattle.charsets.specs.declared.unit.Coding.TheVariants.{Utf8}
-use Rattle.cells.specs.declared.cell.Cell.{Cell}
 use Rattle.cells.specs.declared.cell.Rendition.{Rendition}
-use Rattle.cells.specs.Line.{blank, cell_at, unprotected, fresh_at, is_left, is_right, spliced}
-use Rattle.cells.specs.Page.{line_at, page_from, edited, IsPage}
+use Rattle.cells.specs.Page.{IsPage}
 use Rattle.control_parser.specs.Spelling.{spelling}
 use Rattle.terminal_model.specs.declared.state.State.{State}
-use Rattle.terminal_model.specs.declared.state.Modes.{Modes}
-use Rattle.terminal_model.specs.declared.state.Position.{Position}
 use Rattle.terminal_model.specs.Screen.{Page, Screen, IsSound}
-use Rattle.terminal_model.specs.Functions.{first, second, plain_sequence, private_sequence, actions_of}
+use Rattle.terminal_model.specs.Functions.{first, second, plain_sequence}
 use Rattle.terminal_model.specs.Table.{effect, acted_from, moved_to, settled, apart, with_state, line_named, line_below}
 use Rattle.terminal_model.specs.Drawing.{drawn_state}
 use Rattle.terminal_model.proofs.Sound.{IsSound-effect}
 use Rattle.redraw.specs.declared.pen.Pen.{Pen}
 use Rattle.redraw.specs.declared.command.Command.{Command}
 use Rattle.redraw.specs.declared.command.Command.TheVariants.{Glyph, MoveTo, NextLine, Forward, Render, EraseCells, EraseToEnd, Arrows, ShowCursor, Keypad}
-use Rattle.redraw.specs.Commands.{func_of, IsCommand, place_params}
-use Rattle.redraw.specs.Drawing.{Row, seen, over, Drawing, Leads, Keeps, Writes, KnowsRendition, IsWay}
-use Rattle.redraw.proofs.Writing.{written, written_here, written_elsewhere}
-use Rattle.redraw.proofs.Effects.{silent_leads, PrintsNone}
+use Rattle.redraw.specs.Commands.{func_of, place_params}
+use Rattle.redraw.specs.Drawing.{Drawing, Leads, Keeps, IsWay}
+use Rattle.redraw.proofs.Effects.{silent_leads}
 
 -- THE STATE that frames keep
 

@@ -5,14 +5,14 @@ use Rattle.std.proofs.lemmas.Bool.{cases_lt, cases_eq, ne_eqb, lt-ltb}
 use Rattle.cells.specs.declared.cell.Cell.{Cell}
 use Rattle.cells.specs.declared.cell.Shape.{Shape}
 use Rattle.cells.specs.declared.cell.Shape.TheVariants.{Narrow, Left, Right}
-use Rattle.cells.specs.Line.{blank, cell_at, is_left, is_right, IsPaired, Source, Fresh, Old, are_halves, kept, settled, source_before, source_after, cells_from, spliced, fresh_at}
+use Rattle.cells.specs.Line.{blank, cell_at, is_left, is_right, IsPaired, Source, Old, are_halves, kept, settled, source_before, source_after, cells_from, spliced, fresh_at}
 use Rattle.cells.specs.Page.{line_at, IsPage, page_from, edited}
-use Rattle.cells.proofs.Settling.{settled_at, cell_at-cells_from, cell_at_past, after_inside, after_last, kept_is, true≢false}
+use Rattle.cells.proofs.Settling.{settled_at, cell_at-cells_from, cell_at_past, after_inside, kept_is, true≢false}
 use Rattle.cells.proofs.Splicing.{at_front, at_fresh, at_rest}
 use Rattle.cells.proofs.Putting.{settled_new}
 use Rattle.cells.proofs.Pages.{page_from-edited}
 use Rattle.redraw.specs.Drawing.{Row, over}
-use Rattle.redraw.proofs.Rows.{over_front, over_fresh, over_behind}
+use Rattle.redraw.proofs.Rows.{over_fresh, over_behind}
 
 left_torn : (s : Shape) (cell : Cell) (p q : Bool) → p ≡ false → (is_right s ≡ true → q ≡ true) → kept s cell p q ≡ cond (is_left s) blank cell
 left_torn Narrow cell p q e h = refl
@@ -92,17 +92,17 @@ module _ (at : ℕ) (fresh cells : List Cell) (room : at + length fresh ≤ leng
       (cases_lt k at)
 
 -- a page of which one line gets new cells
-module _ (line at rows columns : ℕ) (fresh : List Cell) (page : List (List Cell)) (is_page : IsPage rows columns page) (inside : line < rows) where
-  abbrev pub written : List (List Cell)
-  written = page_from (edited line (spliced at fresh (at + length fresh) columns)) page
+abbrev pub written : ℕ → ℕ → ℕ → List Cell → List (List Cell) → List (List Cell)
+written line at columns fresh page = page_from (edited line (spliced at fresh (at + length fresh) columns)) page
 
-  written_is : written ≡ set page line (cells_from (spliced at fresh (at + length fresh) columns) (line_at page line))
+module _ (line at rows columns : ℕ) (fresh : List Cell) (page : List (List Cell)) (is_page : IsPage rows columns page) (inside : line < rows) where
+  written_is : written line at columns fresh page ≡ set page line (cells_from (spliced at fresh (at + length fresh) columns) (line_at page line))
   written_is = page_from-edited line (spliced at fresh (at + length fresh) columns) rows columns page is_page inside
 
-  pub written_elsewhere : (l : ℕ) → (l ≡ line → ⊥) → line_at written l ≡ line_at page l
+  pub written_elsewhere : (l : ℕ) → (l ≡ line → ⊥) → line_at (written line at columns fresh page) l ≡ line_at page l
   written_elsewhere l ne = ap (λ g. line_at g l) written_is ∙ get_or-set_other page line l _ _ ne
 
-  pub written_here : (c : ℕ) → c < columns → at + length fresh ≤ columns → 0 < length fresh → cell_at (line_at written line) c ≡ over (cell_at (line_at page line)) at (length fresh) (λ k. fresh_at fresh (k - at)) c
+  pub written_here : (c : ℕ) → c < columns → at + length fresh ≤ columns → 0 < length fresh → cell_at (line_at (written line at columns fresh page) line) c ≡ over (cell_at (line_at page line)) at (length fresh) (λ k. fresh_at fresh (k - at)) c
   written_here c within room some =
       let cells : List Cell = line_at page line in
       let w : length cells ≡ columns = is_page.width line inside in

@@ -1,15 +1,25 @@
 -- What frames do to a terminal, step by step.
-use Rattle.std.specs.Prelude.{◌≡◌, ℕ, ◌+◌, ◌==◌, ◌<◌, Bool, ◌&&◌, cond, nat_lt, List, [], ◌++◌, Option, Some, None}
+use Rattle.std.specs.Prelude.{◌≡◌, ℕ, ◌+◌, ◌-◌, ◌==◌, ◌<◌, ◌≤◌, length, Bool, true, ◌&&◌, cond, nat_lt, false, List, [], ◌++◌, Option, Some, None, is_some}
+use Rattle.cells.specs.declared.cell.Shape.{Shape}
+use Rattle.cells.specs.declared.cell.Shape.TheVariants.{Narrow, Left, Right}
+use Rattle.cells.specs.declared.cell.Marks.{Marks}
+use Rattle.cells.specs.declared.cell.Marks.TheVariants.{Bare, One, Two}
 use Rattle.cells.specs.declared.cell.Cell.{Cell}
 use Rattle.cells.specs.declared.cell.Rendition.{Rendition}
-use Rattle.cells.specs.Line.{blank, is_left, is_right}
+use Rattle.cells.specs.Line.{blank, cell_at, is_left, is_right, unprotected, right_cell, IsPaired}
+use Rattle.cells.specs.Page.{line_at}
+use Rattle.control_parser.specs.declared.func.Func.TheVariants.{Print}
+use Rattle.control_parser.specs.Spelling.{spelling}
 use Rattle.terminal_model.specs.Screen.{Page, Screen, IsSound, starting_tabs}
 use Rattle.terminal_model.specs.Reading.{Act, ready, reads}
-use Rattle.terminal_model.specs.Shows.{seen_at}
+use Rattle.terminal_model.specs.declared.state.Position.{Position}
+use Rattle.terminal_model.specs.Shows.{seen_at, ShowsCursor}
 use Rattle.terminal_model.specs.Drawing.{Draws, drawn_state}
+use Rattle.view.specs.Drawable.{IsDrawableLine, HasHalves}
 use Rattle.redraw.specs.declared.pen.Pen.{Pen}
 use Rattle.redraw.specs.declared.command.Command.{Command}
-use Rattle.redraw.specs.declared.command.Command.TheVariants.{Glyph, MoveTo, NextLine, Forward, Render, EraseCells, EraseToEnd, Arrows, ShowCursor, Keypad}
+use Rattle.redraw.specs.Commands.{func_of}
+use Rattle.redraw.specs.declared.command.Command.TheVariants.{MoveTo, NextLine, Forward}
 
 -- a line by its columns
 abbrev pub Row : Type 0
@@ -93,6 +103,25 @@ pub record HasPage (rows columns : ℕ) (pen : Pen) (page : Page) (x : Screen) :
   pub drawing : Drawing rows columns pen x
   pub cells : (l c : ℕ) → l < rows → c < columns → seen x l c ≡ seen_at page l c
 
+-- a cell, and the right half behind it
+abbrev pub row_of : Cell → ℕ → Row
+row_of cell at c = cond (c == at) (unprotected cell) (right_cell cell.character cell.rendition false)
+
+-- the columns that a cell's character takes
+abbrev pub width_of : Shape → ℕ
+width_of Narrow = 1
+width_of Left = 2
+width_of Right = 1
+
+-- a character and its marks
+abbrev pub mark_bytes : Marks → List ℕ
+mark_bytes Bare = []
+mark_bytes (One a) = spelling (Print a)
+mark_bytes (Two a b) = spelling (Print a) ++ spelling (Print b)
+
+abbrev pub glyph_bytes : Cell → List ℕ
+glyph_bytes cell = spelling (Print cell.character) ++ mark_bytes cell.marks
+
 -- a way of the pen to a place
 abbrev pub IsWay : Pen → ℕ → ℕ → Option Command → Type 0
 IsWay pen line column None = (pen.line ≡ line) × (pen.column ≡ column)
@@ -100,3 +129,45 @@ IsWay pen line column (Some (MoveTo l c)) = (l ≡ line) × (c ≡ column)
 IsWay pen line column (Some NextLine) = (pen.line + 1 ≡ line) × (0 ≡ column)
 IsWay pen line column (Some (Forward n)) = (pen.line ≡ line) × (pen.column + n ≡ column) × (0 < n)
 IsWay pen line column (Some other) = ⊥
+
+-- a piece of a line was drawn, from a column on and below the next one
+pub record DrawsPiece (old new : Page) (rows columns : ℕ) (p q : Pen) (line column next : ℕ) (before after : List ℕ) : Type 0 where
+  pub inside : next ≤ columns
+  pub whole : is_right (cell_at (line_at new line) next).shape ≡ false
+  pub takes : Takes old new (Drawing rows columns p) (Writes rows columns q line column (next - column) (seen_at new line)) before after
+
+-- a line was drawn up to a column
+pub record DrawsUpTo (old new : Page) (rows columns : ℕ) (p q : Pen) (line column : ℕ) (before after : List ℕ) : Type 0 where
+  pub inside : column ≤ columns
+  pub whole : is_right (cell_at (line_at new line) column).shape ≡ false
+  pub takes : Takes old new (HasLine rows columns p line (seen_at old line)) (DrawsLine rows columns q line (seen_at old line) (seen_at new line) column) before after
+
+-- a line of two pages, which a terminal can show
+pub record AreLines (old new : Page) (line : ℕ) (a b : List Cell) : Type 0 where
+  pub old_is : line_at old line ≡ a
+  pub new_is : line_at new line ≡ b
+  pub same_width : length a ≡ length b
+  pub old_paired : IsPaired a
+  pub new_paired : IsPaired b
+  pub old_halves : HasHalves a
+  pub new_drawable : IsDrawableLine b
+
+-- the bytes of a command, where a mode isn't as it is to be
+abbrev pub changed : Bool → Bool → Command → List ℕ
+changed true true command = []
+changed true false command = spelling (func_of command)
+changed false true command = spelling (func_of command)
+changed false false command = []
+
+-- the screen shows a page, and has modes
+pub record Stage (rows columns : ℕ) (pen : Pen) (page : Page) (arrows keypad shows : Bool) (x : Screen) : Type 0 where
+  pub drawing : Drawing rows columns pen x
+  pub cells : (l c : ℕ) → l < rows → c < columns → seen x l c ≡ seen_at page l c
+  pub arrows_are : x.state.modes.has_application_arrows ≡ arrows
+  pub keypad_is : x.state.modes.has_application_keypad ≡ keypad
+  pub shows_are : x.state.modes.shows_cursor ≡ shows
+
+-- and its cursor is where a view has it
+pub record Final (rows columns : ℕ) (pen : Pen) (page : Page) (arrows keypad : Bool) (cursor : Option Position) (x : Screen) : Type 0 where
+  pub stage : Stage rows columns pen page arrows keypad (is_some cursor) x
+  pub cursor_is : ShowsCursor cursor x

@@ -1,3 +1,4 @@
 pub mod Shadow
 pub mod Commands
 pub mod Drawing
+pub mod Frames

@@ -1,6 +1,6 @@
 -- What is known of a client's terminal.
-use Rattle.std.specs.Prelude.{◌≡◌, ℕ, Option, Some}
-use Rattle.terminal_model.specs.Shows.{View}
+use Rattle.std.specs.Prelude.{◌≡◌, ℕ, Option, Some, None}
+use Rattle.terminal_model.specs.Shows.{View, seen_at}
 use Rattle.view.specs.View.{HasSize}
 
 -- its size, and the view that it shows; none: it may be in any state
@@ -12,3 +12,15 @@ pub record Knowledge : Type 0 where
 -- a known view has the terminal's size
 abbrev pub IsSound : Knowledge → Type 0
 IsSound k = (v : View) → k.known ≡ Some v → HasSize k.rows k.columns v
+
+-- two views show the same: protection isn't seen
+pub record LooksLike (a b : View) : Type 0 where
+  pub cells : (line column : ℕ) → seen_at a.page line column ≡ seen_at b.page line column
+  pub cursor : a.cursor ≡ b.cursor
+  pub arrows : a.has_application_arrows ≡ b.has_application_arrows
+  pub keypad : a.has_application_keypad ≡ b.has_application_keypad
+
+-- nothing is known of the terminal, or it shows another view
+abbrev pub NeedsDraw : Option View → View → Type 0
+NeedsDraw None v = Prim.Unit {0}
+NeedsDraw (Some known) v = LooksLike known v → ⊥

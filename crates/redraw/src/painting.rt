@@ -1,13 +1,19 @@
 //! From one page to another.
 
-ghost use Rattle.std.specs.Prelude.{◌≡◌, ◌+◌, ◌<◌, ◌≤◌, ℕ, OnOk, IfOk, IfSome, length};
-ghost use Rattle.cells.specs.Line.{blank, cell_at};
+ghost use Rattle.std.specs.Prelude.{◌≡◌, ◌+◌, ◌<◌, ◌≤◌, ℕ, ◌++◌, List, Bool, false, OnOk, IfOk, IfSome, length};
+ghost use Rattle.cells.specs.declared.cell.Cell.{Cell};
+ghost use Rattle.cells.specs.Line.{blank, cell_at, is_right};
 ghost use Rattle.cells.specs.Page.{line_at};
+ghost use Rattle.terminal_model.specs.Screen.{Page, IsInside};
+ghost use Rattle.view.specs.Drawable.{IsDrawable, HaveHalves};
+ghost use Rattle.terminal_model.specs.Drawing.{Differs};
 ghost use Rattle.view.specs.View.{HasSize, place_of};
+ghost use Rattle.redraw.specs.Commands.{IsPlaced};
+ghost use Rattle.redraw.specs.Drawing.{AreLines, DrawsPiece, DrawsUpTo, Takes, HasPage, DrawsPage, Stage, Final, changed};
 
 use crate::command::Command;
-use crate::pen::Pen;
-use cells::{Cell, Shape, next_unlike};
+use crate::pen::{Pen, columns_of};
+use cells::{Cell, next_unlike};
 use std::alloc::AllocError;
 use view::{Cursor, KeyModes, View};
 
@@ -30,6 +36,13 @@ fn blank_run(cells: &[Cell], from: usize) -> usize
     end - from
 }
 
+fn nth(cells: &[Cell], column: usize) -> Cell
+    requires { column < length cells.now }
+    ensures { result ≡ cell_at cells.now column }
+{
+    cells[column]
+}
+
 /// Draws a line at a column where it differs, up to the column that it returns: the differing columns end
 /// at `end`.
 fn draw_piece(
@@ -45,6 +58,9 @@ fn draw_piece(
     requires end { end ≤ length after.now }
     requires few { length after.now ≤ 300 }
     ensures forth { IfOk result (λ next. (column < next) × (next ≤ length after.now + 1)) }
+    ensures draws { IfOk result (λ next. (old new : Page) (rows : ℕ) (before : List Cell) → line < rows → rows < 9999 → AreLines old new line before after.now →
+        is_right (cell_at after.now column).shape ≡ false → Differs old new line column →
+        DrawsPiece old new rows (length after.now) pen.old pen.new line column next out.old.items out.new.items) }
 {
     let blanks = blank_run(after, column);
     if blanks >= FEWEST_ERASED && column + blanks == after.len() {
@@ -61,10 +77,9 @@ fn draw_piece(
         pen.erase_cells(line, column as u16, erased as u16, out)?;
         return Ok(column + erased);
     }
-    let cell = after[column];
-    let width = if cell.is_left() { 2 } else { 1 };
-    pen.put_cell(line, column as u16, width as u16, cell, out)?;
-    Ok(column + width)
+    let cell = nth(after, column);
+    pen.put_cell(line, column as u16, cell, out)?;
+    Ok(column + columns_of(cell) as usize)
 }
 
 /// Draws the places of a line that differ, from left to right.
@@ -78,6 +93,8 @@ fn draw_line(
     requires line { line < 9999 }
     requires same_width { length before.now ≡ length after.now }
     requires few { length after.now ≤ 300 }
+    ensures { OnOk result ((old new : Page) (rows : ℕ) → line < rows → rows < 9999 → AreLines old new line before.now after.now →
+        DrawsUpTo old new rows (length after.now) pen.old pen.new line (length after.now) out.old.items out.new.items) }
 {
     let mut column = 0;
     while let Some((start, end)) = next_unlike(before, after, column) {
@@ -86,14 +103,49 @@ fn draw_line(
     Ok(())
 }
 
+/// Draws the places of a page that differ, line after line.
+fn draw_page(pen: &mut Pen, old: &View, new: &View, out: &mut Vec<u8>) -> Result<(), AllocError>
+    requires size { HasSize (length old.now.page) (length (line_at old.now.page 0)) new.now }
+    ensures { OnOk result (HaveHalves old.now.page → IsDrawable new.now →
+        Takes old.now.page new.now.page (HasPage (length new.now.page) (length (line_at new.now.page 0)) pen.old old.now.page)
+        (DrawsPage (length new.now.page) (length (line_at new.now.page 0)) pen.new old.now.page new.now.page (length new.now.page)) out.old.items out.new.items) }
+{
+    for line in 0..new.rows() {
+        draw_line(pen, line as u16, old.row(line), new.row(line), out)?;
+    }
+    Ok(())
+}
+
+/// Appends a command where a mode isn't as it is to be.
+fn change(was: bool, is: bool, command: Command, out: &mut Vec<u8>) -> Result<(), AllocError>
+    requires { IsPlaced command }
+    ensures { OnOk result (out.new.items ≡ out.old.items ++ changed was is command) }
+{
+    if was != is {
+        command.put(out)?;
+    }
+    Ok(())
+}
+
 /// Sets the modes of the keyboard that differ.
-fn draw_modes(old: KeyModes, new: KeyModes, out: &mut Vec<u8>) -> Result<(), AllocError> {
-    if old.has_application_arrows != new.has_application_arrows {
-        Command::Arrows(new.has_application_arrows).put(out)?;
-    }
-    if old.has_application_keypad != new.has_application_keypad {
-        Command::Keypad(new.has_application_keypad).put(out)?;
-    }
+fn draw_modes(old: KeyModes, new: KeyModes, out: &mut Vec<u8>) -> Result<(), AllocError>
+    ensures { OnOk result ((before after page : Page) (rows columns : ℕ) (pen : Pen) (shows : Bool) →
+        Takes before after (Stage rows columns pen page old.has_application_arrows old.has_application_keypad shows)
+        (λ x y. Stage rows columns pen page new.has_application_arrows new.has_application_keypad shows y) out.old.items out.new.items) }
+{
+    let (arrows, keypad) = (new.has_application_arrows, new.has_application_keypad);
+    change(
+        old.has_application_arrows,
+        arrows,
+        Command::Arrows(arrows),
+        out,
+    )?;
+    change(
+        old.has_application_keypad,
+        keypad,
+        Command::Keypad(keypad),
+        out,
+    )?;
     Ok(())
 }
 
@@ -105,16 +157,16 @@ fn draw_cursor(
     out: &mut Vec<u8>,
 ) -> Result<(), AllocError>
     requires { IfSome (place_of new) (λ p. (p.line < 9999) × (p.column < 9999)) }
+    ensures { OnOk result ((before after page : Page) (rows columns : ℕ) (arrows keypad : Bool) → rows < 9999 → columns < 9999 →
+        IfSome (place_of new) (λ p. IsInside rows columns p.line p.column) →
+        Takes before after (Stage rows columns pen.old page arrows keypad was_shown) (λ x y. Final rows columns pen.new page arrows keypad (place_of new) y) out.old.items out.new.items) }
 {
-    let is_shown = match new {
-        Cursor::Hidden => false,
+    match new {
+        Cursor::Hidden => change(was_shown, false, Command::ShowCursor(false), out)?,
         Cursor::Shown { line, column } => {
             pen.move_to(line, column, out)?;
-            true
+            change(was_shown, true, Command::ShowCursor(true), out)?;
         }
-    };
-    if was_shown != is_shown {
-        Command::ShowCursor(is_shown).put(out)?;
     }
     Ok(())
 }
@@ -128,10 +180,14 @@ pub fn paint(
     out: &mut Vec<u8>,
 ) -> Result<(), AllocError>
     requires { HasSize (length old.now.page) (length (line_at old.now.page 0)) new.now }
+    ensures { OnOk result (HaveHalves old.now.page → IsDrawable new.now →
+        Takes old.now.page new.now.page
+        (Stage (length new.now.page) (length (line_at new.now.page 0)) pen.old old.now.page old.now.has_application_arrows old.now.has_application_keypad was_shown)
+        (λ x y. Final (length new.now.page) (length (line_at new.now.page 0)) pen.new new.now.page new.now.has_application_arrows new.now.has_application_keypad new.now.cursor y)
+        out.old.items out.new.items) }
 {
-    for line in 0..new.rows() {
-        draw_line(pen, line as u16, old.row(line), new.row(line), out)?;
-    }
+    draw_page(pen, old, new, out)?;
     draw_modes(old.modes(), new.modes(), out)?;
-    draw_cursor(pen, was_shown, new.cursor(), out)
+    draw_cursor(pen, was_shown, new.cursor(), out)?;
+    Ok(())
 }

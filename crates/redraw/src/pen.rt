@@ -1,11 +1,12 @@
 //! What is known of a terminal's cursor and rendition while a frame is made.
 
-ghost use Rattle.std.specs.Prelude.{◌≡◌, ◌<◌, ◌≤◌, ◌+◌, ℕ, Some, OnOk};
+ghost use Rattle.std.specs.Prelude.{◌≡◌, ◌<◌, ◌≤◌, ◌+◌, ◌++◌, ℕ, false, Some, OnOk};
+ghost use Rattle.cells.specs.Line.{blank, cell_at, is_right};
 ghost use Rattle.cells.specs.Page.{line_at};
 ghost use Rattle.terminal_model.specs.Screen.{Page};
 ghost use Rattle.terminal_model.specs.Drawing.{Differs};
-ghost use Rattle.terminal_model.specs.Shows.{seen_at};
-ghost use Rattle.redraw.specs.Drawing.{Row, IsWay, Drawing, Takes, Keeps, Writes};
+ghost use Rattle.view.specs.Drawable.{IsDrawableCell};
+ghost use Rattle.redraw.specs.Drawing.{IsWay, Drawing, Takes, Keeps, Writes, row_of, width_of, glyph_bytes};
 
 use crate::command::Command;
 use cells::{Cell, Marks, Rendition, Shape};
@@ -42,10 +43,13 @@ impl Pen {
     pub fn move_to(&mut self, line: u16, column: u16, out: &mut Vec<u8>) -> Result<(), AllocError>
         requires { (line < 9999) × (column < 9999) }
         ensures place { OnOk result (self.new ≡ record self.old { line = line; column = column }) }
+        ensures takes { OnOk result ((old new : Page) (rows columns : ℕ) → line < rows → rows < 9999 → column < columns → columns < 9999 →
+            Takes old new (Drawing rows columns self.old) (Keeps rows columns self.new) out.old.items out.new.items) }
     {
-        if let Some(way) = self.way_to(line, column) {
-            way.put(out)?;
-        }
+        let Some(way) = self.way_to(line, column) else {
+            return Ok(());
+        };
+        way.put(out)?;
         self.line = line;
         self.column = column;
         Ok(())
@@ -54,29 +58,51 @@ impl Pen {
     /// Takes up a rendition, if it isn't the present one.
     pub fn render(&mut self, rendition: Rendition, out: &mut Vec<u8>) -> Result<(), AllocError>
         ensures place { OnOk result (self.new ≡ record self.old { rendition = Some rendition }) }
+        ensures takes { OnOk result ((old new : Page) (rows columns : ℕ) →
+            Takes old new (Drawing rows columns self.old) (Keeps rows columns self.new) out.old.items out.new.items) }
     {
-        if self.rendition != Some(rendition) {
-            Command::Render(rendition).put(out)?;
-            self.rendition = Some(rendition);
+        if self.rendition == Some(rendition) {
+            return Ok(());
         }
+        Command::Render(rendition).put(out)?;
+        self.rendition = Some(rendition);
         Ok(())
     }
 
-    /// Prints a cell's character and marks, `width` columns wide, at a place.
+    /// Puts the pen at a place, with a rendition.
+    fn aim(
+        &mut self,
+        line: u16,
+        column: u16,
+        rendition: Rendition,
+        out: &mut Vec<u8>,
+    ) -> Result<(), AllocError>
+        requires { (line < 9999) × (column < 9999) }
+        ensures place { OnOk result (self.new ≡ record { line = line; column = column; rendition = Some rendition }) }
+        ensures takes { OnOk result ((old new : Page) (rows columns : ℕ) → line < rows → rows < 9999 → column < columns → columns < 9999 →
+            Takes old new (Drawing rows columns self.old) (Keeps rows columns self.new) out.old.items out.new.items) }
+    {
+        self.move_to(line, column, out)?;
+        self.render(rendition, out)?;
+        Ok(())
+    }
+
+    /// Prints a cell's character and marks at a place.
     pub fn put_cell(
         &mut self,
         line: u16,
         column: u16,
-        width: u16,
         cell: Cell,
         out: &mut Vec<u8>,
     ) -> Result<(), AllocError>
-        requires { (line < 9999) × (column < 9999) × (width < 9999) }
+        requires { (line < 9999) × (column < 9999) }
+        ensures takes { OnOk result ((old new : Page) (rows columns : ℕ) → line < rows → rows < 9999 → column + width_of cell.shape ≤ columns → columns < 9999 →
+            IsDrawableCell cell → is_right cell.shape ≡ false → cell_at (line_at new line) column ≡ cell → Differs old new line column →
+            Takes old new (Drawing rows columns self.old) (Writes rows columns self.new line column (width_of cell.shape) (row_of cell column)) out.old.items out.new.items) }
     {
-        self.move_to(line, column, out)?;
-        self.render(cell.rendition, out)?;
+        self.aim(line, column, cell.rendition, out)?;
         put_glyphs(cell, out)?;
-        self.column = column + width;
+        self.column = column + columns_of(cell);
         Ok(())
     }
 
@@ -89,9 +115,12 @@ impl Pen {
         out: &mut Vec<u8>,
     ) -> Result<(), AllocError>
         requires { (line < 9999) × (column < 9999) }
+        ensures takes { OnOk result ((old new : Page) (rows columns : ℕ) → line < rows → rows < 9999 → 0 < count → column + count ≤ columns → columns < 9999 →
+            Takes old new (Drawing rows columns self.old) (Writes rows columns self.new line column count (λ c. blank)) out.old.items out.new.items) }
     {
         self.move_to(line, column, out)?;
-        Command::EraseCells(count).put(out)
+        Command::EraseCells(count).put(out)?;
+        Ok(())
     }
 
     /// Makes blanks of the cells from a place to the end of its line. The cursor stays there.
@@ -102,14 +131,30 @@ impl Pen {
         out: &mut Vec<u8>,
     ) -> Result<(), AllocError>
         requires { (line < 9999) × (column < 9999) }
+        ensures takes { OnOk result ((old new : Page) (rows columns n : ℕ) → line < rows → rows < 9999 → 0 < n → column + n ≡ columns → columns < 9999 →
+            Takes old new (Drawing rows columns self.old) (Writes rows columns self.new line column n (λ c. blank)) out.old.items out.new.items) }
     {
         self.move_to(line, column, out)?;
-        Command::EraseToEnd.put(out)
+        Command::EraseToEnd.put(out)?;
+        Ok(())
+    }
+}
+
+/// The columns that a cell's character takes.
+pub fn columns_of(cell: Cell) -> u16
+    ensures value { result ≡ width_of cell.shape }
+    ensures few { (0 < result) × (result ≤ 2) }
+{
+    match cell.shape {
+        Shape::Left => 2,
+        Shape::Narrow | Shape::Right => 1,
     }
 }
 
 /// Appends a cell's character and its marks.
-fn put_glyphs(cell: Cell, out: &mut Vec<u8>) -> Result<(), AllocError> {
+fn put_glyphs(cell: Cell, out: &mut Vec<u8>) -> Result<(), AllocError>
+    ensures { OnOk result (out.new.items ≡ out.old.items ++ glyph_bytes cell) }
+{
     Command::Glyph(cell.character).put(out)?;
     match cell.marks {
         Marks::Bare => {}

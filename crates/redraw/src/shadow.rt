@@ -1,12 +1,14 @@
 //! What is known of a client's terminal.
 
-ghost use Rattle.std.specs.Prelude.{◌≡◌, ◌<◌, ◌≤◌, None, length};
-ghost use Rattle.cells.specs.Page.{line_at};
-ghost use Rattle.view.specs.View.{HasSize};
+ghost use Rattle.std.specs.Prelude.{◌≡◌, ◌<◌, ◌≤◌, ◌↔◌, ℕ, None, IsTrue, length};
+ghost use Rattle.terminal_model.specs.Shows.{seen_at};
+ghost use Rattle.cells.specs.Page.{line_at, IsGrid};
+ghost use Rattle.view.specs.View.{HasSize, place_of};
+ghost use Rattle.redraw.specs.Shadow.{LooksLike, NeedsDraw};
 
 use cells::next_unlike;
 use std::marker::Model;
-use view::View;
+use view::{Cursor, KeyModes, View};
 
 /// A terminal's size, and the view that it shows, if that is known.
 #[derive(Drop)]
@@ -41,24 +43,56 @@ impl Shadow {
     }
 }
 
-/// Whether two views show the same.
-fn is_same(old: &View, new: &View) -> bool
-    requires { HasSize (length old.now.page) (length (line_at old.now.page 0)) new.now }
+fn is_same_cursor(a: Cursor, b: Cursor) -> bool
+    ensures { IsTrue result ↔ (place_of a ≡ place_of b) }
 {
-    if old.cursor() != new.cursor() || old.modes() != new.modes() {
-        return false;
+    match (a, b) {
+        (Cursor::Hidden, Cursor::Hidden) => true,
+        (Cursor::Shown { line, column }, Cursor::Shown { line: l, column: c }) => {
+            line == l && column == c
+        }
+        _ => false,
     }
+}
+
+fn is_same_modes(a: KeyModes, b: KeyModes) -> bool
+    ensures { IsTrue result ↔ (a ≡ b) }
+{
+    a == b
+}
+
+/// Whether two pages look the same, protection aside.
+fn is_same_page(old: &View, new: &View) -> bool
+    requires { HasSize (length old.now.page) (length (line_at old.now.page 0)) new.now }
+    ensures { IsTrue result ↔ ((line column : ℕ) → seen_at old.now.page line column ≡ seen_at new.now.page line column) }
+{
     for line in 0..new.rows() {
-        if next_unlike(old.row(line), new.row(line), 0).is_some() {
+        if let Some(_run) = next_unlike(old.row(line), new.row(line), 0) {
             return false;
         }
     }
     true
 }
 
+/// Whether two views show the same.
+pub fn is_same(old: &View, new: &View) -> bool
+    requires { HasSize (length old.now.page) (length (line_at old.now.page 0)) new.now }
+    ensures same { IsTrue result ↔ LooksLike old.now new.now }
+    ensures grid { IsGrid new.now.page }
+{
+    if !is_same_cursor(old.cursor(), new.cursor()) {
+        return false;
+    }
+    if !is_same_modes(old.modes(), new.modes()) {
+        return false;
+    }
+    is_same_page(old, new)
+}
+
 /// Whether the terminal isn't known to show the view.
 pub fn needs_draw(shadow: &Shadow, view: &View) -> bool
     requires size { HasSize shadow.now.rows shadow.now.columns view.now }
+    ensures { IsTrue result ↔ NeedsDraw shadow.now.known view.now }
 {
     match &shadow.known {
         None => true,

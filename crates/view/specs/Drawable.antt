@@ -32,10 +32,17 @@ pub record IsDrawableCell (cell : Cell) : Type 0 where
   pub glyph : HasGlyph cell.shape cell.character
   pub marks : AreMarks cell.marks
 
+-- a right half has the character and the rendition of its left half
+abbrev pub HasHalves : List Cell → Type 0
+HasHalves cells = (column : ℕ) → is_left (cell_at cells column).shape ≡ true → unprotected (cell_at cells (suc column)) ≡ right_cell (cell_at cells column).character (cell_at cells column).rendition false
+
+abbrev pub HaveHalves : List (List Cell) → Type 0
+HaveHalves page = (line : ℕ) → line < length page → HasHalves (line_at page line)
+
 -- each cell can be printed, and a right half has the character and the rendition of its left half
 pub record IsDrawableLine (cells : List Cell) : Type 0 where
   pub printed : (column : ℕ) → column < length cells → IsDrawableCell (cell_at cells column)
-  pub halves : (column : ℕ) → is_left (cell_at cells column).shape ≡ true → unprotected (cell_at cells (suc column)) ≡ right_cell (cell_at cells column).character (cell_at cells column).rendition false
+  pub halves : HasHalves cells
 
 pub record IsDrawable (v : View) : Type 0 where
   pub lines : (line : ℕ) → line < length v.page → IsDrawableLine (line_at v.page line)

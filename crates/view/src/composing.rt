@@ -1,6 +1,8 @@
 //! Panes, separators and the status line on one page.
 
-ghost use Rattle.std.specs.Prelude.{◌≡◌, ◌<◌, ◌≤◌, length};
+ghost use Rattle.std.specs.Prelude.{IfOk, length};
+ghost use Rattle.cells.specs.Page.{line_at};
+ghost use Rattle.view.specs.View.{HasSize};
 
 use crate::pane::{Contents, Pane};
 use crate::text::text_row;
@@ -30,7 +32,9 @@ pub fn compose(
     rects: &Rects,
     panes: &[Pane],
     status: &[u8],
-) -> Result<View, AllocError> {
+) -> Result<View, AllocError>
+    ensures size { IfOk result (λ v. HasSize rects.now.status.line rects.now.status.cols v) }
+{
     let page = rects.status;
     let Ok(mut view) = View::blank(alloc, page.line as usize, page.cols as usize) else {
         return Err(AllocError);
@@ -89,13 +93,17 @@ fn first_shown(contents: &Contents, rows: usize) -> usize {
 
 impl View {
     /// Puts cells at a place that counts from 1.
-    fn put_at(&mut self, line: u16, column: u16, cells: &[Cell]) {
+    fn put_at(&mut self, line: u16, column: u16, cells: &[Cell])
+        ensures size { HasSize (length self.old.page) (length (line_at self.old.page 0)) self.new }
+    {
         if 0 < line && 0 < column {
             self.put(line as usize - 1, column as usize - 1, cells);
         }
     }
 
-    fn put_separator(&mut self, rect: Rect) {
+    fn put_separator(&mut self, rect: Rect)
+        ensures size { HasSize (length self.old.page) (length (line_at self.old.page 0)) self.new }
+    {
         let bar = Cell {
             shape: Shape::Narrow,
             character: '|',
@@ -114,7 +122,9 @@ impl View {
         rect: Rect,
         pane: &Pane,
         is_focused: bool,
-    ) -> Result<(), AllocError> {
+    ) -> Result<(), AllocError>
+        ensures size { HasSize (length self.old.page) (length (line_at self.old.page 0)) self.new }
+    {
         if let Pane::Readable(contents) = pane {
             self.put_contents(alloc, rect, contents, is_focused)?;
         }
@@ -145,7 +155,9 @@ impl View {
         rect: Rect,
         contents: &Contents,
         is_focused: bool,
-    ) -> Result<(), AllocError> {
+    ) -> Result<(), AllocError>
+        ensures size { HasSize (length self.old.page) (length (line_at self.old.page 0)) self.new }
+    {
         let rows = rect.rows.saturating_sub(1);
         let first = first_shown(contents, rows as usize);
         for row in 0..rows {

@@ -5,9 +5,12 @@ ghost use Rattle.std.specs.Prelude.{◌≡◌, ◌≤◌, IfOk, length};
 use cells::{Cell, Marks, Rendition, Shape, glyph_width};
 use std::alloc::{AllocError, Global};
 
-/// What a text shows in place of a character: U+FFFD for one without a width.
+/// The one character of width 3, which a terminal draws as U+FFFD (UAX #11).
+const WIDEST: char = '\u{17D8}';
+
+/// What a text shows in place of a character: U+FFFD for one without a width, or of width 3.
 fn visible(character: char) -> char {
-    if glyph_width(character) == 0 {
+    if glyph_width(character) == 0 || character == WIDEST {
         '\u{FFFD}'
     } else {
         character

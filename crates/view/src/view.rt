@@ -1,7 +1,7 @@
 //! A client's page as it is to be shown.
 
-ghost use Rattle.std.specs.Prelude.{◌≡◌, ◌<◌, ◌≤◌, ◌↔◌, Err, None, false, length, replicate, IfOk, IfSome};
-ghost use Rattle.cells.specs.Line.{blank};
+ghost use Rattle.std.specs.Prelude.{◌≡◌, ◌+◌, ◌<◌, ◌≤◌, ◌↔◌, Err, None, false, length, replicate, IfOk, IfSome};
+ghost use Rattle.cells.specs.Line.{blank, IsPaired};
 ghost use Rattle.cells.specs.Page.{IsGrid, IsGridSize, line_at};
 
 use cells::{Cell, Grid, GridFault};
@@ -52,7 +52,7 @@ impl Model for View {
 }
 
 impl View {
-    ghost use Rattle.view.specs.View.{HasSize, place_of};
+    ghost use Rattle.view.specs.View.{HasSize, place_of, written};
     ghost use Rattle.terminal_model.specs.Screen.{IsInside};
 
     /// A blank page of this size, its cursor hidden. It is `BadSize` outside 2 to 200 lines by 2 to 300
@@ -72,13 +72,15 @@ impl View {
     pub fn rows(&self) -> usize
         ensures value { result ≡ length self.now.page }
         ensures grid { IsGrid self.now.page }
+        ensures few { length self.now.page ≤ 200 }
     {
         self.grid.rows()
     }
 
     /// The number of cells of each row.
     pub fn cols(&self) -> usize
-        ensures { result ≡ length (line_at self.now.page 0) }
+        ensures value { result ≡ length (line_at self.now.page 0) }
+        ensures few { result ≤ 300 }
     {
         self.grid.cols()
     }
@@ -89,12 +91,14 @@ impl View {
         ensures cells { result.now ≡ line_at self.now.page line }
         ensures width { length result.now ≡ length (line_at self.now.page 0) }
         ensures few { length result.now ≤ 300 }
+        ensures paired { IsPaired result.now }
     {
         self.grid.row(line)
     }
 
     pub fn cursor(&self) -> Cursor
         ensures cursor { place_of result ≡ self.now.cursor }
+        ensures grid { IsGrid self.now.page }
         ensures inside { IfSome self.now.cursor (λ p. IsInside (length self.now.page) (length (line_at self.now.page 0)) p.line p.column) }
     {
         self.cursor
@@ -108,7 +112,8 @@ impl View {
 
     /// The same view once more.
     pub fn try_copy(&self, alloc: Global) -> Result<View, AllocError>
-        ensures size { IfOk result (λ v. HasSize (length self.now.page) (length (line_at self.now.page 0)) v) }
+        ensures grid { IsGrid self.now.page }
+        ensures copy { IfOk result (λ v. v ≡ self.now) }
     {
         let Ok(mut copy) = View::blank(alloc, self.rows(), self.cols()) else {
             return Err(AllocError);
@@ -136,7 +141,9 @@ impl View {
 
     /// Puts cells at a place, counted from 0; nothing where the page has no such place.
     pub(crate) fn put(&mut self, line: usize, column: usize, cells: &[Cell])
+        ensures grid { IsGrid self.old.page }
         ensures size { HasSize (length self.old.page) (length (line_at self.old.page 0)) self.new }
+        ensures value { line < length self.old.page → column + length cells.now ≤ length (line_at self.old.page 0) → self.new ≡ record self.old { page = written line column cells.now self.old.page } }
     {
         let cols = self.grid.cols();
         if line < self.grid.rows() && column <= cols && cells.len() <= cols - column {

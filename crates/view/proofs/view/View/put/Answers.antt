@@ -1,4 +1,4 @@
-use Rattle.std.proofs.Common.{◌+◌, List, length}
+use Rattle.std.proofs.Common.{◌+◌, List, length, refl}
 use Rattle.cells.specs.declared.cell.Cell.{Cell}
 use Rattle.cells.specs.Line.{spliced}
 use Rattle.cells.specs.Page.{line_at, edited}
@@ -9,11 +9,13 @@ pub returns-then-cells-cols : goal.returns-then-cells-cols
 returns-then-cells-cols c =
     let page : List (List Cell) = c.self.inside.grid in
     let source = spliced c.args.column c.args.cells.now (c.args.column + length c.args.cells.now) (length (line_at page c.args.line)) in
-    record {
-      size = rw (c.write.ensures, ← c.self.view_is) record {
+    rw (c.write.ensures, ← c.self.view_is) record {
+      grid = c.self.invariant.grid;
+      size = record {
         rows_are = length-page_from (edited c.args.line source) page;
         columns_are = width-page_from (edited c.args.line source) page 0;
       };
+      value = λ hl hc. refl;
     }
 
 pub invariant_of-self : goal.invariant_of-self

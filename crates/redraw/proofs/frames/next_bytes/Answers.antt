@@ -1,0 +1,23 @@
+use Rattle.std.proofs.Common.{◌≡◌, ℕ, Bool, length, ap, ◌∙◌, subst, arith, is_some}
+use Rattle.cells.specs.Page.{line_at, IsGridSize}
+use Rattle.redraw.specs.declared.pen.Pen.{Pen}
+use Rattle.redraw.specs.Drawing.{Takes, Stage}
+use Rattle.redraw.specs.Frames.{pen_of, EndsAs, Begins}
+use Rattle.redraw.proofs.Takings.{takes_given}
+use Rattle.redraw.proofs.Ends.{ended}
+use Rattle.redraw.proofs.frames.next_bytes.Goals as goal
+
+pub returns : goal.returns
+returns c od nd =
+    let old = c.args.old.now in
+    let v = c.args.view.now in
+    let rows : ℕ = length v.page in
+    let columns : ℕ = length (line_at v.page 0) in
+    let few : IsGridSize (length old.page) (length (line_at old.page 0)) = c.cursor-cursor.ensures.grid.size in
+    let drawn = ended old.page v.page rows columns c.paint.new.pen v (Stage rows columns c.pen_at-pen.result old.page old.has_application_arrows old.has_application_keypad c.is_shown.result) c.args.out.now.items c.paint.new.out.items
+    (omega (arith, few.most_rows, c.requires.rows_are)) (omega (arith, few.most_columns, c.requires.columns_are)) (c.in_ok-paint.ensures od nd) in
+    let pen : c.pen_at-pen.result ≡ pen_of old.cursor = c.pen_at-pen.ensures ∙ ap pen_of c.cursor-cursor.ensures.cursor in
+    let shown : c.is_shown.result ≡ is_some old.cursor = c.is_shown.ensures ∙ ap is_some c.cursor-cursor.ensures.cursor in
+    let stage = subst (λ (p : Pen). Takes old.page v.page (Stage rows columns p old.page old.has_application_arrows old.has_application_keypad (is_some old.cursor)) (λ x y. EndsAs rows columns v y) c.args.out.now.items c.paint.new.out.items) pen
+    (subst (λ (b : Bool). Takes old.page v.page (Stage rows columns c.pen_at-pen.result old.page old.has_application_arrows old.has_application_keypad b) (λ x y. EndsAs rows columns v y) c.args.out.now.items c.paint.new.out.items) shown drawn) in
+    takes_given old.page v.page (Stage rows columns (pen_of old.cursor) old.page old.has_application_arrows old.has_application_keypad (is_some old.cursor)) (Begins rows columns old) (λ x y. EndsAs rows columns v y) c.args.out.now.items c.paint.new.out.items (λ x f. f.stage) stage
