@@ -125,7 +125,7 @@ fn read_open<'a>(fields: &[u8], text: &'a mut Vec<u8>) -> Result<Option<Event<'a
 
 /// A number of one to four digits.
 fn read_number(word: &[u8]) -> Option<u16> {
-    if word.is_empty() || word.len() > 4 {
+    if word.is_empty() || word.len() > 4 || !word.iter().all(|byte| byte.is_ascii_digit()) {
         return None;
     }
     str::from_utf8(word).ok()?.parse().ok()

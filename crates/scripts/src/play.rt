@@ -1,0 +1,169 @@
+//! Plays a script and judges what it prints.
+
+use cells::Marks;
+use emulator::Emulator;
+use session::simulate;
+use std::alloc::{AllocError, Global};
+use std::process::Abort;
+use std::{io, str};
+
+/// The first bytes of a frame for a terminal in an unknown state, as they are printed.
+pub const RESET: &str = r"\18\1bc\1b%G\1b[?7l";
+
+/// What a run of the simulator left.
+#[derive(Drop)]
+pub struct Played {
+    pub output: Vec<u8>,
+    pub errors: Vec<u8>,
+    pub status: u8,
+}
+
+/// A script with what it must print. A line `deliver C ..` stands for any draw, and `deliver C reset ..` for
+/// one that begins with the reset: its bytes are read by terminals of the client's size, which must then show
+/// what `--show` prints, if the script draws last.
+pub struct Row {
+    pub title: &'static str,
+    pub script: &'static str,
+    pub lines: &'static str,
+    /// Lines and columns of client 0.
+    pub size: (usize, usize),
+}
+
+/// What stands in terminals before their first draw: nothing; and a page of wide characters with strange
+/// modes, inside a string.
+const STATES: [&[u8]; 2] = [
+    b"",
+    b"x\xE6\xBC\xA2y\x1b[2;3r\x1b[?1;5;6h\x1b[4;20h\x1b[1;4;7m\x1b7\x1b[?25l\x1b=\x1b)0\x0e\x1b%@\x1bPtext",
+];
+
+/// Plays a script with these words behind the program's name.
+pub fn play(alloc: Global, words: &[&str], script: &[u8]) -> io::Result<Played> {
+    let mut owned = Vec::new(alloc);
+    owned.push(String::from_str(alloc, "muxsim")?)?;
+    for word in words {
+        owned.push(String::from_str(alloc, word)?)?;
+    }
+    let mut output = Vec::new(alloc);
+    let mut errors = Vec::new(alloc);
+    let status = simulate(alloc, owned.as_slice(), script, &mut output, &mut errors);
+    Ok(Played {
+        output,
+        errors,
+        status,
+    })
+}
+
+/// Plays the script of a row with `--show`, and compares.
+pub fn judge(rt: &(impl Abort + AllocGlobal), row: &Row) -> io::Result<()> {
+    let alloc = rt.alloc();
+    let title = row.title;
+    let played = play(alloc, &["--show", "own"], row.script.as_bytes())?;
+    assert_eq!(rt; played.status, 0, "{title}");
+    assert!(rt; played.errors.is_empty(), "{title}");
+    let printed = str::from_utf8(&played.output).unwrap_or("not UTF-8");
+    let mut delivered = Vec::new(alloc);
+    let mut wanted = row.lines.lines().filter(|line| !line.is_empty());
+    for line in printed.lines() {
+        let want = wanted.next().unwrap_or("the end");
+        let is_as_wanted = match want.strip_suffix("..") {
+            Some(begin) => is_draw(begin, line),
+            None => line == want,
+        };
+        assert!(rt; is_as_wanted, "{title}");
+        if let Some(bytes) = line.strip_prefix("deliver 0 ") {
+            unescape(bytes.as_bytes(), &mut delivered)?;
+        }
+    }
+    assert_eq!(rt; wanted.next(), None, "{title}");
+    if !delivered.is_empty() {
+        for state in STATES {
+            let shown = shown_after(alloc, row.size, state, &delivered)?;
+            let is_shown = printed.ends_with(shown.as_str());
+            assert!(rt; is_shown, "{title}: the terminal shows {shown}");
+        }
+    }
+    Ok(())
+}
+
+/// Whether the line begins so, `reset` standing for the reset.
+fn is_draw(begin: &str, line: &str) -> bool {
+    match begin.strip_suffix("reset ") {
+        Some(begin) => match line.strip_prefix(begin) {
+            Some(bytes) => bytes.starts_with(RESET),
+            None => false,
+        },
+        None => line.starts_with(begin) && line.len() > begin.len(),
+    }
+}
+
+/// What a terminal in a state shows after these bytes, as `--show` prints it.
+fn shown_after(
+    alloc: Global,
+    (rows, cols): (usize, usize),
+    state: &[u8],
+    bytes: &[u8],
+) -> Result<String, AllocError> {
+    let mut reports = Vec::new(alloc);
+    let mut text = String::new(alloc);
+    let Ok(mut terminal) = Emulator::new(alloc, rows, cols, 0) else {
+        return Ok(text);
+    };
+    if terminal.feed_all(state, &mut reports).is_err()
+        || terminal.feed_all(bytes, &mut reports).is_err()
+    {
+        return Ok(text);
+    }
+    let page = terminal.page(0);
+    for line in 0..page.rows() {
+        text.push('|')?;
+        for cell in page.line(line) {
+            if cell.is_right() {
+                continue;
+            }
+            text.push(cell.character)?;
+            match cell.marks {
+                Marks::Bare => {}
+                Marks::One(mark) => text.push(mark)?,
+                Marks::Two(first, second) => {
+                    text.push(first)?;
+                    text.push(second)?;
+                }
+            }
+        }
+        text.push_str("|\n")?;
+    }
+    if terminal.modes().shows_cursor {
+        let (line, column) = terminal.cursor();
+        let line = line.saturating_add(1);
+        let column = column.saturating_add(1);
+        writeln!(&mut text, "cursor {line} {column}").map_err(|_| AllocError)?;
+    } else {
+        text.push_str("cursor hidden\n")?;
+    }
+    Ok(text)
+}
+
+/// Appends the bytes that a printed text stands for.
+pub fn unescape(text: &[u8], out: &mut Vec<u8>) -> Result<(), AllocError> {
+    let mut pending = [0u8; 2];
+    let mut digits = None;
+    for byte in text {
+        match digits {
+            None if *byte == b'\\' => digits = Some(0usize),
+            None => out.push(*byte)?,
+            Some(0) => {
+                pending[0] = *byte;
+                digits = Some(1);
+            }
+            Some(_) => {
+                pending[1] = *byte;
+                let value = str::from_utf8(&pending)
+                    .ok()
+                    .and_then(|hex| u8::from_str_radix(hex, 16).ok());
+                out.push(value.unwrap_or(b'?'))?;
+                digits = None;
+            }
+        }
+    }
+    Ok(())
+}
