@@ -16,7 +16,7 @@ use Rattle.terminal_model.proofs.Readings.{reads-append}
 use Rattle.terminal_model.proofs.Resets.{frame-terminal, frame-reports}
 use Rattle.terminal_model.proofs.Terminals.{IsTerminal-reads, IsTerminal-ready}
 use Rattle.view.specs.View.{HasSize}
-use Rattle.view.specs.Drawable.{HaveHalves}
+use Rattle.terminal_model.specs.Drawable.{HaveHalves}
 use Rattle.redraw.specs.declared.pen.Pen.{Pen}
 use Rattle.redraw.specs.Shadow.{LooksLike}
 use Rattle.redraw.specs.Drawing.{Drawing, Takes, Stage, Final}

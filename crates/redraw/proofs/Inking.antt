@@ -11,7 +11,7 @@ use Rattle.cells.specs.Page.{line_at}
 use Rattle.control_parser.specs.Spelling.{spelling}
 use Rattle.terminal_model.specs.Screen.{Page, Screen}
 use Rattle.terminal_model.specs.Drawing.{Holds, HasMark, Differs}
-use Rattle.view.specs.Drawable.{IsGlyph, AreMarks, HasGlyph, IsDrawableCell}
+use Rattle.terminal_model.specs.Drawable.{IsGlyph, AreMarks, HasGlyph, IsDrawableCell}
 use Rattle.redraw.specs.declared.pen.Pen.{Pen}
 use Rattle.redraw.specs.declared.command.Command.TheVariants.{Glyph}
 use Rattle.redraw.specs.Commands.{func_of}

@@ -9,7 +9,7 @@ use Rattle.cells.specs.Page.{line_at}
 use Rattle.cells.proofs.Settling.{cell_at_past, true≢false}
 use Rattle.terminal_model.specs.Screen.{Page}
 use Rattle.terminal_model.specs.Shows.{seen_at}
-use Rattle.view.specs.Drawable.{IsDrawableLine}
+use Rattle.terminal_model.specs.Drawable.{IsDrawableLine}
 use Rattle.redraw.specs.declared.pen.Pen.{Pen}
 use Rattle.redraw.specs.Drawing.{Row, seen, mixed, row_of, width_of, Drawing, Takes, Writes, HasLine, DrawsLine, DrawsPiece, DrawsUpTo, AreLines}
 use Rattle.redraw.proofs.Rows.{IsPairedRow, mixed_over, mixed_same, mixed_start}

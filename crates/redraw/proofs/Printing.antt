@@ -19,7 +19,7 @@ use Rattle.terminal_model.specs.Functions.{plain_sequence}
 use Rattle.terminal_model.specs.Table.{effect, acted_from, settled, with_state, printed, printed_as, placed, advanced, following, marked_at, drawn}
 use Rattle.terminal_model.specs.Drawing.{drawn_state, Holds, cell_of, has_room, mark_place, place_by, Differs}
 use Rattle.terminal_model.proofs.Sound.{IsSound-effect}
-use Rattle.view.specs.Drawable.{IsGlyph}
+use Rattle.terminal_model.specs.Drawable.{IsGlyph}
 use Rattle.redraw.specs.declared.pen.Pen.{Pen}
 use Rattle.redraw.specs.declared.command.Command.TheVariants.{Glyph, EraseCells, EraseToEnd}
 use Rattle.redraw.specs.Commands.{func_of}

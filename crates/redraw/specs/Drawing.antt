@@ -15,7 +15,7 @@ use Rattle.terminal_model.specs.Reading.{Act, ready, reads}
 use Rattle.terminal_model.specs.declared.state.Position.{Position}
 use Rattle.terminal_model.specs.Shows.{seen_at, ShowsCursor}
 use Rattle.terminal_model.specs.Drawing.{Draws, drawn_state}
-use Rattle.view.specs.Drawable.{IsDrawableLine, HasHalves}
+use Rattle.terminal_model.specs.Drawable.{IsDrawableLine, HasHalves}
 use Rattle.redraw.specs.declared.pen.Pen.{Pen}
 use Rattle.redraw.specs.declared.command.Command.{Command}
 use Rattle.redraw.specs.Commands.{func_of}

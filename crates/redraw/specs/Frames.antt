@@ -7,7 +7,7 @@ use Rattle.terminal_model.specs.Screen.{Page, Screen, blank_page}
 use Rattle.terminal_model.specs.Reading.{Terminal, reads}
 use Rattle.terminal_model.specs.Shows.{View}
 use Rattle.terminal_model.specs.Drawing.{frame_bytes, Draws, Agrees}
-use Rattle.view.specs.Drawable.{HaveHalves}
+use Rattle.terminal_model.specs.Drawable.{HaveHalves}
 use Rattle.redraw.specs.declared.pen.Pen.{Pen}
 use Rattle.redraw.specs.Drawing.{Takes, Stage, Final}
 

@@ -5,7 +5,7 @@ ghost use Rattle.cells.specs.Line.{blank, cell_at, is_right};
 ghost use Rattle.cells.specs.Page.{line_at};
 ghost use Rattle.terminal_model.specs.Screen.{Page};
 ghost use Rattle.terminal_model.specs.Drawing.{Differs};
-ghost use Rattle.view.specs.Drawable.{IsDrawableCell};
+ghost use Rattle.terminal_model.specs.Drawable.{IsDrawableCell};
 ghost use Rattle.redraw.specs.Drawing.{IsWay, Drawing, Takes, Keeps, Writes, row_of, width_of, glyph_bytes};
 
 use crate::command::Command;

@@ -6,5 +6,6 @@ pub mod Reading
 pub mod Writing
 pub mod Shows
 pub mod Drawing
+pub mod Drawable
 pub mod Places
 pub mod Rows

@@ -3,7 +3,7 @@ use Rattle.cells.specs.Line.{plain, blank}
 use Rattle.cells.specs.Page.{line_at, IsGridSize}
 use Rattle.terminal_model.specs.Screen.{blank_page}
 use Rattle.terminal_model.specs.Shows.{View}
-use Rattle.view.specs.Drawable.{HaveHalves}
+use Rattle.terminal_model.specs.Drawable.{HaveHalves}
 use Rattle.redraw.specs.Drawing.{Takes, Stage, Final}
 use Rattle.redraw.proofs.Ends.{ended, blank_halves}
 use Rattle.redraw.proofs.frames.first_bytes.Goals as goal

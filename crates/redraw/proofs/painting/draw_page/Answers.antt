@@ -3,7 +3,7 @@ use Rattle.cells.specs.declared.cell.Cell.{Cell}
 use Rattle.cells.specs.Page.{line_at}
 use Rattle.terminal_model.specs.Screen.{Page}
 use Rattle.terminal_model.specs.Shows.{seen_at}
-use Rattle.view.specs.Drawable.{IsDrawableLine, HasHalves}
+use Rattle.terminal_model.specs.Drawable.{IsDrawableLine, HasHalves}
 use Rattle.redraw.specs.Drawing.{AreLines, Takes, HasLine, DrawsLine, HasPage, DrawsPage}
 use Rattle.redraw.proofs.Stages.{page_start, page_line}
 use Rattle.redraw.proofs.painting.draw_page.Goals as goal

@@ -1,6 +1,7 @@
 use Rattle.std.proofs.Common.{length}
 use Rattle.cells.specs.Page.{line_at}
-use Rattle.view.specs.Drawable.{IsDrawable, HaveHalves}
+use Rattle.terminal_model.specs.Drawable.{HaveHalves}
+use Rattle.view.specs.Drawable.{IsDrawable}
 use Rattle.redraw.specs.Drawing.{Takes, HasPage, DrawsPage}
 use Rattle.redraw.proofs.painting.draw_page.Given as goal
 

@@ -1,7 +1,7 @@
 use Rattle.std.proofs.Common.{◌≡◌, ◌+◌, ◌<◌, ◌≤◌, ℕ, length, List, arith, refl, sym, ap, ◌∙◌, subst}
 use Rattle.cells.specs.declared.cell.Cell.{Cell}
 use Rattle.cells.specs.Line.{cell_at, is_right}
-use Rattle.view.specs.Drawable.{IsDrawableCell}
+use Rattle.terminal_model.specs.Drawable.{IsDrawableCell}
 use Rattle.redraw.specs.Drawing.{width_of}
 use Rattle.redraw.proofs.Pieces.{blank_piece, cell_piece, cell_fits}
 use Rattle.redraw.proofs.painting.draw_piece.Goals.{then-column-erased, else-column-erased}

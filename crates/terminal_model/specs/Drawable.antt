@@ -1,0 +1,44 @@
+-- Cells that a terminal can show as they are.
+use Rattle.std.specs.Prelude.{◌≡◌, ℕ, suc, ◌<◌, true, false, List, length}
+use Rattle.cells.specs.declared.cell.Shape.{Shape}
+use Rattle.cells.specs.declared.cell.Shape.TheVariants.{Narrow, Left, Right}
+use Rattle.cells.specs.declared.cell.Marks.{Marks}
+use Rattle.cells.specs.declared.cell.Marks.TheVariants.{Bare, One, Two}
+use Rattle.cells.specs.declared.cell.Cell.{Cell}
+use Rattle.cells.specs.Line.{cell_at, is_left, right_cell, unprotected}
+use Rattle.cells.specs.Page.{line_at}
+use Rattle.control_parser.specs.declared.func.Func.TheVariants.{Print}
+use Rattle.control_parser.specs.Spelling.{IsGiven}
+use Rattle.terminal_model.specs.Table.{columns_of, drawn}
+
+-- a character that is printed as it is, in so many columns (UAX #11)
+pub record IsGlyph (width c : ℕ) : Type 0 where
+  pub given : IsGiven (Print c)
+  pub columns_are : columns_of c ≡ width
+  pub stays : drawn c ≡ c
+
+abbrev pub AreMarks : Marks → Type 0
+AreMarks Bare = Prim.Unit {0}
+AreMarks (One a) = IsGlyph 0 a
+AreMarks (Two a b) = IsGlyph 0 a × IsGlyph 0 b
+
+abbrev pub HasGlyph : Shape → ℕ → Type 0
+HasGlyph Narrow c = IsGlyph 1 c
+HasGlyph Left c = IsGlyph 2 c
+HasGlyph Right c = Prim.Unit {0}
+
+pub record IsDrawableCell (cell : Cell) : Type 0 where
+  pub glyph : HasGlyph cell.shape cell.character
+  pub marks : AreMarks cell.marks
+
+-- a right half has the character and the rendition of its left half
+abbrev pub HasHalves : List Cell → Type 0
+HasHalves cells = (column : ℕ) → is_left (cell_at cells column).shape ≡ true → unprotected (cell_at cells (suc column)) ≡ right_cell (cell_at cells column).character (cell_at cells column).rendition false
+
+abbrev pub HaveHalves : List (List Cell) → Type 0
+HaveHalves page = (line : ℕ) → line < length page → HasHalves (line_at page line)
+
+-- each cell can be printed, and a right half has the character and the rendition of its left half
+pub record IsDrawableLine (cells : List Cell) : Type 0 where
+  pub printed : (column : ℕ) → column < length cells → IsDrawableCell (cell_at cells column)
+  pub halves : HasHalves cells
