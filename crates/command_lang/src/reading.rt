@@ -1,6 +1,9 @@
 //! A line is a command, or has a fault.
 
-ghost use Rattle.std.specs.Prelude.{◌≡◌, ◌⊎◌, IfOk, IfErr};
+ghost use Rattle.std.specs.Prelude.{◌≡◌, ◌⊎◌, ◌<◌, ◌≤◌, false, length, IfOk, IfErr, Err};
+ghost use Rattle.std.specs.Str.{is_utf8};
+ghost use Rattle.command_lang_table.specs.declared.fault.FaultKind.TheVariants as faults;
+ghost use Rattle.command_lang_table.specs.Table.{at};
 ghost use Rattle.command_lang_table.specs.LineFaults.{no_memory};
 ghost use Rattle.command_lang.specs.Relation.{faults_of, NoneBefore, Relates, Refuses};
 
@@ -16,6 +19,8 @@ pub const LONGEST_LINE: usize = 1024;
 fn command_in(alloc: Global, line: &[u8]) -> Result<Command, ParseFault>
     ensures ok { IfOk result (λ c. Relates line.now c) }
     ensures err { IfErr result (λ f. (f ≡ no_memory) ⊎ Refuses line.now f) }
+    ensures long { 1024 < length line.now → result ≡ Err (at 1024 faults.TooLong) }
+    ensures no_text { length line.now ≤ 1024 → is_utf8 line.now ≡ false → result ≡ Err (at 0 faults.BadWord) }
 {
     if line.len() > LONGEST_LINE {
         return Err(ParseFault {
@@ -42,6 +47,9 @@ fn command_in(alloc: Global, line: &[u8]) -> Result<Command, ParseFault>
 pub fn parse(alloc: Global, line: &[u8]) -> Result<Command, ParseFault>
     ensures ok { IfOk result (λ c. Relates line.now c) }
     ensures err { IfErr result (λ f. (f ≡ no_memory) ⊎ Refuses line.now f) }
+    // These two take no memory.
+    ensures long { 1024 < length line.now → result ≡ Err (at 1024 faults.TooLong) }
+    ensures no_text { length line.now ≤ 1024 → is_utf8 line.now ≡ false → result ≡ Err (at 0 faults.BadWord) }
     // No fault of the line is at a place before the one that is answered.
     ensures least { IfErr result (λ f. (f ≡ no_memory) ⊎ NoneBefore f.place (faults_of line.now)) }
 {
