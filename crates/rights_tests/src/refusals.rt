@@ -146,8 +146,8 @@ fn mask(stage: &mut Stage, words: [Option<Word>; 2]) -> Option<AclFault> {
 
 /// Makes so many more names known.
 fn crowd(stage: &mut Stage, more: u8) {
-    for i in 0..more.min(64) {
-        let name = UserId::of(&[b'u', b'a' + i / 8, b'a' + i % 8]);
+    for i in 0..more {
+        let name = UserId::of(&[b'u', b'a'.saturating_add(i / 8), b'a'.saturating_add(i % 8)]);
         let _ = change(stage, &[name]);
     }
 }
