@@ -1,5 +1,5 @@
 ghost use Rattle.std.specs.Prelude.{◌≡◌};
-ghost use Rattle.acl.specs.Slots.{is_window, without_window};
+ghost use Rattle.acl_slots.specs.Slots.{is_window, without_window};
 
 /// The open windows, each in a slot of its own.
 #[derive(Clone, Copy, PartialEq, Eq, Debug)]
@@ -26,7 +26,7 @@ fn without_window(slot: Option<u32>, window: u32) -> Option<u32>
 
 impl Slots {
     ghost use Rattle.std.specs.Prelude.{◌≡◌, ◌<◌, IfSome, None, Some, map, replicate, length, slice_set, slice_get, slice_index_or};
-    ghost use Rattle.acl.specs.Slots.{slot_of, free_slot, without_window};
+    ghost use Rattle.acl_slots.specs.Slots.{slot_of, free_slot, without_window};
 
     /// No window is open.
     pub fn new() -> Slots

@@ -4,8 +4,7 @@ use Rattle.std.specs.List.{position_from}
 use Rattle.std.proofs.lemmas.Iterator.Adapters.{position_from-zero}
 use borrow.Author.Tests.{eqb-true}
 use Rattle.std.proofs.Common.{◌≤◌, ◌-◌, replicate, unwrap_or, length-set}
-use Rattle.acl.specs.History.{decided}
-use Rattle.acl.specs.Slots.{is_window, slot_of, without_window, free_slot, filled, SlotsStandFor}
+use Rattle.acl_slots.specs.Slots.{is_window, slot_of, without_window, free_slot, filled, SlotsStandFor}
 
 from_zero : (test : Option ℕ → Bool) (ws : List (Option ℕ)) → position test ws ≡ position_from test 0 ws
 from_zero test ws = position_from-zero test ws
@@ -165,7 +164,7 @@ module _ (ws : List (Option ℕ)) (is_open : ℕ → Bool) (count : ℕ) (s : Sl
   pub slots-free : count < 40 → free_slot ws ≡ None → {X : Type 0} → X
   slots-free few none = absurd (omega (arith, s.few, s.all, filled-full ws 0 (sym (from_zero is_none ws) ∙ none)))
 
-  pub slots-opened : (w slot : ℕ) → free_slot ws ≡ Some slot → is_open w ≡ false → SlotsStandFor (slice_set ws slot (Some w)) (λ v. unwrap_or (decided (w == v) true) (is_open v)) (count + 1)
+  pub slots-opened : (w slot : ℕ) → free_slot ws ≡ Some slot → is_open w ≡ false → SlotsStandFor (slice_set ws slot (Some w)) (λ v. unwrap_or (if w == v then Some true else None) (is_open v)) (count + 1)
   slots-opened w slot free fresh = record {
     shown = λ v. ap is_some (slot_of-opened ws w v slot below empty (none (slot_of ws w) (s.shown w ∙ fresh))) ∙ by v (w == v);
     few = omega (arith, s.few, filled-opened ws w slot below empty);
@@ -182,18 +181,18 @@ module _ (ws : List (Option ℕ)) (is_open : ℕ → Bool) (count : ℕ) (s : Sl
       none None e = refl
       none (Some x) e = absurd (true≢false e)
 
-      by : (v : ℕ) (c : Bool) → is_some (if c then Some slot else slot_of ws v) ≡ unwrap_or (decided c true) (is_open v)
+      by : (v : ℕ) (c : Bool) → is_some (if c then Some slot else slot_of ws v) ≡ unwrap_or (if c then Some true else None) (is_open v)
       by v true = refl
       by v false = s.shown v
 
-  pub slots-closed : (w : ℕ) → SlotsStandFor (map (without_window w) ws) (λ v. unwrap_or (decided (w == v) false) (is_open v)) (if is_open w then count - 1 else count)
+  pub slots-closed : (w : ℕ) → SlotsStandFor (map (without_window w) ws) (λ v. unwrap_or (if w == v then Some false else None) (is_open v)) (if is_open w then count - 1 else count)
   slots-closed w = record {
     shown = λ v. ap is_some (slot_of-closed ws w v) ∙ by v (w == v);
     few = few_left (is_open w) refl;
     all = length-closed ws w ∙ s.all;
   }
     where
-      by : (v : ℕ) (c : Bool) → is_some (if c then None else slot_of ws v) ≡ unwrap_or (decided c false) (is_open v)
+      by : (v : ℕ) (c : Bool) → is_some (if c then None else slot_of ws v) ≡ unwrap_or (if c then Some false else None) (is_open v)
       by v true = refl
       by v false = s.shown v
 

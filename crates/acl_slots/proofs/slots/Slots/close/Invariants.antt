@@ -1,7 +1,7 @@
 use Rattle.std.proofs.Common.{◌≡◌}
-use Rattle.acl.specs.Slots.{without_window}
-use Rattle.acl.proofs.InPlace.{mapped_below}
-use Rattle.acl.proofs.slots.Slots.close.Given as goal
+use Rattle.acl_slots.specs.Slots.{without_window}
+use Rattle.acl_slots.proofs.InPlace.{mapped_below}
+use Rattle.acl_slots.proofs.slots.Slots.close.Given as goal
 
 -- the slots so far are done, and the others are as they were
 abbrev pub invariant-loop-i : goal.invariant-loop-i

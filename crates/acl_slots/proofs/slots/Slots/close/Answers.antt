@@ -1,7 +1,7 @@
 use Rattle.std.proofs.Common.{◌≡◌, ◌∙◌, slice_set, ap, arith}
-use Rattle.acl.specs.Slots.{without_window}
-use Rattle.acl.proofs.InPlace.{mapped_below-more, mapped_below-all}
-use Rattle.acl.proofs.slots.Slots.close.Goals as goal
+use Rattle.acl_slots.specs.Slots.{without_window}
+use Rattle.acl_slots.proofs.InPlace.{mapped_below-more, mapped_below-all}
+use Rattle.acl_slots.proofs.slots.Slots.close.Goals as goal
 
 pub loop-i-preserved : goal.loop-i-preserved
 loop-i-preserved c =
