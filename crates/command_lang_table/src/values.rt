@@ -1,6 +1,6 @@
 //! What words mean.
 
-ghost use Rattle.std.specs.Prelude.{◌≡◌, ◌≤◌, length, true, IfOk};
+ghost use Rattle.std.specs.Prelude.{◌≡◌, true, IfOk};
 ghost use Rattle.command_lang_table.specs.Values as mean;
 ghost use Rattle.command_lang_table.specs.MaskFaults as judging;
 

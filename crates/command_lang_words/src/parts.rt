@@ -1,9 +1,8 @@
 //! The parts of a word, from its front.
 
-ghost use Rattle.std.specs.Prelude.{◌≡◌, ◌≤◌, ◌+◌, ◌&&◌, ◌++◌, ℕ, List, length, OnOk, IfOk, Result, nat_lt};
+ghost use Rattle.std.specs.Prelude.{◌≡◌, ◌&&◌, IfOk};
 ghost use Rattle.std.specs.String.{string_bytes};
-ghost use Rattle.std.specs.Str.{encode_utf8_all};
-ghost use Rattle.command_lang_words.specs.Parts.{Part, gives, escape, plain, in_single, in_double, part, word, is_octal};
+ghost use Rattle.command_lang_words.specs.Parts.{gives, escape, plain, in_single, in_double, part, word, is_octal};
 ghost use Rattle.command_lang_words.specs.Reading.{Reads};
 
 use std::alloc::AllocError;
