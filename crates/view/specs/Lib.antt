@@ -1,2 +1,4 @@
 pub mod View
 pub mod Drawable
+pub mod Texts
+pub mod Granted
