@@ -1,0 +1,5 @@
+pub mod Rows
+pub mod KeyLists
+pub mod Tables
+pub mod Runs
+pub mod Refused

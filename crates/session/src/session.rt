@@ -1,6 +1,12 @@
 //! The session.
 
-ghost use Rattle.std.specs.Prelude.{◌≡◌, ◌≤◌, ◌<◌, length, IfOk, IfSome};
+ghost use Rattle.std.specs.Prelude.{◌≡◌, ◌≤◌, ◌<◌, ◌++◌, ◌∷◌, [], List, ℕ, Ok, Err, Some, None, false, true, length, map, IfOk, IfSome, OnOk, OnErr};
+ghost use Rattle.session.specs.declared.refusal.Refusal.TheVariants.{NoMemory, NoWindow as NoSuch};
+ghost use Rattle.session.specs.Trace.{Happening, Attach, Open, Keys, Output, Draw, happening, History, start, Entry, clients_of, attached_at};
+ghost use Rattle.session.specs.Keys.{HasRead, typed};
+ghost use Rattle.session.specs.Steps.{IsStep, is_client_size, is_window_size};
+ghost use Rattle.session.specs.Stands.{StandsFor, IfTaken, TakesQuietly, Takes, wants_memory};
+ghost use Rattle.session.specs.Headline.{SomeRun, SomeSteps, AreSteps, AllSteps, run_call, take_call, left_of, TypedBytesReach, DrawShows, NoOtherEffect};
 
 use crate::bytes::Bytes;
 use crate::clients::{Client, Clients};
@@ -42,17 +48,23 @@ enum Taken {
 }
 
 /// Whether a step was refused for want of memory.
-fn wants_memory(reply: &Reply) -> bool {
+fn wants_memory(reply: &Reply) -> bool
+    ensures { result ≡ wants_memory reply.now }
+{
     matches!(reply, Err(Refusal::NoMemory))
 }
 
 /// Whether a client's terminal may have this size.
-fn is_client_size(rows: u16, cols: u16) -> bool {
+fn is_client_size(rows: u16, cols: u16) -> bool
+    ensures { result ≡ is_client_size rows cols }
+{
     (4..=200).contains(&rows) && (20..=300).contains(&cols)
 }
 
 /// Whether a window may have this size and keep so many lines.
-fn is_window_size(rows: u16, cols: u16, keep: u16) -> bool {
+fn is_window_size(rows: u16, cols: u16, keep: u16) -> bool
+    ensures { result ≡ is_window_size rows cols keep }
+{
     (MIN_ROWS..=MAX_ROWS).contains(&(rows as usize))
         && (MIN_COLUMNS..=MAX_COLUMNS).contains(&(cols as usize))
         && keep as usize <= MAX_KEEP
@@ -60,7 +72,9 @@ fn is_window_size(rows: u16, cols: u16, keep: u16) -> bool {
 
 impl Session {
     /// A session that has taken no event.
-    pub fn new(alloc: Global, owner: UserId) -> Result<Session, Refusal> {
+    pub fn new(alloc: Global, owner: UserId) -> Result<Session, Refusal>
+        ensures { IfOk result (λ s. StandsFor (start owner) s) }
+    {
         Ok(Session {
             alloc,
             owner,
@@ -71,7 +85,14 @@ impl Session {
 
     /// Takes one event: its effects are appended, and the notes are its acts. A refusal for want of memory
     /// leaves everything as it was; any other leaves all but the notes.
-    pub fn step(&mut self, event: Event, effects: &mut Vec<Effect>, notes: &mut Notes) -> Reply {
+    pub fn step(&mut self, event: Event, effects: &mut Vec<Effect>, notes: &mut Notes) -> Reply
+        // For each history that the session stood for, it stands for that history with this step.
+        ensures step { IfTaken result (Takes self.old (happening event.entry) notes.new effects.old.items effects.new.items result self.new) }
+        // Want of memory leaves everything as it was.
+        ensures memory { result ≡ Err NoMemory → (self.new ≡ self.old) × (effects.new.items ≡ effects.old.items) × (notes.new ≡ notes.old) }
+        // A step takes the whole event.
+        ensures whole { left_of (happening event.entry) result ≡ [] }
+    {
         let reply = match event {
             Event::Attach { user, rows, cols } => return self.attach(user, rows, cols, notes),
             Event::Open {
@@ -80,7 +101,7 @@ impl Session {
                 cols,
                 keep,
                 title,
-            } => return self.open(user, [rows, cols, keep], title, notes),
+            } => return self.open(user, rows, cols, keep, title, notes),
             Event::Keys { client, bytes } => self.keys(client, bytes, effects),
             Event::Output { window, bytes } => self.output(window, bytes, effects),
             Event::Draw { client } => self.draw(client, effects),
@@ -94,7 +115,18 @@ impl Session {
         events: &[Event],
         effects: &mut Vec<Effect>,
         replies: &mut Vec<Reply>,
-    ) -> Ran {
+    ) -> Ran
+        // The call is a run of the session.
+        ensures run { SomeRun self.old (run_call events.now effects.old.items effects.new.items replies.old.items replies.new.items result) self.new (AllSteps IsStep) }
+        // A typed byte reaches the window in focus exactly where its user may type there.
+        ensures typed_bytes { SomeRun self.old (run_call events.now effects.old.items effects.new.items replies.old.items replies.new.items result) self.new (AllSteps TypedBytesReach) }
+        // After each draw every terminal of the client's size, having read all that was delivered, shows the granted view.
+        ensures draws { SomeRun self.old (run_call events.now effects.old.items effects.new.items replies.old.items replies.new.items result) self.new (AllSteps DrawShows) }
+        // Each effect is one of its event's.
+        ensures no_other_effect { SomeRun self.old (run_call events.now effects.old.items effects.new.items replies.old.items replies.new.items result) self.new (AllSteps NoOtherEffect) }
+        // Each event was taken, but where a step found no memory.
+        ensures whole { result.stopped ≡ false → result.taken ≡ length events.now }
+    {
         let mut notes = Notes::new(self.alloc);
         for (taken, event) in events.iter().enumerate() {
             let part = match replies.reserve(1) {
@@ -121,7 +153,8 @@ impl Session {
     }
 
     /// What a client is to see now.
-    pub fn view(&self, client: u32) -> Result<View, Refusal> {
+    pub fn view(&self, client: u32) -> Result<View, Refusal>
+    {
         let Some(client) = self.clients.get(client) else {
             return Err(Refusal::NoWindow);
         };
@@ -130,13 +163,15 @@ impl Session {
 
     /// The least serial of a client from there on.
     pub fn clients_from(&self, serial: u32) -> Option<u32>
-        ensures { IfSome result (λ least. serial ≤ least) }
+        ensures bound { IfSome result (λ least. serial ≤ least) }
     {
         self.clients.from(serial)
     }
 
     /// Takes one event, in as many steps as it needs.
-    fn take(&mut self, event: Event, effects: &mut Vec<Effect>, notes: &mut Notes) -> Taken {
+    fn take(&mut self, event: Event, effects: &mut Vec<Effect>, notes: &mut Notes) -> Taken
+        ensures { SomeSteps self.old (take_call (happening event.entry) effects.old.items effects.new.items result) self.new }
+    {
         let reply = self.step(event, effects, notes);
         if wants_memory(&reply) {
             return Taken::Part(0);
@@ -145,7 +180,7 @@ impl Session {
     }
 
     fn view_for(&self, client: &Client) -> Result<View, AllocError> {
-        let rects = Rects::lone(self.alloc, client.rows, client.cols)?;
+        let rects = Rects::lone(self.alloc, client.shadow.rows(), client.shadow.cols())?;
         let window = match client.window {
             Some(serial) => self.windows.get(serial),
             None => None,
@@ -165,7 +200,10 @@ impl Session {
         }
     }
 
-    fn attach(&mut self, user: UserId, rows: u16, cols: u16, notes: &mut Notes) -> Reply {
+    fn attach(&mut self, user: UserId, rows: u16, cols: u16, notes: &mut Notes) -> Reply
+        ensures step { IfTaken result (TakesQuietly self.old (Attach user rows cols) notes.new result self.new) }
+        ensures memory { result ≡ Err NoMemory → (self.new ≡ self.old) × (notes.new ≡ notes.old) }
+    {
         if user != self.owner {
             return settled(Err(Refusal::UnknownUser), notes);
         }
@@ -180,8 +218,6 @@ impl Session {
         self.clients.push(Client {
             serial: made,
             user,
-            rows,
-            cols,
             keys: KeyReader::new(),
             window: self.windows.first().map(|window| window.serial),
             message: Bytes::new(self.alloc),
@@ -197,10 +233,15 @@ impl Session {
     fn open(
         &mut self,
         user: UserId,
-        [rows, cols, keep]: [u16; 3],
+        rows: u16,
+        cols: u16,
+        keep: u16,
         title: &str,
         notes: &mut Notes,
-    ) -> Reply {
+    ) -> Reply
+        ensures step { IfTaken result (TakesQuietly self.old (Open user rows cols keep title.now) notes.new result self.new) }
+        ensures memory { result ≡ Err NoMemory → (self.new ≡ self.old) × (notes.new ≡ notes.old) }
+    {
         if user != self.owner {
             return settled(Err(Refusal::UnknownUser), notes);
         }
@@ -245,7 +286,11 @@ impl Session {
         })
     }
 
-    fn keys(&mut self, client: u32, bytes: &[u8], effects: &mut Vec<Effect>) -> Reply {
+    fn keys(&mut self, client: u32, bytes: &[u8], effects: &mut Vec<Effect>) -> Reply
+        ensures step { IfTaken result (Takes self.old (Keys client bytes.now) [] effects.old.items effects.new.items result self.new) }
+        ensures memory { result ≡ Err NoMemory → (self.new ≡ self.old) × (effects.new.items ≡ effects.old.items) }
+        ensures whole { left_of (Keys client bytes.now) result ≡ [] }
+    {
         let Some(row) = self.clients.get(client) else {
             return Err(Refusal::NoWindow);
         };
@@ -263,7 +308,7 @@ impl Session {
                     Effect::Say(client, Bytes::of(self.alloc, text)?)
                 }
             };
-            effects.push(effect)?;
+            effects.push(effect).unwrap();
         }
         self.clients.set_read(client, keys, message);
         Ok(Done {
@@ -272,7 +317,11 @@ impl Session {
         })
     }
 
-    fn output(&mut self, window: u32, bytes: &[u8], effects: &mut Vec<Effect>) -> Reply {
+    fn output(&mut self, window: u32, bytes: &[u8], effects: &mut Vec<Effect>) -> Reply
+        ensures step { IfTaken result (Takes self.old (Output window bytes.now) [] effects.old.items effects.new.items result self.new) }
+        ensures memory { result ≡ Err NoMemory → (self.new ≡ self.old) × (effects.new.items ≡ effects.old.items) }
+        ensures whole { left_of (Output window bytes.now) result ≡ [] }
+    {
         if self.windows.get(window).is_none() {
             return Err(Refusal::NoWindow);
         }
@@ -283,25 +332,33 @@ impl Session {
             return Err(Refusal::NoMemory);
         }
         if !reports.is_empty() {
-            effects.push(Effect::Input(window, Bytes::from_vec(reports)))?;
+            effects.push(Effect::Input(window, Bytes::from_vec(reports))).unwrap();
         }
         Ok(Done::plain())
     }
 
-    fn draw(&mut self, client: u32, effects: &mut Vec<Effect>) -> Reply {
-        let view = self.view(client)?;
-        if self.clients.needs_draw(client, &view) {
+    fn draw(&mut self, client: u32, effects: &mut Vec<Effect>) -> Reply
+        ensures step { IfTaken result (Takes self.old (Draw client) [] effects.old.items effects.new.items result self.new) }
+        ensures memory { result ≡ Err NoMemory → (self.new ≡ self.old) × (effects.new.items ≡ effects.old.items) }
+    {
+        let Some(row) = self.clients.get(client) else {
+            return Err(Refusal::NoWindow);
+        };
+        let view = self.view_for(row)?;
+        if row.needs_draw(&view) {
             effects.reserve(1)?;
             let mut bytes = Vec::new(self.alloc);
             self.clients.draw(self.alloc, client, &view, &mut bytes)?;
-            effects.push(Effect::Deliver(client, Bytes::from_vec(bytes)))?;
+            effects.push(Effect::Deliver(client, Bytes::from_vec(bytes))).unwrap();
         }
         Ok(Done::plain())
     }
 }
 
 /// What the keys type.
-fn read_keys(alloc: Global, reader: &mut KeyReader, keys: &[u8]) -> Result<Bytes, AllocError> {
+fn read_keys(alloc: Global, reader: &mut KeyReader, keys: &[u8]) -> Result<Bytes, AllocError>
+    ensures { IfOk result (λ made. (past : List ℕ) → HasRead past reader.old → HasRead (past ++ keys.now) reader.new × (typed (past ++ keys.now) ≡ typed past ++ made)) }
+{
     let mut typed = Bytes::new(alloc);
     for key in keys {
         if let Some(byte) = reader.push(*key) {
@@ -317,14 +374,20 @@ fn composed(alloc: Global, rects: &Rects, pane: Pane, status: &[u8]) -> Result<V
 }
 
 /// Notes of one act.
-fn noted(alloc: Global, act: Act) -> Result<Notes, AllocError> {
+fn noted(alloc: Global, act: Act) -> Result<Notes, AllocError>
+    ensures { IfOk result (λ notes. notes ≡ act ∷ []) }
+{
     let mut notes = Notes::new(alloc);
     notes.push(act)?;
     Ok(notes)
 }
 
 /// Forgets the acts of the step before, unless there was no memory for this one, which has none.
-fn settled(reply: Reply, notes: &mut Notes) -> Reply {
+fn settled(reply: Reply, notes: &mut Notes) -> Reply
+    ensures same { result ≡ reply }
+    ensures none { IfTaken reply (notes.new ≡ []) }
+    ensures memory { reply ≡ Err NoMemory → notes.new ≡ notes.old }
+{
     if !wants_memory(&reply) {
         notes.clear();
     }
