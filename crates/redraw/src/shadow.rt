@@ -108,6 +108,7 @@ pub fn needs_draw(shadow: &Shadow, view: &View) -> bool
     requires size { HasSize shadow.now.rows shadow.now.columns view.now }
     ensures needs { IsTrue result ↔ NeedsDraw shadow.now.known view.now }
     ensures known { result ≡ false → IsKnown shadow.now.known view.now }
+    ensures grid { result ≡ false → IsGrid view.now.page }
 {
     match &shadow.known {
         None => true,

@@ -3,3 +3,8 @@ pub mod KeyLists
 pub mod Tables
 pub mod Runs
 pub mod Refused
+pub mod Attaching
+pub mod Openings
+pub mod Typing
+pub mod Feeds
+pub mod Delivering

@@ -66,7 +66,7 @@ no_acts (Draw client) r = refl
 pub refused : (h : History) (s : Session) (event : Happening) (r : Refusal) → StandsFor h s → answer h event ≡ Err r → HasEffects h event [] → StandsFor (with_step h (refusal_of event r)) s
 refused h s event r st reply effects = kept h s (refusal_of event r) st (record { reply = sym reply; acts = sym (no_acts event r); effects = effects }) (keeps_refused event r)
 
-not_true : (b : Bool) → b ≡ true → not b ≡ false
+pub not_true : (b : Bool) → b ≡ true → not b ≡ false
 not_true b is = ap not is
 
 not_false : (b : Bool) → b ≡ false → not b ≡ true

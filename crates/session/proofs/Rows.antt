@@ -1,6 +1,6 @@
 -- Tables whose rows have serials, and tests.
 use Rattle.std.proofs.Common.{◌≡◌, ◌≢◌, ℕ, zero, suc, ◌<◌, ◌≤◌, ◌+◌, Bool, true, false, List, [], ◌∷◌, ◌++◌, length, Some, None, Ok, Err, set, map, get_or, refl, ap, sym, ◌∙◌, inl, inr, arith, eqb, Option}
-use Rattle.std.specs.Prelude.{if◌then◌else◌, ◌==◌, ◌⊎◌, slice_get, is_some, IsTrue, Result, OnOk, OnErr}
+use Rattle.std.specs.Prelude.{if◌then◌else◌, ◌==◌, ◌⊎◌, slice_get, nat_le, is_some, IsTrue, Result, OnOk, OnErr}
 use Rattle.std.specs.List.{position, position_or_len}
 use Rattle.std.proofs.lemmas.Bool.Decides.{nat_tests}
 use Rattle.std.proofs.lemmas.List.Quantifiers.{position-Some}
@@ -8,6 +8,7 @@ use Rattle.std.proofs.lemmas.Option.{slice_get-get_or}
 use Rattle.std.proofs.lemmas.List.Sums.{fails_before_first}
 use Rattle.std.proofs.lemmas.Grind.{common_steps}
 use Rattle.session.specs.Rows.{row_of, with_row}
+use Rattle.session.specs.Least.{least_from}
 
 pub if_true : {A : Type 0} (b : Bool) (x y : A) → b ≡ true → (if b then x else y) ≡ x
 if_true true x y is = refl
@@ -76,6 +77,26 @@ module _ {A : Type 0} (f : A → ℕ) where
   lost (r ∷ rows) s none =
       let past : length (r ∷ rows) ≤ position_or_len (λ row. f row == s) (r ∷ rows) = grind (arith, common_steps, none) in
       none_at (r ∷ rows) s r (λ k lt. fails_before_first (λ row. f row == s) (r ∷ rows) k r (omega (arith, past, lt)))
+
+  -- the first serial from one on, by what `position` finds
+  pub least_at : (rows : List A) (s i : ℕ) (d : A) → i < length rows → nat_le s (f (get_or rows i d)) ≡ true → ((k : ℕ) → k < i → nat_le s (f (get_or rows k d)) ≡ false) → least_from s (map f rows) ≡ Some (f (get_or rows i d))
+  least_at [] s i d lt here before = absurd (omega arith)
+  least_at (row ∷ rows) s zero d lt here before = if_true (nat_le s (f row)) _ _ here
+  least_at (row ∷ rows) s (suc i) d lt here before =
+      if_false (nat_le s (f row)) _ _ (before 0 (omega arith)) ∙ least_at rows s i d (omega arith) here (λ k below. before (suc k) (omega arith))
+
+  none_from : (rows : List A) (s : ℕ) (d : A) → ((k : ℕ) → k < length rows → nat_le s (f (get_or rows k d)) ≡ false) → least_from s (map f rows) ≡ None
+  none_from [] s d none = refl
+  none_from (row ∷ rows) s d none = if_false (nat_le s (f row)) _ _ (none 0 (omega arith)) ∙ none_from rows s d (λ k below. none (suc k) (omega arith))
+
+  pub least_found : (rows : List A) (s i : ℕ) (d : A) → position (λ row. nat_le s (f row)) rows ≡ Some i → least_from s (map f rows) ≡ Some (f (get_or rows i d))
+  least_found rows s i d at = let p = position-Some (λ row. nat_le s (f row)) rows i d at in least_at rows s i d p.0 p.1 p.2
+
+  pub least_lost : (rows : List A) (s : ℕ) → position (λ row. nat_le s (f row)) rows ≡ None → least_from s (map f rows) ≡ None
+  least_lost [] s none = refl
+  least_lost (r ∷ rows) s none =
+      let past : length (r ∷ rows) ≤ position_or_len (λ row. nat_le s (f row)) (r ∷ rows) = grind (arith, common_steps, none) in
+      none_from (r ∷ rows) s r (λ k lt. fails_before_first (λ row. nat_le s (f row)) (r ∷ rows) k r (omega (arith, past, lt)))
 
   pub at_place : (rows items : List A) (s i : ℕ) (row : A) → items ≡ rows → position (λ r. f r == s) rows ≡ Some i → i < length rows → row ≡ get_or items i row → row_of f rows s ≡ Some row
   at_place rows items s i row same at lt value = found rows s i at ∙ slice_get-get_or rows i row lt ∙ ap Some (ap (λ xs. get_or xs i row) (sym same) ∙ sym value)

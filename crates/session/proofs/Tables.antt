@@ -5,7 +5,7 @@ use Rattle.std.proofs.lemmas.List.{append-nil}
 use Rattle.terminal_model.specs.Reading.{Terminal, reads}
 use Rattle.terminal_model.specs.Shows.{IsOfSize}
 use Rattle.terminal_model.specs.Drawing.{Agrees}
-use Rattle.session.specs.Pending.{IsDrawableScreen}
+use Rattle.terminal_model.specs.Drawable.{IsDrawableScreen}
 use Rattle.emulator.specs.Standing as emulator
 use Rattle.session.specs.declared.clients.Client.{Client}
 use Rattle.session.specs.declared.windows.Window.{Window}

@@ -1,10 +1,10 @@
-pub mod Pending
 pub mod Refusals
 pub mod Trace
 pub mod Keys
 pub mod Rows
 pub mod Least
 pub mod Drawn
+pub mod Feeding
 pub mod Terminals
 pub mod Granted
 pub mod Steps

@@ -7,7 +7,7 @@ use Rattle.acl.specs.Same.{same_user}
 use Rattle.terminal_model.specs.Reading.{Terminal, reads}
 use Rattle.terminal_model.specs.Shows.{IsOfSize}
 use Rattle.terminal_model.specs.Drawing.{Agrees}
-use Rattle.session.specs.Pending.{IsDrawableScreen}
+use Rattle.terminal_model.specs.Drawable.{IsDrawableScreen}
 use Rattle.emulator.specs.Standing as emulator
 use Rattle.redraw.specs.Frames.{CanBeShown}
 use Rattle.session.specs.declared.clients.Client.{Client}

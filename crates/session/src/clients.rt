@@ -86,12 +86,8 @@ impl Clients {
         ensures least { result ≡ least_from serial (map (λ (c : Client). c.serial) self.now) }
         ensures bound { IfSome result (λ least. serial ≤ least) }
     {
-        for client in &self.rows {
-            if serial <= client.serial {
-                return Some(client.serial);
-            }
-        }
-        None
+        let place = self.rows.iter().position(|client| serial <= client.serial)?;
+        Some(self.rows[place].serial)
     }
 
     /// Adds a client.
@@ -137,12 +133,14 @@ impl Clients {
 impl Client {
     ghost use Rattle.view.specs.View.{HasSize};
     ghost use Rattle.redraw.specs.Shadow.{NeedsDraw, IsKnown};
+    ghost use Rattle.cells.specs.Page.{IsGrid};
 
     /// Whether the client's terminal isn't known to show the view, of its size.
     pub fn needs_draw(&self, view: &View) -> bool
         requires { HasSize self.now.shadow.rows self.now.shadow.columns view.now }
         ensures needs { IsTrue result ↔ NeedsDraw self.now.shadow.known view.now }
         ensures known { result ≡ false → IsKnown self.now.shadow.known view.now }
+        ensures grid { result ≡ false → IsGrid view.now.page }
     {
         needs_draw(&self.shadow, view)
     }

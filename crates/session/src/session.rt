@@ -219,7 +219,7 @@ impl Session {
             serial: made,
             user,
             keys: KeyReader::new(),
-            window: self.windows.first().map(|window| window.serial),
+            window: self.windows.first(),
             message: Bytes::new(self.alloc),
             shadow: Shadow::unknown(rows, cols),
         })?;
@@ -325,7 +325,9 @@ impl Session {
         if self.windows.get(window).is_none() {
             return Err(Refusal::NoWindow);
         }
-        let room = bytes.len().saturating_mul(REPORT_BYTES);
+        let Some(room) = bytes.len().checked_mul(REPORT_BYTES) else {
+            return Err(Refusal::NoMemory);
+        };
         let mut reports = Vec::with_capacity(self.alloc, room)?;
         effects.reserve(1)?;
         if self.windows.feed_all(window, bytes, &mut reports).is_err() {
