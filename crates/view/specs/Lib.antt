@@ -2,3 +2,4 @@ pub mod View
 pub mod Drawable
 pub mod Texts
 pub mod Granted
+pub mod Rows

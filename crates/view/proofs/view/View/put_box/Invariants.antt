@@ -1,0 +1,13 @@
+use Rattle.std.proofs.Common.{length}
+use Rattle.cells.specs.Page.{line_at}
+use Rattle.view.specs.View.{HasSize}
+use Rattle.view.specs.Rows.{IsFree, Lays}
+use Rattle.view.specs.Granted.{part_of, box_cell, HasPairedLines}
+use Rattle.view.proofs.Laying.{first_rows}
+use Rattle.view.proofs.view.View.put_box.Given as goal
+
+abbrev pub invariant-loop-row : goal.invariant-loop-row
+invariant-loop-row l = record {
+  size : HasSize (length l.fn.self.page) (length (line_at l.fn.self.page 0)) l.self;
+  lays : HasPairedLines (part_of l.pane) → IsFree l.rect l.fn.self.page → Lays (first_rows (record { rect = l.rect; cell = box_cell l.rect l.is_focused (part_of l.pane) }) l.row) l.fn.self l.self;
+}
