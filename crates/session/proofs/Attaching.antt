@@ -45,12 +45,12 @@ pub record IsNewClient (past : List Entry) (user : UserId) (rows columns made : 
   pub message_is : c.message ≡ []
   pub known_is : c.shadow.known ≡ None
 
-module _ (h : History) (s : Session) (user : UserId) (rows columns made : ℕ) (c : Client) (st : StandsFor h s) (known : same_user user h.owner ≡ true) (good : is_client_size rows columns ≡ true)
+module _ (h : History) (s : Session) (user : UserId) (rows columns made : ℕ) (c : Client) (st : StandsFor h s) (known : same_user h.owner user ≡ true) (good : is_client_size rows columns ≡ true)
     (few : length s.clients < 1) (first : made ≡ 0) (new : IsNewClient h.entries user rows columns made c) where
-  e : Entry
+  abbrev e : Entry
   e = attaching user rows columns made
 
-  serial : Client → ℕ
+  abbrev serial : Client → ℕ
   serial v = v.serial
 
   empty : s.clients ≡ []
@@ -111,7 +111,7 @@ module _ (h : History) (s : Session) (user : UserId) (rows columns made : ℕ) (
 
   step : IsStep h e
   step = record {
-    reply = sym (if_false (not (same_user user h.owner)) _ _ (not_true _ known) ∙ (if_false (not (is_client_size rows columns)) _ _ (not_true _ good)
+    reply = sym (if_false (not (same_user h.owner user)) _ _ (not_true _ known) ∙ (if_false (not (is_client_size rows columns)) _ _ (not_true _ good)
         ∙ (if_false (nat_le 1 (length (clients_of h.entries))) _ _ (not_many _ none_attached) ∙ ap (λ n. done 0 n) (none_attached ∙ sym first))));
     acts = refl;
     effects = refl;

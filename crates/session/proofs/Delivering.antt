@@ -88,10 +88,10 @@ module _ (h : History) (s : Session) (client : ℕ) (row : Client) (v : View) (s
       })
 
   module _ (drawable : IsDrawable v) (bytes : List ℕ) (redraws : Redraws row.shadow.rows row.shadow.columns row.shadow.known v bytes) where
-    e : Entry
+    abbrev e : Entry
     e = drawing client (Deliver client bytes ∷ [])
 
-    new : Client
+    abbrev new : Client
     new = record row { shadow = record row.shadow { known = Some v } }
 
     whole : (t : Terminal) → reads t (delivered h.entries client ++ deliveries e.effects client) ≡ joined (reads t (delivered h.entries client)) (reads (reads t (delivered h.entries client)).terminal bytes)
@@ -127,7 +127,7 @@ module _ (h : History) (s : Session) (client : ℕ) (row : Client) (v : View) (s
     new_serial : new.serial ≡ client
     new_serial = serial_is (λ (c : Client). c.serial) s.clients client row at
 
-    after : List Client
+    abbrev after : List Client
     after = with_row (λ (c : Client). c.serial) s.clients client new
 
     keeps_other : (c : ℕ) → client ≢ c → KeepsClient e c

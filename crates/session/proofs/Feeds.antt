@@ -53,13 +53,13 @@ module _ (h : History) (s : Session) (window : ℕ) (bytes : List ℕ) (w new : 
   stands : WindowStands h.entries window w
   stands = subst (λ o. WindowAt h.entries window o) at (st.windows.each window)
 
-  before : Terminal
+  abbrev before : Terminal
   before = terminal_of stands.opened (writing h.entries window)
 
   read : emulator.HasRead before bytes [] new.emulator answered
   read = fed before stands.stands
 
-  e : Entry
+  abbrev e : Entry
   e = writing_step window bytes (input_of window answered)
 
   written_here : writing (e ∷ h.entries) window ≡ writing h.entries window ++ written.Output bytes ∷ []
@@ -81,7 +81,7 @@ module _ (h : History) (s : Session) (window : ℕ) (bytes : List ℕ) (w new : 
   new_serial : new.serial ≡ window
   new_serial = serial_stays ∙ serial_is (λ (v : Window). v.serial) s.windows window w at
 
-  after : List Window
+  abbrev after : List Window
   after = with_row (λ (v : Window). v.serial) s.windows window new
 
   each_by : (t : ℕ) (b : Bool) → (window == t) ≡ b → WindowAt (e ∷ h.entries) t (row_of (λ (v : Window). v.serial) after t)

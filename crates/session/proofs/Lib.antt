@@ -8,3 +8,6 @@ pub mod Openings
 pub mod Typing
 pub mod Feeds
 pub mod Delivering
+pub mod Headlines
+pub mod Viewing
+pub mod KeysRead

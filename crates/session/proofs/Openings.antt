@@ -36,13 +36,13 @@ pub record IsNewWindow (rows columns keep : ℕ) (title : List ℕ) (made : ℕ)
   pub title_is : string_bytes w.title ≡ title
   pub stands : emulator.StandsFor w.emulator (ready (starting rows columns keep))
 
-module _ (h : History) (s : Session) (user : UserId) (rows columns keep : ℕ) (title : List ℕ) (made : ℕ) (w : Window) (st : StandsFor h s) (known : same_user user h.owner ≡ true)
+module _ (h : History) (s : Session) (user : UserId) (rows columns keep : ℕ) (title : List ℕ) (made : ℕ) (w : Window) (st : StandsFor h s) (known : same_user h.owner user ≡ true)
     (good : is_window_size rows columns keep ≡ true) (few : length s.windows < 1) (named : is_title title ≡ true) (first : made ≡ 0) (new : IsNewWindow rows columns keep title made w)
     (drawable : IsDrawableScreen (starting rows columns keep)) where
-  e : Entry
+  abbrev e : Entry
   e = opening user rows columns keep title made
 
-  serial : Window → ℕ
+  abbrev serial : Window → ℕ
   serial v = v.serial
 
   empty : s.windows ≡ []
@@ -57,7 +57,7 @@ module _ (h : History) (s : Session) (user : UserId) (rows columns keep : ℕ) (
   unwritten : (t : ℕ) → writing (e ∷ h.entries) t ≡ []
   unwritten t = ap (λ ws. ws ++ []) (missing t).unwritten
 
-  as_opened : Opened
+  abbrev as_opened : Opened
   as_opened = record { number = 0; title = title; rows = rows; columns = columns; keep = keep }
 
   terminal_is : (t : ℕ) → terminal_of as_opened (writing (e ∷ h.entries) t) ≡ ready (starting rows columns keep)
@@ -94,7 +94,7 @@ module _ (h : History) (s : Session) (user : UserId) (rows columns keep : ℕ) (
 
   step : IsStep h e
   step = record {
-    reply = sym (if_false (not (same_user user h.owner)) _ _ (not_true _ known) ∙ (if_false (not (is_window_size rows columns keep)) _ _ (not_true _ good)
+    reply = sym (if_false (not (same_user h.owner user)) _ _ (not_true _ known) ∙ (if_false (not (is_window_size rows columns keep)) _ _ (not_true _ good)
         ∙ (if_false (nat_le 1 (length (windows_of h.entries))) _ _ (not_many _ none_opened) ∙ (if_false (not (is_title title)) _ _ (not_true _ named) ∙ ap (λ n. done 0 n) (none_opened ∙ sym first)))));
     acts = refl;
     effects = refl;

@@ -84,16 +84,16 @@ at_least_one n le = grind (arith, nat_tests, le)
 -- ---- Attach
 
 module _ (h : History) (s : Session) (user : UserId) (rows columns : ℕ) (st : StandsFor h s) where
-  pub attach_unknown : same_user user h.owner ≡ false → StandsFor (with_step h (refusal_of (Attach user rows columns) UnknownUser)) s
-  attach_unknown other = refused h s (Attach user rows columns) UnknownUser st (if_true (not (same_user user h.owner)) _ _ (not_false _ other)) refl
+  pub attach_unknown : same_user h.owner user ≡ false → StandsFor (with_step h (refusal_of (Attach user rows columns) UnknownUser)) s
+  attach_unknown other = refused h s (Attach user rows columns) UnknownUser st (if_true (not (same_user h.owner user)) _ _ (not_false _ other)) refl
 
-  pub attach_bad_size : same_user user h.owner ≡ true → is_client_size rows columns ≡ false → StandsFor (with_step h (refusal_of (Attach user rows columns) BadSize)) s
+  pub attach_bad_size : same_user h.owner user ≡ true → is_client_size rows columns ≡ false → StandsFor (with_step h (refusal_of (Attach user rows columns) BadSize)) s
   attach_bad_size known bad = refused h s (Attach user rows columns) BadSize st
-      (if_false (not (same_user user h.owner)) _ _ (not_true _ known) ∙ if_true (not (is_client_size rows columns)) _ _ (not_false _ bad)) refl
+      (if_false (not (same_user h.owner user)) _ _ (not_true _ known) ∙ if_true (not (is_client_size rows columns)) _ _ (not_false _ bad)) refl
 
-  pub attach_too_many : same_user user h.owner ≡ true → is_client_size rows columns ≡ true → 1 ≤ length s.clients → StandsFor (with_step h (refusal_of (Attach user rows columns) TooManyClients)) s
+  pub attach_too_many : same_user h.owner user ≡ true → is_client_size rows columns ≡ true → 1 ≤ length s.clients → StandsFor (with_step h (refusal_of (Attach user rows columns) TooManyClients)) s
   attach_too_many known good many = refused h s (Attach user rows columns) TooManyClients st
-      (if_false (not (same_user user h.owner)) _ _ (not_true _ known) ∙ (if_false (not (is_client_size rows columns)) _ _ (not_true _ good)
+      (if_false (not (same_user h.owner user)) _ _ (not_true _ known) ∙ (if_false (not (is_client_size rows columns)) _ _ (not_true _ good)
       ∙ if_true (nat_le 1 (length (clients_of h.entries))) _ _ (ap (λ n. nat_le 1 n) (sym (many_clients h s st)) ∙ at_least_one (length s.clients) many))) refl
 
 -- ---- Open
@@ -102,21 +102,21 @@ module _ (h : History) (s : Session) (user : UserId) (rows columns keep : ℕ) (
   event : Happening
   event = Open user rows columns keep title
 
-  pub open_unknown : same_user user h.owner ≡ false → StandsFor (with_step h (refusal_of (Open user rows columns keep title) UnknownUser)) s
-  open_unknown other = refused h s (Open user rows columns keep title) UnknownUser st (if_true (not (same_user user h.owner)) _ _ (not_false _ other)) refl
+  pub open_unknown : same_user h.owner user ≡ false → StandsFor (with_step h (refusal_of (Open user rows columns keep title) UnknownUser)) s
+  open_unknown other = refused h s (Open user rows columns keep title) UnknownUser st (if_true (not (same_user h.owner user)) _ _ (not_false _ other)) refl
 
-  pub open_bad_size : same_user user h.owner ≡ true → is_window_size rows columns keep ≡ false → StandsFor (with_step h (refusal_of (Open user rows columns keep title) BadSize)) s
+  pub open_bad_size : same_user h.owner user ≡ true → is_window_size rows columns keep ≡ false → StandsFor (with_step h (refusal_of (Open user rows columns keep title) BadSize)) s
   open_bad_size known bad = refused h s (Open user rows columns keep title) BadSize st
-      (if_false (not (same_user user h.owner)) _ _ (not_true _ known) ∙ if_true (not (is_window_size rows columns keep)) _ _ (not_false _ bad)) refl
+      (if_false (not (same_user h.owner user)) _ _ (not_true _ known) ∙ if_true (not (is_window_size rows columns keep)) _ _ (not_false _ bad)) refl
 
-  pub open_full : same_user user h.owner ≡ true → is_window_size rows columns keep ≡ true → 1 ≤ length s.windows → StandsFor (with_step h (refusal_of (Open user rows columns keep title) (Windows Full))) s
+  pub open_full : same_user h.owner user ≡ true → is_window_size rows columns keep ≡ true → 1 ≤ length s.windows → StandsFor (with_step h (refusal_of (Open user rows columns keep title) (Windows Full))) s
   open_full known good many = refused h s (Open user rows columns keep title) (Windows Full) st
-      (if_false (not (same_user user h.owner)) _ _ (not_true _ known) ∙ (if_false (not (is_window_size rows columns keep)) _ _ (not_true _ good)
+      (if_false (not (same_user h.owner user)) _ _ (not_true _ known) ∙ (if_false (not (is_window_size rows columns keep)) _ _ (not_true _ good)
       ∙ if_true (nat_le 1 (length (windows_of h.entries))) _ _ (ap (λ n. nat_le 1 n) (sym (many_windows h s st)) ∙ at_least_one (length s.windows) many))) refl
 
-  pub open_bad_title : same_user user h.owner ≡ true → is_window_size rows columns keep ≡ true → length s.windows < 1 → is_title title ≡ false → StandsFor (with_step h (refusal_of (Open user rows columns keep title) (Windows BadTitle))) s
+  pub open_bad_title : same_user h.owner user ≡ true → is_window_size rows columns keep ≡ true → length s.windows < 1 → is_title title ≡ false → StandsFor (with_step h (refusal_of (Open user rows columns keep title) (Windows BadTitle))) s
   open_bad_title known good few bad = refused h s (Open user rows columns keep title) (Windows BadTitle) st
-      (if_false (not (same_user user h.owner)) _ _ (not_true _ known) ∙ (if_false (not (is_window_size rows columns keep)) _ _ (not_true _ good)
+      (if_false (not (same_user h.owner user)) _ _ (not_true _ known) ∙ (if_false (not (is_window_size rows columns keep)) _ _ (not_true _ good)
       ∙ (if_false (nat_le 1 (length (windows_of h.entries))) _ _ (ap (λ n. nat_le 1 n) (sym (many_windows h s st)) ∙ none_yet (length s.windows) few)
       ∙ if_true (not (is_title title)) _ _ (not_false _ bad)))) refl where
     none_yet : (n : ℕ) → n < 1 → nat_le 1 n ≡ false

@@ -61,7 +61,7 @@ module _ (h : History) (s : Session) (client : ℕ) (bytes made : List ℕ) (row
     (serial_stays : new.serial ≡ row.serial) (user_stays : new.user ≡ row.user) (window_stays : new.window ≡ row.window) (shadow_stays : new.shadow ≡ row.shadow)
     (message_is : new.message ≡ message_by row.window made)
     (reads_on : (past : List ℕ) → HasRead past row.keys → HasRead (past ++ bytes) new.keys × (typed (past ++ bytes) ≡ typed past ++ made)) where
-  e : Entry
+  abbrev e : Entry
   e = keying client bytes (effects_of_typed client row.window made)
 
   stands : ClientStands h client row
@@ -71,7 +71,7 @@ module _ (h : History) (s : Session) (client : ℕ) (bytes made : List ℕ) (row
   read = reads_on (keys_of h.entries client) stands.keys
 
   all_keys : keys_of (e ∷ h.entries) client ≡ keys_of h.entries client ++ bytes
-  all_keys = ap (λ ks. keys_of h.entries client ++ ks) (if_true (client == client) _ _ (same_number client) ∙ take_all bytes (length bytes) (omega arith))
+  all_keys = ap (λ ks. keys_of h.entries client ++ ks) (if_true (client == client) _ _ (same_number client) ∙ take_all (length bytes) bytes (omega arith))
 
   same_delivered : (c : ℕ) → delivered (e ∷ h.entries) c ≡ delivered h.entries c
   same_delivered c = delivered_same h.entries e c (undelivered client row.window made c)
@@ -105,7 +105,7 @@ module _ (h : History) (s : Session) (client : ℕ) (bytes made : List ℕ) (row
   new_serial : new.serial ≡ client
   new_serial = serial_stays ∙ serial_is (λ (c : Client). c.serial) s.clients client row at
 
-  after : List Client
+  abbrev after : List Client
   after = with_row (λ (c : Client). c.serial) s.clients client new
 
   each_by : (t : ℕ) (b : Bool) → (client == t) ≡ b → ClientAt (with_step h e) t (row_of (λ (c : Client). c.serial) after t)

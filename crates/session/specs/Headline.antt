@@ -1,8 +1,8 @@
 -- What a run of a session shows.
-use Rattle.std.specs.Prelude.{ℕ, Bool, true, false, List, [], ◌∷◌, ◌++◌, ◌≡◌, if◌then◌else◌, ◌==◌, ◌&&◌, nat_lt, Option, Some, None, Result, Ok, Err, drop, length, map, MatchOption, is_ok}
+use Rattle.std.specs.Prelude.{ℕ, Bool, true, false, List, [], ◌∷◌, ◌++◌, ◌≡◌, ◌⊎◌, if◌then◌else◌, ◌==◌, ◌&&◌, nat_lt, Option, Some, None, Result, Ok, Err, drop, length, map, MatchOption, is_ok}
 use Rattle.std.specs.List.{AllByRecursion}
 use Rattle.acl.specs.declared.user_id.UserId.{UserId}
-use Rattle.terminal_model.specs.Shows.{ShowsFromAny}
+use Rattle.terminal_model.specs.Shows.{View, ShowsFromAny}
 use Rattle.session.specs.declared.event.Effect.{Effect}
 use Rattle.session.specs.declared.event.Effect.TheVariants.{Input, Deliver, Say}
 use Rattle.session.specs.declared.event.Event.{Event}
@@ -10,7 +10,8 @@ use Rattle.session.specs.declared.event.Ran.{Ran}
 use Rattle.session.specs.declared.session.Taken.{Taken}
 use Rattle.session.specs.declared.session.Taken.TheVariants.{Whole, Part}
 use Rattle.session.specs.declared.session.Session.{Session}
-use Rattle.session.specs.declared.refusal.Refusal.TheVariants.{NoWindow}
+use Rattle.session.specs.declared.refusal.Refusal.{Refusal}
+use Rattle.session.specs.declared.refusal.Refusal.TheVariants.{NoWindow, NoMemory}
 use Rattle.session.specs.Refusals.{text_of}
 use Rattle.session.specs.Keys.{typed_behind}
 use Rattle.session.specs.Trace.{Happening, Attach, Open, Keys, Output, Draw, Reply, Entry, History, Attached, with_step, happening, opened_at, attached_at, keys_of, delivered, inputs, may_type}
@@ -168,3 +169,10 @@ IsEffectOf h _ _ = ⊥
 
 abbrev pub NoOtherEffect : History → Entry → Type 0
 NoOtherEffect h e = AllByRecursion (IsEffectOf h e.event) e.effects
+
+-- ---- views
+
+-- a client's granted view, or why there is none
+abbrev pub IsViewOf : History → ℕ → Result View Refusal → Type 0
+IsViewOf h client (Ok v) = MatchOption (attached_at h.entries client) ⊥ (λ a. v ≡ granted_view h client a)
+IsViewOf h client (Err r) = (r ≡ NoMemory) ⊎ ((r ≡ NoWindow) × (attached_at h.entries client ≡ None))

@@ -49,7 +49,7 @@ pub record ClientStands (h : History) (serial : ℕ) (c : Client) : Type 0 where
   pub rows_are : c.shadow.rows ≡ attached.rows
   pub columns_are : c.shadow.columns ≡ attached.columns
   pub shows_is : c.window ≡ attached.shows
-  pub owner : same_user attached.user h.owner ≡ true
+  pub owner : same_user h.owner attached.user ≡ true
   pub sized : is_client_size attached.rows attached.columns ≡ true
   pub keys : HasRead (keys_of h.entries serial) c.keys
   pub message_is : c.message ≡ message_of h.entries serial

@@ -38,12 +38,12 @@ done taken made = Ok (record { taken = taken; made = made; number = 0; text = No
 -- the reply to an event: the owner alone is known, and there are one window and one client at most
 abbrev pub answer : History → Happening → Reply
 answer h (Attach user rows columns) =
-    if not (same_user user h.owner) then Err UnknownUser
+    if not (same_user h.owner user) then Err UnknownUser
     else if not (is_client_size rows columns) then Err BadSize
     else if nat_le 1 (length (clients_of h.entries)) then Err TooManyClients
     else done 0 (length (clients_of h.entries))
 answer h (Open user rows columns keep title) =
-    if not (same_user user h.owner) then Err UnknownUser
+    if not (same_user h.owner user) then Err UnknownUser
     else if not (is_window_size rows columns keep) then Err BadSize
     else if nat_le 1 (length (windows_of h.entries)) then Err (Windows Full)
     else if not (is_title title) then Err (Windows BadTitle)

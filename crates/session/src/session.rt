@@ -6,7 +6,14 @@ ghost use Rattle.session.specs.Trace.{Happening, Attach, Open, Keys, Output, Dra
 ghost use Rattle.session.specs.Keys.{HasRead, typed};
 ghost use Rattle.session.specs.Steps.{IsStep, is_client_size, is_window_size};
 ghost use Rattle.session.specs.Stands.{StandsFor, IfTaken, TakesQuietly, Takes, wants_memory};
-ghost use Rattle.session.specs.Headline.{SomeRun, SomeSteps, AreSteps, AllSteps, run_call, take_call, left_of, TypedBytesReach, DrawShows, NoOtherEffect};
+ghost use Rattle.session.specs.Stands.{ClientStands};
+ghost use Rattle.session.specs.Granted.{granted_view};
+ghost use Rattle.regions.specs.Shapes.{Shape};
+ghost use Rattle.view.specs.View.{HasSize};
+ghost use Rattle.view.specs.Drawable.{IsDrawable};
+ghost use Rattle.view.specs.Granted.{AreParts, AreDrawable, part_of, view_of};
+ghost use Rattle.session.specs.Headline.{SomeRun, SomeSteps, AreSteps, AllSteps, run_call, take_call, left_of, TypedBytesReach, DrawShows, NoOtherEffect, IsViewOf};
+ghost use Rattle.session.specs.Least.{least_from};
 
 use crate::bytes::Bytes;
 use crate::clients::{Client, Clients};
@@ -152,8 +159,26 @@ impl Session {
         }
     }
 
+    /// The session after these events, as far as memory lasts, with what they made.
+    pub fn after(
+        alloc: Global,
+        owner: UserId,
+        events: &[Event],
+        effects: &mut Vec<Effect>,
+        replies: &mut Vec<Reply>,
+    ) -> Result<(Session, Ran), Refusal>
+        ensures typed_bytes { IfOk result (λ after. (steps : List Entry) × AreSteps (run_call events.now effects.old.items effects.new.items replies.old.items replies.new.items after.1) steps × AllSteps TypedBytesReach (start owner) steps) }
+        ensures draws { IfOk result (λ after. (steps : List Entry) × AreSteps (run_call events.now effects.old.items effects.new.items replies.old.items replies.new.items after.1) steps × AllSteps DrawShows (start owner) steps) }
+        ensures no_other_effect { IfOk result (λ after. (steps : List Entry) × AreSteps (run_call events.now effects.old.items effects.new.items replies.old.items replies.new.items after.1) steps × AllSteps NoOtherEffect (start owner) steps) }
+    {
+        let mut session = Session::new(alloc, owner)?;
+        let ran = session.run(events, effects, replies);
+        Ok((session, ran))
+    }
+
     /// What a client is to see now.
     pub fn view(&self, client: u32) -> Result<View, Refusal>
+        ensures { (h : History) → StandsFor h self.now → IsViewOf h client result }
     {
         let Some(client) = self.clients.get(client) else {
             return Err(Refusal::NoWindow);
@@ -163,6 +188,7 @@ impl Session {
 
     /// The least serial of a client from there on.
     pub fn clients_from(&self, serial: u32) -> Option<u32>
+        ensures least { (h : History) → StandsFor h self.now → result ≡ least_from serial (clients_of h.entries) }
         ensures bound { IfSome result (λ least. serial ≤ least) }
     {
         self.clients.from(serial)
@@ -179,7 +205,11 @@ impl Session {
         Taken::Whole(reply)
     }
 
-    fn view_for(&self, client: &Client) -> Result<View, AllocError> {
+    fn view_for(&self, client: &Client) -> Result<View, AllocError>
+        ensures size { IfOk result (λ v. HasSize client.now.shadow.rows client.now.shadow.columns v) }
+        ensures exact { IfOk result (λ v. (h : History) (serial : ℕ) → StandsFor h self.now → (c : ClientStands h serial client.now) → v ≡ granted_view h serial c.attached) }
+        ensures drawable { IfOk result (λ v. (h : History) (serial : ℕ) → StandsFor h self.now → ClientStands h serial client.now → IsDrawable v) }
+    {
         let rects = Rects::lone(self.alloc, client.shadow.rows(), client.shadow.cols())?;
         let window = match client.window {
             Some(serial) => self.windows.get(serial),
@@ -204,7 +234,7 @@ impl Session {
         ensures step { IfTaken result (TakesQuietly self.old (Attach user rows cols) notes.new result self.new) }
         ensures memory { result ≡ Err NoMemory → (self.new ≡ self.old) × (notes.new ≡ notes.old) }
     {
-        if user != self.owner {
+        if self.owner != user {
             return settled(Err(Refusal::UnknownUser), notes);
         }
         if !is_client_size(rows, cols) {
@@ -242,7 +272,7 @@ impl Session {
         ensures step { IfTaken result (TakesQuietly self.old (Open user rows cols keep title.now) notes.new result self.new) }
         ensures memory { result ≡ Err NoMemory → (self.new ≡ self.old) × (notes.new ≡ notes.old) }
     {
-        if user != self.owner {
+        if self.owner != user {
             return settled(Err(Refusal::UnknownUser), notes);
         }
         if !is_window_size(rows, cols, keep) {
@@ -363,15 +393,17 @@ fn read_keys(alloc: Global, reader: &mut KeyReader, keys: &[u8]) -> Result<Bytes
 {
     let mut typed = Bytes::new(alloc);
     for key in keys {
-        if let Some(byte) = reader.push(*key) {
-            typed.push(byte)?;
-        }
+        typed.push_some(reader.push(*key))?;
     }
     Ok(typed)
 }
 
 /// The view of one pane.
-fn composed(alloc: Global, rects: &Rects, pane: Pane, status: &[u8]) -> Result<View, AllocError> {
+fn composed(alloc: Global, rects: &Rects, pane: Pane, status: &[u8]) -> Result<View, AllocError>
+    ensures size { IfOk result (λ v. HasSize rects.now.status.line rects.now.status.cols v) }
+    ensures exact { IfOk result (λ v. (s : Shape) (rows cols : ℕ) → AreParts s rows cols rects.now (part_of pane.entry ∷ []) → v ≡ view_of rects.now (part_of pane.entry ∷ []) status.now) }
+    ensures drawable { IfOk result (λ v. (s : Shape) (rows cols : ℕ) → AreParts s rows cols rects.now (part_of pane.entry ∷ []) → AreDrawable (part_of pane.entry ∷ []) → IsDrawable v) }
+{
     compose(alloc, rects, &[pane], status)
 }
 

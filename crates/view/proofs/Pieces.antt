@@ -24,7 +24,7 @@ use Rattle.std.proofs.Math.Seq.{take-length}
 use Rattle.view.specs.View.{HasSize}
 use Rattle.view.specs.Rows.{IsFree, IsPlaced, Lays, FocusesOn}
 use Rattle.view.specs.declared.pane.Pane.{Pane}
-use Rattle.view.specs.Granted.{Piece, Part, vacant, part_of, AreParts, HasPairedLines, pieces, region_piece, separator_piece, status_piece, box_at, part_at, box_cell, cell_of, page_of, cursor_of, arrows_of, keypad_of, view_of}
+use Rattle.view.specs.Granted.{Piece, Part, vacant, part_of, AreParts, HasPairedLines, pieces, region_piece, separator_piece, status_piece, box_at, part_at, box_cell, cell_of, page_of, cursor_of, arrows_of, keypad_of, view_of, view_in}
 use Rattle.view.proofs.Composed.{Holds, Tiles, rects_of, nowhere, piece_at, parts_tile, is_free, is_placed, laid_more}
 
 -- ---- separators are one column wide
@@ -249,7 +249,7 @@ module _ (r : Rects) (ps : List Part) (text : List ℕ) (s : Shape) (rows cols :
       placed r.focus inside v size (region_piece r ps r.focus) (region_at r ps text r.focus is.focus) (omega (arith, room.0)) (omega (arith, room.1))
 
   pub composed : (old new : View) → HasSize r.status.line r.status.cols old → IsGrid old.page → Stage r ps text (length (pieces r ps text)) old → FocusesOn (box_at r r.focus) (part_at ps r.focus) old new → new ≡ view_of r ps text
-  unfolding view_of
+  unfolding view_in
   composed old new size grid stage focused =
       let holds : Holds (pieces r ps text) old = subst (λ (xs : List Piece). Holds xs old) (take-length (pieces r ps text)) stage.holds in
       focused ∙ ap (λ (p : Page). record {

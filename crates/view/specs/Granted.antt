@@ -109,14 +109,30 @@ pub record Piece : Type 0 where
   pub rect : Rect
   pub cell : ℕ → ℕ → Cell
 
+-- the boxes of the regions, the separators between them, the place of the focused one among the boxes, and the status line
+pub record Layout : Type 0 where
+  pub boxes : List Rect
+  pub separators : List Rect
+  pub focus : ℕ
+  pub status : Rect
+
+abbrev pub layout_of : Rects → Layout
+layout_of r = record { boxes = r.boxes.items; separators = r.separators.items; focus = r.focus; status = r.status }
+
+abbrev pub box_in : Layout → ℕ → Rect
+box_in l n = slice_index_or l.boxes n l.status
+
 abbrev pub box_at : Rects → ℕ → Rect
-box_at r n = slice_index_or r.boxes.items n r.status
+box_at r n = box_in (layout_of r) n
 
 abbrev pub part_at : List Part → ℕ → Part
 part_at parts n = slice_index_or parts n vacant
 
+abbrev pub region_in : Layout → List Part → ℕ → Piece
+region_in l parts n = record { rect = box_in l n; cell = box_cell (box_in l n) (n == l.focus) (part_at parts n) }
+
 abbrev pub region_piece : Rects → List Part → ℕ → Piece
-region_piece r parts n = record { rect = box_at r n; cell = box_cell (box_at r n) (n == r.focus) (part_at parts n) }
+region_piece r parts n = region_in (layout_of r) parts n
 
 abbrev pub separator_piece : Rect → Piece
 separator_piece rect = record { rect = rect; cell = λ row column. narrow_cell 0x7C reverse false }
@@ -126,10 +142,13 @@ separator_piece rect = record { rect = rect; cell = λ row column. narrow_cell 0
 abbrev pub status_piece : Rect → List ℕ → Piece
 status_piece rect text = record { rect = rect; cell = λ row column. text_at plain (chars (utf8_lossy text)) rect.cols column }
 
+abbrev pub pieces_in : Layout → List Part → List ℕ → List Piece
+pieces_in l parts status =
+    map (region_in l parts) (range_with_len 0 (length l.boxes))
+    ++ (map separator_piece l.separators ++ (status_piece l.status status ∷ []))
+
 abbrev pub pieces : Rects → List Part → List ℕ → List Piece
-pieces r parts status =
-    map (region_piece r parts) (range_with_len 0 (length r.boxes.items))
-    ++ (map separator_piece r.separators.items ++ (status_piece r.status status ∷ []))
+pieces r parts status = pieces_in (layout_of r) parts status
 
 -- the cell of the piece that has a place, and a blank where none has it
 abbrev pub cell_of : List Piece → ℕ → ℕ → Cell
@@ -166,13 +185,16 @@ keypad_of vacant = false
 keypad_of (unread number) = false
 keypad_of (read w) = w.has_application_keypad
 
-unfoldable pub view_of : Rects → List Part → List ℕ → View
-view_of r parts status = record {
-  page = page_of r.status.line r.status.cols (λ line column. cell_of (pieces r parts status) (line + 1) (column + 1));
-  cursor = cursor_of (box_at r r.focus) (part_at parts r.focus);
-  has_application_arrows = arrows_of (part_at parts r.focus);
-  has_application_keypad = keypad_of (part_at parts r.focus);
+unfoldable pub view_in : Layout → List Part → List ℕ → View
+view_in l parts status = record {
+  page = page_of l.status.line l.status.cols (λ line column. cell_of (pieces_in l parts status) (line + 1) (column + 1));
+  cursor = cursor_of (box_in l l.focus) (part_at parts l.focus);
+  has_application_arrows = arrows_of (part_at parts l.focus);
+  has_application_keypad = keypad_of (part_at parts l.focus);
 }
+
+abbrev pub view_of : Rects → List Part → List ℕ → View
+view_of r parts status = view_in (layout_of r) parts status
 
 -- ---- what a view is made of
 
