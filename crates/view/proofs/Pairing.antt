@@ -73,16 +73,16 @@ same_row f g cols cells same row = record { width = row.width; cells_are = λ k 
 
 -- ---- a line of a window
 
-abbrev shown_line : Bool → List Cell → ℕ → Cell
+abbrev pub shown_line : Bool → List Cell → ℕ → Cell
 shown_line inverted line k = cond (nat_lt k (length line)) (shown_cell inverted (cell_at line k)) blank
 
-line_is : (inverted : Bool) (line : List Cell) (cols k : ℕ) → line_cell inverted line cols k ≡ uncut cols k (shown_line inverted line k) blank
+pub line_is : (inverted : Bool) (line : List Cell) (cols k : ℕ) → line_cell inverted line cols k ≡ uncut cols k (shown_line inverted line k) blank
 line_is inverted line cols k = ⊎_elim
     (λ (h : k < length line). rw (lt-ltb k (length line) h) refl)
     (λ (h : length line ≤ k). rw (le-ltb k (length line) h, and_false (eqb (k + 1) cols)) refl)
     (cases_lt k (length line))
 
-shown_shape : (inverted : Bool) (line : List Cell) (k : ℕ) → (shown_line inverted line k).shape ≡ (cell_at line k).shape
+pub shown_shape : (inverted : Bool) (line : List Cell) (k : ℕ) → (shown_line inverted line k).shape ≡ (cell_at line k).shape
 shown_shape inverted line k = ⊎_elim
     (λ (h : k < length line). rw (lt-ltb k (length line) h) refl)
     (λ (h : length line ≤ k). rw (le-ltb k (length line) h, past line k h) refl)

@@ -21,10 +21,16 @@ use Rattle.regions.proofs.Room.{both_true, wide, room_fits}
 use Rattle.terminal_model.specs.Screen.{Page, blank_page}
 use Rattle.terminal_model.proofs.Places.{blank-at}
 use Rattle.std.proofs.Math.Seq.{take-length}
+use Rattle.std.specs.Prelude.{chars}
+use Rattle.std.specs.Str.{all_scalars}
+use Rattle.std.specs.Str.Lossy.{utf8_lossy}
+use Rattle.terminal_model.specs.Drawable.{IsDrawableLine}
+use Rattle.view.specs.Drawable.{IsDrawable}
+use Rattle.view.proofs.Drawing.{pieces_drawn, view_drawn}
 use Rattle.view.specs.View.{HasSize}
 use Rattle.view.specs.Rows.{IsFree, IsPlaced, Lays, FocusesOn}
 use Rattle.view.specs.declared.pane.Pane.{Pane}
-use Rattle.view.specs.Granted.{Piece, Part, vacant, part_of, AreParts, HasPairedLines, pieces, region_piece, separator_piece, status_piece, box_at, part_at, box_cell, cell_of, page_of, cursor_of, arrows_of, keypad_of, view_of, view_in}
+use Rattle.view.specs.Granted.{Piece, Part, vacant, part_of, AreParts, HasPairedLines, pieces, region_piece, separator_piece, status_piece, box_at, part_at, box_cell, caption_text, AreDrawable, cell_of, page_of, cursor_of, arrows_of, keypad_of, view_of, view_in}
 use Rattle.view.proofs.Composed.{Holds, Tiles, rects_of, nowhere, piece_at, parts_tile, is_free, is_placed, laid_more}
 
 -- ---- separators are one column wide
@@ -180,11 +186,13 @@ page-is ps v rows cols grid high wide_is holds =
 pub record Stage (r : Rects) (ps : List Part) (text : List ℕ) (n : ℕ) (v : View) : Type 0 where
   pub holds : Holds (take n (pieces r ps text)) v
   pub rest : v ≡ record { page = v.page; cursor = None; has_application_arrows = false; has_application_keypad = false }
+  pub captions : (k : ℕ) → k < n → k < length r.boxes.items → all_scalars (caption_text (part_at ps k)) ≡ true
 
 pub no_stage : (r : Rects) (ps : List Part) (text : List ℕ) (v : View) (rows cols : ℕ) → v ≡ record { page = blank_page rows cols; cursor = None; has_application_arrows = false; has_application_keypad = false } → Stage r ps text 0 v
 no_stage r ps text v rows cols e = record {
   holds = record { cells_are = λ l c. ap (λ (x : View). place x.page l c) e ∙ blank-at rows cols l c };
   rest = e ∙ ap (λ (p : Page). record { page = p; cursor = None; has_application_arrows = false; has_application_keypad = false }) (sym (ap (λ (x : View). x.page) e));
+  captions = λ k h b. absurd (omega arith);
 }
 
 module _ (r : Rects) (ps : List Part) (text : List ℕ) (s : Shape) (rows cols : ℕ) (is : AreParts s rows cols r ps) where
@@ -198,8 +206,8 @@ module _ (r : Rects) (ps : List Part) (text : List ℕ) (s : Shape) (rows cols :
     broad : length (line_at old.page 0) ≡ cols
     broad = size.columns_are ∙ status_cols r ps text s rows cols is
 
-    next : (p : Piece) (new : View) → piece_at (pieces r ps text) n ≡ p → 0 < p.rect.cols → Stage r ps text n old → (IsFree p.rect old.page → Lays p old new) → Stage r ps text (n + 1) new
-    next p new e some stage lays =
+    next : (p : Piece) (new : View) → piece_at (pieces r ps text) n ≡ p → 0 < p.rect.cols → (n < length r.boxes.items → all_scalars (caption_text (part_at ps n)) ≡ true) → Stage r ps text n old → (IsFree p.rect old.page → Lays p old new) → Stage r ps text (n + 1) new
+    next p new e some caption stage lays =
         let free : IsFree p.rect old.page = subst (λ (q : Piece). IsFree q.rect old.page) e
         (is_free (pieces r ps text) rows cols (pieces_tile r ps text s rows cols is) n lt old high broad stage.holds (subst (λ (q : Piece). 0 < q.rect.cols) (sym e) some))
         in
@@ -207,6 +215,10 @@ module _ (r : Rects) (ps : List Part) (text : List ℕ) (s : Shape) (rows cols :
         record {
           holds = laid_more (pieces r ps text) rows cols (pieces_tile r ps text s rows cols is) n lt old new stage.holds put;
           rest = put.rest ∙ ap (λ (v : View). record v { page = new.page }) stage.rest;
+          captions = λ k h b. ⊎_elim
+              (λ (before : k < n). stage.captions k before b)
+              (λ (last : n ≤ k). let same : n ≡ k = omega arith in subst (λ (i : ℕ). all_scalars (caption_text (part_at ps i)) ≡ true) same (caption (omega (arith, b, same))))
+              (cases_lt k n);
         }
 
     placed : (p : Piece) → piece_at (pieces r ps text) n ≡ p → 0 < p.rect.rows → 0 < p.rect.cols → IsPlaced p.rect old.page
@@ -214,15 +226,16 @@ module _ (r : Rects) (ps : List Part) (text : List ℕ) (s : Shape) (rows cols :
         (is_placed (pieces r ps text) rows cols (pieces_tile r ps text s rows cols is) n lt old high broad (subst (λ (q : Piece). 0 < q.rect.rows) (sym e) tall) (subst (λ (q : Piece). 0 < q.rect.cols) (sym e) some))
 
   pub box_stage : (n : ℕ) (rect : Rect) (part : Part) (old new : View) → n < length r.boxes.items → rect ≡ box_at r n → part ≡ part_at ps n → HasSize r.status.line r.status.cols old → Stage r ps text n old
-      → (HasPairedLines part → IsFree rect old.page → Lays (record { rect = rect; cell = box_cell rect (n == r.focus) part }) old new) → Stage r ps text (n + 1) new
-  box_stage n rect part old new lt re pe size stage lays =
+      → (HasPairedLines part → IsFree rect old.page → Lays (record { rect = rect; cell = box_cell rect (n == r.focus) part }) old new) → (0 < rect.rows → all_scalars (caption_text part) ≡ true) → Stage r ps text (n + 1) new
+  box_stage n rect part old new lt re pe size stage lays characters =
       let inside : n < length (pieces r ps text) = omega (arith, lt, pieces_length r ps text) in
       let here : HasPairedLines (part_at ps n) → IsFree (box_at r n) old.page → Lays (region_piece r ps n) old new =
       subst (λ (x : Rect). HasPairedLines (part_at ps n) → IsFree x old.page → Lays (record { rect = x; cell = box_cell x (n == r.focus) (part_at ps n) }) old new) re
       (subst (λ (y : Part). HasPairedLines y → IsFree rect old.page → Lays (record { rect = rect; cell = box_cell rect (n == r.focus) y }) old new) pe lays)
       in
       let room = box_roomy r ps text s rows cols is n r.status lt in
-      next n inside old size (region_piece r ps n) new (region_at r ps text n lt) (omega (arith, room.1)) stage (here (is.paired n))
+      next n inside old size (region_piece r ps n) new (region_at r ps text n lt) (omega (arith, room.1))
+      (λ h. subst (λ (y : Part). all_scalars (caption_text y) ≡ true) pe (characters (rw re (omega (arith, room.0))))) stage (here (is.paired n))
 
   pub separator_stage : (n : ℕ) (rect d : Rect) (old new : View) → n < length r.separators.items → rect ≡ get_or r.separators.items n d → HasSize r.status.line r.status.cols old → Stage r ps text (length r.boxes.items + n) old
       → (rect.cols ≡ 1 → IsFree rect old.page → Lays (separator_piece rect) old new) → Stage r ps text (length r.boxes.items + (n + 1)) new
@@ -231,7 +244,7 @@ module _ (r : Rects) (ps : List Part) (text : List ℕ) (s : Shape) (rows cols :
       let one : rect.cols ≡ 1 = ap (λ (x : Rect). x.cols) re ∙ separator_narrow r ps text s rows cols is n d lt in
       let more : length r.boxes.items + n + 1 ≡ length r.boxes.items + (n + 1) = omega arith in
       subst (λ (k : ℕ). Stage r ps text k new) more
-      (next (length r.boxes.items + n) inside old size (separator_piece rect) new (separator_at r ps text n d lt ∙ ap separator_piece (sym re)) (omega (arith, one)) stage (lays one))
+      (next (length r.boxes.items + n) inside old size (separator_piece rect) new (separator_at r ps text n d lt ∙ ap separator_piece (sym re)) (omega (arith, one)) (λ h. absurd (omega arith)) stage (lays one))
 
   pub status_stage : (n : ℕ) (old new : View) → n ≡ length r.separators.items → HasSize r.status.line r.status.cols old → Stage r ps text (length r.boxes.items + n) old
       → (r.status.rows ≡ 1 → IsFree r.status old.page → Lays (status_piece r.status text) old new) → Stage r ps text (length (pieces r ps text)) new
@@ -240,7 +253,7 @@ module _ (r : Rects) (ps : List Part) (text : List ℕ) (s : Shape) (rows cols :
       let more : length r.boxes.items + n + 1 ≡ length (pieces r ps text) = omega (arith, e, pieces_length r ps text) in
       let some : 0 < r.status.cols = rw (status_cols r ps text s rows cols is) (omega (arith, cols_some r ps text s rows cols is)) in
       subst (λ (k : ℕ). Stage r ps text k new) more
-      (next (length r.boxes.items + n) inside old size (status_piece r.status text) new (ap (λ (k : ℕ). piece_at (pieces r ps text) (length r.boxes.items + k)) e ∙ status_at r ps text) some stage (lays (status_rows r ps text s rows cols is)))
+      (next (length r.boxes.items + n) inside old size (status_piece r.status text) new (ap (λ (k : ℕ). piece_at (pieces r ps text) (length r.boxes.items + k)) e ∙ status_at r ps text) some (λ h. absurd (omega arith)) stage (lays (status_rows r ps text s rows cols is)))
 
   pub focus_placed : (v : View) → HasSize r.status.line r.status.cols v → IsPlaced (box_at r r.focus) v.page
   focus_placed v size =
@@ -266,3 +279,11 @@ part_is panes k p lt e = ap part_of e ∙ sym (get_or-map part_of panes k p vaca
 
 pub all_there : (r : Rects) (panes : List Pane) (s : Shape) (rows cols k : ℕ) → AreParts s rows cols r (map part_of panes) → k < length r.boxes.items → k < length panes
 all_there r panes s rows cols k is lt = let n : length (map part_of panes) ≡ length panes = length-map panes part_of in omega (arith, is.each, n, lt)
+
+module _ (r : Rects) (ps : List Part) (text : List ℕ) (s : Shape) (rows cols : ℕ) (is : AreParts s rows cols r ps) where
+  pub drawable_view : (old new : View) → Stage r ps text (length (pieces r ps text)) old → new.page ≡ old.page → AreDrawable ps → all_scalars (chars (utf8_lossy text)) ≡ true → IsDrawable new
+  drawable_view old new stage same drawable status =
+      let holds : Holds (pieces r ps text) old = subst (λ (xs : List Piece). Holds xs old) (take-length (pieces r ps text)) stage.holds in
+      let captions : (n : ℕ) → n < length ps → all_scalars (caption_text (part_at ps n)) ≡ true = λ n h. stage.captions n (omega (arith, h, is.each, pieces_length r ps text)) (omega (arith, h, is.each)) in
+      let drawn = view_drawn (pieces r ps text) rows cols old (pieces_tile r ps text s rows cols is) (pieces_drawn r ps text drawable captions status) holds in
+      record { lines = λ line h. subst (λ (p : Page). IsDrawableLine (line_at p line)) (sym same) (drawn.lines line (rw (← same) h)) }

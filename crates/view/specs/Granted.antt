@@ -216,6 +216,6 @@ HasDrawableLines vacant = Prim.Unit {0}
 HasDrawableLines (unread number) = Prim.Unit {0}
 HasDrawableLines (read w) = (line : ℕ) → line < length w.lines → IsDrawableLine (line_at w.lines line)
 
--- a terminal can show the lines of the windows
+-- a terminal can show the lines of the windows that are read
 abbrev pub AreDrawable : List Part → Type 0
 AreDrawable parts = (n : ℕ) → HasDrawableLines (part_at parts n)

@@ -1,12 +1,14 @@
 //! Panes, separators and the status line on one page.
 
-ghost use Rattle.std.specs.Prelude.{◌≡◌, ℕ, ◌<◌, ◌≤◌, ◌+◌, IfOk, OnOk, length, map};
+ghost use Rattle.std.specs.Prelude.{◌≡◌, ℕ, ◌<◌, ◌≤◌, ◌+◌, true, IfOk, OnOk, length, map, chars};
+ghost use Rattle.std.specs.Str.{all_scalars};
+ghost use Rattle.std.specs.Str.Lossy.{utf8_lossy};
 ghost use Rattle.cells.specs.Line.{cell_at, IsPaired};
 ghost use Rattle.cells.specs.Page.{line_at};
 ghost use Rattle.regions.specs.Shapes.{Shape};
 ghost use Rattle.view.specs.View.{HasSize, place_of};
 ghost use Rattle.view.specs.Rows.{IsRow, IsFree, IsPlaced, Lays, FocusesOn, row_of, row_piece};
-ghost use Rattle.view.specs.Granted.{Piece, AreParts, AreDrawable, HasPairedLines, read, part_of, window_of, box_cell, separator_piece, status_piece, cursor_of as cursor_of_part, arrows_of, keypad_of, view_of, box_at, part_at};
+ghost use Rattle.view.specs.Granted.{Piece, AreParts, AreDrawable, HasPairedLines, read, part_of, window_of, box_cell, caption_text, separator_piece, status_piece, cursor_of as cursor_of_part, arrows_of, keypad_of, view_of, box_at, part_at};
 ghost use Rattle.view.specs.Drawable.{IsDrawable};
 
 use crate::pane::{Contents, Pane};
@@ -29,6 +31,7 @@ pub fn compose(
 ) -> Result<View, AllocError>
     ensures size { IfOk result (λ v. HasSize rects.now.status.line rects.now.status.cols v) }
     ensures exact { IfOk result (λ v. (s : Shape) (rows cols : ℕ) → AreParts s rows cols rects.now (map part_of panes.now) → v ≡ view_of rects.now (map part_of panes.now) status.now) }
+    ensures drawable { IfOk result (λ v. (s : Shape) (rows cols : ℕ) → AreParts s rows cols rects.now (map part_of panes.now) → AreDrawable (map part_of panes.now) → IsDrawable v) }
 {
     let page = rects.status;
     let Ok(mut view) = View::blank(alloc, page.line as usize, page.cols as usize) else {
@@ -68,6 +71,7 @@ impl View {
     ) -> Result<(), AllocError>
         ensures size { HasSize (length self.old.page) (length (line_at self.old.page 0)) self.new }
         ensures lays { OnOk result (HasPairedLines (part_of pane.now) → IsFree rect self.old.page → Lays (record { rect = rect; cell = box_cell rect is_focused (part_of pane.now) }) self.old self.new) }
+        ensures characters { OnOk result (0 < rect.rows → all_scalars (caption_text (part_of pane.now)) ≡ true) }
     {
         for row in 0..rect.rows {
             let cells = box_row(alloc, rect, pane, is_focused, row)?;
@@ -89,6 +93,7 @@ impl View {
     fn put_status(&mut self, alloc: Global, rect: Rect, text: &[u8]) -> Result<(), AllocError>
         ensures size { HasSize (length self.old.page) (length (line_at self.old.page 0)) self.new }
         ensures lays { OnOk result (rect.rows ≡ 1 → IsFree rect self.old.page → Lays (status_piece rect text.now) self.old self.new) }
+        ensures characters { OnOk result (all_scalars (chars (utf8_lossy text.now)) ≡ true) }
     {
         let text = String::from_utf8_lossy(alloc, text)?;
         let cells = text_row(alloc, text.as_str(), rect.cols as usize, Rendition::PLAIN)?;

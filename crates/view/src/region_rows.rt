@@ -1,6 +1,7 @@
 //! Rows of a region: the lines of its window, and its caption.
 
-ghost use Rattle.std.specs.Prelude.{◌≡◌, ℕ, ◌<◌, ◌+◌, ◌-◌, IfOk, length, chars, string_bytes, map, option_map};
+ghost use Rattle.std.specs.Prelude.{◌≡◌, ℕ, ◌<◌, ◌+◌, ◌-◌, true, IfOk, OnOk, length, chars, string_bytes, map, option_map};
+ghost use Rattle.std.specs.Str.{all_scalars};
 ghost use Rattle.view.specs.Rows.{IsRow};
 ghost use Rattle.view.specs.Granted.{part_of, window_of, caption_rendition as caption_rendition_of, caption_text as caption_text_of, first_shown as first_shown_of, shown_cell as shown_cell_of, line_cell as line_cell_of, window_cell, part_cell, box_cell};
 ghost use Rattle.view.specs.Texts.{text_at};
@@ -131,7 +132,8 @@ fn caption_row(
     cols: usize,
     is_focused: bool,
 ) -> Result<Vec<Cell>, AllocError>
-    ensures { IfOk result (λ cells. IsRow (text_at (caption_rendition_of is_focused) (caption_text_of (part_of pane.now)) cols) cols cells.items) }
+    ensures row { IfOk result (λ cells. IsRow (text_at (caption_rendition_of is_focused) (caption_text_of (part_of pane.now)) cols) cols cells.items) }
+    ensures characters { OnOk result (all_scalars (caption_text_of (part_of pane.now)) ≡ true) }
 {
     let text = caption_text(alloc, pane)?;
     let rendition = Rendition {
@@ -150,7 +152,8 @@ pub(crate) fn box_row(
     row: u16,
 ) -> Result<Vec<Cell>, AllocError>
     requires { row < rect.rows }
-    ensures { IfOk result (λ cells. IsRow (box_cell rect is_focused (part_of pane.now) row) rect.cols cells.items) }
+    ensures row { IfOk result (λ cells. IsRow (box_cell rect is_focused (part_of pane.now) row) rect.cols cells.items) }
+    ensures characters { OnOk result (row + 1 ≡ rect.rows → all_scalars (caption_text_of (part_of pane.now)) ≡ true) }
 {
     let cols = rect.cols as usize;
     if row + 1 == rect.rows {

@@ -1,5 +1,7 @@
-use Rattle.std.proofs.Common.{◌≡◌, ℕ, List, arith, subst, sym, ap, ◌∙◌}
-use Rattle.std.specs.Str.{chars}
+use Rattle.std.proofs.Common.{true, ◌≡◌, ℕ, List, arith, subst, sym, ap, ◌∙◌}
+use Rattle.std.specs.Str.{chars, all_scalars}
+use Rattle.std.specs.String.{string_bytes}
+use Rattle.std.proofs.lemmas.Str.{scalars-chars, IsUtf8-string_bytes}
 use Rattle.cells.specs.declared.cell.Cell.{Cell}
 use Rattle.cells.specs.Line.{plain}
 use Rattle.std.specs.Str.Lossy.{utf8_lossy}
@@ -24,3 +26,7 @@ returns-clause-lays c = λ one free.
     (one_more_row piece 0 c.args.self.now c.args.self.now c.put_row.new.self now none
     (c.put_row.ensures.lays (row_is_free piece 0 c.args.self.now c.args.self.now free (omega arith) none) (text_row_pairs plain text cols now row) row.width)
     row)
+
+pub returns-clause-characters : goal.returns-clause-characters
+returns-clause-characters c =
+    subst (λ (bs : List ℕ). all_scalars (chars bs) ≡ true) c.in_ok-text.ensures.lossy (scalars-chars (string_bytes c.in_ok-text.text) (IsUtf8-string_bytes c.in_ok-text.text))
