@@ -31,6 +31,9 @@ each_step P Q fact h (e ∷ steps) all = (fact h e all.0, each_step P Q fact (wi
 pub shows : {old new : Session} {call : Call} (Q : History → Entry → Type 0) → ((h : History) (e : Entry) → IsNext h e → Q h e) → SomeSteps old call new → SomeRun old call new (AllSteps Q)
 shows {old} {new} {call} Q fact some = with_fact old new call (AllSteps Q) (each_step IsNext Q fact) some
 
+pub run_step : (h : History) (e : Entry) → IsNext h e → IsStep h e
+run_step h e next = next.1
+
 -- ---- each client is the owner's
 
 -- an answer to Attach that isn't a refusal
@@ -38,7 +41,7 @@ known_by : (b c d : Bool) (n : Done) (reply : Reply) → (if not b then Err Unkn
 known_by true c d n reply is = refl
 known_by false c d n reply is = absurd (cc (is))
 
-OwnersClient : UserId → Option Attached → Type 0
+abbrev OwnersClient : UserId → Option Attached → Type 0
 OwnersClient owner o = MatchOption o (Unit {0}) (λ a. same_user owner a.user ≡ true)
 
 attached_by_test : (owner : UserId) (a : Attached) (b : Bool) (before : Option Attached) → same_user owner a.user ≡ true → OwnersClient owner before → OwnersClient owner (if b then Some a else before)

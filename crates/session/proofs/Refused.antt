@@ -72,6 +72,10 @@ not_true b is = ap not is
 not_false : (b : Bool) → b ≡ false → not b ≡ true
 not_false b is = ap not is
 
+pub from_not : (r b : Bool) → r ≡ not b → r ≡ false → b ≡ true
+from_not r true is isnt = refl
+from_not r false is isnt = absurd (cc (is, isnt))
+
 pub many_clients : (h : History) (s : Session) → StandsFor h s → length s.clients ≡ length (clients_of h.entries)
 many_clients h s st = sym (length-map s.clients (λ (c : Client). c.serial)) ∙ ap length st.clients.serials
 

@@ -1,6 +1,6 @@
 -- Tables whose rows have serials, and tests.
-use Rattle.std.proofs.Common.{◌≡◌, ◌≢◌, ℕ, zero, suc, ◌<◌, ◌≤◌, ◌+◌, Bool, true, false, List, [], ◌∷◌, ◌++◌, length, Some, None, Ok, Err, set, map, get_or, refl, ap, sym, ◌∙◌, inl, inr, arith, eqb, Option}
-use Rattle.std.specs.Prelude.{if◌then◌else◌, ◌==◌, ◌⊎◌, slice_get, nat_le, is_some, IsTrue, Result, OnOk, OnErr}
+use Rattle.std.proofs.Common.{◌≡◌, ◌≢◌, ℕ, zero, suc, ◌<◌, ◌≤◌, ◌+◌, Bool, true, false, List, [], ◌∷◌, ◌++◌, length, Some, None, Ok, Err, set, map, get_or, refl, ap, sym, subst, ◌∙◌, inl, inr, arith, eqb, Option}
+use Rattle.std.specs.Prelude.{if◌then◌else◌, ◌==◌, ◌⊎◌, slice_get, nat_le, is_some, IsTrue, Result, OnOk, OnErr, IfOk, is_err}
 use Rattle.std.specs.List.{position, position_or_len}
 use Rattle.std.proofs.lemmas.Bool.Decides.{nat_tests}
 use Rattle.std.proofs.lemmas.List.Quantifiers.{position-Some}
@@ -37,6 +37,14 @@ on_both (Err e) f p q = tt
 pub on_ok : {A E P Q : Type 0} (r : Result A E) → (P → Q) → OnOk r P → OnOk r Q
 on_ok (Ok a) f p = f p
 on_ok (Err e) f p = tt
+
+pub if_ok : {A E : Type 0} {P Q : A → Type 0} (r : Result A E) → ((a : A) → P a → Q a) → IfOk r P → IfOk r Q
+if_ok (Ok a) f p = f a p
+if_ok (Err e) f p = tt
+
+pub taken_ok : {A E P : Type 0} (r : Result A E) → is_err r ≡ false → OnOk r P → P
+taken_ok (Ok a) is p = p
+taken_ok (Err e) is p = absurd (cc (is))
 
 pub on_error : {A E P Q : Type 0} (r : Result A E) → (P → Q) → OnErr r P → OnErr r Q
 on_error (Ok a) f p = tt
@@ -95,6 +103,11 @@ module _ {A : Type 0} (f : A → ℕ) where
 
   pub least_found : (rows : List A) (s i : ℕ) (d : A) → position (λ row. nat_le s (f row)) rows ≡ Some i → least_from s (map f rows) ≡ Some (f (get_or rows i d))
   least_found rows s i d at = let p = position-Some (λ row. nat_le s (f row)) rows i d at in least_at rows s i d p.0 p.1 p.2
+
+  pub at_least : (rows items : List A) (s i : ℕ) (row : A) → items ≡ rows → position (λ r. nat_le s (f r)) rows ≡ Some i → row ≡ get_or items i row → s ≤ f row
+  at_least rows items s i row same at value =
+      let here : nat_le s (f row) ≡ true = subst (λ r. nat_le s (f r) ≡ true) (sym (value ∙ ap (λ xs. get_or xs i row) same)) (position-Some (λ r. nat_le s (f r)) rows i row at).1 in
+      grind (arith, nat_tests, here)
 
   pub least_lost : (rows : List A) (s : ℕ) → position (λ row. nat_le s (f row)) rows ≡ None → least_from s (map f rows) ≡ None
   least_lost [] s none = refl

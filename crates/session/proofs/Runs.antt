@@ -163,3 +163,11 @@ part_step old new event left acts before after reply some takes =
 
 pub less : (m n : ℕ) → m < n → nat_lt m n ≡ true
 less m n lt = grind (arith, nat_tests, lt)
+
+-- the end of the events
+pub at_end : (old new : Session) (events : List Happening) (e1 e2 : List Effect) (r1 r2 : List Reply) (n m : ℕ) → n ≡ m
+    → SomeSteps old (record { events = events; effects = e1; more_effects = e2; replies = r1; more_replies = r2; left = drop n events }) new
+    → SomeSteps old (record { events = events; effects = e1; more_effects = e2; replies = r1; more_replies = r2; left = without_part 0 (drop m events) }) new
+at_end old new events e1 e2 r1 r2 n m same some =
+    subst (λ k. SomeSteps old (record { events = events; effects = e1; more_effects = e2; replies = r1; more_replies = r2; left = without_part 0 (drop k events) }) new) same
+    (subst (λ es. SomeSteps old (record { events = events; effects = e1; more_effects = e2; replies = r1; more_replies = r2; left = es }) new) (sym (without_none (drop n events))) some)

@@ -15,15 +15,10 @@ use Rattle.session.specs.Refusals.{text_of}
 use Rattle.session.specs.Rows.{row_of, with_row}
 use Rattle.session.specs.Keys.{HasRead, typed, typed_behind}
 use Rattle.session.specs.Trace.{Happening, Keys, Entry, History, Attached, with_step, attached_at, keys_of, deliveries, delivered, said_last, message_before, message_of, read_by}
-use Rattle.session.specs.Steps.{IsStep, done, effects_of_typed, input_of}
+use Rattle.session.specs.Steps.{IsStep, done, effects_of_typed, input_of, message_by}
 use Rattle.session.specs.Stands.{StandsFor, HasClients, ClientAt, ClientStands}
 use Rattle.session.proofs.Rows.{if_true, if_false, same_number, equal_number, other_number, is_equal, with_same, with_other, serials_stay, serial_is}
 use Rattle.session.proofs.Tables.{KeepsClient, windows_kept, client_kept, delivered_same}
-
--- the message that typed bytes leave
-abbrev pub message_by : Option ℕ → List ℕ → List ℕ
-message_by (Some window) typed = []
-message_by None typed = if length typed == 0 then [] else text_of NoWindow
 
 by_if : (P : List Effect → Type 0) (b : Bool) (x y : List Effect) → P x → P y → P (if b then x else y)
 by_if P true x y p q = p

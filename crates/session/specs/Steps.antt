@@ -6,7 +6,8 @@ use Rattle.acl.specs.declared.user_id.UserId.{UserId}
 use Rattle.acl.specs.declared.act.Act.{Act}
 use Rattle.acl.specs.declared.act.Act.TheVariants.{Opened as WasOpened, Attached as WasAttached}
 use Rattle.acl.specs.Same.{same_user}
-use Rattle.terminal_model.specs.Table.{columns_of}
+use Rattle.cells.specs.Glyph.{glyph_columns}
+use Rattle.unicode_width.specs.Width.{char_width}
 use Rattle.terminal_model.specs.Shows.{ShowsFromAny}
 use Rattle.session.specs.declared.event.Effect.{Effect}
 use Rattle.session.specs.declared.event.Effect.TheVariants.{Input, Deliver, Say}
@@ -28,9 +29,16 @@ is_client_size rows columns = nat_le 4 rows && nat_le rows 200 && nat_le 20 colu
 abbrev pub is_window_size : ℕ → ℕ → ℕ → Bool
 is_window_size rows columns keep = nat_le 2 rows && nat_le rows 200 && nat_le 2 columns && nat_le columns 300 && nat_le keep 2000
 
+abbrev pub is_title_length : ℕ → Bool
+is_title_length count = nat_lt 0 count && nat_le count 40
+
+-- width 1 or 2 (UAX #11)
+abbrev pub has_columns : ℕ → Bool
+has_columns c = nat_lt 0 (glyph_columns (char_width false c))
+
 -- 1 to 40 characters, each of width 1 or 2
 abbrev pub is_title : List ℕ → Bool
-is_title title = nat_lt 0 (length (chars title)) && nat_le (length (chars title)) 40 && list_all (λ c. nat_lt 0 (columns_of c)) (chars title)
+is_title title = is_title_length (length (chars title)) && list_all has_columns (chars title)
 
 abbrev pub done : ℕ → ℕ → Reply
 done taken made = Ok (record { taken = taken; made = made; number = 0; text = None })
@@ -66,6 +74,11 @@ input_of window bytes = if length bytes == 0 then [] else Input window bytes ∷
 abbrev pub effects_of_typed : ℕ → Option ℕ → List ℕ → List Effect
 effects_of_typed client (Some window) typed = input_of window typed
 effects_of_typed client None typed = if length typed == 0 then [] else Say client (text_of NoWindow) ∷ []
+
+-- the message that typed bytes leave
+abbrev pub message_by : Option ℕ → List ℕ → List ℕ
+message_by (Some window) typed = []
+message_by None typed = if length typed == 0 then [] else text_of NoWindow
 
 -- no effect, or bytes for the client alone
 abbrev pub IsDraw : ℕ → List Effect → Type 0

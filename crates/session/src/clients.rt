@@ -1,6 +1,6 @@
 //! The clients of a session.
 
-ghost use Rattle.std.specs.Prelude.{◌≡◌, ◌++◌, ◌∷◌, ◌==◌, ◌<◌, ◌≤◌, ◌↔◌, [], false, List, ℕ, Some, None, length, map, OnOk, OnErr, IfSome, IsTrue, option_copied};
+ghost use Rattle.std.specs.Prelude.{◌≡◌, ◌++◌, ◌∷◌, ◌==◌, ◌<◌, ◌≤◌, ◌↔◌, [], false, List, ℕ, Some, None, length, map, OnOk, OnErr, IfSome, IsTrue, option_copied, nat_le};
 ghost use Rattle.std.specs.List.{position};
 
 use crate::bytes::Bytes;
@@ -81,13 +81,23 @@ impl Clients {
         }
     }
 
+    /// The place of the first client whose serial isn't below this one.
+    fn place_from(&self, serial: u32) -> Option<usize>
+        ensures place { result ≡ position (λ (c : Client). nat_le serial c.serial) self.now }
+        ensures within { IfSome result (λ place. place < length self.now) }
+    {
+        self.rows.iter().position(|client| serial <= client.serial)
+    }
+
     /// The least serial of a client from there on.
     pub fn from(&self, serial: u32) -> Option<u32>
         ensures least { result ≡ least_from serial (map (λ (c : Client). c.serial) self.now) }
         ensures bound { IfSome result (λ least. serial ≤ least) }
     {
-        let place = self.rows.iter().position(|client| serial <= client.serial)?;
-        Some(self.rows[place].serial)
+        match self.place_from(serial) {
+            Some(place) => Some(self.rows[place].serial),
+            None => None,
+        }
     }
 
     /// Adds a client.

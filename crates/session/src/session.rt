@@ -1,10 +1,10 @@
 //! The session.
 
-ghost use Rattle.std.specs.Prelude.{◌≡◌, ◌≤◌, ◌<◌, ◌++◌, ◌∷◌, [], List, ℕ, Ok, Err, Some, None, false, true, length, map, IfOk, IfSome, OnOk, OnErr};
+ghost use Rattle.std.specs.Prelude.{◌≡◌, ◌≤◌, ◌<◌, ◌++◌, ◌∷◌, [], List, ℕ, Ok, Err, Some, None, false, true, length, map, IfOk, IfSome, OnOk, OnErr, vec_len, vec_capacity};
 ghost use Rattle.session.specs.declared.refusal.Refusal.TheVariants.{NoMemory, NoWindow as NoSuch};
 ghost use Rattle.session.specs.Trace.{Happening, Attach, Open, Keys, Output, Draw, happening, History, start, Entry, clients_of, attached_at};
 ghost use Rattle.session.specs.Keys.{HasRead, typed};
-ghost use Rattle.session.specs.Steps.{IsStep, is_client_size, is_window_size};
+ghost use Rattle.session.specs.Steps.{IsStep, is_client_size, is_window_size, message_by, effects_of_typed, input_of};
 ghost use Rattle.session.specs.Stands.{StandsFor, IfTaken, TakesQuietly, Takes, wants_memory};
 ghost use Rattle.session.specs.Stands.{ClientStands};
 ghost use Rattle.session.specs.Granted.{granted_view};
@@ -136,21 +136,23 @@ impl Session {
     {
         let mut notes = Notes::new(self.alloc);
         for (taken, event) in events.iter().enumerate() {
-            let part = match replies.reserve(1) {
-                Err(_) => 0,
-                Ok(()) => match self.take(*event, effects, &mut notes) {
-                    Taken::Part(part) => part,
-                    Taken::Whole(reply) => {
-                        let _ = replies.push(reply);
-                        continue;
-                    }
-                },
-            };
-            return Ran {
-                taken,
-                part,
-                stopped: true,
-            };
+            if replies.reserve(1).is_err() {
+                return Ran {
+                    taken,
+                    part: 0,
+                    stopped: true,
+                };
+            }
+            match self.take(*event, effects, &mut notes) {
+                Taken::Whole(reply) => replies.push(reply).unwrap(),
+                Taken::Part(part) => {
+                    return Ran {
+                        taken,
+                        part,
+                        stopped: true,
+                    };
+                }
+            }
         }
         Ran {
             taken: events.len(),
@@ -211,23 +213,20 @@ impl Session {
         ensures drawable { IfOk result (λ v. (h : History) (serial : ℕ) → StandsFor h self.now → ClientStands h serial client.now → IsDrawable v) }
     {
         let rects = Rects::lone(self.alloc, client.shadow.rows(), client.shadow.cols())?;
-        let window = match client.window {
-            Some(serial) => self.windows.get(serial),
-            None => None,
-        };
         let status = client.message.as_slice();
-        match window {
-            None => composed(self.alloc, &rects, Pane::Empty, status),
-            Some(window) => {
-                let lines = window.lines(self.alloc)?;
-                composed(
-                    self.alloc,
-                    &rects,
-                    Pane::Readable(window.contents(&lines)),
-                    status,
-                )
-            }
-        }
+        let Some(serial) = client.window else {
+            return composed(self.alloc, &rects, Pane::Empty, status);
+        };
+        let Some(window) = self.windows.get(serial) else {
+            return composed(self.alloc, &rects, Pane::Empty, status);
+        };
+        let lines = window.lines(self.alloc)?;
+        composed(
+            self.alloc,
+            &rects,
+            Pane::Readable(window.contents(&lines)),
+            status,
+        )
     }
 
     fn attach(&mut self, user: UserId, rows: u16, cols: u16, notes: &mut Notes) -> Reply
@@ -327,19 +326,7 @@ impl Session {
         let window = row.window;
         let mut keys = row.keys;
         let typed = read_keys(self.alloc, &mut keys, bytes)?;
-        let mut message = Bytes::new(self.alloc);
-        if !typed.is_empty() {
-            effects.reserve(1)?;
-            let effect = match window {
-                Some(window) => Effect::Input(window, typed),
-                None => {
-                    let text = Refusal::NoWindow.as_bytes();
-                    message = Bytes::of(self.alloc, text)?;
-                    Effect::Say(client, Bytes::of(self.alloc, text)?)
-                }
-            };
-            effects.push(effect).unwrap();
-        }
+        let message = put_typed(self.alloc, client, window, typed, effects)?;
         self.clients.set_read(client, keys, message);
         Ok(Done {
             taken: bytes.len(),
@@ -352,9 +339,9 @@ impl Session {
         ensures memory { result ≡ Err NoMemory → (self.new ≡ self.old) × (effects.new.items ≡ effects.old.items) }
         ensures whole { left_of (Output window bytes.now) result ≡ [] }
     {
-        if self.windows.get(window).is_none() {
+        let Some(_window) = self.windows.get(window) else {
             return Err(Refusal::NoWindow);
-        }
+        };
         let Some(room) = bytes.len().checked_mul(REPORT_BYTES) else {
             return Err(Refusal::NoMemory);
         };
@@ -363,9 +350,7 @@ impl Session {
         if self.windows.feed_all(window, bytes, &mut reports).is_err() {
             return Err(Refusal::NoMemory);
         }
-        if !reports.is_empty() {
-            effects.push(Effect::Input(window, Bytes::from_vec(reports))).unwrap();
-        }
+        put_input(window, Bytes::from_vec(reports), effects);
         Ok(Done::plain())
     }
 
@@ -377,12 +362,13 @@ impl Session {
             return Err(Refusal::NoWindow);
         };
         let view = self.view_for(row)?;
-        if row.needs_draw(&view) {
-            effects.reserve(1)?;
-            let mut bytes = Vec::new(self.alloc);
-            self.clients.draw(self.alloc, client, &view, &mut bytes)?;
-            effects.push(Effect::Deliver(client, Bytes::from_vec(bytes))).unwrap();
+        if !row.needs_draw(&view) {
+            return Ok(Done::plain());
         }
+        effects.reserve(1)?;
+        let mut bytes = Vec::new(self.alloc);
+        self.clients.draw(self.alloc, client, &view, &mut bytes)?;
+        effects.push(Effect::Deliver(client, Bytes::from_vec(bytes))).unwrap();
         Ok(Done::plain())
     }
 }
@@ -396,6 +382,46 @@ fn read_keys(alloc: Global, reader: &mut KeyReader, keys: &[u8]) -> Result<Bytes
         typed.push_some(reader.push(*key))?;
     }
     Ok(typed)
+}
+
+/// Appends the input of a window, if there is any.
+fn put_input(window: u32, bytes: Bytes, effects: &mut Vec<Effect>)
+    requires room { vec_len effects.old < vec_capacity effects.old }
+    ensures { effects.new.items ≡ effects.old.items ++ input_of window bytes }
+{
+    if !bytes.is_empty() {
+        effects.push(Effect::Input(window, bytes)).unwrap();
+    }
+}
+
+/// Appends the effect of bytes that were typed into a window, or where there is none, and gives the message that
+/// they leave.
+fn put_typed(
+    alloc: Global,
+    client: u32,
+    window: Option<u32>,
+    typed: Bytes,
+    effects: &mut Vec<Effect>,
+) -> Result<Bytes, AllocError>
+    ensures message { IfOk result (λ message. message ≡ message_by window typed) }
+    ensures effects { OnOk result (effects.new.items ≡ effects.old.items ++ effects_of_typed client window typed) }
+    ensures err { OnErr result (effects.new.items ≡ effects.old.items) }
+{
+    let mut message = Bytes::new(alloc);
+    if typed.is_empty() {
+        return Ok(message);
+    }
+    effects.reserve(1)?;
+    let effect = match window {
+        Some(window) => Effect::Input(window, typed),
+        None => {
+            let text = Refusal::NoWindow.as_bytes();
+            message = Bytes::of(alloc, text)?;
+            Effect::Say(client, Bytes::of(alloc, text)?)
+        }
+    };
+    effects.push(effect).unwrap();
+    Ok(message)
 }
 
 /// The view of one pane.

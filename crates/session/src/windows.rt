@@ -1,7 +1,8 @@
 //! The windows of a session.
 
 ghost use Rattle.std.specs.Prelude.{◌≡◌, ◌++◌, ◌∷◌, ◌==◌, ◌<◌, ◌≤◌, ◌+◌, ◌*◌, [], List, ℕ, Some, None, length, map, take, slice_get, OnOk, OnErr, IfOk, IfSome, IsOk, option_copied, vec_len, vec_capacity};
-ghost use Rattle.std.specs.List.{position};
+ghost use Rattle.std.specs.List.{position, list_all};
+ghost use Rattle.std.specs.Str.{chars};
 ghost use Rattle.std.specs.String.{string_bytes};
 
 use cells::{Cell, glyph_width};
@@ -37,14 +38,33 @@ impl Model for Windows {
     ghost view = { λ w. w.rows.items };
 }
 
-ghost use Rattle.session.specs.Steps.{is_title};
+ghost use Rattle.session.specs.Steps.{is_title, is_title_length, has_columns};
+
+/// Whether each character of a text has a width.
+fn has_columns(text: &str) -> bool
+    ensures { result ≡ list_all has_columns (chars text.now) }
+{
+    text.chars().all(|c| 0 < glyph_width(c))
+}
+
+/// How many characters a text has.
+fn char_count(text: &str) -> usize
+    ensures { result ≡ length (chars text.now) }
+{
+    text.chars().count()
+}
+
+fn is_title_length(count: usize) -> bool
+    ensures { result ≡ is_title_length count }
+{
+    0 < count && count <= LONGEST_TITLE
+}
 
 /// Whether a title has 1 to 40 characters, each of width 1 or 2.
 pub fn is_title(title: &str) -> bool
     ensures { result ≡ is_title title.now }
 {
-    let count = title.chars().count();
-    0 < count && count <= LONGEST_TITLE && title.chars().all(|c| 0 < glyph_width(c))
+    is_title_length(char_count(title)) && has_columns(title)
 }
 
 impl Windows {
