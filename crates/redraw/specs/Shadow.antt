@@ -24,3 +24,8 @@ pub record LooksLike (a b : View) : Type 0 where
 abbrev pub NeedsDraw : Option View → View → Type 0
 NeedsDraw None v = Prim.Unit {0}
 NeedsDraw (Some known) v = LooksLike known v → ⊥
+
+-- the terminal is known to show the same
+abbrev pub IsKnown : Option View → View → Type 0
+IsKnown None v = ⊥
+IsKnown (Some known) v = LooksLike known v

@@ -1,10 +1,10 @@
 //! What is known of a client's terminal.
 
-ghost use Rattle.std.specs.Prelude.{◌≡◌, ◌<◌, ◌≤◌, ◌↔◌, ℕ, None, IsTrue, length};
+ghost use Rattle.std.specs.Prelude.{◌≡◌, ◌<◌, ◌≤◌, ◌↔◌, ℕ, None, IsTrue, false, length};
 ghost use Rattle.terminal_model.specs.Shows.{seen_at};
 ghost use Rattle.cells.specs.Page.{line_at, IsGrid};
 ghost use Rattle.view.specs.View.{HasSize, place_of};
-ghost use Rattle.redraw.specs.Shadow.{LooksLike, NeedsDraw};
+ghost use Rattle.redraw.specs.Shadow.{LooksLike, NeedsDraw, IsKnown};
 
 use cells::next_unlike;
 use std::marker::Model;
@@ -40,6 +40,20 @@ impl Shadow {
             cols,
             known: None,
         }
+    }
+
+    /// The number of the terminal's lines.
+    pub fn rows(&self) -> u16
+        ensures { result ≡ self.now.rows }
+    {
+        self.rows
+    }
+
+    /// The number of its columns.
+    pub fn cols(&self) -> u16
+        ensures { result ≡ self.now.columns }
+    {
+        self.cols
     }
 }
 
@@ -92,7 +106,9 @@ pub fn is_same(old: &View, new: &View) -> bool
 /// Whether the terminal isn't known to show the view.
 pub fn needs_draw(shadow: &Shadow, view: &View) -> bool
     requires size { HasSize shadow.now.rows shadow.now.columns view.now }
-    ensures { IsTrue result ↔ NeedsDraw shadow.now.known view.now }
+    ensures needs { IsTrue result ↔ NeedsDraw shadow.now.known view.now }
+    ensures known { result ≡ false → IsKnown shadow.now.known view.now }
+    ensures grid { result ≡ false → IsGrid view.now.page }
 {
     match &shadow.known {
         None => true,

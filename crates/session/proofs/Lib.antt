@@ -1,0 +1,13 @@
+pub mod Rows
+pub mod KeyLists
+pub mod Tables
+pub mod Runs
+pub mod Refused
+pub mod Attaching
+pub mod Openings
+pub mod Typing
+pub mod Feeds
+pub mod Delivering
+pub mod Headlines
+pub mod Viewing
+pub mod KeysRead

@@ -1,1 +1,12 @@
 pub mod Refusals
+pub mod Trace
+pub mod Keys
+pub mod Rows
+pub mod Least
+pub mod Drawn
+pub mod Feeding
+pub mod Terminals
+pub mod Granted
+pub mod Steps
+pub mod Stands
+pub mod Headline

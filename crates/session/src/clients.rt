@@ -1,6 +1,7 @@
 //! The clients of a session.
 
-ghost use Rattle.std.specs.Prelude.{◌≡◌, ◌++◌, ◌∷◌, ◌≤◌, ◌↔◌, [], length, OnOk, OnErr, IfSome, IsTrue};
+ghost use Rattle.std.specs.Prelude.{◌≡◌, ◌++◌, ◌∷◌, ◌==◌, ◌<◌, ◌≤◌, ◌↔◌, [], false, List, ℕ, Some, None, length, map, OnOk, OnErr, IfSome, IsTrue, option_copied, nat_le};
+ghost use Rattle.std.specs.List.{position};
 
 use crate::bytes::Bytes;
 use crate::keys::KeyReader;
@@ -15,15 +16,13 @@ use view::View;
 pub struct Client {
     pub serial: u32,
     pub user: UserId,
-    pub rows: u16,
-    pub cols: u16,
     pub keys: KeyReader,
     /// The serial of the window that its one region shows.
     pub window: Option<u32>,
     /// What the status line says.
     pub message: Bytes,
+    /// The size of the terminal, and what it is known to show.
     pub shadow: Shadow,
-    ghost sized: { (shadow.rows ≡ rows) × (shadow.columns ≡ cols) },
 }
 
 /// The attached clients, by rising serials.
@@ -42,6 +41,13 @@ impl Model for Clients {
 }
 
 impl Clients {
+    ghost use Rattle.session.specs.declared.clients.Client.{Client};
+    ghost use Rattle.session.specs.Rows.{row_of, with_row};
+    ghost use Rattle.session.specs.Drawn.{Draws};
+    ghost use Rattle.session.specs.Least.{least_from};
+    ghost use Rattle.view.specs.View.{HasSize};
+    ghost use Rattle.redraw.specs.Shadow.{NeedsDraw};
+
     /// No client.
     pub fn new(alloc: Global) -> Clients
         ensures { result ≡ [] }
@@ -57,21 +63,41 @@ impl Clients {
         self.rows.len()
     }
 
+    /// The place of the client of a serial.
+    fn place(&self, serial: u32) -> Option<usize>
+        ensures place { result ≡ position (λ (c : Client). c.serial == serial) self.now }
+        ensures within { IfSome result (λ place. place < length self.now) }
+    {
+        self.rows.iter().position(|client| client.serial == serial)
+    }
+
     /// The client of a serial.
-    pub fn get(&self, serial: u32) -> Option<&Client> {
-        self.rows.iter().find(|client| client.serial == serial)
+    pub fn get(&self, serial: u32) -> Option<&Client>
+        ensures { option_copied result ≡ row_of (λ (c : Client). c.serial) self.now serial }
+    {
+        match self.place(serial) {
+            Some(place) => Some(&self.rows[place]),
+            None => None,
+        }
+    }
+
+    /// The place of the first client whose serial isn't below this one.
+    fn place_from(&self, serial: u32) -> Option<usize>
+        ensures place { result ≡ position (λ (c : Client). nat_le serial c.serial) self.now }
+        ensures within { IfSome result (λ place. place < length self.now) }
+    {
+        self.rows.iter().position(|client| serial <= client.serial)
     }
 
     /// The least serial of a client from there on.
     pub fn from(&self, serial: u32) -> Option<u32>
-        ensures { IfSome result (λ least. serial ≤ least) }
+        ensures least { result ≡ least_from serial (map (λ (c : Client). c.serial) self.now) }
+        ensures bound { IfSome result (λ least. serial ≤ least) }
     {
-        for client in &self.rows {
-            if serial <= client.serial {
-                return Some(client.serial);
-            }
+        match self.place_from(serial) {
+            Some(place) => Some(self.rows[place].serial),
+            None => None,
         }
-        None
     }
 
     /// Adds a client.
@@ -84,18 +110,14 @@ impl Clients {
     }
 
     /// Puts in place what a client's keys left: its reader and its message.
-    pub fn set_read(&mut self, serial: u32, keys: KeyReader, message: Bytes) {
-        if let Some(client) = self.rows.iter_mut().find(|client| client.serial == serial) {
+    pub fn set_read(&mut self, serial: u32, keys: KeyReader, message: Bytes)
+        ensures { (c : Client) → row_of (λ (c : Client). c.serial) self.old serial ≡ Some c →
+            self.new ≡ with_row (λ (c : Client). c.serial) self.old serial (record c { keys = keys; message = message }) }
+    {
+        if let Some(place) = self.place(serial) {
+            let client = &mut self.rows[place];
             client.keys = keys;
             client.message = message;
-        }
-    }
-
-    /// Whether a client's terminal isn't known to show the view, of its size.
-    pub fn needs_draw(&self, serial: u32, view: &View) -> bool {
-        match self.get(serial) {
-            Some(client) if client.has_size(view) => needs_draw(&client.shadow, view),
-            _ => false,
         }
     }
 
@@ -106,21 +128,30 @@ impl Clients {
         serial: u32,
         view: &View,
         out: &mut Vec<u8>,
-    ) -> Result<(), AllocError> {
-        match self.rows.iter_mut().find(|client| client.serial == serial) {
-            Some(client) if client.has_size(view) => frame(alloc, &mut client.shadow, view, out),
-            _ => Ok(()),
+    ) -> Result<(), AllocError>
+        requires size { (c : Client) → row_of (λ (c : Client). c.serial) self.old serial ≡ Some c → HasSize c.shadow.rows c.shadow.columns view.now }
+        ensures ok { OnOk result ((c : Client) → row_of (λ (c : Client). c.serial) self.old serial ≡ Some c → Draws self.old serial c view.now out.old.items out.new.items self.new) }
+        ensures err { OnErr result ((self.new ≡ self.old) × (out.new.items ≡ out.old.items)) }
+    {
+        match self.place(serial) {
+            Some(place) => frame(alloc, &mut self.rows[place].shadow, view, out),
+            None => Ok(()),
         }
     }
 }
 
 impl Client {
     ghost use Rattle.view.specs.View.{HasSize};
+    ghost use Rattle.redraw.specs.Shadow.{NeedsDraw, IsKnown};
+    ghost use Rattle.cells.specs.Page.{IsGrid};
 
-    /// Whether a view has the client's size.
-    fn has_size(&self, view: &View) -> bool
-        ensures { IsTrue result ↔ HasSize self.now.rows self.now.cols view.now }
+    /// Whether the client's terminal isn't known to show the view, of its size.
+    pub fn needs_draw(&self, view: &View) -> bool
+        requires { HasSize self.now.shadow.rows self.now.shadow.columns view.now }
+        ensures needs { IsTrue result ↔ NeedsDraw self.now.shadow.known view.now }
+        ensures known { result ≡ false → IsKnown self.now.shadow.known view.now }
+        ensures grid { result ≡ false → IsGrid view.now.page }
     {
-        view.rows() == self.rows as usize && view.cols() == self.cols as usize
+        needs_draw(&self.shadow, view)
     }
 }

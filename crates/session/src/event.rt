@@ -1,5 +1,7 @@
 //! What happens to a session, and what comes of it.
 
+ghost use Rattle.std.specs.Prelude.{◌≡◌, None};
+
 use crate::bytes::Bytes;
 use crate::refusal::Refusal;
 use acl::UserId;
@@ -79,7 +81,9 @@ pub struct Ran {
 
 impl Done {
     /// Nothing but that it was done.
-    pub(crate) fn plain() -> Done {
+    pub(crate) fn plain() -> Done
+        ensures { result ≡ record { taken = 0; made = 0; number = 0; text = None } }
+    {
         Done {
             taken: 0,
             made: 0,

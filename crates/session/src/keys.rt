@@ -1,5 +1,7 @@
 //! The keys of a client.
 
+ghost use Rattle.std.specs.Prelude.{◌≡◌, ◌++◌, ◌∷◌, [], List, ℕ, option_to_list};
+
 /// The command key, C-a.
 const COMMAND_KEY: u8 = 0x01;
 
@@ -11,15 +13,24 @@ pub struct KeyReader {
 }
 
 impl KeyReader {
+    ghost use Rattle.session.specs.Keys.{typed, HasRead};
+
     /// A reader that has read nothing.
-    pub fn new() -> KeyReader {
+    #[tactic(auto, unfolding(crate::specs::Keys::HasRead))]
+    pub fn new() -> KeyReader
+        ensures { HasRead [] result }
+    {
         KeyReader {
             is_after_command_key: false,
         }
     }
 
     /// Reads one key, and gives the byte that is typed by it.
-    pub fn push(&mut self, key: u8) -> Option<u8> {
+    #[tactic(auto, unfolding(crate::specs::Keys::HasRead))]
+    pub fn push(&mut self, key: u8) -> Option<u8>
+        ensures read { (keys : List ℕ) → HasRead keys self.old → HasRead (keys ++ key ∷ []) self.new }
+        ensures typed { (keys : List ℕ) → HasRead keys self.old → typed (keys ++ key ∷ []) ≡ typed keys ++ option_to_list result }
+    {
         if self.is_after_command_key {
             self.is_after_command_key = false;
             if key == b'a' { Some(COMMAND_KEY) } else { None }

@@ -1,10 +1,13 @@
 //! The windows of a session.
 
-ghost use Rattle.std.specs.Prelude.{◌≡◌, ◌++◌, ◌∷◌, ◌≤◌, [], length, OnOk, OnErr};
+ghost use Rattle.std.specs.Prelude.{◌≡◌, ◌++◌, ◌∷◌, ◌==◌, ◌<◌, ◌≤◌, ◌+◌, ◌*◌, [], List, ℕ, Some, None, length, map, take, slice_get, OnOk, OnErr, IfOk, IfSome, IsOk, option_copied, vec_len, vec_capacity};
+ghost use Rattle.std.specs.List.{position, list_all};
+ghost use Rattle.std.specs.Str.{chars};
+ghost use Rattle.std.specs.String.{string_bytes};
 
 use cells::{Cell, glyph_width};
 use emulator::{Emulator, Stopped};
-use std::alloc::{AllocError, AllocFailed, Global};
+use std::alloc::{AllocError, Global};
 use std::marker::Model;
 use view::{Contents, KeyModes};
 
@@ -35,13 +38,40 @@ impl Model for Windows {
     ghost view = { λ w. w.rows.items };
 }
 
+ghost use Rattle.session.specs.Steps.{is_title, is_title_length, has_columns};
+
+/// Whether each character of a text has a width.
+fn has_columns(text: &str) -> bool
+    ensures { result ≡ list_all has_columns (chars text.now) }
+{
+    text.chars().all(|c| 0 < glyph_width(c))
+}
+
+/// How many characters a text has.
+fn char_count(text: &str) -> usize
+    ensures { result ≡ length (chars text.now) }
+{
+    text.chars().count()
+}
+
+fn is_title_length(count: usize) -> bool
+    ensures { result ≡ is_title_length count }
+{
+    0 < count && count <= LONGEST_TITLE
+}
+
 /// Whether a title has 1 to 40 characters, each of width 1 or 2.
-pub fn is_title(title: &str) -> bool {
-    let count = title.chars().count();
-    0 < count && count <= LONGEST_TITLE && title.chars().all(|c| glyph_width(c) > 0)
+pub fn is_title(title: &str) -> bool
+    ensures { result ≡ is_title title.now }
+{
+    is_title_length(char_count(title)) && has_columns(title)
 }
 
 impl Windows {
+    ghost use Rattle.session.specs.declared.windows.Window.{Window};
+    ghost use Rattle.session.specs.Rows.{row_of, with_row};
+    ghost use Rattle.session.specs.Feeding.{Feeds};
+
     /// No window.
     pub fn new(alloc: Global) -> Windows
         ensures { result ≡ [] }
@@ -57,14 +87,32 @@ impl Windows {
         self.rows.len()
     }
 
-    /// The window that was opened first.
-    pub fn first(&self) -> Option<&Window> {
-        self.rows.first()
+    /// The serial of the window that was opened first.
+    pub fn first(&self) -> Option<u32>
+        ensures { result ≡ slice_get (map (λ (w : Window). w.serial) self.now) 0 }
+    {
+        if self.rows.is_empty() {
+            return None;
+        }
+        Some(self.rows[0].serial)
+    }
+
+    /// The place of the window of a serial.
+    fn place(&self, serial: u32) -> Option<usize>
+        ensures place { result ≡ position (λ (w : Window). w.serial == serial) self.now }
+        ensures within { IfSome result (λ place. place < length self.now) }
+    {
+        self.rows.iter().position(|window| window.serial == serial)
     }
 
     /// The window of a serial.
-    pub fn get(&self, serial: u32) -> Option<&Window> {
-        self.rows.iter().find(|window| window.serial == serial)
+    pub fn get(&self, serial: u32) -> Option<&Window>
+        ensures { option_copied result ≡ row_of (λ (w : Window). w.serial) self.now serial }
+    {
+        match self.place(serial) {
+            Some(place) => Some(&self.rows[place]),
+            None => None,
+        }
     }
 
     /// Adds a window.
@@ -76,23 +124,33 @@ impl Windows {
         Ok(())
     }
 
-    /// Feeds output to the window of a serial, and appends its reports.
+    /// Feeds output to the window of a serial, and appends its reports. It never stops where these have room for
+    /// 24 bytes to each byte of output.
     pub fn feed_all(
         &mut self,
         serial: u32,
         bytes: &[u8],
         reports: &mut Vec<u8>,
-    ) -> Result<(), Stopped> {
-        match self.rows.iter_mut().find(|window| window.serial == serial) {
-            Some(window) => window.emulator.feed_all(bytes, reports),
+    ) -> Result<(), Stopped>
+        ensures ok { OnOk result ((w : Window) → row_of (λ (w : Window). w.serial) self.old serial ≡ Some w →
+            Feeds self.old serial w bytes.now reports.old.items reports.new.items self.new) }
+        ensures room { vec_len reports.old + 24 * length bytes.now ≤ vec_capacity reports.old → IsOk result }
+    {
+        match self.place(serial) {
+            Some(place) => self.rows[place].emulator.feed_all(bytes, reports),
             None => Ok(()),
         }
     }
 }
 
 impl Window {
+    ghost use Rattle.view.specs.Granted.{window_of};
+    ghost use Rattle.session.specs.Granted.{window_read};
+
     /// The lines of the page.
-    pub fn lines(&self, alloc: Global) -> Result<Vec<&[Cell]>, AllocError> {
+    pub fn lines(&self, alloc: Global) -> Result<Vec<&[Cell]>, AllocError>
+        ensures { IfOk result (λ lines. map (λ line. line.now) lines.items ≡ self.now.emulator.screen.page) }
+    {
         let page = self.emulator.page(0);
         let mut lines = Vec::with_capacity(alloc, page.rows())?;
         for line in 0..page.rows() {
@@ -102,7 +160,9 @@ impl Window {
     }
 
     /// What a region shows of the window, whose lines these are.
-    pub fn contents<'a>(&'a self, lines: &'a [&'a [Cell]]) -> Contents<'a> {
+    pub fn contents<'a>(&'a self, lines: &'a [&'a [Cell]]) -> Contents<'a>
+        ensures { window_of result ≡ window_read self.now.number (string_bytes self.now.title) (map (λ line. line.now) lines.now) self.now.emulator.screen }
+    {
         let modes = self.emulator.modes();
         Contents {
             number: self.number,

@@ -1,2 +1,5 @@
 pub mod View
 pub mod Drawable
+pub mod Texts
+pub mod Granted
+pub mod Rows

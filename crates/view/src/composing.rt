@@ -1,32 +1,28 @@
 //! Panes, separators and the status line on one page.
 
-ghost use Rattle.std.specs.Prelude.{IfOk, length};
+ghost use Rattle.std.specs.Prelude.{◌≡◌, ℕ, ◌<◌, ◌≤◌, ◌+◌, true, IfOk, OnOk, length, map, chars};
+ghost use Rattle.std.specs.Str.{all_scalars};
+ghost use Rattle.std.specs.Str.Lossy.{utf8_lossy};
+ghost use Rattle.cells.specs.Line.{cell_at, IsPaired};
 ghost use Rattle.cells.specs.Page.{line_at};
-ghost use Rattle.view.specs.View.{HasSize};
+ghost use Rattle.regions.specs.Shapes.{Shape};
+ghost use Rattle.view.specs.View.{HasSize, place_of};
+ghost use Rattle.view.specs.Rows.{IsRow, IsFree, IsPlaced, Lays, FocusesOn, row_of, row_piece};
+ghost use Rattle.view.specs.Granted.{Piece, AreParts, AreDrawable, HasPairedLines, read, part_of, window_of, box_cell, caption_text, separator_piece, status_piece, cursor_of as cursor_of_part, arrows_of, keypad_of, view_of, box_at, part_at};
+ghost use Rattle.view.specs.Drawable.{IsDrawable};
 
 use crate::pane::{Contents, Pane};
+use crate::region_rows::{REVERSE, box_row, first_shown};
 use crate::text::text_row;
-use crate::view::{Cursor, View};
-use cells::{Cell, GridFault, Marks, Rendition, Shape};
+use crate::view::{Cursor, KeyModes, View};
+use cells::{Cell, GridFault, Rendition};
 use regions::{Rect, Rects};
 use std::alloc::{AllocError, Global};
 
-const REVERSE: Rendition = Rendition {
-    is_bold: false,
-    is_underlined: false,
-    is_blinking: false,
-    is_reversed: true,
-};
-
-const BOLD_REVERSE: Rendition = Rendition {
-    is_bold: true,
-    is_underlined: false,
-    is_blinking: false,
-    is_reversed: true,
-};
-
 /// The view of panes in their boxes, one for each, with a status text. Nothing of a window that isn't
-/// readable stands in it but its number.
+/// readable stands in it but its number. Half a wide character at an edge is a blank; a text is cut
+/// there, and what isn't UTF-8 in the status text shows as U+FFFD, one for each maximal subpart
+/// (Unicode core specification, 3.9).
 pub fn compose(
     alloc: Global,
     rects: &Rects,
@@ -34,89 +30,39 @@ pub fn compose(
     status: &[u8],
 ) -> Result<View, AllocError>
     ensures size { IfOk result (λ v. HasSize rects.now.status.line rects.now.status.cols v) }
+    ensures exact { IfOk result (λ v. (s : Shape) (rows cols : ℕ) → AreParts s rows cols rects.now (map part_of panes.now) → v ≡ view_of rects.now (map part_of panes.now) status.now) }
+    ensures drawable { IfOk result (λ v. (s : Shape) (rows cols : ℕ) → AreParts s rows cols rects.now (map part_of panes.now) → AreDrawable (map part_of panes.now) → IsDrawable v) }
 {
     let page = rects.status;
     let Ok(mut view) = View::blank(alloc, page.line as usize, page.cols as usize) else {
         return Err(AllocError);
     };
-    for (place, pane) in panes.iter().enumerate() {
-        if let Some(rect) = rects.boxes.get(place) {
-            view.put_pane(alloc, *rect, pane, place == rects.focus)?;
+    for place in 0..rects.boxes.len() {
+        if let Some(pane) = panes.get(place) {
+            view.put_box(alloc, rects.boxes[place], pane, place == rects.focus)?;
         }
     }
     for separator in &rects.separators {
         view.put_separator(*separator);
     }
-    let text = text_row(alloc, status, page.cols as usize, Rendition::PLAIN)?;
-    view.put_at(page.line, page.column, &text);
+    view.put_status(alloc, page, status)?;
+    view.focus(rects, panes);
     Ok(view)
 }
 
-/// A window's cell as a view has it: without protection, and reversed where the screen is.
-fn shown_cell(cell: Cell, is_inverted: bool) -> Cell {
-    let rendition = Rendition {
-        is_reversed: cell.rendition.is_reversed != is_inverted,
-        ..cell.rendition
-    };
-    Cell {
-        rendition,
-        is_protected: false,
-        ..cell
-    }
-}
-
-/// The first cells of a line, at most `cols`; half a wide character at the edge is a blank.
-fn shown_cells(
-    alloc: Global,
-    line: &[Cell],
-    cols: usize,
-    is_inverted: bool,
-) -> Result<Vec<Cell>, AllocError> {
-    let mut shown = Vec::with_capacity(alloc, cols)?;
-    for (column, cell) in line.iter().take(cols).enumerate() {
-        if column + 1 == cols && cell.is_left() {
-            shown.push(Cell::BLANK)?;
-        } else {
-            shown.push(shown_cell(*cell, is_inverted))?;
-        }
-    }
-    Ok(shown)
-}
-
-/// The first of the lines that a box of `rows` lines shows, so that the cursor's is among them.
-fn first_shown(contents: &Contents, rows: usize) -> usize {
-    match contents.cursor {
-        Some((line, _)) => line.saturating_sub(rows.saturating_sub(1)),
-        None => 0,
-    }
-}
-
 impl View {
-    /// Puts cells at a place that counts from 1.
-    fn put_at(&mut self, line: u16, column: u16, cells: &[Cell])
+    /// Puts the cells of a row of a rectangle.
+    fn put_row(&mut self, rect: Rect, row: u16, cells: &[Cell])
         ensures size { HasSize (length self.old.page) (length (line_at self.old.page 0)) self.new }
+        ensures lays { IsFree (row_of rect row) self.old.page → IsPaired cells.now → length cells.now ≡ rect.cols → Lays (row_piece (row_of rect row) cells.now) self.old self.new }
     {
-        if 0 < line && 0 < column {
-            self.put(line as usize - 1, column as usize - 1, cells);
+        let line = rect.line as usize + row as usize;
+        if 0 < line && 0 < rect.column {
+            self.put(line - 1, rect.column as usize - 1, cells);
         }
     }
 
-    fn put_separator(&mut self, rect: Rect)
-        ensures size { HasSize (length self.old.page) (length (line_at self.old.page 0)) self.new }
-    {
-        let bar = Cell {
-            shape: Shape::Narrow,
-            character: '|',
-            marks: Marks::Bare,
-            rendition: REVERSE,
-            is_protected: false,
-        };
-        for row in 0..rect.rows {
-            self.put_at(rect.line.saturating_add(row), rect.column, &[bar]);
-        }
-    }
-
-    fn put_pane(
+    fn put_box(
         &mut self,
         alloc: Global,
         rect: Rect,
@@ -124,70 +70,98 @@ impl View {
         is_focused: bool,
     ) -> Result<(), AllocError>
         ensures size { HasSize (length self.old.page) (length (line_at self.old.page 0)) self.new }
+        ensures lays { OnOk result (HasPairedLines (part_of pane.now) → IsFree rect self.old.page → Lays (record { rect = rect; cell = box_cell rect is_focused (part_of pane.now) }) self.old self.new) }
+        ensures characters { OnOk result (0 < rect.rows → all_scalars (caption_text (part_of pane.now)) ≡ true) }
     {
-        if let Pane::Readable(contents) = pane {
-            self.put_contents(alloc, rect, contents, is_focused)?;
+        for row in 0..rect.rows {
+            let cells = box_row(alloc, rect, pane, is_focused, row)?;
+            self.put_row(rect, row, &cells);
         }
-        let text = match pane {
-            Pane::Empty => String::from_str(alloc, "--")?,
-            Pane::Hidden { number } => format!(in alloc; "{number} ?")?,
-            Pane::Readable(contents) => {
-                let number = contents.number;
-                let title = contents.title;
-                format!(in alloc; "{number} {title}")?
-            }
-        };
-        let rendition = if is_focused { BOLD_REVERSE } else { REVERSE };
-        let caption = text_row(
-            alloc,
-            text.as_str().as_bytes(),
-            rect.cols as usize,
-            rendition,
-        )?;
-        let line = rect.line.saturating_add(rect.rows.saturating_sub(1));
-        self.put_at(line, rect.column, &caption);
         Ok(())
     }
 
-    fn put_contents(
-        &mut self,
-        alloc: Global,
-        rect: Rect,
-        contents: &Contents,
-        is_focused: bool,
-    ) -> Result<(), AllocError>
+    fn put_separator(&mut self, rect: Rect)
         ensures size { HasSize (length self.old.page) (length (line_at self.old.page 0)) self.new }
+        ensures lays { rect.cols ≡ 1 → IsFree rect self.old.page → Lays (separator_piece rect) self.old self.new }
     {
-        let rows = rect.rows.saturating_sub(1);
-        let first = first_shown(contents, rows as usize);
-        for row in 0..rows {
-            if let Some(line) = contents.lines.get(first.saturating_add(row as usize)) {
-                let shown = shown_cells(alloc, line, rect.cols as usize, contents.is_inverted)?;
-                self.put_at(rect.line.saturating_add(row), rect.column, &shown);
+        let bar = Cell::narrow('|', REVERSE, false);
+        for row in 0..rect.rows {
+            self.put_row(rect, row, &[bar]);
+        }
+    }
+
+    fn put_status(&mut self, alloc: Global, rect: Rect, text: &[u8]) -> Result<(), AllocError>
+        ensures size { HasSize (length self.old.page) (length (line_at self.old.page 0)) self.new }
+        ensures lays { OnOk result (rect.rows ≡ 1 → IsFree rect self.old.page → Lays (status_piece rect text.now) self.old self.new) }
+        ensures characters { OnOk result (all_scalars (chars (utf8_lossy text.now)) ≡ true) }
+    {
+        let text = String::from_utf8_lossy(alloc, text)?;
+        let cells = text_row(alloc, text.as_str(), rect.cols as usize, Rendition::PLAIN)?;
+        self.put_row(rect, 0, &cells);
+        Ok(())
+    }
+
+    /// The cursor and the modes of the keyboard are those of the focused region.
+    fn focus(&mut self, rects: &Rects, panes: &[Pane])
+        ensures size { HasSize (length self.old.page) (length (line_at self.old.page 0)) self.new }
+        ensures focused { rects.now.focus < length rects.now.boxes.items → rects.now.focus < length panes.now → IsPlaced (box_at rects.now rects.now.focus) self.old.page →
+            FocusesOn (box_at rects.now rects.now.focus) (part_at (map part_of panes.now) rects.now.focus) self.old self.new }
+    {
+        if rects.focus < rects.boxes.len() {
+            if let Some(pane) = panes.get(rects.focus) {
+                self.focus_pane(rects.boxes[rects.focus], pane);
             }
         }
-        if is_focused {
-            self.modes = contents.modes;
-            self.set_cursor(cursor_in(rect, contents, first));
-        }
-        Ok(())
+    }
+
+    /// They are those of its window, where it is readable.
+    fn focus_pane(&mut self, rect: Rect, pane: &Pane)
+        ensures size { HasSize (length self.old.page) (length (line_at self.old.page 0)) self.new }
+        ensures focused { IsPlaced rect self.old.page → FocusesOn rect (part_of pane.now) self.old self.new }
+    {
+        self.modes = modes_of(pane);
+        self.set_cursor(cursor_of(rect, pane));
     }
 }
 
-/// Where a box shows the cursor of its window, whose lines from `first` on it shows.
-fn cursor_in(rect: Rect, contents: &Contents, first: usize) -> Cursor {
-    let Some((line, column)) = contents.cursor else {
-        return Cursor::Hidden;
-    };
-    if !contents.shows_cursor || line < first {
-        return Cursor::Hidden;
+/// The modes of the keyboard that a focused region asks for.
+fn modes_of(pane: &Pane) -> KeyModes
+    ensures { result ≡ record { has_application_arrows = arrows_of (part_of pane.now); has_application_keypad = keypad_of (part_of pane.now) } }
+{
+    match pane {
+        Pane::Readable(contents) => contents.modes,
+        _ => KeyModes::NORMAL,
     }
-    let below = line - first;
-    if below >= rect.rows.saturating_sub(1) as usize || column >= rect.cols as usize {
-        return Cursor::Hidden;
+}
+
+/// Where a focused region in this box shows its cursor.
+fn cursor_of(rect: Rect, pane: &Pane) -> Cursor
+    ensures { 0 < rect.line → rect.line + rect.rows ≤ 65535 → 0 < rect.column → rect.column + rect.cols ≤ 65535 → place_of result ≡ cursor_of_part rect (part_of pane.now) }
+{
+    match pane {
+        Pane::Readable(contents) => cursor_in(rect, contents),
+        _ => Cursor::Hidden,
     }
-    Cursor::Shown {
-        line: rect.line.saturating_sub(1).saturating_add(below as u16),
-        column: rect.column.saturating_sub(1).saturating_add(column as u16),
+}
+
+/// Where a box shows the cursor of its window.
+fn cursor_in(rect: Rect, contents: &Contents) -> Cursor
+    ensures { 0 < rect.line → rect.line + rect.rows ≤ 65535 → 0 < rect.column → rect.column + rect.cols ≤ 65535 → place_of result ≡ cursor_of_part rect (read (window_of contents.now)) }
+{
+    let rows = rect.rows.saturating_sub(1) as usize;
+    let cols = rect.cols as usize;
+    match contents.cursor {
+        Some((line, column)) => {
+            let row = line.saturating_sub(first_shown(contents, rows));
+            if contents.shows_cursor && row < rows && column < cols {
+                Cursor::Shown {
+                    line: rect.line.saturating_sub(1).saturating_add(row as u16),
+                    column: rect.column.saturating_sub(1).saturating_add(column as u16),
+                }
+            } else {
+                Cursor::Hidden
+            }
+        }
+        None => Cursor::Hidden,
     }
 }

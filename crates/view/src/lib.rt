@@ -3,6 +3,7 @@
 
 mod composing;
 mod pane;
+mod region_rows;
 mod text;
 mod view;
 

@@ -1,59 +1,82 @@
 //! Texts of captions and of the status line.
 
-ghost use Rattle.std.specs.Prelude.{◌≡◌, ◌≤◌, IfOk, length};
+ghost use Rattle.std.specs.Prelude.{◌≡◌, ◌<◌, ◌++◌, IfOk, OnOk, chars};
+ghost use Rattle.view.specs.Texts.{visible as visible_of, uncut as uncut_of, text_cells as text_cells_of, text_at, char_cells};
+ghost use Rattle.view.specs.Rows.{IsRow};
 
-use cells::{Cell, Marks, Rendition, Shape, glyph_width};
+use cells::{Cell, Rendition, glyph_width};
 use std::alloc::{AllocError, Global};
+use unicode_width::UnicodeWidthChar;
 
-/// The one character of width 3, which a terminal draws as U+FFFD (UAX #11).
-const WIDEST: char = '\u{17D8}';
-
-/// What a text shows in place of a character: U+FFFD for one without a width, or of width 3.
-fn visible(character: char) -> char {
-    if glyph_width(character) == 0 || character == WIDEST {
-        '\u{FFFD}'
-    } else {
+/// What a text shows of a character: U+FFFD for one without a width, and for the one of width 3, which
+/// a terminal draws so (UAX #11).
+fn visible(character: char) -> char
+    ensures { result ≡ visible_of character }
+{
+    let width = character.width().unwrap_or(0);
+    if 0 < width && width <= 2 {
         character
+    } else {
+        '\u{FFFD}'
     }
 }
 
-/// A cell of a text.
-fn text_cell(shape: Shape, character: char, rendition: Rendition) -> Cell {
-    Cell {
-        shape,
-        character,
-        marks: Marks::Bare,
-        rendition,
-        is_protected: false,
+/// A cell in a column of so many, or another one where it is half a wide character at the edge.
+pub(crate) fn uncut(cell: Cell, column: usize, cols: usize, other: Cell) -> Cell
+    requires { column < cols }
+    ensures { result ≡ uncut_of cols column cell other }
+{
+    if column + 1 == cols && cell.is_left() {
+        other
+    } else {
+        cell
     }
+}
+
+/// Appends the cells of a character.
+fn push_character(
+    cells: &mut Vec<Cell>,
+    character: char,
+    rendition: Rendition,
+) -> Result<(), AllocError>
+    ensures { OnOk result (cells.new.items ≡ cells.old.items ++ char_cells rendition character) }
+{
+    if glyph_width(character) == 2 {
+        cells.push(Cell::left(character, rendition, false))?;
+        cells.push(Cell::right(character, rendition, false))?;
+    } else {
+        cells.push(Cell::narrow(visible(character), rendition, false))?;
+    }
+    Ok(())
+}
+
+/// All cells of a text.
+fn text_cells(alloc: Global, text: &str, rendition: Rendition) -> Result<Vec<Cell>, AllocError>
+    ensures { IfOk result (λ cells. cells.items ≡ text_cells_of rendition (chars text.now)) }
+{
+    let mut cells = Vec::new(alloc);
+    for character in text.chars() {
+        push_character(&mut cells, character, rendition)?;
+    }
+    Ok(cells)
 }
 
 /// The cells of a row of `cols` columns that holds this text, cut at the edge and filled with blanks of
-/// its rendition. What isn't UTF-8 shows as U+FFFD, one for each maximal subpart (Unicode core
-/// specification, 3.9).
-pub fn text_row(
+/// its rendition.
+pub(crate) fn text_row(
     alloc: Global,
-    text: &[u8],
+    text: &str,
     cols: usize,
     rendition: Rendition,
-) -> Result<Vec<Cell>, AllocError> {
-    let text = String::from_utf8_lossy(alloc, text)?;
+) -> Result<Vec<Cell>, AllocError>
+    ensures { IfOk result (λ row. IsRow (text_at rendition (chars text.now) cols) cols row.items) }
+{
+    let cells = text_cells(alloc, text, rendition)?;
+    let space = Cell::narrow(' ', rendition, false);
     let mut row = Vec::with_capacity(alloc, cols)?;
-    for character in text.as_str().chars() {
-        let character = visible(character);
-        let is_wide = glyph_width(character) == 2;
-        if row.len() >= cols || is_wide && cols - row.len() < 2 {
-            break;
-        }
-        if is_wide {
-            row.push(text_cell(Shape::Left, character, rendition))?;
-            row.push(text_cell(Shape::Right, character, rendition))?;
-        } else {
-            row.push(text_cell(Shape::Narrow, character, rendition))?;
-        }
-    }
-    for _ in row.len()..cols {
-        row.push(text_cell(Shape::Narrow, ' ', rendition))?;
+    for column in 0..cols {
+        let cell = cells.get(column).copied().unwrap_or(space);
+        row.push(uncut(cell, column, cols, space))?;
     }
     Ok(row)
 }

@@ -59,6 +59,7 @@ impl View {
     /// columns.
     pub fn blank(alloc: Global, rows: usize, cols: usize) -> Result<View, GridFault>
         ensures ok { IfOk result (λ v. v ≡ record { page = replicate rows (replicate cols blank); cursor = None; has_application_arrows = false; has_application_keypad = false }) }
+        ensures size { IfOk result (HasSize rows cols) }
         ensures bad_size { (result ≡ Err GridFault.BadSize) ↔ (¬ IsGridSize rows cols) }
     {
         Ok(View {
@@ -129,6 +130,7 @@ impl View {
     /// Shows the cursor at a place, or hides it; it is hidden where the page has no such place.
     pub(crate) fn set_cursor(&mut self, cursor: Cursor)
         ensures size { HasSize (length self.old.page) (length (line_at self.old.page 0)) self.new }
+        ensures value { IfSome (place_of cursor) (λ p. IsInside (length self.old.page) (length (line_at self.old.page 0)) p.line p.column) → self.new ≡ record self.old { cursor = place_of cursor } }
     {
         self.cursor = match cursor {
             Cursor::Shown { line, column }

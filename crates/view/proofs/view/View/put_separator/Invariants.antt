@@ -1,7 +1,13 @@
-use Rattle.std.proofs.Common.{length}
+use Rattle.std.proofs.Common.{◌≡◌, length}
 use Rattle.cells.specs.Page.{line_at}
 use Rattle.view.specs.View.{HasSize}
+use Rattle.view.specs.Rows.{IsFree, Lays}
+use Rattle.view.specs.Granted.{separator_piece}
+use Rattle.view.proofs.Laying.{first_rows}
 use Rattle.view.proofs.view.View.put_separator.Given as goal
 
 abbrev pub invariant-loop-row : goal.invariant-loop-row
-invariant-loop-row l = HasSize (length l.fn.self.page) (length (line_at l.fn.self.page 0)) l.self
+invariant-loop-row l = record {
+  size : HasSize (length l.fn.self.page) (length (line_at l.fn.self.page 0)) l.self;
+  lays : l.rect.cols ≡ 1 → IsFree l.rect l.fn.self.page → Lays (first_rows (separator_piece l.rect) l.row) l.fn.self l.self;
+}

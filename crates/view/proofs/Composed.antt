@@ -1,0 +1,173 @@
+-- The pieces of a page are laid one after the other.
+use Rattle.std.proofs.Common.{◌≡◌, ℕ, ◌+◌, ◌-◌, ◌<◌, ◌≤◌, Bool, true, false, ◌&&◌, ltb, List, [], ◌∷◌, ◌++◌, length, map, take, drop, get_or, refl, sym, ap, ◌∙◌, arith, ⊎_elim}
+use Rattle.std.specs.Prelude.{if◌then◌else◌}
+use Rattle.std.specs.List.{list_all}
+use Rattle.std.proofs.lemmas.Bool.{cases_lt, ltb-true}
+use Rattle.std.proofs.lemmas.List.{drop_more, take_more, take-append-drop}
+use Rattle.cells.specs.declared.cell.Cell.{Cell}
+use Rattle.cells.specs.Line.{blank}
+use Rattle.cells.specs.Page.{line_at}
+use Rattle.terminal_model.specs.Places.{place}
+use Rattle.terminal_model.specs.Shows.{View}
+use Rattle.regions.specs.declared.rect.Rect.{Rect}
+use Rattle.regions.specs.Pages.{has, among, times, one_if, TilesPage, inner, caption, is_roomy, parts}
+use Rattle.view.specs.Granted.{Piece, cell_of}
+use Rattle.view.specs.Rows.{IsOnPage, IsFree, IsPlaced, laid, Lays}
+use Rattle.view.proofs.Laying.{InRect, has_in, in_has, not_has, cases_has}
+
+abbrev pub rects_of : List Piece → List Rect
+rects_of ps = map (λ (p : Piece). p.rect) ps
+
+-- what stands on the page of a view
+pub record Holds (ps : List Piece) (v : View) : Type 0 where
+  pub cells_are : (line column : ℕ) → place v.page line column ≡ cell_of ps (line + 1) (column + 1)
+
+none_has : (r : Rect) (rs : List Rect) (l c : ℕ) → times (r ∷ rs) l c ≡ 0 → (has r l c ≡ false) × (times rs l c ≡ 0)
+none_has r rs l c h = go (has r l c) h
+  where
+    go : (b : Bool) → one_if b + times rs l c ≡ 0 → (b ≡ false) × (times rs l c ≡ 0)
+    go true e = absurd (omega arith)
+    go false e = (refl, omega (arith, e))
+
+-- where no piece has a place, the cell is that of the pieces behind them
+outside : (ps qs : List Piece) (l c : ℕ) → times (rects_of ps) l c ≡ 0 → cell_of (ps ++ qs) l c ≡ cell_of qs l c
+outside [] qs l c h = refl
+outside (p ∷ ps) qs l c h = let n = none_has p.rect (rects_of ps) l c h in rw n.0 (outside ps qs l c n.1)
+
+uncovered : (ps : List Piece) (l c : ℕ) → times (rects_of ps) l c ≡ 0 → cell_of ps l c ≡ blank
+uncovered [] l c h = refl
+uncovered (p ∷ ps) l c h = let n = none_has p.rect (rects_of ps) l c h in rw n.0 (uncovered ps l c n.1)
+
+-- a piece behind others changes nothing where it has no place
+behind : (ps : List Piece) (p : Piece) (l c : ℕ) → has p.rect l c ≡ false → cell_of (ps ++ p ∷ []) l c ≡ cell_of ps l c
+behind [] p l c h = rw h refl
+behind (q ∷ ps) p l c h = ap (λ (x : Cell). if has q.rect l c then q.cell (l - q.rect.line) (c - q.rect.column) else x) (behind ps p l c h)
+
+-- ---- the pieces of a page that they tile
+
+times_append : (xs ys : List Rect) (l c : ℕ) → times (xs ++ ys) l c ≡ times xs l c + times ys l c
+times_append [] ys l c = omega arith
+times_append (x ∷ xs) ys l c = omega (arith, times_append xs ys l c)
+
+rects_append : (ps qs : List Piece) → rects_of (ps ++ qs) ≡ rects_of ps ++ rects_of qs
+rects_append [] qs = refl
+rects_append (p ∷ ps) qs = ap (λ (rs : List Rect). p.rect ∷ rs) (rects_append ps qs)
+
+abbrev pub nowhere : Piece
+nowhere = record { rect = record { line = 0; column = 0; rows = 0; cols = 0 }; cell = λ row column. blank }
+
+abbrev pub piece_at : List Piece → ℕ → Piece
+piece_at ps n = get_or ps n nowhere
+
+abbrev pub Tiles : List Piece → ℕ → ℕ → Type 0
+Tiles all rows cols = (l c : ℕ) → times (rects_of all) l c ≡ one_if (among 1 rows l && among 1 cols c)
+
+few : (b : Bool) → one_if b ≤ 1
+few true = omega arith
+few false = omega arith
+
+module _ (all : List Piece) (rows cols : ℕ) (tiles : Tiles all rows cols) (n : ℕ) (lt : n < length all) where
+  split_at : take n all ++ (piece_at all n ∷ drop (n + 1) all) ≡ all
+  split_at = sym (ap (λ (qs : List Piece). take n all ++ qs) (drop_more all n nowhere lt)) ∙ take-append-drop n all
+
+  whole : (l c : ℕ) → times (rects_of all) l c ≡ times (rects_of (take n all)) l c + (one_if (has (piece_at all n).rect l c) + times (rects_of (drop (n + 1) all)) l c)
+  whole l c =
+      ap (λ (ps : List Piece). times (rects_of ps) l c) (sym split_at)
+      ∙ ap (λ (rs : List Rect). times rs l c) (rects_append (take n all) (piece_at all n ∷ drop (n + 1) all))
+      ∙ times_append (rects_of (take n all)) (rects_of (piece_at all n ∷ drop (n + 1) all)) l c
+
+  one : (l c : ℕ) → has (piece_at all n).rect l c ≡ true → one_if (has (piece_at all n).rect l c) ≡ 1
+  one l c h = rw h refl
+
+  clear : (l c : ℕ) → has (piece_at all n).rect l c ≡ true → times (rects_of (take n all)) l c ≡ 0
+  clear l c h = omega (arith, whole l c, tiles l c, one l c h, few (among 1 rows l && among 1 cols c))
+
+  on_page : (l c : ℕ) → has (piece_at all n).rect l c ≡ true → among 1 rows l && among 1 cols c ≡ true
+  on_page l c h = go (among 1 rows l && among 1 cols c) (tiles l c)
+    where
+      go : (b : Bool) → times (rects_of all) l c ≡ one_if b → b ≡ true
+      go true e = refl
+      go false e = absurd (omega (arith, whole l c, e, one l c h))
+
+  module _ (v : View) (high : length v.page ≡ rows) (wide : length (line_at v.page 0) ≡ cols) where
+    pub inside : (l c : ℕ) → has (piece_at all n).rect l c ≡ true → IsOnPage v.page l c
+    inside l c h =
+        let page : Rect = record { line = 1; column = 1; rows = rows; cols = cols } in
+        let i : InRect page l c = has_in page l c (on_page l c h) in
+        record { below = i.above; above = omega (arith, i.below); right = i.left; left = omega (arith, i.right) }
+
+    pub is_placed : 0 < (piece_at all n).rect.rows → 0 < (piece_at all n).rect.cols → IsPlaced (piece_at all n).rect v.page
+    is_placed r c = record { tall = r; wide = c; inside = inside }
+
+    pub is_free : Holds (take n all) v → 0 < (piece_at all n).rect.cols → IsFree (piece_at all n).rect v.page
+    is_free holds some = record {
+      wide = some;
+      inside = inside;
+      blanks = λ l c h. holds.cells_are l c ∙ uncovered (take n all) (l + 1) (c + 1) (clear (l + 1) (c + 1) h);
+    }
+
+  pub laid_more : (old new : View) → Holds (take n all) old → Lays (piece_at all n) old new → Holds (take (n + 1) all) new
+  laid_more old new holds lays = record {
+    cells_are = λ l c.
+        lays.cells_are l c
+        ∙ ⊎_elim
+        (λ (i : InRect (piece_at all n).rect (l + 1) (c + 1)).
+        let t : has (piece_at all n).rect (l + 1) (c + 1) ≡ true = in_has (piece_at all n).rect (l + 1) (c + 1) i in
+        let here : laid (piece_at all n) old.page l c ≡ (piece_at all n).cell (l + 1 - (piece_at all n).rect.line) (c + 1 - (piece_at all n).rect.column) = rw t refl in
+        let alone : cell_of (piece_at all n ∷ []) (l + 1) (c + 1) ≡ (piece_at all n).cell (l + 1 - (piece_at all n).rect.line) (c + 1 - (piece_at all n).rect.column) = rw t refl in
+        here ∙ sym (outside (take n all) (piece_at all n ∷ []) (l + 1) (c + 1) (clear (l + 1) (c + 1) t) ∙ alone))
+        (λ (out : has (piece_at all n).rect (l + 1) (c + 1) ≡ false).
+        let there : laid (piece_at all n) old.page l c ≡ place old.page l c = rw out refl in
+        there ∙ holds.cells_are l c ∙ sym (behind (take n all) (piece_at all n) (l + 1) (c + 1) out))
+        (cases_has (piece_at all n).rect (l + 1) (c + 1))
+        ∙ ap (λ (ps : List Piece). cell_of ps (l + 1) (c + 1)) (sym (take_more all n nowhere lt));
+  }
+
+-- ---- a box is its region and its caption
+
+both : (a b : Bool) → (a && b) ≡ true → (a ≡ true) × (b ≡ true)
+both true true h = (refl, refl)
+both true false h = cc
+both false b h = cc
+
+box_parts : (r : Rect) (l c : ℕ) → 0 < r.rows → one_if (has r l c) ≡ one_if (has (inner r) l c) + one_if (has (caption r) l c)
+box_parts r l c some = ⊎_elim
+    (λ (i : InRect r l c). ⊎_elim
+    (λ (h : l < r.line + (r.rows - 1)).
+    let first : has (inner r) l c ≡ true = in_has (inner r) l c (record { above = i.above; below = h; left = i.left; right = i.right }) in
+    let second : has (caption r) l c ≡ false = not_has (caption r) l c (λ j. omega (arith, j.above, h)) in
+    rw (in_has r l c i, first, second) refl)
+    (λ (h : r.line + (r.rows - 1) ≤ l).
+    let first : has (inner r) l c ≡ false = not_has (inner r) l c (λ j. omega (arith, j.below, h)) in
+    let second : has (caption r) l c ≡ true = in_has (caption r) l c (record { above = h; below = omega (arith, i.below); left = i.left; right = i.right }) in
+    rw (in_has r l c i, first, second) refl)
+    (cases_lt l (r.line + (r.rows - 1))))
+    (λ (out : has r l c ≡ false).
+    let first : has (inner r) l c ≡ false = not_has (inner r) l c (λ j. clash (has r l c) (in_has r l c (record { above = j.above; below = omega (arith, j.below); left = j.left; right = j.right })) out) in
+    let second : has (caption r) l c ≡ false = not_has (caption r) l c (λ j. clash (has r l c) (in_has r l c (record { above = omega (arith, j.above); below = omega (arith, j.below); left = j.left; right = j.right })) out) in
+    rw (out, first, second) refl)
+    (cases_has r l c)
+  where
+    clash : (b : Bool) → b ≡ true → b ≡ false → ⊥
+    clash b t f = cc
+
+boxes_parts : (rs : List Rect) (l c : ℕ) → list_all is_roomy rs ≡ true → times rs l c ≡ times (map inner rs) l c + times (map caption rs) l c
+boxes_parts [] l c h = omega arith
+boxes_parts (r ∷ rs) l c h =
+    let t = both (is_roomy r) (list_all is_roomy rs) h in
+    let tall : 1 < r.rows = ltb-true 1 r.rows (both (ltb 1 r.rows) (ltb 1 r.cols) t.0).0 in
+    omega (arith, box_parts r l c (omega (arith, tall)), boxes_parts rs l c t.1)
+
+pub parts_tile : (rows cols : ℕ) (boxes separators : List Rect) (status : Rect) → list_all is_roomy boxes ≡ true → TilesPage rows cols (parts boxes separators status)
+    → (l c : ℕ) → times (boxes ++ (separators ++ status ∷ [])) l c ≡ one_if (among 1 rows l && among 1 cols c)
+parts_tile rows cols boxes separators status roomy tiles l c =
+    omega (
+      arith,
+      tiles l c,
+      boxes_parts boxes l c roomy,
+      times_append boxes (separators ++ status ∷ []) l c,
+      times_append separators (status ∷ []) l c,
+      times_append (map inner boxes ++ (map caption boxes ++ separators)) (status ∷ []) l c,
+      times_append (map inner boxes) (map caption boxes ++ separators) l c,
+      times_append (map caption boxes) separators l c,
+    )

@@ -1,0 +1,214 @@
+-- Pieces that are laid over a page.
+use Rattle.std.proofs.Common.{◌≡◌, ℕ, suc, ◌+◌, ◌-◌, ◌<◌, ◌≤◌, Bool, true, false, ◌&&◌, eqb, leb, ltb, List, length, refl, sym, ap, subst, ◌∙◌, arith, ⊎_elim, inl, inr, ◌⊎◌, eq-eqb, lt-ltb, le-leb}
+use Rattle.std.specs.Prelude.{if◌then◌else◌, ◌==◌}
+use Rattle.std.proofs.lemmas.Bool.{cases_lt, cases_eq, cases_Bool, ne_eqb, ltb-true, leb-true}
+use Rattle.std.proofs.lemmas.Bool.Decides.{nat_tests}
+use Rattle.cells.specs.declared.cell.Cell.{Cell}
+use Rattle.cells.specs.Line.{blank, cell_at, is_left, is_right, IsPaired, spliced}
+use Rattle.cells.specs.Page.{line_at, IsGrid, page_from, edited}
+use Rattle.cells.proofs.Settling.{and_false}
+use Rattle.cells.proofs.Pages.{length-page_from, width-page_from}
+use Rattle.terminal_model.specs.Places.{place, over}
+use Rattle.terminal_model.specs.Shows.{View}
+use Rattle.terminal_model.proofs.Places.{over-at}
+use Rattle.regions.specs.declared.rect.Rect.{Rect}
+use Rattle.regions.specs.Pages.{has, among}
+use Rattle.view.specs.View.{written}
+use Rattle.view.specs.Granted.{Piece}
+use Rattle.view.specs.Rows.{IsRow, IsOnPage, IsFree, laid, Lays, row_of, row_piece}
+
+-- ---- places of a rectangle
+
+pub record InRect (r : Rect) (l c : ℕ) : Type 0 where
+  pub above : r.line ≤ l
+  pub below : l < r.line + r.rows
+  pub left : r.column ≤ c
+  pub right : c < r.column + r.cols
+
+both : (a b : Bool) → (a && b) ≡ true → (a ≡ true) × (b ≡ true)
+both true true h = (refl, refl)
+both true false h = cc
+both false b h = cc
+
+pub has_in : (r : Rect) (l c : ℕ) → has r l c ≡ true → InRect r l c
+has_in r l c h =
+    let rows = both (among r.line r.rows l) (among r.column r.cols c) h in
+    let line = both (leb r.line l) (ltb l (r.line + r.rows)) rows.0 in
+    let column = both (leb r.column c) (ltb c (r.column + r.cols)) rows.1 in
+    record {
+      above = leb-true r.line l line.0;
+      below = ltb-true l (r.line + r.rows) line.1;
+      left = leb-true r.column c column.0;
+      right = ltb-true c (r.column + r.cols) column.1;
+    }
+
+pub in_has : (r : Rect) (l c : ℕ) → InRect r l c → has r l c ≡ true
+in_has r l c i = rw (le-leb r.line l i.above, lt-ltb l (r.line + r.rows) i.below, le-leb r.column c i.left, lt-ltb c (r.column + r.cols) i.right) refl
+
+pub not_has : (r : Rect) (l c : ℕ) → (InRect r l c → ⊥) → has r l c ≡ false
+not_has r l c none = ⊎_elim (λ (t : has r l c ≡ true). absurd (none (has_in r l c t))) (λ (f : has r l c ≡ false). f) (cases_Bool (has r l c))
+
+pub cases_has : (r : Rect) (l c : ℕ) → (InRect r l c) ⊎ (has r l c ≡ false)
+cases_has r l c = ⊎_elim (λ (t : has r l c ≡ true). inl (has_in r l c t)) (λ (f : has r l c ≡ false). inr f) (cases_Bool (has r l c))
+
+-- ---- new cells over blanks
+
+module _ (old cells : List Cell) (at : ℕ) (paired : IsPaired old) (some : 0 < length cells) (free : (k : ℕ) → k < length cells → cell_at old (at + k) ≡ blank) where
+  whole_before : (c : ℕ) → c + 1 ≡ at → is_left (cell_at old c).shape ≡ false
+  whole_before c e =
+      let next : suc c ≡ at + 0 = omega arith in
+      paired.next c ∙ ap (λ (k : ℕ). is_right (cell_at old k).shape) next ∙ ap (λ (x : Cell). is_right x.shape) (free 0 some)
+
+  whole_after : (c : ℕ) → c ≡ at + length cells → is_right (cell_at old c).shape ≡ false
+  whole_after c e =
+      let last : ℕ = length cells - 1 in
+      let next : c ≡ suc (at + last) = omega arith in
+      ap (λ (k : ℕ). is_right (cell_at old k).shape) next ∙ sym (paired.next (at + last)) ∙ ap (λ (x : Cell). is_left x.shape) (free last (omega arith))
+
+  beside : (c : ℕ) → (c < at) ⊎ (at + length cells ≤ c) → over cells at old c ≡ cell_at old c
+  beside c side =
+      let out : (leb at c && ltb c (at + length cells)) ≡ false = ⊎_elim (λ (h : c < at). grind (arith, nat_tests)) (λ (h : at + length cells ≤ c). grind (arith, nat_tests)) side in
+      let before : (eqb (c + 1) at && is_left (cell_at old c).shape) ≡ false = ⊎_elim
+      (λ (e : c + 1 ≡ at). rw (whole_before c e) (and_false (eqb (c + 1) at)))
+      (λ (ne : c + 1 ≡ at → ⊥). rw (ne_eqb (c + 1) at ne) refl)
+      (cases_eq (c + 1) at)
+      in
+      let after : (eqb c (at + length cells) && is_right (cell_at old c).shape) ≡ false = ⊎_elim
+      (λ (e : c ≡ at + length cells). rw (whole_after c e) (and_false (eqb c (at + length cells))))
+      (λ (ne : c ≡ at + length cells → ⊥). rw (ne_eqb c (at + length cells) ne) refl)
+      (cases_eq c (at + length cells))
+      in
+      rw (out, before, after) refl
+
+  inside : (c : ℕ) → at ≤ c → c < at + length cells → over cells at old c ≡ cell_at cells (c - at)
+  inside c a b = rw (le-leb at c a, lt-ltb c (at + length cells) b) refl
+
+pub free_corner : (r : Rect) (page : List (List Cell)) → IsFree r page → 0 < r.rows → IsOnPage page r.line r.column
+free_corner r page free some = free.inside r.line r.column (in_has r r.line r.column (record { above = omega arith; below = omega arith; left = omega arith; right = omega (arith, free.wide) }))
+
+-- a row of cells in a free rectangle of one row
+module _ (r : Rect) (old : View) (line column : ℕ) (cells : List Cell) (grid : IsGrid old.page) (free : IsFree r old.page) (one : r.rows ≡ 1) (paired : IsPaired cells) (wide : length cells ≡ r.cols)
+    (l_is : r.line ≡ line + 1) (c_is : r.column ≡ column + 1) where
+  corner : IsOnPage old.page r.line r.column
+  corner = free.inside r.line r.column (in_has r r.line r.column (record { above = omega arith; below = omega arith; left = omega arith; right = omega (arith, free.wide) }))
+
+  last : IsOnPage old.page r.line (r.column + (r.cols - 1))
+  last = free.inside r.line (r.column + (r.cols - 1)) (in_has r r.line (r.column + (r.cols - 1)) (record { above = omega arith; below = omega arith; left = omega arith; right = omega (arith, free.wide) }))
+
+  pub line_inside : line < length old.page
+  line_inside = omega (arith, corner.above)
+
+  pub cells_fit : column + length cells ≤ length (line_at old.page 0)
+  cells_fit = omega (arith, last.left, free.wide)
+
+  blanks : (k : ℕ) → k < length cells → cell_at (line_at old.page line) (column + k) ≡ blank
+  blanks k h = free.blanks line (column + k) (in_has r (line + 1) (column + k + 1) (record { above = omega arith; below = omega arith; left = omega arith; right = omega arith }))
+
+  wide_line : length (line_at old.page line) ≡ length (line_at old.page 0)
+  wide_line = grid.well_formed.width line line_inside
+
+  some : 0 < length cells
+  some = omega (arith, free.wide)
+
+  written_at : (l c : ℕ) → place (written line column cells old.page) l c ≡ (if l == line then over cells column (line_at old.page line) c else place old.page l c)
+  written_at l c =
+      ap (λ (n : ℕ). place (page_from (edited line (spliced column cells (column + length cells) n)) old.page) l c) wide_line
+      ∙ over-at (length old.page) (length (line_at old.page 0)) line column (column + length cells) cells old.page grid.well_formed line_inside paired some cells_fit refl l c
+
+  module _ (new : View) (new_is : new ≡ record old { page = written line column cells old.page }) where
+    page_is : new.page ≡ written line column cells old.page
+    page_is = ap (λ (v : View). v.page) new_is
+
+    placed : (l c : ℕ) → place new.page l c ≡ laid (row_piece r cells) old.page l c
+    placed l c = ap (λ (p : List (List Cell)). place p l c) page_is ∙ written_at l c ∙ ⊎_elim
+        (λ (i : InRect r (l + 1) (c + 1)).
+        let e : l ≡ line = omega (arith, i.above, i.below) in
+        let k : c - column ≡ c + 1 - r.column = omega (arith, i.left) in
+        rw (in_has r (l + 1) (c + 1) i, eq-eqb l line e)
+        (inside (line_at old.page line) cells column (grid.well_formed.paired line) some blanks c (omega (arith, i.left)) (omega (arith, i.right)) ∙ ap (cell_at cells) k))
+        (λ (out : has r (l + 1) (c + 1) ≡ false). rw out (⊎_elim
+        (λ (e : l ≡ line). rw (eq-eqb l line e) (beside (line_at old.page line) cells column (grid.well_formed.paired line) some blanks c (side l c e out) ∙ ap (λ (n : ℕ). place old.page n c) (sym e)))
+        (λ (ne : l ≡ line → ⊥). rw (ne_eqb l line ne) refl)
+        (cases_eq l line)))
+        (cases_has r (l + 1) (c + 1))
+      where
+        side : (l c : ℕ) → l ≡ line → has r (l + 1) (c + 1) ≡ false → (c < column) ⊎ (column + length cells ≤ c)
+        side l c e out = ⊎_elim
+            (λ (h : c < column). inl h)
+            (λ (h : column ≤ c). ⊎_elim
+            (λ (k : c < column + length cells). let t : has r (l + 1) (c + 1) ≡ true = in_has r (l + 1) (c + 1) (record { above = omega arith; below = omega arith; left = omega arith; right = omega arith }) in absurd (go t out))
+            (λ (k : column + length cells ≤ c). inr k)
+            (cases_lt c (column + length cells)))
+            (cases_lt c column)
+          where
+            go : has r (l + 1) (c + 1) ≡ true → has r (l + 1) (c + 1) ≡ false → ⊥
+            go t f = cc
+
+    pub row_lays : Lays (row_piece r cells) old new
+    row_lays = record {
+      rows_are = ap length page_is ∙ length-page_from (edited line (spliced column cells (column + length cells) (length (line_at old.page line)))) old.page;
+      columns_are = ap (λ (p : List (List Cell)). length (line_at p 0)) page_is ∙ width-page_from (edited line (spliced column cells (column + length cells) (length (line_at old.page line)))) old.page 0;
+      cells_are = placed;
+      rest = new_is ∙ ap (λ (p : List (List Cell)). record old { page = p }) (sym page_is);
+    }
+
+-- ---- rows of a piece, one after the other
+
+abbrev pub first_rows : Piece → ℕ → Piece
+first_rows p n = record { rect = record p.rect { rows = n }; cell = p.cell }
+
+pub none_lays : (p : Piece) (v : View) → Lays (first_rows p 0) v v
+none_lays p v = record {
+  rows_are = refl;
+  columns_are = refl;
+  cells_are = λ l c. let out : has (record p.rect { rows = 0 }) (l + 1) (c + 1) ≡ false = not_has (record p.rect { rows = 0 }) (l + 1) (c + 1) (λ i. omega (arith, i.above, i.below)) in rw out refl;
+  rest = refl;
+}
+
+pub row_is_free : (p : Piece) (n : ℕ) (old mid : View) → IsFree p.rect old.page → n < p.rect.rows → Lays (first_rows p n) old mid → IsFree (row_of p.rect n) mid.page
+row_is_free p n old mid free lt lays = record {
+  wide = free.wide;
+  inside = λ l c h.
+      let i = has_in (row_of p.rect n) l c h in
+      let on = free.inside l c (in_has p.rect l c (record { above = omega (arith, i.above); below = omega (arith, i.below); left = i.left; right = i.right })) in
+      record { below = on.below; above = rw lays.rows_are on.above; right = on.right; left = rw lays.columns_are on.left };
+  blanks = λ l c h.
+      let i = has_in (row_of p.rect n) (l + 1) (c + 1) h in
+      let out : has (record p.rect { rows = n }) (l + 1) (c + 1) ≡ false = not_has (record p.rect { rows = n }) (l + 1) (c + 1) (λ j. omega (arith, i.above, j.below)) in
+      let unchanged : laid (first_rows p n) old.page l c ≡ place old.page l c = rw out refl in
+      lays.cells_are l c ∙ unchanged
+      ∙ free.blanks l c (in_has p.rect (l + 1) (c + 1) (record { above = omega (arith, i.above); below = omega (arith, i.below); left = i.left; right = i.right }));
+}
+
+pub one_more_row : (p : Piece) (n : ℕ) (old mid new : View) (cells : List Cell) → Lays (first_rows p n) old mid → Lays (row_piece (row_of p.rect n) cells) mid new → IsRow (p.cell n) p.rect.cols cells → Lays (first_rows p (n + 1)) old new
+one_more_row p n old mid new cells first next row = record {
+  rows_are = next.rows_are ∙ first.rows_are;
+  columns_are = next.columns_are ∙ first.columns_are;
+  cells_are = λ l c. next.cells_are l c ∙ ⊎_elim
+      (λ (i : InRect (row_of p.rect n) (l + 1) (c + 1)).
+      let more : has (record p.rect { rows = n + 1 }) (l + 1) (c + 1) ≡ true = in_has (record p.rect { rows = n + 1 }) (l + 1) (c + 1) (record { above = omega (arith, i.above); below = omega (arith, i.below); left = i.left; right = i.right }) in
+      let at : n ≡ l + 1 - p.rect.line = omega (arith, i.above, i.below) in
+      rw (in_has (row_of p.rect n) (l + 1) (c + 1) i, more) (row.cells_are (c + 1 - p.rect.column) (omega (arith, i.left, i.right)) ∙ ap (λ (k : ℕ). p.cell k (c + 1 - p.rect.column)) at))
+      (λ (out : has (row_of p.rect n) (l + 1) (c + 1) ≡ false). rw out (first.cells_are l c ∙ ⊎_elim
+      (λ (i : InRect (record p.rect { rows = n }) (l + 1) (c + 1)).
+      let more : has (record p.rect { rows = n + 1 }) (l + 1) (c + 1) ≡ true = in_has (record p.rect { rows = n + 1 }) (l + 1) (c + 1) (record { above = i.above; below = omega (arith, i.below); left = i.left; right = i.right }) in
+      rw (in_has (record p.rect { rows = n }) (l + 1) (c + 1) i, more) refl)
+      (λ (none : has (record p.rect { rows = n }) (l + 1) (c + 1) ≡ false).
+      let less : has (record p.rect { rows = n + 1 }) (l + 1) (c + 1) ≡ false = not_has (record p.rect { rows = n + 1 }) (l + 1) (c + 1) (λ j. neither l c out none j) in
+      rw (none, less) refl)
+      (cases_has (record p.rect { rows = n }) (l + 1) (c + 1))))
+      (cases_has (row_of p.rect n) (l + 1) (c + 1));
+  rest = next.rest ∙ ap (λ (v : View). record v { page = new.page }) first.rest;
+}
+  where
+    clash : (b : Bool) → b ≡ true → b ≡ false → ⊥
+    clash b t f = cc
+
+    neither : (l c : ℕ) → has (row_of p.rect n) (l + 1) (c + 1) ≡ false → has (record p.rect { rows = n }) (l + 1) (c + 1) ≡ false → InRect (record p.rect { rows = n + 1 }) (l + 1) (c + 1) → ⊥
+    neither l c out none j = ⊎_elim
+        (λ (h : l + 1 < p.rect.line + n). clash _ (in_has (record p.rect { rows = n }) (l + 1) (c + 1) (record { above = j.above; below = h; left = j.left; right = j.right })) none)
+        (λ (h : p.rect.line + n ≤ l + 1). clash _ (in_has (row_of p.rect n) (l + 1) (c + 1) (record { above = h; below = omega (arith, j.below); left = j.left; right = j.right })) out)
+        (cases_lt (l + 1) (p.rect.line + n))
+
+pub all_rows : (p : Piece) (n : ℕ) (old new : View) → n ≡ p.rect.rows → Lays (first_rows p n) old new → Lays p old new
+all_rows p n old new e lays = subst (λ (k : ℕ). Lays (first_rows p k) old new) e lays

@@ -1,0 +1,289 @@
+-- The pieces of a composed page, one by one.
+use Rattle.std.proofs.Common.{◌≡◌, ℕ, zero, suc, ◌+◌, ◌-◌, ◌<◌, ◌≤◌, true, false, ltb, List, [], ◌∷◌, ◌++◌, length, map, get_or, take, refl, sym, ap, subst, ◌∙◌, arith, ⊎_elim, length-append}
+use Rattle.std.specs.Prelude.{None, ◌==◌}
+use Rattle.std.specs.List.{range_with_len, list_all}
+use Rattle.std.proofs.lemmas.Bool.{cases_lt, ltb-true}
+use Rattle.std.proofs.lemmas.List.{ext_get_or, get_or-map, get_or_append_left, get_or-append-add, length-map}
+use Rattle.std.proofs.lemmas.List.FromFn.{length-map-range_with_len, get_or-map-range_with_len}
+use Rattle.cells.specs.declared.cell.Cell.{Cell}
+use Rattle.cells.specs.Line.{blank}
+use Rattle.cells.specs.Page.{line_at, IsGrid}
+use Rattle.terminal_model.specs.Places.{place}
+use Rattle.terminal_model.specs.Shows.{View}
+use Rattle.regions.specs.declared.rect.Rect.{Rect}
+use Rattle.regions.specs.declared.rects.Rects.{Rects}
+use Rattle.regions.specs.declared.way.Way.TheVariants.{Below, Right}
+use Rattle.regions.specs.Shapes.{Shape, region, split, upper, lower, left, right, boxes, separators}
+use Rattle.regions.specs.Pages.{is_roomy, times, parts, TilesPage}
+use Rattle.regions.specs.Pages.{box_of}
+use Rattle.regions.proofs.Tiling.{page_once}
+use Rattle.regions.proofs.Room.{both_true, wide, room_fits}
+use Rattle.terminal_model.specs.Screen.{Page, blank_page}
+use Rattle.terminal_model.proofs.Places.{blank-at}
+use Rattle.std.proofs.Math.Seq.{take-length}
+use Rattle.std.specs.Prelude.{chars}
+use Rattle.std.specs.Str.{all_scalars}
+use Rattle.std.specs.Str.Lossy.{utf8_lossy}
+use Rattle.terminal_model.specs.Drawable.{IsDrawableLine}
+use Rattle.view.specs.Drawable.{IsDrawable}
+use Rattle.view.proofs.Drawing.{pieces_drawn, view_drawn}
+use Rattle.view.specs.View.{HasSize}
+use Rattle.view.specs.Rows.{IsFree, IsPlaced, Lays, FocusesOn}
+use Rattle.view.specs.declared.pane.Pane.{Pane}
+use Rattle.view.specs.Granted.{Piece, Part, vacant, part_of, AreParts, HasPairedLines, pieces, region_piece, separator_piece, status_piece, box_at, part_at, box_cell, caption_text, AreDrawable, cell_of, page_of, cursor_of, arrows_of, keypad_of, view_of, view_in}
+use Rattle.view.proofs.Composed.{Holds, Tiles, rects_of, nowhere, piece_at, parts_tile, is_free, is_placed, laid_more}
+
+-- ---- separators are one column wide
+
+AreNarrow : List Rect → Type 0
+AreNarrow rs = (k : ℕ) (d : Rect) → k < length rs → (get_or rs k d).cols ≡ 1
+
+narrow_append : (xs ys : List Rect) → AreNarrow xs → AreNarrow ys → AreNarrow (xs ++ ys)
+unfolding AreNarrow
+narrow_append xs ys p q k d h = ⊎_elim
+    (λ (lt : k < length xs). ap (λ (r : Rect). r.cols) (get_or_append_left xs ys d k lt) ∙ p k d lt)
+    (λ (ge : length xs ≤ k).
+    let e : length xs + (k - length xs) ≡ k = omega arith in
+    let within : k - length xs < length ys = omega (arith, length-append xs ys, h) in
+    ap (λ (i : ℕ). (get_or (xs ++ ys) i d).cols) (sym e) ∙ ap (λ (r : Rect). r.cols) (get_or-append-add xs ys (k - length xs) d) ∙ q (k - length xs) d within)
+    (cases_lt k (length xs))
+
+narrow : (s : Shape) (r : Rect) → AreNarrow (separators s r)
+unfolding AreNarrow
+narrow region r k d h = absurd (omega arith)
+narrow (split Below a b) r k d h = narrow_append (separators a (upper r)) (separators b (lower r)) (narrow a (upper r)) (narrow b (lower r)) k d h
+narrow (split Right a b) r zero d h = refl
+narrow (split Right a b) r (suc k) d h = narrow_append (separators a (left r)) (separators b (right r)) (narrow a (left r)) (narrow b (right r)) k d (omega arith)
+
+-- ---- boxes have room
+
+roomy_at : (rs : List Rect) (k : ℕ) (d : Rect) → list_all is_roomy rs ≡ true → k < length rs → is_roomy (get_or rs k d) ≡ true
+roomy_at [] k d h lt = absurd (omega arith)
+roomy_at (r ∷ rs) zero d h lt = (both_true (is_roomy r) (list_all is_roomy rs) h).0
+roomy_at (r ∷ rs) (suc k) d h lt = roomy_at rs k d (both_true (is_roomy r) (list_all is_roomy rs) h).1 (omega arith)
+
+-- ---- the rectangles of the pieces
+
+rects-append : (ps qs : List Piece) → rects_of (ps ++ qs) ≡ rects_of ps ++ rects_of qs
+rects-append [] qs = refl
+rects-append (p ∷ ps) qs = ap (λ (rs : List Rect). p.rect ∷ rs) (rects-append ps qs)
+
+separators_rects : (rs : List Rect) → rects_of (map separator_piece rs) ≡ rs
+separators_rects [] = refl
+separators_rects (r ∷ rs) = ap (λ (xs : List Rect). r ∷ xs) (separators_rects rs)
+
+module _ (r : Rects) (ps : List Part) (text : List ℕ) where
+  abbrev boxes_number : ℕ
+  boxes_number = length r.boxes.items
+
+  abbrev separators_number : ℕ
+  separators_number = length r.separators.items
+
+  abbrev regions_pieces : List Piece
+  regions_pieces = map (region_piece r ps) (range_with_len 0 (length r.boxes.items))
+
+  abbrev others : List Piece
+  others = map separator_piece r.separators.items ++ (status_piece r.status text ∷ [])
+
+  regions_length : length regions_pieces ≡ boxes_number
+  regions_length = length-map-range_with_len (region_piece r ps) 0 (length r.boxes.items)
+
+  others_length : length others ≡ separators_number + 1
+  others_length = length-append (map separator_piece r.separators.items) (status_piece r.status text ∷ []) ∙ ap (λ (n : ℕ). n + 1) (length-map r.separators.items separator_piece)
+
+  pub pieces_length : length (pieces r ps text) ≡ boxes_number + (separators_number + 1)
+  pieces_length = omega (arith, length-append regions_pieces others, regions_length, others_length)
+
+  pub region_at : (n : ℕ) → n < boxes_number → piece_at (pieces r ps text) n ≡ region_piece r ps n
+  region_at n h =
+      get_or_append_left regions_pieces others nowhere n (rw regions_length h)
+      ∙ get_or-map-range_with_len (region_piece r ps) 0 (length r.boxes.items) n n nowhere h (omega arith)
+
+  other_at : (n : ℕ) → piece_at (pieces r ps text) (boxes_number + n) ≡ get_or others n nowhere
+  other_at n = ap (λ (k : ℕ). get_or (pieces r ps text) (k + n) nowhere) (sym regions_length) ∙ get_or-append-add regions_pieces others n nowhere
+
+  pub separator_at : (n : ℕ) (d : Rect) → n < separators_number → piece_at (pieces r ps text) (boxes_number + n) ≡ separator_piece (get_or r.separators.items n d)
+  separator_at n d h =
+      other_at n
+      ∙ get_or_append_left (map separator_piece r.separators.items) (status_piece r.status text ∷ []) nowhere n (rw (length-map r.separators.items separator_piece) h)
+      ∙ get_or-map separator_piece r.separators.items n d nowhere h
+
+  pub status_at : piece_at (pieces r ps text) (boxes_number + separators_number) ≡ status_piece r.status text
+  status_at =
+      let z : length (map separator_piece r.separators.items) + 0 ≡ separators_number = omega (arith, length-map r.separators.items separator_piece) in
+      other_at separators_number
+      ∙ ap (λ (k : ℕ). get_or others k nowhere) (sym z)
+      ∙ get_or-append-add (map separator_piece r.separators.items) (status_piece r.status text ∷ []) 0 nowhere
+
+  regions_rects : rects_of regions_pieces ≡ r.boxes.items
+  regions_rects = ext_get_or r.status (rects_of regions_pieces) r.boxes.items (length-map regions_pieces (λ (p : Piece). p.rect) ∙ regions_length) (λ k h.
+      let many : length (rects_of regions_pieces) ≡ boxes_number = length-map regions_pieces (λ (p : Piece). p.rect) ∙ regions_length in
+      let lt : k < boxes_number = rw many at h in
+      let among_pieces : k < length regions_pieces = rw regions_length lt in
+      get_or-map (λ (p : Piece). p.rect) regions_pieces k nowhere r.status among_pieces
+      ∙ ap (λ (p : Piece). p.rect) (get_or-map-range_with_len (region_piece r ps) 0 (length r.boxes.items) k k nowhere lt (omega arith)))
+
+  pieces_rects : rects_of (pieces r ps text) ≡ r.boxes.items ++ (r.separators.items ++ r.status ∷ [])
+  pieces_rects =
+      rects-append regions_pieces others
+      ∙ ap (λ (xs : List Rect). xs ++ rects_of others) regions_rects
+      ∙ ap (λ (xs : List Rect). r.boxes.items ++ xs) (rects-append (map separator_piece r.separators.items) (status_piece r.status text ∷ [])
+      ∙ ap (λ (xs : List Rect). xs ++ r.status ∷ []) (separators_rects r.separators.items))
+
+  module _ (s : Shape) (rows cols : ℕ) (is : AreParts s rows cols r ps) where
+    all_roomy : list_all is_roomy r.boxes.items ≡ true
+    all_roomy = ap (λ (rs : List Rect). list_all is_roomy rs) is.rects.boxes_are ∙ is.room
+
+    tiled : TilesPage rows cols (parts r.boxes.items r.separators.items r.status)
+    tiled = subst (λ (bs : List Rect). TilesPage rows cols (parts bs r.separators.items r.status)) (sym is.rects.boxes_are)
+        (subst (λ (ss : List Rect). TilesPage rows cols (parts (boxes s (box_of rows cols)) ss r.status)) (sym is.rects.separators_are)
+        (subst (λ (t : Rect). TilesPage rows cols (parts (boxes s (box_of rows cols)) (separators s (box_of rows cols)) t)) (sym is.rects.status_is)
+        (page_once s rows cols is.room)))
+
+    pub pieces_tile : Tiles (pieces r ps text) rows cols
+    pieces_tile l c = ap (λ (rs : List Rect). times rs l c) pieces_rects ∙ parts_tile rows cols r.boxes.items r.separators.items r.status all_roomy tiled l c
+
+    pub box_roomy : (n : ℕ) (d : Rect) → n < boxes_number → (1 < (get_or r.boxes.items n d).rows) × (1 < (get_or r.boxes.items n d).cols)
+    box_roomy n d h =
+        let b = get_or r.boxes.items n d in
+        let t = both_true (ltb 1 b.rows) (ltb 1 b.cols) (roomy_at r.boxes.items n d all_roomy h) in
+        (ltb-true 1 b.rows t.0, ltb-true 1 b.cols t.1)
+
+    pub separator_narrow : (n : ℕ) (d : Rect) → n < separators_number → (get_or r.separators.items n d).cols ≡ 1
+    unfolding AreNarrow
+    separator_narrow n d h =
+        ap (λ (rs : List Rect). (get_or rs n d).cols) is.rects.separators_are
+        ∙ narrow s (box_of rows cols) n d (rw (← is.rects.separators_are) h)
+
+    pub status_rows : r.status.rows ≡ 1
+    status_rows = ap (λ (t : Rect). t.rows) is.rects.status_is
+
+    pub status_line : r.status.line ≡ rows
+    status_line = ap (λ (t : Rect). t.line) is.rects.status_is
+
+    pub status_cols : r.status.cols ≡ cols
+    status_cols = ap (λ (t : Rect). t.cols) is.rects.status_is
+
+    pub cols_some : 1 < cols
+    cols_some = wide s (rows - 1) cols (sym (room_fits s rows cols) ∙ is.room)
+
+-- ---- the page that holds them
+
+pub page-is : (ps : List Piece) (v : View) (rows cols : ℕ) → IsGrid v.page → length v.page ≡ rows → length (line_at v.page 0) ≡ cols → Holds ps v → v.page ≡ page_of rows cols (λ line column. cell_of ps (line + 1) (column + 1))
+page-is ps v rows cols grid high wide_is holds =
+    let cell : ℕ → ℕ → Cell = λ line column. cell_of ps (line + 1) (column + 1) in
+    ext_get_or [] v.page (page_of rows cols cell) (high ∙ sym (length-map-range_with_len (λ line. map (cell line) (range_with_len 0 cols)) 0 rows)) (λ l h.
+    let lt : l < rows = rw high at h in
+    let line : List Cell = map (cell l) (range_with_len 0 cols) in
+    let breadth : length (line_at v.page l) ≡ cols = grid.well_formed.width l h ∙ wide_is in
+    ext_get_or blank (line_at v.page l) line (breadth ∙ sym (length-map-range_with_len (cell l) 0 cols)) (λ c k.
+    let inside : c < cols = rw breadth at k in
+    holds.cells_are l c ∙ sym (get_or-map-range_with_len (cell l) 0 cols c c blank inside (omega arith)))
+    ∙ sym (get_or-map-range_with_len (λ n. map (cell n) (range_with_len 0 cols)) 0 rows l l [] lt (omega arith)))
+
+-- ---- so many pieces are laid over a blank page
+
+pub record Stage (r : Rects) (ps : List Part) (text : List ℕ) (n : ℕ) (v : View) : Type 0 where
+  pub holds : Holds (take n (pieces r ps text)) v
+  pub rest : v ≡ record { page = v.page; cursor = None; has_application_arrows = false; has_application_keypad = false }
+  pub captions : (k : ℕ) → k < n → k < length r.boxes.items → all_scalars (caption_text (part_at ps k)) ≡ true
+
+pub no_stage : (r : Rects) (ps : List Part) (text : List ℕ) (v : View) (rows cols : ℕ) → v ≡ record { page = blank_page rows cols; cursor = None; has_application_arrows = false; has_application_keypad = false } → Stage r ps text 0 v
+no_stage r ps text v rows cols e = record {
+  holds = record { cells_are = λ l c. ap (λ (x : View). place x.page l c) e ∙ blank-at rows cols l c };
+  rest = e ∙ ap (λ (p : Page). record { page = p; cursor = None; has_application_arrows = false; has_application_keypad = false }) (sym (ap (λ (x : View). x.page) e));
+  captions = λ k h b. absurd (omega arith);
+}
+
+module _ (r : Rects) (ps : List Part) (text : List ℕ) (s : Shape) (rows cols : ℕ) (is : AreParts s rows cols r ps) where
+  abbrev all : List Piece
+  all = pieces r ps text
+
+  module _ (n : ℕ) (lt : n < length (pieces r ps text)) (old : View) (size : HasSize r.status.line r.status.cols old) where
+    high : length old.page ≡ rows
+    high = size.rows_are ∙ status_line r ps text s rows cols is
+
+    broad : length (line_at old.page 0) ≡ cols
+    broad = size.columns_are ∙ status_cols r ps text s rows cols is
+
+    next : (p : Piece) (new : View) → piece_at (pieces r ps text) n ≡ p → 0 < p.rect.cols → (n < length r.boxes.items → all_scalars (caption_text (part_at ps n)) ≡ true) → Stage r ps text n old → (IsFree p.rect old.page → Lays p old new) → Stage r ps text (n + 1) new
+    next p new e some caption stage lays =
+        let free : IsFree p.rect old.page = subst (λ (q : Piece). IsFree q.rect old.page) e
+        (is_free (pieces r ps text) rows cols (pieces_tile r ps text s rows cols is) n lt old high broad stage.holds (subst (λ (q : Piece). 0 < q.rect.cols) (sym e) some))
+        in
+        let put : Lays (piece_at (pieces r ps text) n) old new = subst (λ (q : Piece). Lays q old new) (sym e) (lays free) in
+        record {
+          holds = laid_more (pieces r ps text) rows cols (pieces_tile r ps text s rows cols is) n lt old new stage.holds put;
+          rest = put.rest ∙ ap (λ (v : View). record v { page = new.page }) stage.rest;
+          captions = λ k h b. ⊎_elim
+              (λ (before : k < n). stage.captions k before b)
+              (λ (last : n ≤ k). let same : n ≡ k = omega arith in subst (λ (i : ℕ). all_scalars (caption_text (part_at ps i)) ≡ true) same (caption (omega (arith, b, same))))
+              (cases_lt k n);
+        }
+
+    placed : (p : Piece) → piece_at (pieces r ps text) n ≡ p → 0 < p.rect.rows → 0 < p.rect.cols → IsPlaced p.rect old.page
+    placed p e tall some = subst (λ (q : Piece). IsPlaced q.rect old.page) e
+        (is_placed (pieces r ps text) rows cols (pieces_tile r ps text s rows cols is) n lt old high broad (subst (λ (q : Piece). 0 < q.rect.rows) (sym e) tall) (subst (λ (q : Piece). 0 < q.rect.cols) (sym e) some))
+
+  pub box_stage : (n : ℕ) (rect : Rect) (part : Part) (old new : View) → n < length r.boxes.items → rect ≡ box_at r n → part ≡ part_at ps n → HasSize r.status.line r.status.cols old → Stage r ps text n old
+      → (HasPairedLines part → IsFree rect old.page → Lays (record { rect = rect; cell = box_cell rect (n == r.focus) part }) old new) → (0 < rect.rows → all_scalars (caption_text part) ≡ true) → Stage r ps text (n + 1) new
+  box_stage n rect part old new lt re pe size stage lays characters =
+      let inside : n < length (pieces r ps text) = omega (arith, lt, pieces_length r ps text) in
+      let here : HasPairedLines (part_at ps n) → IsFree (box_at r n) old.page → Lays (region_piece r ps n) old new =
+      subst (λ (x : Rect). HasPairedLines (part_at ps n) → IsFree x old.page → Lays (record { rect = x; cell = box_cell x (n == r.focus) (part_at ps n) }) old new) re
+      (subst (λ (y : Part). HasPairedLines y → IsFree rect old.page → Lays (record { rect = rect; cell = box_cell rect (n == r.focus) y }) old new) pe lays)
+      in
+      let room = box_roomy r ps text s rows cols is n r.status lt in
+      next n inside old size (region_piece r ps n) new (region_at r ps text n lt) (omega (arith, room.1))
+      (λ h. subst (λ (y : Part). all_scalars (caption_text y) ≡ true) pe (characters (rw re (omega (arith, room.0))))) stage (here (is.paired n))
+
+  pub separator_stage : (n : ℕ) (rect d : Rect) (old new : View) → n < length r.separators.items → rect ≡ get_or r.separators.items n d → HasSize r.status.line r.status.cols old → Stage r ps text (length r.boxes.items + n) old
+      → (rect.cols ≡ 1 → IsFree rect old.page → Lays (separator_piece rect) old new) → Stage r ps text (length r.boxes.items + (n + 1)) new
+  separator_stage n rect d old new lt re size stage lays =
+      let inside : length r.boxes.items + n < length (pieces r ps text) = omega (arith, lt, pieces_length r ps text) in
+      let one : rect.cols ≡ 1 = ap (λ (x : Rect). x.cols) re ∙ separator_narrow r ps text s rows cols is n d lt in
+      let more : length r.boxes.items + n + 1 ≡ length r.boxes.items + (n + 1) = omega arith in
+      subst (λ (k : ℕ). Stage r ps text k new) more
+      (next (length r.boxes.items + n) inside old size (separator_piece rect) new (separator_at r ps text n d lt ∙ ap separator_piece (sym re)) (omega (arith, one)) (λ h. absurd (omega arith)) stage (lays one))
+
+  pub status_stage : (n : ℕ) (old new : View) → n ≡ length r.separators.items → HasSize r.status.line r.status.cols old → Stage r ps text (length r.boxes.items + n) old
+      → (r.status.rows ≡ 1 → IsFree r.status old.page → Lays (status_piece r.status text) old new) → Stage r ps text (length (pieces r ps text)) new
+  status_stage n old new e size stage lays =
+      let inside : length r.boxes.items + n < length (pieces r ps text) = omega (arith, e, pieces_length r ps text) in
+      let more : length r.boxes.items + n + 1 ≡ length (pieces r ps text) = omega (arith, e, pieces_length r ps text) in
+      let some : 0 < r.status.cols = rw (status_cols r ps text s rows cols is) (omega (arith, cols_some r ps text s rows cols is)) in
+      subst (λ (k : ℕ). Stage r ps text k new) more
+      (next (length r.boxes.items + n) inside old size (status_piece r.status text) new (ap (λ (k : ℕ). piece_at (pieces r ps text) (length r.boxes.items + k)) e ∙ status_at r ps text) some (λ h. absurd (omega arith)) stage (lays (status_rows r ps text s rows cols is)))
+
+  pub focus_placed : (v : View) → HasSize r.status.line r.status.cols v → IsPlaced (box_at r r.focus) v.page
+  focus_placed v size =
+      let inside : r.focus < length (pieces r ps text) = omega (arith, is.focus, pieces_length r ps text) in
+      let room = box_roomy r ps text s rows cols is r.focus r.status is.focus in
+      placed r.focus inside v size (region_piece r ps r.focus) (region_at r ps text r.focus is.focus) (omega (arith, room.0)) (omega (arith, room.1))
+
+  pub composed : (old new : View) → HasSize r.status.line r.status.cols old → IsGrid old.page → Stage r ps text (length (pieces r ps text)) old → FocusesOn (box_at r r.focus) (part_at ps r.focus) old new → new ≡ view_of r ps text
+  unfolding view_in
+  composed old new size grid stage focused =
+      let holds : Holds (pieces r ps text) old = subst (λ (xs : List Piece). Holds xs old) (take-length (pieces r ps text)) stage.holds in
+      focused ∙ ap (λ (p : Page). record {
+        page = p;
+        cursor = cursor_of (box_at r r.focus) (part_at ps r.focus);
+        has_application_arrows = arrows_of (part_at ps r.focus);
+        has_application_keypad = keypad_of (part_at ps r.focus);
+      }) (page-is (pieces r ps text) old r.status.line r.status.cols grid size.rows_are size.columns_are holds)
+
+-- ---- the parts of panes
+
+pub part_is : (panes : List Pane) (k : ℕ) (p : Pane) → k < length panes → p ≡ get_or panes k p → part_of p ≡ part_at (map part_of panes) k
+part_is panes k p lt e = ap part_of e ∙ sym (get_or-map part_of panes k p vacant lt)
+
+pub all_there : (r : Rects) (panes : List Pane) (s : Shape) (rows cols k : ℕ) → AreParts s rows cols r (map part_of panes) → k < length r.boxes.items → k < length panes
+all_there r panes s rows cols k is lt = let n : length (map part_of panes) ≡ length panes = length-map panes part_of in omega (arith, is.each, n, lt)
+
+module _ (r : Rects) (ps : List Part) (text : List ℕ) (s : Shape) (rows cols : ℕ) (is : AreParts s rows cols r ps) where
+  pub drawable_view : (old new : View) → Stage r ps text (length (pieces r ps text)) old → new.page ≡ old.page → AreDrawable ps → all_scalars (chars (utf8_lossy text)) ≡ true → IsDrawable new
+  drawable_view old new stage same drawable status =
+      let holds : Holds (pieces r ps text) old = subst (λ (xs : List Piece). Holds xs old) (take-length (pieces r ps text)) stage.holds in
+      let captions : (n : ℕ) → n < length ps → all_scalars (caption_text (part_at ps n)) ≡ true = λ n h. stage.captions n (omega (arith, h, is.each, pieces_length r ps text)) (omega (arith, h, is.each)) in
+      let drawn = view_drawn (pieces r ps text) rows cols old (pieces_tile r ps text s rows cols is) (pieces_drawn r ps text drawable captions status) holds in
+      record { lines = λ line h. subst (λ (p : Page). IsDrawableLine (line_at p line)) (sym same) (drawn.lines line (rw (← same) h)) }

@@ -1,0 +1,37 @@
+use Rattle.std.proofs.Common.{◌≡◌, false, List, [], ◌∷◌, arith, refl, ap, ◌∙◌}
+use Rattle.cells.specs.declared.cell.Cell.{Cell}
+use Rattle.cells.specs.Line.{narrow_cell}
+use Rattle.view.specs.Granted.{Piece, separator_piece, reverse}
+use Rattle.view.specs.Rows.{IsRow}
+use Rattle.view.proofs.Laying.{none_lays, row_is_free, one_more_row, all_rows}
+use Rattle.view.proofs.Pairing.{bar_row, bar_pairs}
+use Rattle.view.proofs.view.View.put_separator.Goals as goal
+
+pub loop-row-init : goal.loop-row-init
+loop-row-init c = record {
+  size = record { rows_are = refl; columns_are = refl };
+  lays = λ narrow free. none_lays (separator_piece c.args.rect) c.args.self.now;
+}
+
+pub loop-row-preserved : goal.loop-row-preserved
+loop-row-preserved c =
+    let piece : Piece = separator_piece c.args.rect in
+    let inv = c.loop-row.invariant in
+    record {
+      size = record {
+        rows_are = c.put_row.ensures.size.rows_are ∙ inv.size.rows_are;
+        columns_are = c.put_row.ensures.size.columns_are ∙ inv.size.columns_are;
+      };
+      lays = λ narrow free.
+          let cells : List Cell = c.narrow-bar.result ∷ [] in
+          let same : cells ≡ narrow_cell 0x7C reverse false ∷ [] = ap (λ (bar : Cell). bar ∷ []) c.narrow-bar.ensures in
+          let row : IsRow (piece.cell c.loop-row.row) c.args.rect.cols cells = bar_row cells (narrow_cell 0x7C reverse false) c.args.rect.cols same narrow in
+          let before = inv.lays narrow free in
+          one_more_row piece c.loop-row.row c.args.self.now c.loop-row.self c.put_row.new.self cells before
+          (c.put_row.ensures.lays (row_is_free piece c.loop-row.row c.args.self.now c.loop-row.self free c.loop-row-test.true before) (bar_pairs cells (narrow_cell 0x7C reverse false) refl same) row.width)
+          row;
+    }
+
+pub returns-clause-lays : goal.returns-clause-lays
+returns-clause-lays c = λ narrow free.
+    all_rows (separator_piece c.args.rect) c.loop-row.row c.args.self.now c.loop-row.self (omega (arith, c.loop-row-test.false, c.loop-row.auto.row-end)) (c.loop-row.invariant.lays narrow free)

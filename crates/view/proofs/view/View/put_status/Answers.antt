@@ -1,0 +1,32 @@
+use Rattle.std.proofs.Common.{true, ◌≡◌, ℕ, List, arith, subst, sym, ap, ◌∙◌}
+use Rattle.std.specs.Str.{chars, all_scalars}
+use Rattle.std.specs.String.{string_bytes}
+use Rattle.std.proofs.lemmas.Str.{scalars-chars, IsUtf8-string_bytes}
+use Rattle.cells.specs.declared.cell.Cell.{Cell}
+use Rattle.cells.specs.Line.{plain}
+use Rattle.std.specs.Str.Lossy.{utf8_lossy}
+use Rattle.view.specs.Granted.{Piece, status_piece}
+use Rattle.view.specs.Texts.{text_at}
+use Rattle.view.specs.Rows.{IsRow}
+use Rattle.view.proofs.Laying.{none_lays, row_is_free, one_more_row, all_rows}
+use Rattle.view.proofs.Pairing.{text_row_pairs}
+use Rattle.view.proofs.view.View.put_status.Goals as goal
+
+pub returns-clause-lays : goal.returns-clause-lays
+returns-clause-lays c = λ one free.
+    let piece : Piece = status_piece c.args.rect c.args.text.now in
+    let now : List Cell = c.deref.result.now in
+    let cols : ℕ = c.args.rect.cols in
+    let text : List ℕ = chars (utf8_lossy c.args.text.now) in
+    let same : chars c.as_str.result.now ≡ text = ap chars (c.as_str.ensures.value ∙ c.in_ok-text.ensures.lossy) in
+    let put : IsRow (text_at plain (chars c.as_str.result.now) cols) cols now = subst (λ (cells : List Cell). IsRow (text_at plain (chars c.as_str.result.now) cols) cols cells) (sym c.deref.ensures.value) c.in_ok-cells.ensures in
+    let row : IsRow (text_at plain text cols) cols now = subst (λ (cs : List ℕ). IsRow (text_at plain cs cols) cols now) same put in
+    let none = none_lays piece c.args.self.now in
+    all_rows piece 1 c.args.self.now c.put_row.new.self (sym one)
+    (one_more_row piece 0 c.args.self.now c.args.self.now c.put_row.new.self now none
+    (c.put_row.ensures.lays (row_is_free piece 0 c.args.self.now c.args.self.now free (omega arith) none) (text_row_pairs plain text cols now row) row.width)
+    row)
+
+pub returns-clause-characters : goal.returns-clause-characters
+returns-clause-characters c =
+    subst (λ (bs : List ℕ). all_scalars (chars bs) ≡ true) c.in_ok-text.ensures.lossy (scalars-chars (string_bytes c.in_ok-text.text) (IsUtf8-string_bytes c.in_ok-text.text))

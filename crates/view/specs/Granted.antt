@@ -1,0 +1,221 @@
+-- What a client is granted to see, place by place. A page counts its lines and columns from 1; a view and the pieces of a
+-- page count theirs from 0.
+use Rattle.std.specs.Prelude.{◌≡◌, ℕ, ◌+◌, ◌-◌, ◌<◌, Bool, true, false, not, ◌&&◌, ◌==◌, nat_lt, if◌then◌else◌, List, [], ◌∷◌, ◌++◌, length, map, slice_index_or, chars, decimal, Option, Some, None, option_map}
+use Rattle.std.specs.List.{range_with_len}
+use Rattle.std.specs.Str.Lossy.{utf8_lossy}
+use Rattle.cells.specs.declared.cell.Cell.{Cell}
+use Rattle.cells.specs.declared.cell.Rendition.{Rendition}
+use Rattle.cells.specs.Line.{blank, plain, narrow_cell, cell_at, IsPaired}
+use Rattle.cells.specs.Page.{line_at}
+use Rattle.regions.specs.declared.rect.Rect.{Rect}
+use Rattle.regions.specs.declared.rects.Rects.{Rects}
+use Rattle.regions.specs.Shapes.{Shape}
+use Rattle.regions.specs.Pages.{IsRects, has_room, has}
+use Rattle.terminal_model.specs.declared.state.Position.{Position}
+use Rattle.terminal_model.specs.Shows.{View}
+use Rattle.terminal_model.specs.Drawable.{IsDrawableLine}
+use Rattle.view.specs.declared.pane.Pane.{Pane}
+use Rattle.view.specs.declared.pane.Pane.TheVariants.{Empty, Hidden, Readable}
+use Rattle.view.specs.declared.pane.Contents.{Contents}
+use Rattle.view.specs.Texts.{uncut, text_at}
+
+-- ---- what stands in a region
+
+-- A window that the client's user may read: its number, the characters of its title, the lines of its page or of the page
+-- moved back, its cursor, which is none where the page is moved back, and its modes DECTCEM, DECSCNM, DECCKM and DECKPAM.
+pub record Window : Type 0 where
+  pub number : ℕ
+  pub title : List ℕ
+  pub lines : List (List Cell)
+  pub cursor : Option Position
+  pub shows_cursor : Bool
+  pub is_inverted : Bool
+  pub has_application_arrows : Bool
+  pub has_application_keypad : Bool
+
+-- nothing, a window of this number that he may not read, or one that he may
+pub data Part : Type 0 where
+  vacant : Part
+  unread : ℕ → Part
+  read : Window → Part
+
+abbrev pub window_of : Contents → Window
+window_of c = record {
+  number = c.number;
+  title = chars c.title.now;
+  lines = map (λ line. line.now) c.lines.now;
+  cursor = option_map (λ place. record { line = place.0; column = place.1 }) c.cursor;
+  shows_cursor = c.shows_cursor;
+  is_inverted = c.is_inverted;
+  has_application_arrows = c.modes.has_application_arrows;
+  has_application_keypad = c.modes.has_application_keypad;
+}
+
+abbrev pub part_of : Pane → Part
+part_of Empty = vacant
+part_of (Hidden number) = unread number
+part_of (Readable contents) = read (window_of contents)
+
+-- ---- a region's box: the lines of its window, and its caption in the last row
+
+-- the first line that so many rows show: the cursor's is among them
+abbrev pub first_shown : ℕ → Option Position → ℕ
+first_shown rows None = 0
+first_shown rows (Some p) = p.line - (rows - 1)
+
+-- a cell without protection; reverse is inverted where the window's screen is (DECSCNM)
+abbrev pub shown_cell : Bool → Cell → Cell
+shown_cell is_inverted cell = record cell {
+  is_protected = false;
+  rendition = record cell.rendition { is_reversed = if is_inverted then not cell.rendition.is_reversed else cell.rendition.is_reversed };
+}
+
+-- a place that shows this column of a line, among so many columns: a blank outside the window and in place of a cut half
+abbrev pub line_cell : Bool → List Cell → ℕ → ℕ → Cell
+line_cell is_inverted line cols column =
+    if nat_lt column (length line) then uncut cols column (shown_cell is_inverted (cell_at line column)) blank else blank
+
+abbrev pub window_cell : Window → ℕ → ℕ → ℕ → ℕ → Cell
+window_cell w rows cols row column = line_cell w.is_inverted (line_at w.lines (first_shown rows w.cursor + row)) cols column
+
+-- Nothing of a window that may not be read is shown but its number.
+abbrev pub part_cell : Part → ℕ → ℕ → ℕ → ℕ → Cell
+part_cell vacant rows cols row column = blank
+part_cell (unread number) rows cols row column = blank
+part_cell (read w) rows cols row column = window_cell w rows cols row column
+
+-- number, one blank, title; `?` in place of a title that may not be read; `--` where no window is
+abbrev pub caption_text : Part → List ℕ
+caption_text vacant = 0x2D ∷ 0x2D ∷ []
+caption_text (unread number) = decimal number ++ (0x20 ∷ 0x3F ∷ [])
+caption_text (read w) = decimal w.number ++ (0x20 ∷ w.title)
+
+abbrev pub reverse : Rendition
+reverse = record plain { is_reversed = true }
+
+-- reverse, and bold where the region has the focus
+abbrev pub caption_rendition : Bool → Rendition
+caption_rendition is_focused = record reverse { is_bold = is_focused }
+
+abbrev pub box_cell : Rect → Bool → Part → ℕ → ℕ → Cell
+box_cell box is_focused part row column =
+    if row + 1 == box.rows then text_at (caption_rendition is_focused) (caption_text part) box.cols column
+    else part_cell part (box.rows - 1) box.cols row column
+
+-- ---- the pieces of a page
+
+-- a rectangle, and the cells of its rows and columns
+pub record Piece : Type 0 where
+  pub rect : Rect
+  pub cell : ℕ → ℕ → Cell
+
+-- the boxes of the regions, the separators between them, the place of the focused one among the boxes, and the status line
+pub record Layout : Type 0 where
+  pub boxes : List Rect
+  pub separators : List Rect
+  pub focus : ℕ
+  pub status : Rect
+
+abbrev pub layout_of : Rects → Layout
+layout_of r = record { boxes = r.boxes.items; separators = r.separators.items; focus = r.focus; status = r.status }
+
+abbrev pub box_in : Layout → ℕ → Rect
+box_in l n = slice_index_or l.boxes n l.status
+
+abbrev pub box_at : Rects → ℕ → Rect
+box_at r n = box_in (layout_of r) n
+
+abbrev pub part_at : List Part → ℕ → Part
+part_at parts n = slice_index_or parts n vacant
+
+abbrev pub region_in : Layout → List Part → ℕ → Piece
+region_in l parts n = record { rect = box_in l n; cell = box_cell (box_in l n) (n == l.focus) (part_at parts n) }
+
+abbrev pub region_piece : Rects → List Part → ℕ → Piece
+region_piece r parts n = region_in (layout_of r) parts n
+
+abbrev pub separator_piece : Rect → Piece
+separator_piece rect = record { rect = rect; cell = λ row column. narrow_cell 0x7C reverse false }
+
+-- the text of the status line, without rendition; U+FFFD stands for each maximal part that isn't UTF-8 (Unicode core
+-- specification, 3.9)
+abbrev pub status_piece : Rect → List ℕ → Piece
+status_piece rect text = record { rect = rect; cell = λ row column. text_at plain (chars (utf8_lossy text)) rect.cols column }
+
+abbrev pub pieces_in : Layout → List Part → List ℕ → List Piece
+pieces_in l parts status =
+    map (region_in l parts) (range_with_len 0 (length l.boxes))
+    ++ (map separator_piece l.separators ++ (status_piece l.status status ∷ []))
+
+abbrev pub pieces : Rects → List Part → List ℕ → List Piece
+pieces r parts status = pieces_in (layout_of r) parts status
+
+-- the cell of the piece that has a place, and a blank where none has it
+abbrev pub cell_of : List Piece → ℕ → ℕ → Cell
+cell_of [] line column = blank
+cell_of (p ∷ ps) line column =
+    if has p.rect line column then p.cell (line - p.rect.line) (column - p.rect.column) else cell_of ps line column
+
+-- ---- the view
+
+abbrev pub page_of : ℕ → ℕ → (ℕ → ℕ → Cell) → List (List Cell)
+page_of rows cols cell = map (λ line. map (cell line) (range_with_len 0 cols)) (range_with_len 0 rows)
+
+-- The cursor of a window that may be read is shown where its mode shows it and its place lies in the region.
+abbrev pub cursor_in : Rect → Window → Option Position → Option Position
+cursor_in box w None = None
+cursor_in box w (Some p) =
+    let row : ℕ = p.line - first_shown (box.rows - 1) w.cursor in
+    if w.shows_cursor && (nat_lt row (box.rows - 1) && nat_lt p.column box.cols)
+    then Some (record { line = box.line - 1 + row; column = box.column - 1 + p.column }) else None
+
+abbrev pub cursor_of : Rect → Part → Option Position
+cursor_of box vacant = None
+cursor_of box (unread number) = None
+cursor_of box (read w) = cursor_in box w w.cursor
+
+-- The modes of the keyboard are those of the focused window where it may be read, and else the starting ones.
+abbrev pub arrows_of : Part → Bool
+arrows_of vacant = false
+arrows_of (unread number) = false
+arrows_of (read w) = w.has_application_arrows
+
+abbrev pub keypad_of : Part → Bool
+keypad_of vacant = false
+keypad_of (unread number) = false
+keypad_of (read w) = w.has_application_keypad
+
+unfoldable pub view_in : Layout → List Part → List ℕ → View
+view_in l parts status = record {
+  page = page_of l.status.line l.status.cols (λ line column. cell_of (pieces_in l parts status) (line + 1) (column + 1));
+  cursor = cursor_of (box_in l l.focus) (part_at parts l.focus);
+  has_application_arrows = arrows_of (part_at parts l.focus);
+  has_application_keypad = keypad_of (part_at parts l.focus);
+}
+
+abbrev pub view_of : Rects → List Part → List ℕ → View
+view_of r parts status = view_in (layout_of r) parts status
+
+-- ---- what a view is made of
+
+abbrev pub HasPairedLines : Part → Type 0
+HasPairedLines vacant = Prim.Unit {0}
+HasPairedLines (unread number) = Prim.Unit {0}
+HasPairedLines (read w) = (line : ℕ) → line < length w.lines → IsPaired (line_at w.lines line)
+
+-- the rectangles of a page on which each region has room, one part a region, and lines in which halves are paired
+pub record AreParts (s : Shape) (rows cols : ℕ) (r : Rects) (parts : List Part) : Type 0 where
+  pub rects : IsRects s r.focus rows cols r
+  pub room : has_room s rows cols ≡ true
+  pub focus : r.focus < length r.boxes.items
+  pub each : length parts ≡ length r.boxes.items
+  pub paired : (n : ℕ) → HasPairedLines (part_at parts n)
+
+abbrev pub HasDrawableLines : Part → Type 0
+HasDrawableLines vacant = Prim.Unit {0}
+HasDrawableLines (unread number) = Prim.Unit {0}
+HasDrawableLines (read w) = (line : ℕ) → line < length w.lines → IsDrawableLine (line_at w.lines line)
+
+-- a terminal can show the lines of the windows that are read
+abbrev pub AreDrawable : List Part → Type 0
+AreDrawable parts = (n : ℕ) → HasDrawableLines (part_at parts n)

@@ -1,0 +1,57 @@
+-- Rows of cells, and pieces that are laid over a page.
+use Rattle.std.specs.Prelude.{◌≡◌, ℕ, ◌+◌, ◌-◌, ◌<◌, ◌≤◌, true, if◌then◌else◌, List, length}
+use Rattle.cells.specs.declared.cell.Cell.{Cell}
+use Rattle.cells.specs.Line.{blank, cell_at}
+use Rattle.cells.specs.Page.{line_at}
+use Rattle.regions.specs.declared.rect.Rect.{Rect}
+use Rattle.regions.specs.Pages.{has}
+use Rattle.terminal_model.specs.Places.{place}
+use Rattle.terminal_model.specs.Shows.{View}
+use Rattle.view.specs.Granted.{Piece, Part, cursor_of, arrows_of, keypad_of}
+
+-- so many cells, one for each column
+pub record IsRow (cell : ℕ → Cell) (cols : ℕ) (cells : List Cell) : Type 0 where
+  pub width : length cells ≡ cols
+  pub cells_are : (column : ℕ) → column < cols → cell_at cells column ≡ cell column
+
+-- a place of a page, which counts its lines and columns from 1
+pub record IsOnPage (page : List (List Cell)) (line column : ℕ) : Type 0 where
+  pub below : 0 < line
+  pub above : line ≤ length page
+  pub right : 0 < column
+  pub left : column ≤ length (line_at page 0)
+
+-- a rectangle of a page, which has a place for rows, and one for columns
+pub record IsPlaced (r : Rect) (page : List (List Cell)) : Type 0 where
+  pub tall : 0 < r.rows
+  pub wide : 0 < r.cols
+  pub inside : (line column : ℕ) → has r line column ≡ true → IsOnPage page line column
+
+-- a rectangle of a page, in which nothing but blanks stands
+pub record IsFree (r : Rect) (page : List (List Cell)) : Type 0 where
+  pub wide : 0 < r.cols
+  pub inside : (line column : ℕ) → has r line column ≡ true → IsOnPage page line column
+  pub blanks : (line column : ℕ) → has r (line + 1) (column + 1) ≡ true → place page line column ≡ blank
+
+-- what stands at a place of a page once a piece was laid over it
+abbrev pub laid : Piece → List (List Cell) → ℕ → ℕ → Cell
+laid p page line column =
+    if has p.rect (line + 1) (column + 1) then p.cell (line + 1 - p.rect.line) (column + 1 - p.rect.column) else place page line column
+
+-- a piece was laid over the page of a view, and nothing else changed
+pub record Lays (p : Piece) (old new : View) : Type 0 where
+  pub rows_are : length new.page ≡ length old.page
+  pub columns_are : length (line_at new.page 0) ≡ length (line_at old.page 0)
+  pub cells_are : (line column : ℕ) → place new.page line column ≡ laid p old.page line column
+  pub rest : new ≡ record old { page = new.page }
+
+-- one of its rows
+abbrev pub row_of : Rect → ℕ → Rect
+row_of r row = record r { line = r.line + row; rows = 1 }
+
+abbrev pub row_piece : Rect → List Cell → Piece
+row_piece r cells = record { rect = r; cell = λ row column. cell_at cells column }
+
+-- the cursor and the modes of a view are those of a region, and its page is as before
+abbrev pub FocusesOn : Rect → Part → View → View → Type 0
+FocusesOn box part old new = new ≡ record old { cursor = cursor_of box part; has_application_arrows = arrows_of part; has_application_keypad = keypad_of part }

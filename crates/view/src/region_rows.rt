@@ -1,0 +1,164 @@
+//! Rows of a region: the lines of its window, and its caption.
+
+ghost use Rattle.std.specs.Prelude.{◌≡◌, ℕ, ◌<◌, ◌+◌, ◌-◌, true, IfOk, OnOk, length, chars, string_bytes, map, option_map};
+ghost use Rattle.std.specs.Str.{all_scalars};
+ghost use Rattle.view.specs.Rows.{IsRow};
+ghost use Rattle.view.specs.Granted.{part_of, window_of, caption_rendition as caption_rendition_of, caption_text as caption_text_of, first_shown as first_shown_of, shown_cell as shown_cell_of, line_cell as line_cell_of, window_cell, part_cell, box_cell};
+ghost use Rattle.view.specs.Texts.{text_at};
+
+use crate::pane::{Contents, Pane};
+use crate::text::{text_row, uncut};
+use cells::{Cell, Rendition};
+use regions::Rect;
+use std::alloc::{AllocError, Global};
+
+/// The rendition of captions and separators.
+pub(crate) const REVERSE: Rendition = Rendition {
+    is_reversed: true,
+    ..Rendition::PLAIN
+};
+
+/// A window's cell as a view has it: without protection, and reversed where the screen is.
+fn shown_cell(cell: Cell, is_inverted: bool) -> Cell
+    ensures { result ≡ shown_cell_of is_inverted cell }
+{
+    let is_reversed = cell.rendition.is_reversed;
+    Cell {
+        rendition: Rendition {
+            is_reversed: if is_inverted {
+                !is_reversed
+            } else {
+                is_reversed
+            },
+            ..cell.rendition
+        },
+        is_protected: false,
+        ..cell
+    }
+}
+
+/// The cell of a column, among so many, that shows a line of a window.
+fn line_cell(line: &[Cell], column: usize, cols: usize, is_inverted: bool) -> Cell
+    requires { column < cols }
+    ensures { result ≡ line_cell_of is_inverted line.now cols column }
+{
+    match line.get(column) {
+        Some(cell) => uncut(shown_cell(*cell, is_inverted), column, cols, Cell::BLANK),
+        None => Cell::BLANK,
+    }
+}
+
+/// The first of the lines that so many rows show, so that the cursor's is among them.
+pub(crate) fn first_shown(contents: &Contents, rows: usize) -> usize
+    ensures { result ≡ first_shown_of rows (window_of contents.now).cursor }
+{
+    match contents.cursor {
+        Some((line, _)) => line.saturating_sub(rows.saturating_sub(1)),
+        None => 0,
+    }
+}
+
+/// The cells of a line in so many columns.
+fn line_row(
+    alloc: Global,
+    line: &[Cell],
+    cols: usize,
+    is_inverted: bool,
+) -> Result<Vec<Cell>, AllocError>
+    ensures { IfOk result (λ row. IsRow (line_cell_of is_inverted line.now cols) cols row.items) }
+{
+    let mut row = Vec::with_capacity(alloc, cols)?;
+    for column in 0..cols {
+        row.push(line_cell(line, column, cols, is_inverted))?;
+    }
+    Ok(row)
+}
+
+/// What a row of so many shows of a window.
+fn window_row(
+    alloc: Global,
+    contents: &Contents,
+    rows: usize,
+    cols: usize,
+    row: usize,
+) -> Result<Vec<Cell>, AllocError>
+    ensures { IfOk result (λ cells. IsRow (window_cell (window_of contents.now) rows cols row) cols cells.items) }
+{
+    let place = first_shown(contents, rows).saturating_add(row);
+    match contents.lines.get(place) {
+        Some(line) => line_row(alloc, line, cols, contents.is_inverted),
+        None => line_row(alloc, &[], cols, contents.is_inverted),
+    }
+}
+
+/// A row of a region, above its caption.
+fn part_row(
+    alloc: Global,
+    pane: &Pane,
+    rows: usize,
+    cols: usize,
+    row: usize,
+) -> Result<Vec<Cell>, AllocError>
+    ensures { IfOk result (λ cells. IsRow (part_cell (part_of pane.now) rows cols row) cols cells.items) }
+{
+    match pane {
+        Pane::Readable(contents) => window_row(alloc, contents, rows, cols, row),
+        _ => line_row(alloc, &[], cols, false),
+    }
+}
+
+/// The text of a caption.
+fn caption_text(alloc: Global, pane: &Pane) -> Result<String, AllocError>
+    ensures { IfOk result (λ text. chars (string_bytes text) ≡ caption_text_of (part_of pane.now)) }
+{
+    match pane {
+        Pane::Empty => String::from_str(alloc, "--"),
+        Pane::Hidden { number } => {
+            let number = *number;
+            format!(in alloc; "{number} ?")
+        }
+        Pane::Readable(contents) => {
+            let number = contents.number;
+            let title = contents.title;
+            format!(in alloc; "{number} {title}")
+        }
+    }
+}
+
+/// The caption of a region, which is bold where it has the focus.
+fn caption_row(
+    alloc: Global,
+    pane: &Pane,
+    cols: usize,
+    is_focused: bool,
+) -> Result<Vec<Cell>, AllocError>
+    ensures row { IfOk result (λ cells. IsRow (text_at (caption_rendition_of is_focused) (caption_text_of (part_of pane.now)) cols) cols cells.items) }
+    ensures characters { OnOk result (all_scalars (caption_text_of (part_of pane.now)) ≡ true) }
+{
+    let text = caption_text(alloc, pane)?;
+    let rendition = Rendition {
+        is_bold: is_focused,
+        ..REVERSE
+    };
+    text_row(alloc, text.as_str(), cols, rendition)
+}
+
+/// A row of a region's box: of its window, or its caption.
+pub(crate) fn box_row(
+    alloc: Global,
+    rect: Rect,
+    pane: &Pane,
+    is_focused: bool,
+    row: u16,
+) -> Result<Vec<Cell>, AllocError>
+    requires { row < rect.rows }
+    ensures row { IfOk result (λ cells. IsRow (box_cell rect is_focused (part_of pane.now) row) rect.cols cells.items) }
+    ensures characters { OnOk result (row + 1 ≡ rect.rows → all_scalars (caption_text_of (part_of pane.now)) ≡ true) }
+{
+    let cols = rect.cols as usize;
+    if row + 1 == rect.rows {
+        caption_row(alloc, pane, cols, is_focused)
+    } else {
+        part_row(alloc, pane, rect.rows as usize - 1, cols, row as usize)
+    }
+}
