@@ -1,0 +1,78 @@
+//! An emulator for a test, and what its page shows.
+
+use cells::{Cell, Marks, Shape};
+use emulator::{Emulator, Shown};
+use std::alloc::Global;
+use std::str::Chars;
+use std::test::Fail;
+
+/// Lines, columns, and lines to keep.
+pub type Size = (usize, usize, usize);
+
+pub fn made(alloc: Global, size: Size) -> Result<Emulator, Fail> {
+    match Emulator::new(alloc, size.0, size.1, size.2) {
+        Ok(emulator) => Ok(emulator),
+        Err(_) => Err(Fail::from("no emulator")),
+    }
+}
+
+pub fn fed(emulator: &mut Emulator, bytes: &[u8], answers: &mut Vec<u8>) -> Result<(), Fail> {
+    match emulator.feed_all(bytes, answers) {
+        Ok(()) => Ok(()),
+        Err(_) => Err(Fail::from("stopped")),
+    }
+}
+
+/// Whether a text goes on with a cell: `_` is a blank, and a right half is nothing.
+fn goes_on(text: &mut Chars<'_>, cell: &Cell) -> bool {
+    if cell.shape == Shape::Right {
+        return true;
+    }
+    let shown = if *cell == Cell::BLANK {
+        '_'
+    } else {
+        cell.character
+    };
+    if text.next() != Some(shown) {
+        return false;
+    }
+    match cell.marks {
+        Marks::Bare => true,
+        Marks::One(mark) => text.next() == Some(mark),
+        Marks::Two(first, second) => text.next() == Some(first) && text.next() == Some(second),
+    }
+}
+
+/// Whether a text goes on with a line, and then `|`.
+fn goes_on_with_line(text: &mut Chars<'_>, line: &[Cell]) -> bool {
+    for cell in line {
+        if !goes_on(text, cell) {
+            return false;
+        }
+    }
+    text.next() == Some('|')
+}
+
+/// Whether the page is this text: its lines, each ended by `|`.
+pub fn shows(page: &Shown<'_>, text: &str) -> bool {
+    let mut text = text.chars();
+    for line in 0..page.rows() {
+        if !goes_on_with_line(&mut text, page.line(line)) {
+            return false;
+        }
+    }
+    text.next().is_none()
+}
+
+/// Whether two pages have the same cells.
+pub fn are_alike(page: &Shown<'_>, other: &Shown<'_>) -> bool {
+    if page.rows() != other.rows() {
+        return false;
+    }
+    for line in 0..page.rows() {
+        if page.line(line) != other.line(line) {
+            return false;
+        }
+    }
+    true
+}
