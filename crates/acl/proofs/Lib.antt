@@ -5,6 +5,5 @@ pub mod InPlace
 pub mod NameLemmas
 pub mod PlanLemmas
 pub mod RowLemmas
-pub mod SlotLemmas
 pub mod StandsForLemmas
 pub mod WordLemmas

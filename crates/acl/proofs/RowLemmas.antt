@@ -7,8 +7,8 @@ use Rattle.std.proofs.lemmas.Map.Entries.{lookup-filter-keys}
 use borrow.Author.Tests.{eqb-true}
 use Rattle.acl.specs.Same.{same_user, same_bit, same_object, index_of_command}
 use Rattle.acl.specs.BitSets.{allows, with_bit, no_bits, all_bits}
-use Rattle.acl.specs.Slots.{slot_of, is_window}
-use Rattle.acl.proofs.SlotLemmas.{slots-new}
+use Rattle.acl_slots.specs.Slots.{slot_of, is_window}
+use Rattle.acl_slots.proofs.SlotLemmas.{slots-new}
 use Rattle.std.specs.Map.{keys_of}
 use Rattle.acl.specs.Table.{bits_on, same_pair, with_window, with_right, new_row, Table, StandsFor, granted, shows, is_there}
 use Rattle.std.proofs.Common.{◌++◌}
@@ -18,7 +18,7 @@ use Rattle.acl.specs.History.{listed, without_user}
 use Rattle.acl.specs.declared.act.PresetKind.{PresetKind}
 use Rattle.acl.specs.declared.act.PresetKind.TheVariants as preset
 use Rattle.acl.proofs.BitSetLemmas.{allows-with_bit, allows-no_bits, allows-all_bits}
-use Rattle.acl.proofs.SlotLemmas.{found, slot_of-apart}
+use Rattle.acl_slots.proofs.SlotLemmas.{found, slot_of-apart}
 use Rattle.acl.proofs.StandsForLemmas.{same_user-true}
 use Rattle.acl.specs.declared.user_id.UserId.{UserId}
 use Rattle.acl.specs.declared.bits.Bit.{Bit}

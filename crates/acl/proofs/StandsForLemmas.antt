@@ -7,7 +7,7 @@ use Rattle.std.proofs.lemmas.Slice.Eq.{bytes_eq-Decides}
 use borrow.Author.Tests.{eqb-true}
 use Rattle.acl.specs.Same.{same_user, same_bit, same_object, same_preset, index_of_command}
 use Rattle.acl.specs.BitSets.{allows, with_bit, all_bits, no_bits}
-use Rattle.acl.specs.Slots.{slot_of, SlotsStandFor}
+use Rattle.acl_slots.specs.Slots.{slot_of, SlotsStandFor}
 use Rattle.acl.specs.History.{History, users_of, without_user, open_count, there, decided, latest, is_known, decides_known, is_open, mask, preset_of, has, leaders_of, listed, greeting, opening, may, decision}
 use Rattle.acl.specs.Table.{Table, StandsFor, row_of, users_in, knows, shows, bits_on, granted, same_pair, masked, preset_bits, led_by, is_there, without_leader, remaining_leader, opening_bits, mask_bits, with_window, lets}
 use Rattle.acl.proofs.BitSetLemmas.{allows-with_bit, allows-all_bits}

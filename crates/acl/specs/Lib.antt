@@ -4,5 +4,4 @@ pub mod History
 pub mod Lists
 pub mod Names
 pub mod Same
-pub mod Slots
 pub mod Table

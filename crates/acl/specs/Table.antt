@@ -5,7 +5,7 @@ use Rattle.std.specs.List.{list_any}
 use Rattle.std.specs.Map.{lookup, keys_of}
 use Rattle.acl.specs.Same.{same_user, index_of_command}
 use Rattle.acl.specs.BitSets.{allows, with_bit, no_bits, all_bits}
-use Rattle.acl.specs.Slots.{slot_of, SlotsStandFor}
+use Rattle.acl_slots.specs.Slots.{slot_of, SlotsStandFor}
 use Rattle.acl.specs.History.{History, is_known, users_of, is_open, open_count, mask, preset_of, has, leaders_of, listed, followed_by}
 use Rattle.acl.specs.declared.user_id.UserId.{UserId}
 use Rattle.acl.specs.declared.bits.Bit.{Bit}

@@ -13,7 +13,6 @@ mod limits;
 mod lists;
 mod plan;
 mod rows;
-mod slots;
 mod user_id;
 
 pub use acl::Acl;
@@ -25,5 +24,4 @@ pub use faults::AclFault;
 pub use follower::Follower;
 pub use limits::{USERS, WINDOWS};
 pub use lists::Lists;
-pub use slots::Slots;
 pub use user_id::UserId;

@@ -6,8 +6,8 @@ use crate::entries::EntryDenial;
 use crate::rows::{
     Masks, Row, Rows, bits_on, forget_leader, forget_masks, give_window, mask_bits, set_right,
 };
-use crate::slots::Slots;
 use crate::user_id::UserId;
+use acl_slots::Slots;
 use indexmap::IndexMap;
 use std::alloc::{AllocError, Global};
 

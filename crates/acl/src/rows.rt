@@ -8,8 +8,8 @@ ghost use Rattle.acl.specs.Table.{mask_bits, opening_bits, with_window, without_
 
 use crate::act::Object;
 use crate::bits::{Bit, Bits};
-use crate::slots::Slots;
 use crate::user_id::UserId;
+use acl_slots::Slots;
 use indexmap::IndexMap;
 
 /// What a known user has, and his leader.
@@ -59,7 +59,7 @@ pub fn bits_on(slots: &Slots, object: Object, row: &Row) -> Bits
 pub fn set_right(slots: &Slots, row: &mut Row, object: Object, bit: Bit, value: bool)
     ensures set { row.new ≡ with_right slots.now.serials object bit value row.old }
     ensures commands { length row.old.commands ≡ 31 }
-    ensures windows { length row.old.windows ≡ length slots.now.serials }
+    ensures windows { length row.old.windows ≡ 40 }
 {
     match object {
         Object::Window(window) => if let Some(slot) = slots.slot_of(window) {

@@ -9,8 +9,6 @@ mod message;
 mod reader;
 mod reading;
 mod side;
-#[cfg(test)]
-mod tests;
 mod why;
 mod writing;
 

@@ -7,16 +7,17 @@ use Rattle.std.specs.Char.{len_utf8, encode_utf8}
 use Rattle.std.specs.Str.{chars, is_utf8, encode_utf8_all}
 use Rattle.std.proofs.lemmas.Str.{length-encode, encodes-chars, IsUtf8-from_is_utf8}
 use Rattle.acl.specs.declared.command_name.CommandName.{CommandName}
-use Rattle.command_lang.specs.declared.words.Word.{Word}
-use Rattle.command_lang.specs.declared.table.Words.{Words}
-use Rattle.command_lang.specs.declared.fault.FaultKind.{FaultKind}
-use Rattle.command_lang.specs.declared.fault.FaultKind.TheVariants as faults
-use Rattle.command_lang.specs.declared.fault.ParseFault.{ParseFault}
-use Rattle.command_lang.specs.Names.{command_named}
-use Rattle.command_lang.specs.Parts.{word}
-use Rattle.command_lang.specs.Lines.{word_at, words_from, words}
-use Rattle.command_lang.specs.Table.{row, least, kind_at, at, at_place, judged, words_faults, first_of}
-use Rattle.command_lang.specs.Relation.{named_faults, line_faults, faults_of, Refuses, NoneBefore}
+use Rattle.command_lang_words.specs.declared.word.Word.{Word}
+use Rattle.command_lang_table.specs.declared.table.Words.{Words}
+use Rattle.command_lang_table.specs.declared.fault.FaultKind.{FaultKind}
+use Rattle.command_lang_table.specs.declared.fault.FaultKind.TheVariants as faults
+use Rattle.command_lang_table.specs.declared.fault.ParseFault.{ParseFault}
+use Rattle.command_lang_table.specs.Names.{command_named}
+use Rattle.command_lang_words.specs.Parts.{word}
+use Rattle.command_lang_words.specs.Lines.{word_at, words_from, words}
+use Rattle.command_lang_table.specs.Table.{row, least, kind_at, at, at_place, judged, words_faults, first_of}
+use Rattle.command_lang.specs.Relation.{faults_of, Refuses, NoneBefore}
+use Rattle.command_lang_table.specs.LineFaults.{named_faults, line_faults}
 
 -- words at rising places, none of them before the first place or behind the end
 abbrev Rising : ℕ → ℕ → List Word → Type 0

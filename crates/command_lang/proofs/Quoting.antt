@@ -2,8 +2,8 @@
 use Rattle.std.proofs.Common.{◌≡◌, ℕ, suc, ◌+◌, ◌-◌, ◌*◌, ◌/◌, ◌%◌, ◌<◌, Bool, true, false, ◌&&◌, ◌||◌, cond, List, [], ◌∷◌, ◌++◌, length, refl, ap, ◌∙◌, arith}
 use Rattle.std.specs.Prelude.{nat_lt, ◌==◌}
 use Rattle.std.proofs.lemmas.Bool.Decides.{nat_tests}
-use Rattle.command_lang.specs.Parts.{Part, before, further, gives, in_double, is_octal}
-use Rattle.command_lang.specs.Printing.{octal, quoted}
+use Rattle.command_lang_words.specs.Parts.{Part, before, further, gives, in_double, is_octal}
+use Rattle.command_lang_printing.specs.Printing.{octal, quoted}
 
 abbrev Read : List ℕ → List ℕ → Part
 Read cs ds = record { text = cs; count = length ds; whole = true }

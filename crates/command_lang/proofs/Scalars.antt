@@ -5,10 +5,10 @@ use Rattle.std.proofs.lemmas.Bool.Decides.{nat_tests}
 use Rattle.std.proofs.Math.Utf8.{scalars, scalar}
 use Rattle.std.specs.Str.{IsUtf8}
 use Rattle.std.specs.Char.{len_utf8}
-use Rattle.command_lang.specs.declared.words.Word.{Word}
-use Rattle.command_lang.specs.Lines.{word_at, words_from}
-use Rattle.command_lang.specs.Meaning.{texts_of}
-use Rattle.command_lang.specs.Parts.{Part, done, before, further, gives, escape, plain, is_octal, in_single, in_double, part, word}
+use Rattle.command_lang_words.specs.declared.word.Word.{Word}
+use Rattle.command_lang_words.specs.Lines.{word_at, words_from}
+use Rattle.command_lang_table.specs.Meaning.{texts_of}
+use Rattle.command_lang_words.specs.Parts.{Part, done, before, further, gives, escape, plain, is_octal, in_single, in_double, part, word}
 
 pub and-parts : (a b : Bool) → (a && b) ≡ true → (a ≡ true) × (b ≡ true)
 and-parts true b h = (refl, h)

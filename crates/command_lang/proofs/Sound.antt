@@ -5,17 +5,18 @@ use Rattle.std.specs.Str.{IsUtf8}
 use Rattle.std.specs.Fmt.{decimal}
 use Rattle.acl.specs.declared.command_name.CommandName.{CommandName}
 use Rattle.acl.specs.declared.command_name.CommandName.TheVariants as name
-use Rattle.command_lang.specs.declared.command.Command.{Command}
-use Rattle.command_lang.specs.declared.command.Command.TheVariants as command
-use Rattle.command_lang.specs.declared.command.Mask.{Mask}
-use Rattle.command_lang.specs.declared.table.Kind.TheVariants as kind
-use Rattle.command_lang.specs.declared.fault.FaultKind.TheVariants as faults
-use Rattle.command_lang.specs.MaskFaults.{unless}
-use Rattle.command_lang.specs.Values.{number_in, number_after, is_vertical, lock_mode_in, switch_in, coding_in, users_of, items_of, leader_of, bits_of, mask_of}
-use Rattle.command_lang.specs.Table.{row}
-use Rattle.command_lang.specs.Meaning.{bare, with_word, with_words, command_of}
-use Rattle.command_lang.specs.Printing.{name_of, words_of, mask_word, bits_word}
-use Rattle.command_lang.proofs.Fits.{Fits, AllFit, passes}
+use Rattle.command_lang_table.specs.declared.command.Command.{Command}
+use Rattle.command_lang_table.specs.declared.command.Command.TheVariants as command
+use Rattle.command_lang_table.specs.declared.command.Mask.{Mask}
+use Rattle.command_lang_table.specs.declared.table.Kind.TheVariants as kind
+use Rattle.command_lang_table.specs.declared.fault.FaultKind.TheVariants as faults
+use Rattle.command_lang_table.specs.MaskFaults.{unless}
+use Rattle.command_lang_table.specs.Values.{number_in, number_after, is_vertical, lock_mode_in, switch_in, coding_in, users_of, items_of, leader_of, bits_of, mask_of}
+use Rattle.command_lang_table.specs.Table.{row}
+use Rattle.command_lang_table.specs.Meaning.{bare, with_word, with_words, command_of}
+use Rattle.command_lang_table.specs.Names.{name_of}
+use Rattle.command_lang_printing.specs.Printing.{words_of, mask_word, bits_word}
+use Rattle.command_lang_table.proofs.Fits.{Fits, AllFit, passes}
 use Rattle.command_lang.proofs.Scalars.{AllText}
 use Rattle.command_lang.proofs.Canonical.{some-same, items_again, users_again, leader_again, lock_mode_again, switch_again, coding_again, vertical_again, Again, number_again, bits_again, mask_again}
 

@@ -10,16 +10,16 @@ use Rattle.std.proofs.lemmas.Str.{encodes-chars, scalars-chars}
 use Rattle.std.proofs.Math.Utf8.{scalars, scalar}
 use Rattle.acl.specs.declared.command_name.CommandName.{CommandName}
 use Rattle.acl.specs.declared.command_name.CommandName.TheVariants as name
-use Rattle.command_lang.specs.declared.words.Word.{Word}
-use Rattle.command_lang.specs.Names.{name_text}
-use Rattle.command_lang.specs.Values.{is_empty_text}
-use Rattle.command_lang.specs.Parts.{Part, done, before, further, gives, escape, plain, in_single, in_double, part, word}
-use Rattle.command_lang.specs.Lines.{word_at, words_from, words}
-use Rattle.command_lang.specs.Meaning.{texts_of}
-use Rattle.command_lang.specs.Printing.{is_plain, octal, escaped, quoted, needs_no_quotes, printed_word, printed_words}
+use Rattle.command_lang_words.specs.declared.word.Word.{Word}
+use Rattle.command_lang_table.specs.Names.{name_text}
+use Rattle.command_lang_table.specs.Values.{is_empty_text}
+use Rattle.command_lang_words.specs.Parts.{Part, done, before, further, gives, escape, plain, in_single, in_double, part, word}
+use Rattle.command_lang_words.specs.Lines.{word_at, words_from, words}
+use Rattle.command_lang_table.specs.Meaning.{texts_of}
+use Rattle.command_lang_printing.specs.Printing.{is_plain, octal, escaped, quoted, needs_no_quotes, printed_word, printed_words}
 use Rattle.command_lang.proofs.Quoting.{quoted_reads}
-use Rattle.command_lang.proofs.Appends.{name-encoded}
-use Rattle.command_lang.proofs.Fits.{AllWhole}
+use Rattle.command_lang_printing.proofs.Appends.{name-encoded}
+use Rattle.command_lang_table.proofs.Fits.{AllWhole}
 use Rattle.command_lang.proofs.Scalars.{and-parts, and-both, scalars-append, small-scalar, AllText}
 
 abbrev Read : List ℕ → List ℕ → Part

@@ -4,14 +4,15 @@ use Rattle.std.specs.Prelude.{nat_lt}
 use Rattle.std.proofs.lemmas.Bool.Decides.{nat_tests}
 use Rattle.std.specs.Str.{chars, is_utf8, IsUtf8}
 use Rattle.std.proofs.lemmas.Str.{is_utf8-from_IsUtf8, IsUtf8-from_is_utf8}
-use Rattle.command_lang.specs.declared.command.Command.{Command}
-use Rattle.command_lang.specs.declared.words.Word.{Word}
-use Rattle.command_lang.specs.declared.fault.FaultKind.TheVariants as faults
-use Rattle.command_lang.specs.declared.fault.ParseFault.{ParseFault}
-use Rattle.command_lang.specs.Table.{at, first_of}
-use Rattle.command_lang.specs.Lines.{words}
-use Rattle.command_lang.specs.Meaning.{line_command}
-use Rattle.command_lang.specs.Relation.{line_faults, faults_of, Relates, Refuses, no_memory}
+use Rattle.command_lang_table.specs.declared.command.Command.{Command}
+use Rattle.command_lang_words.specs.declared.word.Word.{Word}
+use Rattle.command_lang_table.specs.declared.fault.FaultKind.TheVariants as faults
+use Rattle.command_lang_table.specs.declared.fault.ParseFault.{ParseFault}
+use Rattle.command_lang_table.specs.Table.{at, first_of}
+use Rattle.command_lang_words.specs.Lines.{words}
+use Rattle.command_lang_table.specs.Meaning.{line_command}
+use Rattle.command_lang.specs.Relation.{faults_of, Relates, Refuses}
+use Rattle.command_lang_table.specs.LineFaults.{line_faults, no_memory}
 
 short : (line : List ℕ) → length line ≤ 1024 → nat_lt 1024 (length line) ≡ false
 short line h = grind (arith, nat_tests)

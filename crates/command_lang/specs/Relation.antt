@@ -1,24 +1,13 @@
 -- Lines and commands.
-use Rattle.std.specs.Prelude.{◌≡◌, ℕ, ◌≤◌, nat_lt, if◌then◌else◌, List, [], ◌∷◌, length, Option, Some, None}
+use Rattle.std.specs.Prelude.{◌≡◌, ℕ, ◌≤◌, nat_lt, if◌then◌else◌, List, [], ◌∷◌, length, Some}
 use Rattle.std.specs.Str.{chars, is_utf8}
-use Rattle.acl.specs.declared.command_name.CommandName.{CommandName}
-use Rattle.command_lang.specs.declared.command.Command.{Command}
-use Rattle.command_lang.specs.declared.words.Word.{Word}
-use Rattle.command_lang.specs.declared.fault.FaultKind.TheVariants as faults
-use Rattle.command_lang.specs.declared.fault.ParseFault.{ParseFault}
-use Rattle.command_lang.specs.Names.{command_named}
-use Rattle.command_lang.specs.Table.{row, at, words_faults, first_of}
-use Rattle.command_lang.specs.Lines.{words}
-use Rattle.command_lang.specs.Meaning.{line_command}
-
-abbrev pub named_faults : Option CommandName → ℕ → ℕ → List Word → List ParseFault
-named_faults None place end ws = at place faults.UnknownCommand ∷ []
-named_faults (Some n) place end ws = words_faults (row n) 0 end ws
-
--- the faults of the words of a line of that length, by rising place
-abbrev pub line_faults : ℕ → List Word → List ParseFault
-line_faults end [] = at end faults.MissingWord ∷ []
-line_faults end (w ∷ ws) = if w.whole then named_faults (command_named w.text) w.place end ws else at w.place faults.BadQuote ∷ []
+use Rattle.command_lang_words.specs.Lines.{words}
+use Rattle.command_lang_table.specs.declared.command.Command.{Command}
+use Rattle.command_lang_table.specs.declared.fault.FaultKind.TheVariants as faults
+use Rattle.command_lang_table.specs.declared.fault.ParseFault.{ParseFault}
+use Rattle.command_lang_table.specs.Table.{at, first_of}
+use Rattle.command_lang_table.specs.Meaning.{line_command}
+use Rattle.command_lang_table.specs.LineFaults.{line_faults}
 
 -- a long line, or one that isn't UTF-8, has no other fault
 abbrev pub faults_of : List ℕ → List ParseFault
@@ -40,7 +29,3 @@ Refuses line f = first_of (faults_of line) ≡ Some f
 abbrev pub NoneBefore : ℕ → List ParseFault → Type 0
 NoneBefore place [] = Unit {0}
 NoneBefore place (f ∷ fs) = (place ≤ f.place) × NoneBefore place fs
-
--- want of memory, at no place
-abbrev pub no_memory : ParseFault
-no_memory = at 0 faults.NoMemory

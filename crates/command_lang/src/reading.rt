@@ -1,69 +1,26 @@
 //! A line is a command, or has a fault.
 
-ghost use Rattle.std.specs.Prelude.{◌≡◌, ◌≤◌, ◌⊎◌, [], length, IfOk, IfErr, Some};
-ghost use Rattle.std.specs.Str.{chars};
-ghost use Rattle.command_lang.specs.Lines.{words};
-ghost use Rattle.command_lang.specs.Table.{first_of};
-ghost use Rattle.command_lang.specs.Meaning.{line_command};
-ghost use Rattle.command_lang.specs.Relation.{line_faults, faults_of, NoneBefore, Relates, Refuses, no_memory};
+ghost use Rattle.std.specs.Prelude.{◌≡◌, ◌⊎◌, ◌<◌, ◌≤◌, false, length, IfOk, IfErr, Err};
+ghost use Rattle.std.specs.Str.{is_utf8};
+ghost use Rattle.command_lang_table.specs.declared.fault.FaultKind.TheVariants as faults;
+ghost use Rattle.command_lang_table.specs.Table.{at};
+ghost use Rattle.command_lang_table.specs.LineFaults.{no_memory};
+ghost use Rattle.command_lang.specs.Relation.{faults_of, NoneBefore, Relates, Refuses};
 
-use crate::build::build;
-use crate::command::Command;
-use crate::cut::words;
-use crate::fault::{FaultKind, ParseFault};
-use crate::table::{first_name, words_fault, words_of};
-use crate::words::Word;
-use std::alloc::{AllocError, Global};
+use command_lang_table::{Command, FaultKind, ParseFault, command_of};
+use command_lang_words::words;
+use std::alloc::Global;
 use std::str;
 
 /// The most bytes of a line.
 pub const LONGEST_LINE: usize = 1024;
 
-/// Want of memory, at no place.
-fn no_memory() -> ParseFault
-    ensures { result ≡ no_memory }
-{
-    ParseFault {
-        kind: FaultKind::NoMemory,
-        place: 0,
-    }
-}
-
-/// The words of a text.
-fn text_words(alloc: Global, text: &str) -> Result<Vec<Word>, AllocError>
-    requires { length text.now ≤ 1024 }
-    ensures { IfOk result (λ ws. ws.items ≡ words (chars text.now)) }
-{
-    let cs: Vec<char> = text.chars().collect(alloc)?;
-    words(alloc, cs.as_slice())
-}
-
-/// The command of a line's words; the line has that length.
-fn command_of(alloc: Global, line: &[Word], end: usize) -> Result<Command, ParseFault>
-    ensures ok { IfOk result (λ c. (line_faults end line.now ≡ []) × (line_command line.now ≡ Some c)) }
-    ensures err { IfErr result (λ f. (f ≡ no_memory) ⊎ (first_of (line_faults end line.now) ≡ Some f)) }
-{
-    let Some((first, rest)) = line.split_first() else {
-        return Err(ParseFault {
-            kind: FaultKind::MissingWord,
-            place: end,
-        });
-    };
-    let name = first_name(first)?;
-    if let Some(fault) = words_fault(words_of(name), rest, end) {
-        return Err(fault);
-    }
-    match build(alloc, name, rest) {
-        Ok(Some(command)) => Ok(command),
-        Ok(None) => unreachable!(),
-        Err(_) => Err(no_memory()),
-    }
-}
-
 /// The command of a line, or its first fault.
 fn command_in(alloc: Global, line: &[u8]) -> Result<Command, ParseFault>
     ensures ok { IfOk result (λ c. Relates line.now c) }
     ensures err { IfErr result (λ f. (f ≡ no_memory) ⊎ Refuses line.now f) }
+    ensures long { 1024 < length line.now → result ≡ Err (at 1024 faults.TooLong) }
+    ensures no_text { length line.now ≤ 1024 → is_utf8 line.now ≡ false → result ≡ Err (at 0 faults.BadWord) }
 {
     if line.len() > LONGEST_LINE {
         return Err(ParseFault {
@@ -77,9 +34,9 @@ fn command_in(alloc: Global, line: &[u8]) -> Result<Command, ParseFault>
             place: 0,
         });
     };
-    match text_words(alloc, text) {
+    match words(alloc, text) {
         Ok(words) => command_of(alloc, words.as_slice(), line.len()),
-        Err(_) => Err(no_memory()),
+        Err(_) => Err(ParseFault::no_memory()),
     }
 }
 
@@ -90,6 +47,9 @@ fn command_in(alloc: Global, line: &[u8]) -> Result<Command, ParseFault>
 pub fn parse(alloc: Global, line: &[u8]) -> Result<Command, ParseFault>
     ensures ok { IfOk result (λ c. Relates line.now c) }
     ensures err { IfErr result (λ f. (f ≡ no_memory) ⊎ Refuses line.now f) }
+    // These two take no memory.
+    ensures long { 1024 < length line.now → result ≡ Err (at 1024 faults.TooLong) }
+    ensures no_text { length line.now ≤ 1024 → is_utf8 line.now ≡ false → result ≡ Err (at 0 faults.BadWord) }
     // No fault of the line is at a place before the one that is answered.
     ensures least { IfErr result (λ f. (f ≡ no_memory) ⊎ NoneBefore f.place (faults_of line.now)) }
 {

@@ -1,11 +1,13 @@
 -- What is unended goes on as the units that begin it.
-use Rattle.std.proofs.Common.{◌≡◌, ℕ, ◌-◌, Bool, true, false, ◌&&◌, cond, List, [], ◌∷◌, ◌++◌, length, map, refl, sym, ap, ◌∙◌, subst, arith, append_assoc}
+use Rattle.std.proofs.Common.{◌≡◌, ℕ, ◌-◌, ◌<◌, Bool, true, false, ◌&&◌, cond, List, [], ◌∷◌, ◌++◌, length, map, refl, sym, ap, ◌∙◌, subst, arith, append_assoc}
 use Rattle.std.specs.Prelude.{◌==◌}
-use Rattle.std.specs.List.{list_all}
+use Rattle.std.specs.List.{AllByRecursion, list_all}
 use Rattle.std.proofs.lemmas.Bool.Decides.{nat_tests}
 use Rattle.std.proofs.lemmas.List.{append-nil}
+use Rattle.std.proofs.Math.Utf8.{low_scalar}
 use Rattle.charsets.specs.declared.unit.Unit.{Unit}
 use Rattle.charsets.specs.declared.unit.Unit.TheVariants as units
+use Rattle.charsets.specs.Units.{IsUnit}
 use Rattle.control_parser.specs.declared.func.Func.{Func}
 use Rattle.control_parser.specs.Text.{is_intermediate}
 use Rattle.control_parser.specs.Grammar.{code, ESC, SUB, is_control, is_c1, is_sequence_text, is_string_opener, Rest, nothing, escape, control, string, osc, with_front, functions}
@@ -102,3 +104,32 @@ functions-opening us =
     let P : List Func × Rest → Type 0 = λ x. functions (opening x.1) ≡ ([], x.1) in
     let r = (machine nothing us).1 in
     subst P (sym (functions_behind-machine 0 us)) (functions_behind-machine 0 (opening r) ∙ opening_machine r (machine_keeps us nothing tt))
+
+-- the units that begin what is unended are characters
+text_units : (text : List ℕ) → list_all is_sequence_text text ≡ true → AllByRecursion IsUnit (coded text)
+text_units [] h = tt
+text_units (c ∷ text) h =
+    let p = both (is_sequence_text c) (list_all is_sequence_text text) h in
+    let d : is_sequence_text c ≡ true = p.0 in
+    let low : c < 0x40 = grind (arith, nat_tests) in
+    (low_scalar c (omega arith), text_units text p.1)
+
+intermediate_units : (text : List ℕ) → list_all is_intermediate text ≡ true → AllByRecursion IsUnit (coded text)
+intermediate_units [] h = tt
+intermediate_units (c ∷ text) h =
+    let p = both (is_intermediate c) (list_all is_intermediate text) h in
+    let d : is_intermediate c ≡ true = p.0 in
+    let low : c < 0x30 = grind (arith, nat_tests) in
+    (low_scalar c (omega arith), intermediate_units text p.1)
+
+opening_units : (r : Rest) → HasText r → AllByRecursion IsUnit (opening r)
+opening_units nothing h = tt
+opening_units (escape t) h = (refl, intermediate_units t h)
+opening_units (control t) h = (refl, (refl, text_units t h))
+opening_units string h = (refl, (refl, tt))
+opening_units osc h = (refl, (refl, tt))
+
+pub opening-units : (us : List Unit) → AllByRecursion IsUnit (opening (functions us).1)
+opening-units us =
+    let P : List Func × Rest → Type 0 = λ x. AllByRecursion IsUnit (opening x.1) in
+    subst P (sym (functions_behind-machine 0 us)) (opening_units (machine nothing us).1 (machine_keeps us nothing tt))

@@ -14,7 +14,7 @@ use Rattle.control_parser.specs.declared.func.Func.{Func}
 use Rattle.control_parser.specs.declared.func.Func.TheVariants.{Print, High, Control, Esc, Csi}
 use Rattle.control_parser.specs.Text.{is_intermediate, is_digit, is_number, is_mark, while, value, onto_first, fields, values, mark_of, unmarked}
 use Rattle.control_parser.specs.Grammar.{is_control, is_c1, is_graphic, is_sequence_text, is_string_opener, Rest, nothing, escape, control, escape_of, control_of, with_front, functions}
-use Rattle.control_parser.specs.Spelling.{digit, decimal, numerals, spelling, coding_of, are_intermediates, begins_none, IsGiven, ReadsAs}
+use Rattle.control_parser.specs.Spelling.{digit, decimal, parameter, numerals, spelling, coding_of, are_intermediates, begins_none, IsGiven, ReadsAs}
 use Rattle.control_parser.proofs.Machine.{Stops, and-false, rest_begun, rest_step, machine, functions_behind-machine}
 use Rattle.control_parser.proofs.Keeping.{machine-one}
 use Rattle.control_parser.proofs.Texts.{IsFull, full_fields}
@@ -110,6 +110,13 @@ value-decimal n h =
     (cases_lt n 100))
     (cases_lt n 10)
 
+value-parameter : (n : ℕ) → n < 10000 → value (parameter n) ≡ n
+value-parameter n h = by (n == 0) refl
+  where
+    by : (b : Bool) → (n == 0) ≡ b → value (cond b [] (decimal n)) ≡ n
+    by true e = let none : n ≡ 0 = grind (arith, nat_tests) in sym none
+    by false e = value-decimal n h
+
 digit_is : (n : ℕ) → is_digit (digit n) ≡ true
 digit_is n = grind (arith, nat_tests)
 
@@ -137,6 +144,9 @@ digits-decimal n =
     let four : list_all is_digit (digit (n / 1000) ∷ digit (n / 100) ∷ digit (n / 10) ∷ digit n ∷ []) ≡ true = all_more is_digit (digit (n / 1000)) (digit (n / 100) ∷ digit (n / 10) ∷ digit n ∷ []) (digit_is (n / 1000)) three in
     all_cond is_digit (nat_lt n 10) _ _ one (all_cond is_digit (nat_lt n 100) _ _ two (all_cond is_digit (nat_lt n 1000) _ _ three four))
 
+digits-parameter : (n : ℕ) → list_all is_digit (parameter n) ≡ true
+digits-parameter n = all_cond is_digit (n == 0) [] (decimal n) refl (digits-decimal n)
+
 -- the fields of numerals
 abbrev front_fields : List ℕ → List (List ℕ) → List (List ℕ)
 front_fields ds [] = ds ∷ []
@@ -160,22 +170,22 @@ fields_front (c ∷ ds) rest h =
     rw e (ap (onto_first c) (fields_front ds rest p.1) ∙ onto-front c ds (fields rest))
 
 abbrev others : List ℕ → List ℕ
-others ns = flat_map (λ m. 0x3B ∷ decimal m) ns
+others ns = flat_map (λ m. 0x3B ∷ parameter m) ns
 
-fields-numerals : (n : ℕ) (ns : List ℕ) → fields (decimal n ++ others ns) ≡ decimal n ∷ map decimal ns
+fields-numerals : (n : ℕ) (ns : List ℕ) → fields (parameter n ++ others ns) ≡ parameter n ∷ map parameter ns
 unfolding fields
-fields-numerals n [] = fields_front (decimal n) [] (digits-decimal n) ∙ ap (λ l. l ∷ []) (append-nil (decimal n))
+fields-numerals n [] = fields_front (parameter n) [] (digits-parameter n) ∙ ap (λ l. l ∷ []) (append-nil (parameter n))
 fields-numerals n (m ∷ ms) =
-    fields_front (decimal n) (others (m ∷ ms)) (digits-decimal n)
-    ∙ ap (λ fs. front_fields (decimal n) ([] ∷ fs)) (fields-numerals m ms)
-    ∙ ap (λ l. l ∷ decimal m ∷ map decimal ms) (append-nil (decimal n))
+    fields_front (parameter n) (others (m ∷ ms)) (digits-parameter n)
+    ∙ ap (λ fs. front_fields (parameter n) ([] ∷ fs)) (fields-numerals m ms)
+    ∙ ap (λ l. l ∷ parameter m ∷ map parameter ms) (append-nil (parameter n))
 
-values-map : (ns : List ℕ) → list_all (λ n. nat_lt n 10000) ns ≡ true → map value (map decimal ns) ≡ ns
+values-map : (ns : List ℕ) → list_all (λ n. nat_lt n 10000) ns ≡ true → map value (map parameter ns) ≡ ns
 values-map [] h = refl
 values-map (n ∷ ns) h =
     let p = both (nat_lt n 10000) (list_all (λ n. nat_lt n 10000) ns) h in
     let low : n < 10000 = grind (arith, nat_tests, p.0) in
-    ap (λ v. v ∷ map value (map decimal ns)) (value-decimal n low) ∙ ap (λ l. n ∷ l) (values-map ns p.1)
+    ap (λ v. v ∷ map value (map parameter ns)) (value-parameter n low) ∙ ap (λ l. n ∷ l) (values-map ns p.1)
 
 values-numerals : (n : ℕ) (ns : List ℕ) → list_all (λ n. nat_lt n 10000) (n ∷ ns) ≡ true → values (numerals (n ∷ ns)) ≡ n ∷ ns
 values-numerals n ns h = ap (map value) (fields-numerals n ns) ∙ values-map (n ∷ ns) h
@@ -184,16 +194,16 @@ values-numerals n ns h = ap (map value) (fields-numerals n ns) ∙ values-map (n
 digit_number : (c : ℕ) → is_digit c ≡ true → is_number c ≡ true
 digit_number c h = rw h refl
 
-numbers-decimal : (n : ℕ) → list_all is_number (decimal n) ≡ true
-numbers-decimal n = all_weaker is_digit is_number digit_number (decimal n) (digits-decimal n)
+numbers-parameter : (n : ℕ) → list_all is_number (parameter n) ≡ true
+numbers-parameter n = all_weaker is_digit is_number digit_number (parameter n) (digits-parameter n)
 
 numbers-others : (ns : List ℕ) → list_all is_number (others ns) ≡ true
 numbers-others [] = refl
-numbers-others (n ∷ ns) = all-append is_number (decimal n) (others ns) (numbers-decimal n) (numbers-others ns)
+numbers-others (n ∷ ns) = all-append is_number (parameter n) (others ns) (numbers-parameter n) (numbers-others ns)
 
 numbers-numerals : (ns : List ℕ) → list_all is_number (numerals ns) ≡ true
 numbers-numerals [] = refl
-numbers-numerals (n ∷ ns) = all-append is_number (decimal n) (others ns) (numbers-decimal n) (numbers-others ns)
+numbers-numerals (n ∷ ns) = all-append is_number (parameter n) (others ns) (numbers-parameter n) (numbers-others ns)
 
 while_all : (p : ℕ → Bool) (xs ys : List ℕ) → list_all p xs ≡ true → Stops p ys → while p (xs ++ ys) ≡ (xs, ys)
 while_all p [] [] h s = refl
@@ -209,26 +219,31 @@ stops_intermediates (c ∷ cs) h =
     let p = both (is_intermediate c) (list_all is_intermediate cs) h in
     let a : is_intermediate c ≡ true = p.0 in grind (arith, nat_tests)
 
--- numerals begin with a digit
+-- numerals and intermediates begin with no mark
 record IsUnmarked (text : List ℕ) : Type 0 where
   mark : mark_of text ≡ None
   same : unmarked text ≡ text
 
-digit_unmarked : (c : ℕ) (rest : List ℕ) → is_digit c ≡ true → IsUnmarked (c ∷ rest)
-digit_unmarked c rest h =
+begins_unmarked : (c : ℕ) (rest : List ℕ) → is_mark c ≡ false → IsUnmarked (c ∷ rest)
+begins_unmarked c rest e = record { mark = rw e refl; same = rw e refl }
+
+digits_unmarked : (ds rest : List ℕ) → list_all is_digit ds ≡ true → IsUnmarked rest → IsUnmarked (ds ++ rest)
+digits_unmarked [] rest h k = k
+digits_unmarked (c ∷ ds) rest h k =
+    let d : is_digit c ≡ true = (both (is_digit c) (list_all is_digit ds) h).0 in
     let e : is_mark c ≡ false = grind (arith, nat_tests) in
-    record { mark = rw e refl; same = rw e refl }
+    begins_unmarked c (ds ++ rest) e
 
-unmarked_cond : (b : Bool) (x y rest : List ℕ) → IsUnmarked (x ++ rest) → IsUnmarked (y ++ rest) → IsUnmarked (cond b x y ++ rest)
-unmarked_cond true x y rest h k = h
-unmarked_cond false x y rest h k = k
+intermediates_unmarked : (is : List ℕ) → list_all is_intermediate is ≡ true → IsUnmarked is
+intermediates_unmarked [] h = record { mark = refl; same = refl }
+intermediates_unmarked (c ∷ cs) h =
+    let d : is_intermediate c ≡ true = (both (is_intermediate c) (list_all is_intermediate cs) h).0 in
+    let e : is_mark c ≡ false = grind (arith, nat_tests) in
+    begins_unmarked c cs e
 
-unmarked-decimal : (n : ℕ) (rest : List ℕ) → IsUnmarked (decimal n ++ rest)
-unfolding decimal
-unmarked-decimal n rest =
-    unmarked_cond (nat_lt n 10) _ _ rest (digit_unmarked _ _ (digit_is n))
-    (unmarked_cond (nat_lt n 100) _ _ rest (digit_unmarked _ _ (digit_is (n / 10)))
-    (unmarked_cond (nat_lt n 1000) _ _ rest (digit_unmarked _ _ (digit_is (n / 100))) (digit_unmarked _ _ (digit_is (n / 1000)))))
+others_unmarked : (ns is : List ℕ) → list_all is_intermediate is ≡ true → IsUnmarked (others ns ++ is)
+others_unmarked [] is h = intermediates_unmarked is h
+others_unmarked (n ∷ ns) is h = begins_unmarked 0x3B _ refl
 
 -- the text of a control sequence
 abbrev csi_text : Option ℕ → List ℕ → List ℕ → List ℕ
@@ -238,18 +253,20 @@ record HasText (m : Option ℕ) (numbers : List ℕ) (text : List ℕ) : Type 0 
   mark : mark_of text ≡ m
   rest : unmarked text ≡ numbers
 
-text_parts : (mark : Option ℕ) (n : ℕ) (ns is : List ℕ) → IfSome mark (λ m. is_mark m ≡ true) → HasText mark (numerals (n ∷ ns) ++ is) (csi_text mark (n ∷ ns) is)
-text_parts None n ns is h =
-    let u : IsUnmarked ((decimal n ++ others ns) ++ is) = let P : List ℕ → Type 0 = λ l. IsUnmarked l in subst P (sym (append_assoc (decimal n) (others ns) is)) (unmarked-decimal n (others ns ++ is)) in
+text_parts : (mark : Option ℕ) (n : ℕ) (ns is : List ℕ) → IfSome mark (λ m. is_mark m ≡ true) → list_all is_intermediate is ≡ true → HasText mark (numerals (n ∷ ns) ++ is) (csi_text mark (n ∷ ns) is)
+text_parts None n ns is h k =
+    let P : List ℕ → Type 0 = λ l. IsUnmarked l in
+    let u : IsUnmarked ((parameter n ++ others ns) ++ is) =
+    subst P (sym (append_assoc (parameter n) (others ns) is)) (digits_unmarked (parameter n) (others ns ++ is) (digits-parameter n) (others_unmarked ns is k)) in
     record { mark = u.mark; rest = u.same }
-text_parts (Some m) n ns is h = record { mark = rw h refl; rest = rw h refl }
+text_parts (Some m) n ns is h k = record { mark = rw h refl; rest = rw h refl }
 
 control_of-spelled : (mark : Option ℕ) (n : ℕ) (ns is : List ℕ) (last : ℕ) → IfSome mark (λ m. is_mark m ≡ true) → length (n ∷ ns) ≤ 16
     → list_all (λ n. nat_lt n 10000) (n ∷ ns) ≡ true → are_intermediates is ≡ true → control_of (csi_text mark (n ∷ ns) is) last ≡ Csi mark (n ∷ ns) is last ∷ []
 control_of-spelled mark n ns is last h few low fine =
     let ps = n ∷ ns in
-    let t = text_parts mark n ns is h in
     let e = both (list_all is_intermediate is) (nat_le (length is) 2) fine in
+    let t = text_parts mark n ns is h e.0 in
     let w : while is_number (unmarked (csi_text mark ps is)) ≡ (numerals ps, is) =
     ap (while is_number) t.rest ∙ while_all is_number (numerals ps) is (numbers-numerals ps) (stops_intermediates is e.0) in
     let vs : take 16 (values (numerals ps)) ≡ ps = ap (take 16) (values-numerals n ns low) ∙ take_all 16 ps few in

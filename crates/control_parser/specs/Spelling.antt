@@ -21,9 +21,14 @@ decimal n =
     else (if nat_lt n 1000 then digit (n / 100) ∷ digit (n / 10) ∷ digit n ∷ []
     else digit (n / 1000) ∷ digit (n / 100) ∷ digit (n / 10) ∷ digit n ∷ []))
 
+-- A parameter: 0 is spelled as nothing, since an empty one is read as it (ECMA-48, 5.4.2; VT220 manual, chapter 2).
+abbrev pub parameter : ℕ → List ℕ
+parameter n = if n == 0 then [] else decimal n
+
+-- parameters, with a semicolon between each two
 abbrev pub numerals : List ℕ → List ℕ
 numerals [] = []
-numerals (n ∷ ns) = decimal n ++ flat_map (λ m. 0x3B ∷ decimal m) ns
+numerals (n ∷ ns) = parameter n ++ flat_map (λ m. 0x3B ∷ parameter m) ns
 
 abbrev pub spelling : Func → List ℕ
 spelling (Print c) = encode_utf8 c

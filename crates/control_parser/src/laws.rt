@@ -46,6 +46,7 @@ pub fn unended_go_on()
     ensures go_on { (us vs : List Unit) →
         functions (us ++ vs) ≡ with_front (functions us).0 (functions (opening (functions us).1 ++ vs)) }
     ensures own { (us : List Unit) → functions (opening (functions us).1) ≡ ([], (functions us).1) }
+    ensures units { (us : List Unit) → AllByRecursion IsUnit (opening (functions us).1) }
 {}
 
 /// Reading in pieces is reading the whole, however it is cut.

@@ -2,7 +2,7 @@
 
 ghost use Rattle.std.specs.Prelude.{◌≡◌, ◌<◌, ◌≤◌, ◌+◌, ◌*◌, ℕ, List, [], ◌∷◌, ◌++◌, length, take, OnOk, OnErr, option_to_list};
 ghost use Rattle.std.specs.List.{flat_map};
-ghost use Rattle.control_parser.specs.Spelling.{decimal, numerals, spelling, coding_of, IsGiven, ReadsAs};
+ghost use Rattle.control_parser.specs.Spelling.{parameter, numerals, spelling, coding_of, IsGiven, ReadsAs};
 
 use crate::func::Func;
 use std::alloc::AllocError as NoMemory;
@@ -60,9 +60,9 @@ fn put_slice(room: &mut Room, bytes: &[u8])
 }
 
 #[tactic(auto, unfolding(crate::specs::Spelling::decimal))]
-fn put_number(room: &mut Room, n: u16)
+fn put_parameter(room: &mut Room, n: u16)
     requires { length room.old + 4 ≤ 96 }
-    ensures number { room.new ≡ room.old ++ decimal n }
+    ensures number { room.new ≡ room.old ++ parameter n }
     ensures short { length room.new ≤ length room.old + 4 }
 {
     if n >= 1000 {
@@ -74,19 +74,21 @@ fn put_number(room: &mut Room, n: u16)
     if n >= 10 {
         room.push(b'0' + (n / 10 % 10) as u8);
     }
-    room.push(b'0' + (n % 10) as u8);
+    if n >= 1 {
+        room.push(b'0' + (n % 10) as u8);
+    }
 }
 
-fn put_numbers(room: &mut Room, numbers: &[u16])
-    requires { length room.old + 5 * length numbers.now ≤ 96 }
-    ensures numbers { room.new ≡ room.old ++ numerals numbers.now }
-    ensures short { length room.new ≤ length room.old + 5 * length numbers.now }
+fn put_parameters(room: &mut Room, params: &[u16])
+    requires { length room.old + 5 * length params.now ≤ 96 }
+    ensures numbers { room.new ≡ room.old ++ numerals params.now }
+    ensures short { length room.new ≤ length room.old + 5 * length params.now }
 {
-    if let [first, others @ ..] = numbers {
-        put_number(room, *first);
+    if let [first, others @ ..] = params {
+        put_parameter(room, *first);
         for n in others {
             room.push(b';');
-            put_number(room, *n);
+            put_parameter(room, *n);
         }
     }
 }
@@ -121,7 +123,7 @@ fn spelled(func: &Func) -> Room
             if let Some(m) = *mark {
                 room.push(m);
             }
-            put_numbers(&mut room, params.as_slice());
+            put_parameters(&mut room, params.as_slice());
             put_slice(&mut room, intermediates.as_slice());
             room.push(*last);
         }
@@ -129,7 +131,7 @@ fn spelled(func: &Func) -> Room
     room
 }
 
-/// Appends the 7-bit spelling.
+/// Appends the 7-bit spelling (ECMA-48, 5.3 and 5.4), in which a parameter 0 is empty, so that SGR 0 is `CSI m`.
 pub fn spell(func: &Func, out: &mut Vec<u8>) -> Result<(), NoMemory>
     ensures ok { OnOk result (out.new.items ≡ out.old.items ++ spelling func.now) }
     ensures err { OnErr result (out.new.items ≡ out.old.items) }

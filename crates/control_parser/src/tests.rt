@@ -193,6 +193,30 @@ fn spellings(rt: HostRuntime) -> Result<(), Fail> {
     Ok(())
 }
 
+// A parameter 0 is empty (ECMA-48, 5.4.2).
+#[test]
+fn empty_parameters(rt: HostRuntime) -> Result<(), Fail> {
+    let rows: [(&[u16], u8, &[u8]); 5] = [
+        (&[0], b'm', b"\x1b[m"),
+        (&[0, 1], b'm', b"\x1b[;1m"),
+        (&[5, 0], b'H', b"\x1b[5;H"),
+        (&[0, 0], b'r', b"\x1b[;r"),
+        (&[10, 0, 7], b'm', b"\x1b[10;;7m"),
+    ];
+    for (params, last, want) in rows {
+        let func = Func::Csi {
+            mark: None,
+            params: Params::from_slice(params),
+            intermediates: Intermediates::none(),
+            last,
+        };
+        let mut out = Vec::new(rt.alloc());
+        spell(&func, &mut out)?;
+        assert_eq!(rt; out.as_slice(), want);
+    }
+    Ok(())
+}
+
 #[test]
 fn plain_runs(rt: HostRuntime) {
     for place in 0..101_usize {

@@ -1,14 +1,21 @@
 //! Bytes to a screen.
 
-ghost use Rattle.std.specs.Prelude.{◌≡◌, ◌≤◌, ◌↔◌, Err, length};
-ghost use Rattle.cells.specs.Page.{IsGridSize};
+ghost use Rattle.std.specs.Prelude.{◌≡◌, ◌≤◌, ◌<◌, ◌+◌, ◌*◌, ◌↔◌, Err, IfOk, IfErr, OnOk, OnErr, IsOk, length, take, vec_len, vec_capacity};
+ghost use Rattle.cells.specs.Page.{IsPage, IsGridSize};
+ghost use Rattle.charsets.specs.Units.{unit_list};
+ghost use Rattle.terminal_model.specs.Screen.{starting};
+ghost use Rattle.terminal_model.specs.Reading.{Terminal, ready, read_unit, read_units, read_byte, reads};
+ghost use Rattle.terminal_model.specs.Writing.{Size, Clear, Reset, Encoding, reads_anew, writes};
 ghost use Rattle.vt_screen.specs.Sizes.{IsScreenSize};
+ghost use Rattle.emulator.specs.Standing.{StandsFor, StandsWithin, HasRead, in_screen_coding};
+ghost use Rattle.emulator.specs.Pages.{moved_back};
 
 use crate::shown::Shown;
 use cells::GridFault;
 use charsets::{Coding, Decoder, Unit, Units};
 use control_parser::Parser;
 use std::alloc::Global;
+use std::marker::Model;
 use terminal_model::{Modes, REPORT_BYTES, Report};
 use vt_screen::Screen;
 
@@ -18,7 +25,7 @@ pub struct Stopped {
     pub read: usize,
 }
 
-/// A terminal that reads bytes, however they come.
+/// A VT220 that reads bytes, however they come.
 #[derive(Drop)]
 pub struct Emulator {
     decoder: Decoder,
@@ -26,11 +33,21 @@ pub struct Emulator {
     screen: Screen,
 }
 
+impl Model for Emulator {
+    ghost use Rattle.emulator.specs.Standing.{Parts};
+
+    ghost Value = { Parts };
+
+    ghost view = { λ e. record { screen = e.screen; decoding = e.decoder; parsing = e.parser } };
+}
+
 impl Emulator {
     /// A terminal that has read nothing, and keeps at most `keep` lines that scroll off its page. It is `BadSize` outside 2
     /// to 200 lines by 2 to 300 columns, and above 2,000 kept lines.
     pub fn new(alloc: Global, rows: usize, cols: usize, keep: usize) -> Result<Emulator, GridFault>
-        ensures { (result ≡ Err GridFault.BadSize) ↔ (¬ IsScreenSize rows cols keep) }
+        ensures ok { IfOk result (λ e. StandsFor e (ready (starting rows cols keep))) }
+        ensures size { IfOk result (λ _. IsScreenSize rows cols keep) }
+        ensures bad_size { (result ≡ Err GridFault.BadSize) ↔ (¬ IsScreenSize rows cols keep) }
     {
         let screen = Screen::new(alloc, rows, cols, keep)?;
         Ok(Emulator {
@@ -42,9 +59,43 @@ impl Emulator {
 
     /// Reads one byte, and gives what is answered.
     pub fn feed(&mut self, byte: u8) -> Report
-        ensures { length result ≤ 24 }
+        ensures stands { (t : Terminal) → StandsFor self.old t → StandsFor self.new (read_byte t byte).terminal }
+        ensures reports { (t : Terminal) → StandsFor self.old t → result ≡ (read_byte t byte).reports }
+        ensures few { length result ≤ 24 }
     {
-        let report = match self.decoder.push(byte) {
+        let units = self.decoder.push(byte);
+        let report = self.take_all(units);
+        self.follow_coding();
+        report
+    }
+
+    /// Reads bytes, and appends what is answered. Where memory for the answers is refused, it has read the bytes before. It
+    /// never is where `out` has room for 24 bytes of answers to each byte.
+    pub fn feed_all(&mut self, bytes: &[u8], out: &mut Vec<u8>) -> Result<(), Stopped>
+        ensures ok { OnOk result ((t : Terminal) → StandsFor self.old t → HasRead t bytes.now out.old.items self.new out.new.items) }
+        ensures err { IfErr result (λ stopped. (t : Terminal) → StandsFor self.old t →
+            HasRead t (take stopped.read bytes.now) out.old.items self.new out.new.items) }
+        ensures read { IfErr result (λ stopped. stopped.read < length bytes.now) }
+        ensures room { vec_len out.old + 24 * length bytes.now ≤ vec_capacity out.old → IsOk result }
+    {
+        'bytes: for (read, byte) in bytes.iter().enumerate() {
+            if out.reserve(REPORT_BYTES).is_err() {
+                return Err(Stopped { read });
+            }
+            let report = self.feed(*byte);
+            let _ = out.extend_from_slice(report.as_slice());
+        }
+        Ok(())
+    }
+
+    /// Takes the units that a byte completes, and gives what is answered.
+    fn take_all(&mut self, units: Units) -> Report
+        ensures stands { (t : Terminal) → StandsWithin self.old t → StandsWithin self.new (read_units t (unit_list units)).terminal }
+        ensures reports { (t : Terminal) → StandsWithin self.old t → result ≡ (read_units t (unit_list units)).reports }
+        ensures decoding { self.new.decoding ≡ self.old.decoding }
+        ensures few { length result ≤ 24 }
+    {
+        match units {
             Units::Nothing => Report::none(),
             Units::One(unit) => self.take(unit),
             Units::Two(first, second) => {
@@ -53,28 +104,15 @@ impl Emulator {
                 report.extend(next.as_slice());
                 report
             }
-        };
-        self.follow_coding();
-        report
-    }
-
-    /// Reads bytes, and appends what is answered.
-    pub fn feed_all(&mut self, bytes: &[u8], out: &mut Vec<u8>) -> Result<(), Stopped> {
-        for (read, byte) in bytes.iter().enumerate() {
-            if out.reserve(REPORT_BYTES).is_err() {
-                return Err(Stopped { read });
-            }
-            let report = self.feed(*byte);
-            for answered in report.as_slice() {
-                let _ = out.push(*answered);
-            }
         }
-        Ok(())
     }
 
     /// Takes a unit, and gives what is answered.
     fn take(&mut self, unit: Unit) -> Report
-        ensures { length result ≤ 12 }
+        ensures stands { (t : Terminal) → StandsWithin self.old t → StandsWithin self.new (read_unit t unit).terminal }
+        ensures reports { (t : Terminal) → StandsWithin self.old t → result ≡ (read_unit t unit).reports }
+        ensures decoding { self.new.decoding ≡ self.old.decoding }
+        ensures few { length result ≤ 12 }
     {
         match self.parser.push(unit) {
             Some(func) => self.screen.apply(&func),
@@ -83,7 +121,11 @@ impl Emulator {
     }
 
     /// What is read next is in the coding that the window asked for.
-    fn follow_coding(&mut self) {
+    fn follow_coding(&mut self)
+        ensures decoding { self.new.decoding ≡ in_screen_coding self.old }
+        ensures screen { self.new.screen ≡ self.old.screen }
+        ensures parsing { self.new.parsing ≡ self.old.parsing }
+    {
         let coding = self.screen.coding();
         if self.decoder.coding() != coding {
             self.decoder.set_coding(coding);
@@ -93,48 +135,69 @@ impl Emulator {
     /// Takes another size; what is read of a character or of a sequence stays. `BadSize` as for `new`; a refusal leaves
     /// everything as it was.
     pub fn resized(&mut self, rows: usize, cols: usize) -> Result<(), GridFault>
-        ensures { (result ≡ Err GridFault.BadSize) ↔ (¬ IsGridSize rows cols) }
+        ensures ok { OnOk result ((t : Terminal) → StandsFor self.old t → StandsFor self.new (writes t (Size rows cols)).terminal) }
+        ensures size { OnOk result (IsGridSize rows cols) }
+        ensures err { OnErr result (self.new ≡ self.old) }
+        ensures bad_size { (result ≡ Err GridFault.BadSize) ↔ (¬ IsGridSize rows cols) }
     {
         self.screen.resized(rows, cols)
     }
 
     /// Lends the lines of the page, moved back by so many kept lines, or by all where they are fewer.
-    pub fn page(&self, offset: usize) -> Shown<'_> {
+    pub fn page(&self, offset: usize) -> Shown<'_>
+        ensures lines { result ≡ moved_back offset self.now.screen }
+        ensures sized { IsPage self.now.screen.state.rows self.now.screen.state.columns result }
+        ensures page { offset ≡ 0 → result ≡ self.now.screen.page }
+    {
         Shown::of(&self.screen, offset)
     }
 
     /// The cursor's line and column, from 0.
-    pub fn cursor(&self) -> (usize, usize) {
+    pub fn cursor(&self) -> (usize, usize)
+        ensures { result ≡ (self.now.screen.state.line, self.now.screen.state.column) }
+    {
         self.screen.cursor()
     }
 
     /// The modes as they are set.
-    pub fn modes(&self) -> Modes {
+    pub fn modes(&self) -> Modes
+        ensures { result ≡ self.now.screen.state.modes }
+    {
         self.screen.modes()
     }
 
     /// The number of lines of the page.
-    pub fn rows(&self) -> usize {
+    pub fn rows(&self) -> usize
+        ensures { result ≡ self.now.screen.state.rows }
+    {
         self.screen.rows()
     }
 
     /// The number of columns.
-    pub fn cols(&self) -> usize {
+    pub fn cols(&self) -> usize
+        ensures { result ≡ self.now.screen.state.columns }
+    {
         self.screen.cols()
     }
 
-    /// Erases the page and goes home, as if the window had written ED 2 and CUP behind what it began.
-    pub fn clear(&mut self) {
+    /// Erases the page and goes home, as if the window had written ED 2 and CUP behind what it began, which is dropped.
+    pub fn clear(&mut self)
+        ensures { (t : Terminal) → StandsFor self.old t → StandsFor self.new (writes t Clear).terminal }
+    {
         self.write_anew(b"\x1B[2J\x1B[H");
     }
 
-    /// Takes all starting values, as if the window had written RIS behind what it began.
-    pub fn reset(&mut self) {
+    /// Takes all starting values, as if the window had written RIS behind what it began, which is dropped.
+    pub fn reset(&mut self)
+        ensures { (t : Terminal) → StandsFor self.old t → StandsFor self.new (writes t Reset).terminal }
+    {
         self.write_anew(b"\x1Bc");
     }
 
-    /// Reads in a coding from here on, as if the window had written its escape sequence behind what it began.
-    pub fn set_encoding(&mut self, coding: Coding) {
+    /// Reads in a coding from here on, as if the window had written its escape sequence behind what it began, which is dropped.
+    pub fn set_encoding(&mut self, coding: Coding)
+        ensures { (t : Terminal) → StandsFor self.old t → StandsFor self.new (writes t (Encoding coding)).terminal }
+    {
         self.write_anew(match coding {
             Coding::Utf8 => b"\x1B%G",
             Coding::Ecma35 => b"\x1B%@",
@@ -142,10 +205,19 @@ impl Emulator {
     }
 
     /// Drops what is read of a character or of a sequence, and reads bytes that aren't answered.
-    fn write_anew(&mut self, bytes: &[u8]) {
+    fn write_anew(&mut self, bytes: &[u8])
+        ensures { (t : Terminal) → StandsFor self.old t → StandsFor self.new (reads_anew t bytes.now).terminal }
+    {
         self.decoder.set_coding(self.screen.coding());
         self.parser = Parser::new();
-        for byte in bytes {
+        self.feed_each(bytes);
+    }
+
+    /// Reads bytes, and drops what is answered.
+    fn feed_each(&mut self, bytes: &[u8])
+        ensures { (t : Terminal) → StandsFor self.old t → StandsFor self.new (reads t bytes.now).terminal }
+    {
+        'bytes: for byte in bytes {
             self.feed(*byte);
         }
     }

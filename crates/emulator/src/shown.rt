@@ -1,20 +1,39 @@
 //! The page of an emulator, perhaps moved back into its scrollback.
 
-ghost use Rattle.std.specs.Prelude.{◌≡◌, ◌<◌};
+ghost use Rattle.std.specs.Prelude.{◌≡◌, ◌<◌, length};
+ghost use Rattle.cells.specs.Page.{IsPage, line_at};
+ghost use Rattle.emulator.specs.Pages.{moved_back};
 
 use cells::Cell;
+use std::marker::Model;
 use vt_screen::Screen;
 
 /// The lines of a page that is moved back by some kept lines.
-#[derive(Clone, Copy)]
+#[derive(Drop)]
 pub struct Shown<'a> {
     screen: &'a Screen,
+    /// How many kept lines stand above the page's.
     back: usize,
+}
+
+impl<'a> Model for Shown<'a> {
+    ghost use Rattle.terminal_model.specs.Screen.{Page};
+    ghost use Rattle.emulator.specs.Pages.{moved_back, IsShown};
+
+    ghost Value = { Page };
+
+    ghost view = { λ s. moved_back s.back s.screen.now };
+
+    ghost invariant = { λ s. IsShown s.screen.now s.back };
 }
 
 impl<'a> Shown<'a> {
     /// The page moved back by so many lines, or by all that are kept where they are fewer.
-    pub fn of(screen: &'a Screen, offset: usize) -> Shown<'a> {
+    pub(crate) fn of(screen: &'a Screen, offset: usize) -> Shown<'a>
+        ensures lines { result ≡ moved_back offset screen.now }
+        ensures sized { IsPage screen.now.state.rows screen.now.state.columns result }
+        ensures page { offset ≡ 0 → result ≡ screen.now.page }
+    {
         Shown {
             screen,
             back: offset.min(screen.kept_count()),
@@ -23,14 +42,15 @@ impl<'a> Shown<'a> {
 
     /// The number of its lines.
     pub fn rows(&self) -> usize
-        ensures { result ≡ self.now.screen.now.state.rows }
+        ensures { result ≡ length self.now }
     {
         self.screen.rows()
     }
 
     /// The cells of a line, from 0 on.
     pub fn line(&self, line: usize) -> &'a [Cell]
-        requires { line < self.now.screen.now.state.rows }
+        requires { line < length self.now }
+        ensures { result.now ≡ line_at self.now line }
     {
         if line < self.back {
             self.screen.kept(self.back - 1 - line).unwrap_or(&[])

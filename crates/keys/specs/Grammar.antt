@@ -2,8 +2,8 @@
 -- project's own are the prompt's edits, which are those of a line by ECMA-48's DEL and BS, and its length of 1,024 bytes.
 use Rattle.std.specs.Prelude.{ℕ, zero, suc, ◌+◌, Bool, true, false, not, ◌&&◌, ◌||◌, nat_lt, ◌==◌, if◌then◌else◌, List, [], ◌∷◌, ◌++◌, length, Option, Some, None}
 use Rattle.std.specs.List.{list_all}
-use Rattle.command_lang.specs.declared.command.Command.{Command}
-use Rattle.command_lang.specs.declared.command.Command.TheVariants.{Next, Prev, Detach, Kill, Split, Focus, Remove, Only, Windows, Displays, Select, Other}
+use Rattle.command_lang.specs.command.Command.{Command}
+use Rattle.command_lang.specs.command.Command.TheVariants.{Next, Prev, Detach, Kill, Split, Focus, Remove, Only, Windows, Displays, Select, Other}
 
 -- A typed byte, the command of a bound key, a line of the prompt.
 pub data Item : Type 0 where

@@ -1,7 +1,7 @@
 //! Keys and what they complete, from the keys' table.
 
-use crate::{KeyItem, KeyReader};
-use command_lang::print;
+use crate::{Binding, KeyItem, KeyReader};
+use command_lang::{Command, print};
 use std::alloc::{AllocError, Global};
 use std::test::Fail;
 
@@ -81,4 +81,24 @@ fn prompt_is_lent_while_it_is_open(rt: HostRuntime) {
     assert_eq!(rt; reader.push(b'\r'), Some(KeyItem::Line));
     assert_eq!(rt; reader.line().len(), 1024);
     assert!(rt; reader.prompt().is_none());
+}
+
+/// The command of a binding, asked for once more where memory is refused.
+fn command_twice(alloc: Global, binding: Binding) -> Result<Command, AllocError> {
+    binding.command(alloc).or_else(|_| binding.command(alloc))
+}
+
+fn selects(command: &Command, window: &str) -> bool {
+    match command {
+        Command::Select(text) => text.as_str() == window,
+        _ => false,
+    }
+}
+
+/// Run as it stands this meets no refusal; with each allocation refused in turn, the command is given all the same.
+#[test]
+fn a_refused_command_is_given_when_asked_again(rt: HostRuntime) -> Result<(), Fail> {
+    let command = command_twice(rt.alloc(), Binding::Select(7))?;
+    assert!(rt; selects(&command, "7"));
+    Ok(())
 }

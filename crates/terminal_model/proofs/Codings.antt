@@ -1,8 +1,10 @@
--- Which functions leave the coding as it is.
+-- Which functions print nothing and leave the coding as it is.
 use Rattle.std.proofs.Common.{◌≡◌, ℕ, zero, suc, Bool, true, false, List, [], ◌∷◌, ◌++◌, Option, Some, None, refl, ◌∙◌}
 use Rattle.std.specs.Prelude.{option_map, if◌then◌else◌, ◌==◌, ◌&&◌}
 use Rattle.std.specs.List.{list_all}
 use Rattle.charsets.specs.declared.unit.Coding.TheVariants.{Utf8}
+use Rattle.charsets.specs.declared.unit.Unit.{Unit}
+use Rattle.charsets.specs.declared.unit.Unit.TheVariants as units
 use Rattle.charsets.specs.declared.shifts.Place.{Place}
 use Rattle.charsets.specs.declared.sets.CharacterSet.{CharacterSet}
 use Rattle.charsets.specs.Shifts.{mapped, spent}
@@ -19,9 +21,11 @@ use Rattle.terminal_model.specs.Screen.{Screen}
 use Rattle.terminal_model.specs.Functions.{actions_of, escape_action, intermediate_action, designation, control_action, sequence_actions, marked_sequence, between_sequence, plain_sequence, private_sequence, each, alone, rendered, mode_set, private_mode_set, part_of, protection, tab_cleared, status_reported}
 use Rattle.terminal_model.specs.Table.{acted_from, acted, all_acted, effect, printed, printed_as, wrapped, wide_or_none, lacks_room, marked_at, homed, margins_or_none, lines_inserted, lines_deleted, is_in_margins, columns_of, drawn, bottom_of}
 
-abbrev pub keeps_coding : Action → Bool
-keeps_coding (SetCoding coding) = false
-keeps_coding _ = true
+-- what neither prints nor sets the coding
+abbrev pub is_ordinary : Action → Bool
+is_ordinary (Print u) = false
+is_ordinary (SetCoding coding) = false
+is_ordinary _ = true
 
 wrapped-coding : (b : Bool) (x : Screen) → (wrapped b x).state.coding ≡ x.state.coding
 wrapped-coding true x = refl
@@ -68,9 +72,9 @@ deleted-coding : (b : Bool) (n : ℕ) (x : Screen) → (lines_deleted b n x).sta
 deleted-coding true n x = refl
 deleted-coding false n x = refl
 
-pub acted-coding : (x : Screen) (a : Action) → keeps_coding a ≡ true → (acted x a).state.coding ≡ x.state.coding
+pub acted-coding : (x : Screen) (a : Action) → is_ordinary a ≡ true → (acted x a).state.coding ≡ x.state.coding
 unfolding acted_from
-acted-coding x (Print u) h = printed-coding (mapped x.state.shifts u) (record x { state = record x.state { shifts = spent x.state.shifts u } })
+acted-coding x (Print u) h = cc
 acted-coding x (SetCoding coding) h = cc
 acted-coding x (SetMargins top bottom) h = margins-coding _ top (bottom_of x.state.rows bottom) x.state
 acted-coding x (SetMode modes.Insert on) h = refl
@@ -88,25 +92,25 @@ both : (p q : Bool) → (p && q) ≡ true → (p ≡ true) × (q ≡ true)
 both true q h = (refl, h)
 both false q h = (h, absurd (cc))
 
-pub all_acted-coding : (x : Screen) (as' : List Action) → list_all keeps_coding as' ≡ true → (all_acted x as').state.coding ≡ x.state.coding
+pub all_acted-coding : (x : Screen) (as' : List Action) → list_all is_ordinary as' ≡ true → (all_acted x as').state.coding ≡ x.state.coding
 all_acted-coding x [] h = refl
 all_acted-coding x (a ∷ later) h =
-    all_acted-coding (acted x a) later (both (keeps_coding a) (list_all keeps_coding later) h).1 ∙ acted-coding x a (both (keeps_coding a) (list_all keeps_coding later) h).0
+    all_acted-coding (acted x a) later (both (is_ordinary a) (list_all is_ordinary later) h).1 ∙ acted-coding x a (both (is_ordinary a) (list_all is_ordinary later) h).0
 
 -- the actions of functions
 
 abbrev pub keep : List Action → Bool
-keep = list_all keeps_coding
+keep = list_all is_ordinary
 
--- the actions leave the coding; and so does the one that there may be
+-- the actions are such ones; and so is the one that there may be
 pub record Keep (xs : List Action) : Type 0 where
   pub all : keep xs ≡ true
 
 abbrev pub keeps : Option Action → Bool
 keeps None = true
-keeps (Some a) = keeps_coding a
+keeps (Some a) = is_ordinary a
 
-record Keeps (x : Option Action) : Type 0 where
+pub record Keeps (x : Option Action) : Type 0 where
   pub one : keeps x ≡ true
 
 if_keep : (b : Bool) (xs ys : List Action) → Keep xs → Keep ys → Keep (if b then xs else ys)
@@ -120,21 +124,21 @@ if_keeps false x y h k = k
 none_keeps : Keeps None
 none_keeps = record { one = refl }
 
-alone-keeps : (x : Option Action) → Keeps x → Keep (alone x)
+pub alone-keeps : (x : Option Action) → Keeps x → Keep (alone x)
 alone-keeps None h = record { all = refl }
 alone-keeps (Some a) h = record { all = rw h.one refl }
 
 keep-append : (xs ys : List Action) → Keep xs → Keep ys → Keep (xs ++ ys)
 keep-append [] ys h k = k
 keep-append (a ∷ xs) ys h k =
-    let p = both (keeps_coding a) (keep xs) h.all in
+    let p = both (is_ordinary a) (keep xs) h.all in
     record { all = rw p.0 (keep-append xs ys (record { all = p.1 }) k).all }
 
 each-keep : (meaning : ℕ → Option Action) → ((n : ℕ) → Keeps (meaning n)) → (values : List ℕ) → Keep (each meaning values)
 each-keep meaning h [] = record { all = refl }
 each-keep meaning h (v ∷ values) = keep-append (alone (meaning v)) (each meaning values) (alone-keeps (meaning v) (h v)) (each-keep meaning h values)
 
-some : (a : Action) → keeps_coding a ≡ true → Keeps (Some a)
+some : (a : Action) → is_ordinary a ≡ true → Keeps (Some a)
 some a h = record { one = h }
 
 control-keeps : (c : ℕ) → Keeps (control_action c)
@@ -166,11 +170,11 @@ tab-keeps n = search (if_keeps, none_keeps, some) depth 60 fits 4000
 status-keeps : (n : ℕ) → Keeps (status_reported n)
 status-keeps n = search (if_keeps, none_keeps, some) depth 60 fits 4000
 
-part-keeps : (make : Part → Action) → ((p : Part) → keeps_coding (make p) ≡ true) → (p : Option Part) → Keeps (option_map make p)
+part-keeps : (make : Part → Action) → ((p : Part) → is_ordinary (make p) ≡ true) → (p : Option Part) → Keeps (option_map make p)
 part-keeps make h None = none_keeps
 part-keeps make h (Some p) = some (make p) (h p)
 
-lone : (a : Action) → keeps_coding a ≡ true → Keep (a ∷ [])
+lone : (a : Action) → is_ordinary a ≡ true → Keep (a ∷ [])
 lone a h = record { all = rw h refl }
 
 empty : Keep []
@@ -228,28 +232,42 @@ sequence-keep (Some mark) params (i ∷ []) last = empty
 sequence-keep mark params (i ∷ j ∷ more) last = empty
 
 -- in ESC, one intermediate and a final byte nothing but ESC % G and ESC % @ sets the coding
-between-escape : (i last : ℕ) → (i == 0x25) ≡ false → Keeps (intermediate_action i last)
+pub between-escape : (i last : ℕ) → (i == 0x25) ≡ false → Keeps (intermediate_action i last)
 between-escape i last h = rw h (search (if_keeps, none_keeps, some, designation-keeps) depth 60 fits 4000)
 
-coding-escape : (last : ℕ) → (last == 0x47) ≡ false → (last == 0x40) ≡ false → Keeps (intermediate_action 0x25 last)
+pub coding-escape : (last : ℕ) → (last == 0x47) ≡ false → (last == 0x40) ≡ false → Keeps (intermediate_action 0x25 last)
 coding-escape last h k = rw (h, k) none_keeps
 
--- a function that is no ESC and one intermediate leaves the coding
+-- only a function that prints, or ESC with one intermediate, does something else
 abbrev pub is_designating : Func → Bool
 is_designating (funcs.Esc (i ∷ []) last) = true
 is_designating f = false
 
-func-keep : (f : Func) → is_designating f ≡ false → Keep (actions_of f)
-func-keep (funcs.Print c) h = lone _ refl
-func-keep (funcs.High b) h = lone _ refl
-func-keep (funcs.Control c) h = alone-keeps (control_action c) (control-keeps c)
-func-keep (funcs.Esc [] last) h = alone-keeps (escape_action last) (escape-keeps last)
-func-keep (funcs.Esc (i ∷ []) last) h = absurd (cc)
-func-keep (funcs.Esc (i ∷ j ∷ more) last) h = empty
-func-keep (funcs.Csi mark params intermediates last) h = sequence-keep mark params intermediates last
+abbrev pub is_printing : Func → Bool
+is_printing (funcs.Print c) = true
+is_printing (funcs.High b) = true
+is_printing f = false
+
+pub func-keep : (f : Func) → is_designating f ≡ false → is_printing f ≡ false → Keep (actions_of f)
+func-keep (funcs.Print c) h k = absurd (cc)
+func-keep (funcs.High b) h k = absurd (cc)
+func-keep (funcs.Control c) h k = alone-keeps (control_action c) (control-keeps c)
+func-keep (funcs.Esc [] last) h k = alone-keeps (escape_action last) (escape-keeps last)
+func-keep (funcs.Esc (i ∷ []) last) h k = absurd (cc)
+func-keep (funcs.Esc (i ∷ j ∷ more) last) h k = empty
+func-keep (funcs.Csi mark params intermediates last) h k = sequence-keep mark params intermediates last
+
+unit-coding : (x : Screen) (u : Unit) → (acted x (Print u)).state.coding ≡ x.state.coding
+unfolding acted_from
+unit-coding x u = printed-coding (mapped x.state.shifts u) (record x { state = record x.state { shifts = spent x.state.shifts u } })
 
 pub effect-coding : (x : Screen) (f : Func) → is_designating f ≡ false → (effect x f).state.coding ≡ x.state.coding
-effect-coding x f h = all_acted-coding x (actions_of f) (func-keep f h).all
+effect-coding x (funcs.Print c) h = unit-coding x (units.Code c)
+effect-coding x (funcs.High b) h = unit-coding x (units.High b)
+effect-coding x (funcs.Control c) h = all_acted-coding x (actions_of (funcs.Control c)) (func-keep (funcs.Control c) h refl).all
+effect-coding x (funcs.Esc intermediates last) h = all_acted-coding x (actions_of (funcs.Esc intermediates last)) (func-keep (funcs.Esc intermediates last) h refl).all
+effect-coding x (funcs.Csi mark params intermediates last) h =
+    all_acted-coding x (actions_of (funcs.Csi mark params intermediates last)) (func-keep (funcs.Csi mark params intermediates last) h refl).all
 
 pub escape-coding : (x : Screen) (i last : ℕ) → (i == 0x25) ≡ false → (effect x (funcs.Esc (i ∷ []) last)).state.coding ≡ x.state.coding
 escape-coding x i last h = all_acted-coding x (alone (intermediate_action i last)) (alone-keeps (intermediate_action i last) (between-escape i last h)).all

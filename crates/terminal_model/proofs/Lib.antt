@@ -1,11 +1,15 @@
 pub mod Readings
 pub mod Codings
+pub mod DrawableGlyphs
 pub mod Spellings
 pub mod Resets
 pub mod Ignored
 pub mod Resizes
+pub mod DrawableLines
+pub mod DrawableScreens
 pub mod Sound
 pub mod Terminals
+pub mod DrawableTerminals
 pub mod Places
 pub mod Frames
 pub mod Shown

@@ -36,7 +36,7 @@ own_before : (line column : ℕ) → are_own_halves (origin_before (From line) c
 own_before line zero = refl
 own_before line (suc column) = rw (eq-eqb line line refl) refl
 
-line_from-resized : (columns line : ℕ) (page : List (List Cell)) → line_from (From line) columns page ≡ line_resized columns (line_at page line)
+pub line_from-resized : (columns line : ℕ) (page : List (List Cell)) → line_from (From line) columns page ≡ line_resized columns (line_at page line)
 line_from-resized columns line page = map_same _ _ 0 columns (λ column.
     let cell : Cell = cell_at (line_at page line) column in
     ap (λ b. kept cell.shape cell b (are_own_halves (origin_before (From line) column) (From line column))) (own_after line columns column)

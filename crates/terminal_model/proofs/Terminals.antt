@@ -47,7 +47,7 @@ rest-begun (b ∷ rest) Ecma35 Ecma35 h = h
 rest-begun (b ∷ rest) Utf8 Ecma35 h = begun Ecma35
 rest-begun (b ∷ rest) Ecma35 Utf8 h = begun Utf8
 
-IsTerminal-read_byte : (t : Terminal) (b : ℕ) → IsTerminal t → IsTerminal (read_byte t b).terminal
+pub IsTerminal-read_byte : (t : Terminal) (b : ℕ) → IsTerminal t → IsTerminal (read_byte t b).terminal
 unfolding read_byte
 IsTerminal-read_byte t b h =
     let c : Coding = t.screen.state.coding in

@@ -1,15 +1,17 @@
 -- Cells that a terminal can show as they are.
-use Rattle.std.specs.Prelude.{◌≡◌, ℕ, suc, ◌<◌, true, false, List, length}
+use Rattle.std.specs.Prelude.{◌≡◌, ℕ, suc, ◌<◌, true, false, List, length, IfSome}
 use Rattle.cells.specs.declared.cell.Shape.{Shape}
 use Rattle.cells.specs.declared.cell.Shape.TheVariants.{Narrow, Left, Right}
 use Rattle.cells.specs.declared.cell.Marks.{Marks}
 use Rattle.cells.specs.declared.cell.Marks.TheVariants.{Bare, One, Two}
 use Rattle.cells.specs.declared.cell.Cell.{Cell}
-use Rattle.cells.specs.Line.{cell_at, is_left, right_cell, unprotected}
+use Rattle.cells.specs.Line.{cell_at, is_left, is_right, right_cell, unprotected}
 use Rattle.cells.specs.Page.{line_at}
 use Rattle.control_parser.specs.declared.func.Func.TheVariants.{Print}
 use Rattle.control_parser.specs.Spelling.{IsGiven}
+use Rattle.terminal_model.specs.Screen.{Page, Screen}
 use Rattle.terminal_model.specs.Table.{columns_of, drawn}
+use Rattle.terminal_model.specs.Places.{place}
 
 -- a character that is printed as it is, in so many columns (UAX #11)
 pub record IsGlyph (width c : ℕ) : Type 0 where
@@ -42,3 +44,12 @@ HaveHalves page = (line : ℕ) → line < length page → HasHalves (line_at pag
 pub record IsDrawableLine (cells : List Cell) : Type 0 where
   pub printed : (column : ℕ) → column < length cells → IsDrawableCell (cell_at cells column)
   pub halves : HasHalves cells
+
+abbrev pub AreDrawableLines : Page → Type 0
+AreDrawableLines lines = (n : ℕ) → IsDrawableLine (line_at lines n)
+
+-- each line of the screen, and each that it keeps; and the cell that a mark would join is no right half
+pub record IsDrawableScreen (x : Screen) : Type 0 where
+  pub page : AreDrawableLines x.page
+  pub kept : AreDrawableLines x.kept
+  pub joined : IfSome x.state.joining (λ p. is_right (place x.page p.line p.column).shape ≡ false)

@@ -24,6 +24,7 @@ ghost use Rattle.terminal_model.specs.Reading.{Act, Terminal, IsTerminal, ready,
 ghost use Rattle.terminal_model.specs.Writing.{Writing, IsWriting, Output, writes_all};
 ghost use Rattle.terminal_model.specs.Shows.{blank_view};
 ghost use Rattle.terminal_model.specs.Drawing.{frame_bytes, frame_start, Draws, IsListed, IsDrawn, AreSpelled};
+ghost use Rattle.terminal_model.specs.Drawable.{IsDrawableScreen};
 ghost use Rattle.terminal_model.specs.Places.{place, over, with_mark, IsPlain, narrow_at, wide_at, PutsOver, PutsMark, mode_final, keypad_final, rendition_values};
 
 /// Reading in two pieces is reading the whole, and so it is with a window's writing.
@@ -73,6 +74,18 @@ pub fn terminals_stay_terminals()
     ensures ready { (x : Screen) → IsSound x → IsTerminal (ready x) }
     ensures reading { (t : Terminal) (bytes : List ℕ) → IsTerminal t → IsTerminal (reads t bytes).terminal }
     ensures writing { (t : Terminal) (writings : List Writing) → AllByRecursion IsWriting writings → IsTerminal t → IsTerminal (writes_all t writings).terminal }
+{}
+
+/// Each line of a screen, and each that it keeps, can be shown by a terminal: each cell by printing what stands in it, and a right
+/// half beside its left half. A screen starts so, and every effect of a function that units can give, every change of size, and
+/// whatever a terminal reads and its window writes keeps it so.
+pub fn pages_stay_drawable()
+    ensures starting { (rows columns keep : ℕ) → IsDrawableScreen (starting rows columns keep) }
+    ensures effect { (x : Screen) (f : Func) → IsGiven f → IsDrawableScreen x → IsDrawableScreen (effect x f) }
+    ensures resized { (rows columns : ℕ) (x : Screen) → IsDrawableScreen x → IsDrawableScreen (resized rows columns x) }
+    ensures reading { (t : Terminal) (bytes : List ℕ) → IsTerminal t → IsDrawableScreen t.screen → IsDrawableScreen (reads t bytes).terminal.screen }
+    ensures writing { (t : Terminal) (writings : List Writing) → AllByRecursion IsWriting writings → IsTerminal t → IsDrawableScreen t.screen →
+        IsDrawableScreen (writes_all t writings).terminal.screen }
 {}
 
 /// A printed character at a place: of width 1 or 2 over the cells at the cursor, of width 0 on the cell that was printed last.

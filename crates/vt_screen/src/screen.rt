@@ -98,7 +98,8 @@ impl Screen {
 
     /// The number of lines that are kept.
     pub fn kept_count(&self) -> usize
-        ensures { result ≡ length self.now.kept }
+        ensures value { result ≡ length self.now.kept }
+        ensures sound { IsSound self.now }
     {
         self.display.ring.len()
     }

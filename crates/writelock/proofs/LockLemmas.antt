@@ -4,7 +4,7 @@ use Rattle.std.specs.Option.{option_map, option_map_or}
 use Rattle.std.specs.List.{list_any}
 use borrow.Author.Tests.{eqb-true}
 use Rattle.acl.specs.Same.{same_user, same_object}
-use Rattle.acl.specs.Slots.{SlotsStandFor}
+use Rattle.acl_slots.specs.Slots.{SlotsStandFor}
 use Rattle.acl.specs.History.{History, open_count, may, has, leaders_of, is_open, decided, there, opening, is_known, mask}
 use Rattle.acl.specs.Commands.{IsAllowed}
 use Rattle.acl.specs.declared.act.LockMode.{LockMode}

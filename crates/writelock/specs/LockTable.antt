@@ -3,7 +3,7 @@ use Rattle.std.specs.Prelude.{◌≡◌, ℕ, Bool, true, false, ◌==◌, ◌&&
 use Rattle.std.specs.Option.{option_map_or}
 use Rattle.acl.specs.Same.{same_user}
 use Rattle.acl.specs.History.{History, is_open, open_count, may}
-use Rattle.acl.specs.Slots.{slot_of, SlotsStandFor}
+use Rattle.acl_slots.specs.Slots.{slot_of, SlotsStandFor}
 use Rattle.acl.specs.Table.{Table, lets}
 use Rattle.acl.specs.declared.user_id.UserId.{UserId}
 use Rattle.acl.specs.declared.act.LockMode.{LockMode}

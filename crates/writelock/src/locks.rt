@@ -1,7 +1,8 @@
 use crate::lock::{
     Lock, LockDenial, after_act, entered_by, left_by, lock_by, opened_by, without_holder,
 };
-use acl::{Act, Follower, Lists, LockMode, Slots, UserId};
+use acl::{Act, Follower, Lists, LockMode, UserId};
+use acl_slots::Slots;
 
 /// A lock that nobody holds.
 const FREE: Lock = Lock {

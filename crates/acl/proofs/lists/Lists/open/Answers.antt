@@ -3,12 +3,12 @@ use Rattle.std.specs.Map.{lookup, keys_of}
 use Rattle.acl.specs.declared.rows.Row.{Row}
 use Rattle.acl.specs.declared.act.Act.TheVariants.{Opened}
 use Rattle.acl.specs.Same.{same_user}
-use Rattle.acl.specs.Slots.{slot_of, SlotsStandFor}
+use Rattle.acl_slots.specs.Slots.{slot_of, SlotsStandFor}
 use Rattle.acl.specs.Table.{with_window, opening_bits, row_of, StandsFor, Table}
 use Rattle.acl.specs.History.{is_open, open_count}
 use Rattle.acl.specs.Lists.{table_of}
 use Rattle.acl.proofs.RowLemmas.{lookup-revalued, keys_of-revalued}
-use Rattle.acl.proofs.SlotLemmas.{found, slot_of-opened, slot_of-free, free_slot-empty, slots-opened, slots-free}
+use Rattle.acl_slots.proofs.SlotLemmas.{found, slot_of-opened, slot_of-free, free_slot-empty, slots-opened, slots-free}
 use Rattle.acl.proofs.StandsForLemmas.{StandsFor-Opened}
 use Rattle.acl.proofs.lists.Lists.open.Goals as goal
 

@@ -16,7 +16,7 @@ returns-in-Some-clause-stands c =
     (write.3 (subst IsSome c.in-Some.ensures.value refl)).0
     (ap (λ r. r.leader) c.set_right.ensures.set ∙ leader-with_right t.windows c.args.object c.args.bit c.args.value c.in-Some.row.now)
     (λ b place there. ap (λ r. allows b (bits_on t.windows place r)) c.set_right.ensures.set
-    ∙ allows-with_right t c.args.bit c.args.value c.in-Some.row.now c.args.object b place c.set_right.ensures.commands c.set_right.ensures.windows (there-StandsFor t owner h s c.args.object ∙ here))
+    ∙ allows-with_right t c.args.bit c.args.value c.in-Some.row.now c.args.object b place c.set_right.ensures.commands (c.set_right.ensures.windows ∙ sym s.slots.all) (there-StandsFor t owner h s c.args.object ∙ here))
 
 pub returns-in_default-clause-stands : goal.returns-in_default-clause-stands
 returns-in_default-clause-stands c = λ owner h s known here.

@@ -1,8 +1,8 @@
 use Rattle.std.proofs.Common.{◌≡◌, ◌∙◌, ap, sym, subst, ◌∷◌}
 use Rattle.acl.specs.declared.act.Act.TheVariants.{Closed}
 use Rattle.acl.specs.History.{is_open, open_count}
-use Rattle.acl.specs.Slots.{SlotsStandFor}
-use Rattle.acl.proofs.SlotLemmas.{slots-closed}
+use Rattle.acl_slots.specs.Slots.{SlotsStandFor}
+use Rattle.acl_slots.proofs.SlotLemmas.{slots-closed}
 use Rattle.writelock.specs.LockTable.{lock_at}
 use Rattle.writelock.proofs.LockLemmas.{AreLocks-Closed}
 use Rattle.writelock.proofs.SlotViews.{lock_at-closed}

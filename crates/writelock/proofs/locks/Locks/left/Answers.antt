@@ -2,9 +2,9 @@ use Rattle.std.proofs.Common.{◌≡◌, ◌∙◌, ◌∷◌, ℕ, ap, sym, sub
 use Rattle.std.specs.Option.{option_map}
 use borrow.Author.Tests.{eqb-true}
 use Rattle.acl.specs.declared.act.Act.TheVariants.{Left}
-use Rattle.acl.specs.declared.slots.Slots.{Slots}
+use Rattle.acl_slots.specs.declared.slots.Slots.{Slots}
 use Rattle.acl.specs.History.{is_open, open_count}
-use Rattle.acl.specs.Slots.{SlotsStandFor}
+use Rattle.acl_slots.specs.Slots.{SlotsStandFor}
 use Rattle.writelock.specs.declared.lock.Lock.{Lock}
 use Rattle.writelock.specs.LockTable.{AreLocks, lock_in, left_by, entered_by}
 use Rattle.writelock.proofs.LockLemmas.{AreLocks-Left}

@@ -1,8 +1,8 @@
 use Rattle.std.proofs.Common.{◌≡◌, ◌∙◌, ◌∷◌, ℕ, ap, sym, subst, refl, arith, Option, Some, None, is_some, false, true≢false, length, slice_set, if◌then◌else◌, nat_eq}
 use Rattle.acl.specs.declared.act.Act.TheVariants.{Opened}
 use Rattle.acl.specs.History.{is_open, open_count}
-use Rattle.acl.specs.Slots.{SlotsStandFor, slot_of}
-use Rattle.acl.proofs.SlotLemmas.{slots-opened, slots-free}
+use Rattle.acl_slots.specs.Slots.{SlotsStandFor, slot_of}
+use Rattle.acl_slots.proofs.SlotLemmas.{slots-opened, slots-free}
 use Rattle.writelock.specs.LockTable.{lock_at}
 use Rattle.writelock.proofs.LockLemmas.{AreLocks-Opened}
 use Rattle.writelock.proofs.SlotViews.{lock_at-opened, length-set_lock}

@@ -1,8 +1,8 @@
 use Rattle.std.proofs.Common.{◌≡◌, ◌∙◌, ◌∷◌, ℕ, ap, sym, subst, arith, None}
 use Rattle.acl.specs.declared.act.Act.TheVariants.{Parted}
-use Rattle.acl.specs.declared.slots.Slots.{Slots}
+use Rattle.acl_slots.specs.declared.slots.Slots.{Slots}
 use Rattle.acl.specs.History.{is_open, open_count}
-use Rattle.acl.specs.Slots.{SlotsStandFor}
+use Rattle.acl_slots.specs.Slots.{SlotsStandFor}
 use Rattle.writelock.specs.LockTable.{AreLocks, lock_in, lock_at, without_holder}
 use Rattle.writelock.proofs.LockLemmas.{AreLocks-Parted}
 use Rattle.writelock.proofs.SlotViews.{changed_below-more, changed_below-all, lock_at-changed}

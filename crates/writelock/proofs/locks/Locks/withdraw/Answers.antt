@@ -1,9 +1,9 @@
 use Rattle.std.proofs.Common.{◌≡◌, ◌∙◌, ◌∷◌, ℕ, ap, sym, subst, arith, None, Some, slice_index_or, Option}
 use Rattle.std.specs.Option.{option_map}
-use Rattle.acl.specs.declared.slots.Slots.{Slots}
+use Rattle.acl_slots.specs.declared.slots.Slots.{Slots}
 use Rattle.acl.specs.Lists.{table_of}
 use Rattle.acl.specs.History.{is_open, open_count}
-use Rattle.acl.specs.Slots.{SlotsStandFor}
+use Rattle.acl_slots.specs.Slots.{SlotsStandFor}
 use Rattle.writelock.specs.LockTable.{AreLocks, lock_in, lock_at, after_act}
 use Rattle.writelock.proofs.LockLemmas.{AreLocks-rights, slots-rights}
 use Rattle.writelock.proofs.SlotViews.{changed_below-next, changed_below-all, lock_at-changed}

@@ -1,0 +1,10 @@
+pub mod Values
+pub mod MaskFaults
+pub mod Names
+pub mod Table
+pub mod Meaning
+pub mod FirstWord
+pub mod LineFaults
+pub mod FaultNumbers
+pub use Rattle.command_lang_words.specs.Parts
+pub use Rattle.command_lang_words.specs.Lines

@@ -1,0 +1,168 @@
+//! A command and its words.
+
+ghost use Rattle.std.specs.Prelude.{◌≡◌, ◌++◌, ◌∷◌, [], OnOk, OnErr};
+
+use crate::bit_list::BitList;
+use acl::{CommandName, LockMode};
+use command_lang_words::{Text, Texts};
+use std::alloc::{AllocError, Global};
+use std::marker::Model;
+
+/// Users of a list command: all whom the session knows, or those whom words name.
+#[derive(Drop, Debug)]
+pub enum Users {
+    All,
+    Listed(Texts),
+}
+
+/// Whom a user is to follow.
+#[derive(Drop, Debug)]
+pub enum Leader {
+    Nobody,
+    Named(Text),
+}
+
+/// A mask: without users it is meant for all.
+#[derive(Drop, Debug)]
+pub struct Mask {
+    pub users: Option<Users>,
+    pub bits: BitList,
+}
+
+/// Masks, in order.
+#[derive(Drop, Debug)]
+pub struct Masks {
+    items: Vec<Mask>,
+}
+
+impl Model for Masks {
+    ghost use Rattle.std.specs.Prelude.{List};
+    ghost use Rattle.command_lang_table.specs.declared.command.Mask.{Mask};
+
+    ghost Value = { List Mask };
+
+    ghost view = { λ m. m.items.items };
+}
+
+impl Masks {
+    /// No mask.
+    pub fn new(alloc: Global) -> Masks
+        ensures { result ≡ [] }
+    {
+        Masks {
+            items: Vec::new(alloc),
+        }
+    }
+
+    /// Puts a mask at the end.
+    pub fn push(&mut self, mask: Mask) -> Result<(), AllocError>
+        ensures ok { OnOk result (self.new ≡ self.old ++ mask ∷ []) }
+        ensures err { OnErr result (self.new ≡ self.old) }
+    {
+        self.items.push(mask)?;
+        Ok(())
+    }
+
+    /// The masks.
+    pub fn as_slice(&self) -> &[Mask]
+        ensures { result.now ≡ self.now }
+    {
+        self.items.as_slice()
+    }
+}
+
+/// A coding of a window's program: UTF-8, or sets and shifts by ECMA-35.
+#[derive(Clone, Copy, PartialEq, Eq, Debug)]
+pub enum Coding {
+    Utf8,
+    Ecma35,
+}
+
+/// A command, with what its words mean. Names, list items and windows stay texts until the session looks them up.
+#[derive(Drop, Debug)]
+pub enum Command {
+    Acladd(Users),
+    Aclchg {
+        users: Users,
+        bits: BitList,
+        list: Texts,
+    },
+    Acldel(Text),
+    Aclgrp {
+        user: Text,
+        leader: Option<Leader>,
+    },
+    Aclumask(Masks),
+    Writelock(LockMode),
+    Defwritelock(LockMode),
+    Multiuser(bool),
+    Wall(Text),
+    Detach,
+    Select(Text),
+    Next,
+    Prev,
+    Other,
+    Title(Text),
+    Number(u8),
+    Kill,
+    Screen,
+    Split {
+        vertical: bool,
+    },
+    Focus,
+    Remove,
+    Only,
+    Fit,
+    Scrollview(u16),
+    Clear,
+    Reset,
+    Encoding(Coding),
+    Stuff(Text),
+    Windows,
+    Displays,
+    Quit,
+}
+
+impl Command {
+    ghost use Rattle.std.specs.Prelude.{◌≡◌};
+    ghost use Rattle.command_lang_table.specs.Names.{name_of};
+
+    /// The command's name.
+    pub fn name(&self) -> CommandName
+        ensures { result ≡ name_of self.now }
+    {
+        match self {
+            Command::Acladd(_) => CommandName::Acladd,
+            Command::Aclchg { .. } => CommandName::Aclchg,
+            Command::Acldel(_) => CommandName::Acldel,
+            Command::Aclgrp { .. } => CommandName::Aclgrp,
+            Command::Aclumask(_) => CommandName::Aclumask,
+            Command::Writelock(_) => CommandName::Writelock,
+            Command::Defwritelock(_) => CommandName::Defwritelock,
+            Command::Multiuser(_) => CommandName::Multiuser,
+            Command::Wall(_) => CommandName::Wall,
+            Command::Detach => CommandName::Detach,
+            Command::Select(_) => CommandName::Select,
+            Command::Next => CommandName::Next,
+            Command::Prev => CommandName::Prev,
+            Command::Other => CommandName::Other,
+            Command::Title(_) => CommandName::Title,
+            Command::Number(_) => CommandName::Number,
+            Command::Kill => CommandName::Kill,
+            Command::Screen => CommandName::Screen,
+            Command::Split { .. } => CommandName::Split,
+            Command::Focus => CommandName::Focus,
+            Command::Remove => CommandName::Remove,
+            Command::Only => CommandName::Only,
+            Command::Fit => CommandName::Fit,
+            Command::Scrollview(_) => CommandName::Scrollview,
+            Command::Clear => CommandName::Clear,
+            Command::Reset => CommandName::Reset,
+            Command::Encoding(_) => CommandName::Encoding,
+            Command::Stuff(_) => CommandName::Stuff,
+            Command::Windows => CommandName::Windows,
+            Command::Displays => CommandName::Displays,
+            Command::Quit => CommandName::Quit,
+        }
+    }
+}

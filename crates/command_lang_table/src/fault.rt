@@ -1,0 +1,72 @@
+use thiserror::Error;
+
+/// Why a line is no command.
+#[derive(Clone, Copy, PartialEq, Eq, Debug, Error)]
+pub enum FaultKind {
+    #[error("there is no such command")]
+    UnknownCommand,
+    #[error("a word is missing")]
+    MissingWord,
+    #[error("a word is too many")]
+    ExtraWord,
+    #[error("the word is no number, or out of range")]
+    BadNumber,
+    #[error("the word has no bits")]
+    BadBits,
+    #[error("the word is quoted badly")]
+    BadQuote,
+    #[error("the line is too long")]
+    TooLong,
+    #[error("out of memory")]
+    NoMemory,
+    #[error("the word is none of those allowed")]
+    BadWord,
+}
+
+/// Why a line is no command, and at which of its bytes.
+#[derive(Clone, Copy, PartialEq, Eq, Debug, Error)]
+#[error("{kind}, at {place}")]
+pub struct ParseFault {
+    pub kind: FaultKind,
+    pub place: usize,
+}
+
+impl ParseFault {
+    ghost use Rattle.std.specs.Prelude.{◌≡◌};
+    ghost use Rattle.command_lang_table.specs.FaultNumbers.{number_of};
+    ghost use Rattle.command_lang_table.specs.LineFaults.{no_memory};
+
+    /// Want of memory, at no place.
+    pub fn no_memory() -> ParseFault
+        ensures { result ≡ no_memory }
+    {
+        ParseFault {
+            kind: FaultKind::NoMemory,
+            place: 0,
+        }
+    }
+
+    /// The fault's number, 1 to 9.
+    pub fn number(self) -> u8
+        ensures { result ≡ number_of self.kind }
+    {
+        match self.kind {
+            FaultKind::UnknownCommand => 1,
+            FaultKind::MissingWord => 2,
+            FaultKind::ExtraWord => 3,
+            FaultKind::BadNumber => 4,
+            FaultKind::BadBits => 5,
+            FaultKind::BadQuote => 6,
+            FaultKind::TooLong => 7,
+            FaultKind::NoMemory => 8,
+            FaultKind::BadWord => 9,
+        }
+    }
+
+    /// The place of the fault: the first byte of its word, or the line's length where a word is missing.
+    pub fn place(self) -> usize
+        ensures { result ≡ self.place }
+    {
+        self.place
+    }
+}

@@ -1,0 +1,35 @@
+//! The words of a line are a command, or have a fault.
+
+ghost use Rattle.std.specs.Prelude.{◌≡◌, ◌⊎◌, [], IfOk, IfErr, Some};
+ghost use Rattle.command_lang_table.specs.Table.{first_of};
+ghost use Rattle.command_lang_table.specs.Meaning.{line_command};
+ghost use Rattle.command_lang_table.specs.LineFaults.{line_faults, no_memory};
+
+use crate::build::build;
+use crate::command::Command;
+use crate::fault::{FaultKind, ParseFault};
+use crate::table::{first_name, words_fault, words_of};
+use command_lang_words::Word;
+use std::alloc::Global;
+
+/// The command of a line's words, or the first fault; the line has that length in bytes.
+pub fn command_of(alloc: Global, line: &[Word], end: usize) -> Result<Command, ParseFault>
+    ensures ok { IfOk result (λ c. (line_faults end line.now ≡ []) × (line_command line.now ≡ Some c)) }
+    ensures err { IfErr result (λ f. (f ≡ no_memory) ⊎ (first_of (line_faults end line.now) ≡ Some f)) }
+{
+    let Some((first, rest)) = line.split_first() else {
+        return Err(ParseFault {
+            kind: FaultKind::MissingWord,
+            place: end,
+        });
+    };
+    let name = first_name(first)?;
+    if let Some(fault) = words_fault(words_of(name), rest, end) {
+        return Err(fault);
+    }
+    match build(alloc, name, rest) {
+        Ok(Some(command)) => Ok(command),
+        Ok(None) => unreachable!(),
+        Err(_) => Err(ParseFault::no_memory()),
+    }
+}

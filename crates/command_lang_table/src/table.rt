@@ -1,0 +1,204 @@
+//! The words that each command takes, and the faults of words.
+
+ghost use Rattle.std.specs.Prelude.{◌≡◌};
+ghost use Rattle.command_lang_table.specs.Names.{command_named};
+ghost use Rattle.command_lang_table.specs.Table.{row, least, kind_at, kind_fault, word_fault, words_faults, first_of, at};
+ghost use Rattle.command_lang_table.specs.MaskFaults.{unless};
+ghost use Rattle.command_lang_table.specs.FirstWord.{name_in};
+
+use crate::fault::{FaultKind, ParseFault};
+use crate::names::command_named;
+use crate::values::{
+    coding, has_empty_item, is_bits, is_vertical, lock_mode, mask_fault, number, switch,
+};
+use acl::CommandName;
+use command_lang_words::Word;
+
+/// What a word has to be.
+#[derive(Clone, Copy, PartialEq, Eq, Debug)]
+pub enum Kind {
+    /// Any text: a message, a title, a name, or a window's number or title.
+    Text,
+    /// A list between commas without an empty item.
+    Items,
+    Bits,
+    /// Users, if any, and bits.
+    Mask,
+    /// 1 to 4 decimal digits, up to a number.
+    Number(u16),
+    LockMode,
+    Switch,
+    Coding,
+    Vertical,
+}
+
+/// The words that a command takes.
+#[derive(Clone, Copy, PartialEq, Eq, Debug)]
+pub enum Words {
+    Nothing,
+    One(Kind),
+    Perhaps(Kind),
+    OneOrTwo(Kind, Kind),
+    Three(Kind, Kind, Kind),
+    Several(Kind),
+}
+
+/// The table of commands.
+pub fn words_of(name: CommandName) -> Words
+    ensures { result ≡ row name }
+{
+    match name {
+        CommandName::Acladd => Words::One(Kind::Items),
+        CommandName::Aclchg => Words::Three(Kind::Items, Kind::Bits, Kind::Items),
+        CommandName::Acldel => Words::One(Kind::Text),
+        CommandName::Aclgrp => Words::OneOrTwo(Kind::Text, Kind::Text),
+        CommandName::Aclumask => Words::Several(Kind::Mask),
+        CommandName::Writelock => Words::One(Kind::LockMode),
+        CommandName::Defwritelock => Words::One(Kind::LockMode),
+        CommandName::Multiuser => Words::One(Kind::Switch),
+        CommandName::Wall => Words::One(Kind::Text),
+        CommandName::Detach => Words::Nothing,
+        CommandName::Select => Words::One(Kind::Text),
+        CommandName::Next => Words::Nothing,
+        CommandName::Prev => Words::Nothing,
+        CommandName::Other => Words::Nothing,
+        CommandName::Title => Words::One(Kind::Text),
+        CommandName::Number => Words::One(Kind::Number(39)),
+        CommandName::Kill => Words::Nothing,
+        CommandName::Screen => Words::Nothing,
+        CommandName::Split => Words::Perhaps(Kind::Vertical),
+        CommandName::Focus => Words::Nothing,
+        CommandName::Remove => Words::Nothing,
+        CommandName::Only => Words::Nothing,
+        CommandName::Fit => Words::Nothing,
+        CommandName::Scrollview => Words::One(Kind::Number(2000)),
+        CommandName::Clear => Words::Nothing,
+        CommandName::Reset => Words::Nothing,
+        CommandName::Encoding => Words::One(Kind::Coding),
+        CommandName::Stuff => Words::One(Kind::Text),
+        CommandName::Windows => Words::Nothing,
+        CommandName::Displays => Words::Nothing,
+        CommandName::Quit => Words::Nothing,
+    }
+}
+
+/// How many words there are at least.
+fn least(words: Words) -> usize
+    ensures { result ≡ least words }
+{
+    match words {
+        Words::Nothing | Words::Perhaps(_) => 0,
+        Words::One(_) | Words::OneOrTwo(_, _) | Words::Several(_) => 1,
+        Words::Three(_, _, _) => 3,
+    }
+}
+
+/// What the word with this number has to be, from 0 on; none where there may be none.
+fn kind_at(words: Words, i: usize) -> Option<Kind>
+    ensures { result ≡ kind_at words i }
+{
+    match words {
+        Words::Nothing => None,
+        Words::One(first) | Words::Perhaps(first) => if i == 0 { Some(first) } else { None },
+        Words::OneOrTwo(first, second) => match i {
+            0 => Some(first),
+            1 => Some(second),
+            _ => None,
+        },
+        Words::Three(first, second, third) => match i {
+            0 => Some(first),
+            1 => Some(second),
+            2 => Some(third),
+            _ => None,
+        },
+        Words::Several(each) => Some(each),
+    }
+}
+
+/// The fault that a word is in if a test failed.
+fn fault_unless(fine: bool, kind: FaultKind) -> Option<FaultKind>
+    ensures { result ≡ unless fine kind }
+{
+    if fine { None } else { Some(kind) }
+}
+
+/// Why a text isn't what a word has to be.
+fn judge(kind: Kind, text: &str) -> Option<FaultKind>
+    ensures { result ≡ kind_fault kind text.now }
+{
+    match kind {
+        Kind::Text => None,
+        Kind::Items => fault_unless(!has_empty_item(text), FaultKind::BadWord),
+        Kind::Bits => fault_unless(is_bits(text.as_bytes()), FaultKind::BadBits),
+        Kind::Mask => mask_fault(text),
+        Kind::Number(limit) => {
+            fault_unless(
+                number(text.as_bytes(), limit).is_some(),
+                FaultKind::BadNumber,
+            )
+        }
+        Kind::LockMode => fault_unless(lock_mode(text).is_some(), FaultKind::BadWord),
+        Kind::Switch => fault_unless(switch(text).is_some(), FaultKind::BadWord),
+        Kind::Coding => fault_unless(coding(text).is_some(), FaultKind::BadWord),
+        Kind::Vertical => fault_unless(is_vertical(text), FaultKind::BadWord),
+    }
+}
+
+/// The fault of a word that stands where this kind is wanted, or none.
+fn word_fault(kind: Option<Kind>, word: &Word) -> Option<ParseFault>
+    ensures { result ≡ word_fault kind word.now }
+{
+    let fault = if !word.whole {
+        Some(FaultKind::BadQuote)
+    } else if let Some(kind) = kind {
+        judge(kind, word.text.as_str())
+    } else {
+        Some(FaultKind::ExtraWord)
+    };
+    match fault {
+        Some(kind) => Some(ParseFault {
+            kind,
+            place: word.place,
+        }),
+        None => None,
+    }
+}
+
+/// The first fault of a command's words, in a line of that length.
+pub fn words_fault(taken: Words, words: &[Word], end: usize) -> Option<ParseFault>
+    ensures { result ≡ first_of (words_faults taken 0 end words.now) }
+{
+    for i in 0..words.len() {
+        let fault = word_fault(kind_at(taken, i), &words[i]);
+        if fault.is_some() {
+            return fault;
+        }
+    }
+    if words.len() < least(taken) {
+        Some(ParseFault {
+            kind: FaultKind::MissingWord,
+            place: end,
+        })
+    } else {
+        None
+    }
+}
+
+/// The command that a line's first word names.
+pub fn first_name(word: &Word) -> Result<CommandName, ParseFault>
+    ensures { result ≡ name_in word.now }
+{
+    if !word.whole {
+        return Err(ParseFault {
+            kind: FaultKind::BadQuote,
+            place: word.place,
+        });
+    }
+    match command_named(word.text.as_str()) {
+        Some(name) => Ok(name),
+        None => Err(ParseFault {
+            kind: FaultKind::UnknownCommand,
+            place: word.place,
+        }),
+    }
+}

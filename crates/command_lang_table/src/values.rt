@@ -1,0 +1,221 @@
+//! What words mean.
+
+ghost use Rattle.std.specs.Prelude.{◌≡◌, ◌≤◌, length, true, IfOk};
+ghost use Rattle.command_lang_table.specs.Values as mean;
+ghost use Rattle.command_lang_table.specs.MaskFaults as judging;
+
+use crate::bit_list::BitList;
+use crate::command::{Coding, Leader, Mask, Users};
+use crate::fault::FaultKind;
+use acl::{Bit, BitChange, LockMode};
+use command_lang_words::{Text, Texts};
+use std::alloc::{AllocError, Global};
+
+/// Whether the byte is a decimal digit.
+fn is_digit(c: u8) -> bool
+    ensures { result ≡ mean.is_digit c }
+{
+    b'0' <= c && c <= b'9'
+}
+
+/// The number that 1 to 4 digits spell, unless it is above the limit.
+pub fn number(text: &[u8], limit: u16) -> Option<u16>
+    ensures { result ≡ mean.number_in limit text.now }
+{
+    if text.is_empty() || text.len() > 4 {
+        return None;
+    }
+    let mut n: u16 = 0;
+    for c in text {
+        if !is_digit(*c) {
+            return None;
+        }
+        n = n * 10 + (*c - b'0') as u16;
+    }
+    if n <= limit { Some(n) } else { None }
+}
+
+/// `off`, `auto` or `on`.
+pub fn lock_mode(text: &str) -> Option<LockMode>
+    ensures { result ≡ mean.lock_mode_in text.now }
+{
+    if text == "off" {
+        Some(LockMode::Off)
+    } else if text == "auto" {
+        Some(LockMode::Auto)
+    } else if text == "on" {
+        Some(LockMode::On)
+    } else {
+        None
+    }
+}
+
+/// `on` or `off`.
+pub fn switch(text: &str) -> Option<bool>
+    ensures { result ≡ mean.switch_in text.now }
+{
+    if text == "on" {
+        Some(true)
+    } else if text == "off" {
+        Some(false)
+    } else {
+        None
+    }
+}
+
+/// `utf8` or `ecma35`.
+pub fn coding(text: &str) -> Option<Coding>
+    ensures { result ≡ mean.coding_in text.now }
+{
+    if text == "utf8" {
+        Some(Coding::Utf8)
+    } else if text == "ecma35" {
+        Some(Coding::Ecma35)
+    } else {
+        None
+    }
+}
+
+/// Whether the word is `-v`.
+pub fn is_vertical(text: &str) -> bool
+    ensures { result ≡ mean.is_vertical text.now }
+{
+    text == "-v"
+}
+
+/// Whether an item between commas is empty.
+pub fn has_empty_item(text: &str) -> bool
+    ensures { result ≡ mean.has_empty_item text.now }
+{
+    text.split(',').any(|item| item.is_empty())
+}
+
+/// The items between commas.
+pub fn items(alloc: Global, text: &str) -> Result<Texts, AllocError>
+    ensures { IfOk result (λ l. l ≡ mean.items_of text.now) }
+{
+    let mut items = Texts::new(alloc);
+    for item in text.split(',') {
+        items.push(Text::of(alloc, item)?)?;
+    }
+    Ok(items)
+}
+
+/// `*`, or a list of users.
+pub fn users(alloc: Global, text: &str) -> Result<Users, AllocError>
+    ensures { IfOk result (λ u. u ≡ mean.users_of text.now) }
+{
+    if text == "*" {
+        Ok(Users::All)
+    } else {
+        Ok(Users::Listed(items(alloc, text)?))
+    }
+}
+
+/// `none`, or a leader's name.
+pub fn leader(alloc: Global, text: &str) -> Result<Leader, AllocError>
+    ensures { IfOk result (λ l. l ≡ mean.leader_of text.now) }
+{
+    if text == "none" {
+        Ok(Leader::Nobody)
+    } else {
+        Ok(Leader::Named(Text::of(alloc, text)?))
+    }
+}
+
+/// Whether the byte is `+` or `-`.
+fn is_sign(c: u8) -> bool
+    ensures { result ≡ mean.is_sign c }
+{
+    c == b'+' || c == b'-'
+}
+
+/// The bit that a letter stands for.
+fn bit_of(c: u8) -> Option<Bit>
+    ensures { result ≡ mean.bit_of c }
+{
+    match c {
+        b'r' => Some(Bit::Read),
+        b'w' => Some(Bit::Write),
+        b'x' => Some(Bit::Execute),
+        _ => None,
+    }
+}
+
+/// Whether groups go on so, behind a sign, which wants a letter, or a letter.
+fn goes_on(text: &[u8]) -> bool
+    ensures { result ≡ mean.goes_on true text.now }
+{
+    let mut wanting = true;
+    for c in text {
+        if bit_of(*c).is_some() {
+            wanting = false;
+        } else if is_sign(*c) && !wanting {
+            wanting = true;
+        } else {
+            return false;
+        }
+    }
+    !wanting
+}
+
+/// Whether the text is groups of a sign and letters.
+pub fn is_bits(text: &[u8]) -> bool
+    ensures { result ≡ mean.is_bits text.now }
+{
+    match text {
+        [] => false,
+        [first, rest @ ..] => is_sign(*first) && goes_on(rest),
+    }
+}
+
+/// The bits that groups of a sign and letters give and take.
+pub fn bits(alloc: Global, text: &[u8]) -> Result<BitList, AllocError>
+    ensures { IfOk result (λ l. l ≡ mean.bits_of text.now) }
+{
+    let mut changes = BitList::new(alloc);
+    let mut value = true;
+    for c in text {
+        if let Some(bit) = bit_of(*c) {
+            changes.push(BitChange { bit, value })?;
+        } else {
+            value = *c == b'+';
+        }
+    }
+    Ok(changes)
+}
+
+/// The place of the first sign, or the text's length.
+fn first_sign(text: &[u8]) -> usize
+    ensures { result ≡ mean.sign_place text.now }
+{
+    text.iter().position(|c| is_sign(*c)).unwrap_or(text.len())
+}
+
+/// Why a word isn't users, if any, and bits.
+pub fn mask_fault(text: &str) -> Option<FaultKind>
+    ensures { result ≡ judging.mask_fault text.now }
+{
+    let (users, bits) = text.split_at(first_sign(text.as_bytes()));
+    if !is_bits(bits.as_bytes()) {
+        Some(FaultKind::BadBits)
+    } else if !users.is_empty() && has_empty_item(users) {
+        Some(FaultKind::BadWord)
+    } else {
+        None
+    }
+}
+
+/// Users, if any, and bits.
+pub fn mask(alloc: Global, text: &str) -> Result<Mask, AllocError>
+    ensures { IfOk result (λ m. m ≡ mean.mask_of text.now) }
+{
+    let (front, behind) = text.split_at(first_sign(text.as_bytes()));
+    let users = if front.is_empty() {
+        None
+    } else {
+        Some(users(alloc, front)?)
+    };
+    let bits = bits(alloc, behind.as_bytes())?;
+    Ok(Mask { users, bits })
+}

@@ -1,0 +1,80 @@
+-- A page that is moved back, line by line.
+use Rattle.std.proofs.Common.{◌≡◌, ℕ, ◌+◌, ◌-◌, ◌<◌, ◌≤◌, min, List, [], ◌++◌, length, take, reverse, get_or, sym, ap, ◌∙◌, subst, arith, ⊎_elim, length-append, Bor, Option, None, Some}
+use Rattle.std.specs.Prelude.{option_copied, slice_get, unwrap_or}
+use Rattle.std.proofs.lemmas.Option.{slice_get-get_or}
+use Rattle.std.proofs.lemmas.List.{length-take-le, get_or-take, get_or_append_left, get_or-append_right, get_or-reverse, get_or_past, take_all, take_min, length-reverse}
+use Rattle.std.proofs.lemmas.Bool.{cases_lt}
+use Rattle.cells.specs.declared.cell.Cell.{Cell}
+use Rattle.cells.specs.Line.{IsPaired}
+use Rattle.cells.specs.Page.{line_at, IsPage}
+use Rattle.cells.proofs.Pages.{IsPaired-nil}
+use Rattle.terminal_model.specs.Screen.{Page, Screen, IsSound}
+use Rattle.emulator.specs.Pages.{moved_back}
+
+-- the kept lines that stand above the page's
+abbrev above : ℕ → Screen → Page
+above back x = reverse (take back x.kept)
+
+length-above : (back : ℕ) (x : Screen) → back ≤ length x.kept → length (above back x) ≡ back
+length-above back x h = length-reverse (take back x.kept) ∙ length-take-le back x.kept h
+
+pub length-moved : (back : ℕ) (x : Screen) → length (moved_back back x) ≡ length x.page
+length-moved back x =
+    let n : length (above back x ++ x.page) ≡ length (above back x) + length x.page = length-append (above back x) x.page in
+    length-take-le (length x.page) (above back x ++ x.page) (omega arith)
+
+-- a line above the page's
+pub moved-above : (back line : ℕ) (x : Screen) → back ≤ length x.kept → line < back → line < length x.page
+    → line_at (moved_back back x) line ≡ line_at x.kept (back - 1 - line)
+moved-above back line x h l k =
+    let n : length (take back x.kept) ≡ back = length-take-le back x.kept h in
+    let m : length (above back x) ≡ back = length-above back x h in
+    get_or-take (length x.page) (above back x ++ x.page) line [] k
+    ∙ get_or_append_left (above back x) x.page [] line (omega arith)
+    ∙ get_or-reverse (take back x.kept) line [] (omega arith)
+    ∙ ap (λ (i : ℕ). get_or (take back x.kept) i []) (ap (λ (i : ℕ). i - 1 - line) n)
+    ∙ get_or-take back x.kept (back - 1 - line) [] (omega arith)
+
+-- a line of the page
+pub moved-below : (back line : ℕ) (x : Screen) → back ≤ length x.kept → back ≤ line → line < length x.page
+    → line_at (moved_back back x) line ≡ line_at x.page (line - back)
+moved-below back line x h l k =
+    get_or-take (length x.page) (above back x ++ x.page) line [] k
+    ∙ get_or-append_right (above back x) x.page back line [] (length-above back x h) l
+
+-- a kept line that was found
+pub kept-line : (found : Option (Bor (List Cell))) (lent default : Bor (List Cell)) (lines : Page) (n : ℕ) → n < length lines → option_copied found ≡ slice_get lines n
+    → lent ≡ unwrap_or found default → lent.now ≡ line_at lines n
+kept-line None lent default lines n l e u = let s = slice_get-get_or lines n [] l in absurd (cc)
+kept-line (Some line) lent default lines n l e u = let s = slice_get-get_or lines n [] l in cc
+
+-- it is a page of the screen's size
+pub moved-sized : (back : ℕ) (x : Screen) → IsSound x → back ≤ length x.kept → IsPage x.state.rows x.state.columns (moved_back back x)
+moved-sized back x s h =
+    let n : length x.page ≡ x.state.rows = s.sized.height in
+    record {
+      height = length-moved back x ∙ n;
+      width = λ line l.
+          ⊎_elim
+          (λ (a : line < back). ap length (moved-above back line x h a (omega arith)) ∙ s.kept.width (back - 1 - line) (omega arith))
+          (λ (b : back ≤ line). ap length (moved-below back line x h b (omega arith)) ∙ s.sized.width (line - back) (omega arith))
+          (cases_lt line back);
+      paired = λ line.
+          ⊎_elim
+          (λ (l : line < length x.page).
+          ⊎_elim
+          (λ (a : line < back). subst IsPaired (sym (moved-above back line x h a l)) (s.kept.paired (back - 1 - line)))
+          (λ (b : back ≤ line). subst IsPaired (sym (moved-below back line x h b l)) (s.sized.paired (line - back)))
+          (cases_lt line back))
+          (λ (l : length x.page ≤ line). let m : length (moved_back back x) ≡ length x.page = length-moved back x in
+          subst IsPaired (sym (get_or_past (moved_back back x) line [] (omega arith))) IsPaired-nil)
+          (cases_lt line (length x.page));
+    }
+
+-- all kept lines, where they are fewer
+pub moved-fewer : (offset : ℕ) (x : Screen) → moved_back (min offset (length x.kept)) x ≡ moved_back offset x
+moved-fewer offset x = ap (λ (lines : Page). take (length x.page) (reverse lines ++ x.page)) (take_min offset x.kept)
+
+-- and none
+pub moved-none : (x : Screen) → moved_back 0 x ≡ x.page
+moved-none x = take_all (length x.page) x.page (omega arith)

@@ -1,0 +1,38 @@
+-- What an emulator holds, and the terminals that it stands for.
+use Rattle.std.specs.Prelude.{◌≡◌, ℕ, List, [], ◌++◌}
+use Rattle.charsets.specs.Units.{Decoding}
+use Rattle.control_parser.specs.declared.state.State.{State}
+use Rattle.control_parser.specs.Grammar.{functions}
+use Rattle.control_parser.specs.Kept.{kept, opening}
+use Rattle.terminal_model.specs.Screen.{Screen}
+use Rattle.terminal_model.specs.Reading.{Terminal, IsTerminal, rest_in, reads}
+
+-- its screen, what its decoder holds of a character, and what its parser holds of a sequence or string
+pub record Parts : Type 0 where
+  pub screen : Screen
+  pub decoding : Decoding
+  pub parsing : State
+
+-- The terminal's screen is its own; its decoder reads in the coding of the screen and has the bytes that have begun; its parser
+-- keeps what is unended.
+pub record StandsFor (e : Parts) (t : Terminal) : Type 0 where
+  pub terminal : IsTerminal t
+  pub screen : e.screen ≡ t.screen
+  pub decoding : e.decoding ≡ record { coding = t.screen.state.coding; rest = t.rest }
+  pub parsing : e.parsing ≡ kept t.unended
+
+-- the same between the units that one byte completes, where the coding may have changed
+pub record StandsWithin (e : Parts) (t : Terminal) : Type 0 where
+  pub opened : functions (opening t.unended) ≡ ([], t.unended)
+  pub screen : e.screen ≡ t.screen
+  pub parsing : e.parsing ≡ kept t.unended
+
+-- the decoder in the coding of the screen: a character that began in another one is dropped
+abbrev pub in_screen_coding : Parts → Decoding
+in_screen_coding e =
+    record { coding = e.screen.state.coding; rest = rest_in e.decoding.rest e.decoding.coding e.screen.state.coding }
+
+-- From this terminal on it has read the bytes, and has appended what the terminal answers to what was there before.
+pub record HasRead (t : Terminal) (bytes : List ℕ) (before : List ℕ) (e : Parts) (answered : List ℕ) : Type 0 where
+  pub stands : StandsFor e (reads t bytes).terminal
+  pub reports : answered ≡ before ++ (reads t bytes).reports
