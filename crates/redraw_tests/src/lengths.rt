@@ -1,0 +1,208 @@
+//! How many bytes frames have at most, at 24 lines by 80 columns.
+
+ghost use Rattle.std.specs.Prelude.{IfOk};
+ghost use Rattle.view.specs.View.{HasSize};
+
+use Text::{Blank, Letters, Scattered};
+use cells::{Cell, Rendition};
+use redraw::{Shadow, frame};
+use regions::{Rect, Rects};
+use std::alloc::{AllocError, Global};
+use std::test::Fail;
+use view::{Contents, KeyModes, Pane, View, compose};
+
+/// What stands in the first 23 lines.
+#[derive(Clone, Copy)]
+enum Text {
+    Blank,
+    /// 79 letters a line, from this one of the alphabet on.
+    Letters(u8),
+    /// A letter in each tenth column of a line.
+    Scattered,
+}
+
+/// A page and its cursor.
+#[derive(Clone, Copy)]
+struct Page {
+    text: Text,
+    /// A place with a letter of its own.
+    changed: Option<(usize, usize)>,
+    cursor: (usize, usize),
+}
+
+/// A frame from a page, or from unknown, to another one.
+struct Draw {
+    title: &'static str,
+    from: Option<Page>,
+    to: Page,
+    most: usize,
+}
+
+const LINES: usize = 23;
+
+const BLANKS: Page = Page {
+    text: Blank,
+    changed: None,
+    cursor: (0, 0),
+};
+
+const FULL: Page = Page {
+    text: Letters(0),
+    changed: None,
+    cursor: (22, 79),
+};
+
+/// The letter before the cursor, and the cursor behind it.
+const TYPED: Page = Page {
+    changed: Some((5, 40)),
+    cursor: (5, 41),
+    ..FULL
+};
+
+const BEFORE_TYPING: Page = Page {
+    cursor: (5, 40),
+    ..FULL
+};
+
+const DRAWS: [Draw; 7] = [
+    Draw {
+        title: "a full page from unknown",
+        from: None,
+        to: FULL,
+        most: 1960,
+    },
+    Draw {
+        title: "a letter away from the cursor",
+        from: Some(BEFORE_TYPING),
+        to: Page {
+            changed: Some((8, 7)),
+            cursor: (8, 8),
+            ..FULL
+        },
+        most: 10,
+    },
+    Draw {
+        title: "a letter at the cursor",
+        from: Some(BEFORE_TYPING),
+        to: TYPED,
+        most: 4,
+    },
+    Draw {
+        title: "the cursor alone",
+        from: Some(FULL),
+        to: BEFORE_TYPING,
+        most: 8,
+    },
+    Draw {
+        title: "scattered letters",
+        from: Some(BLANKS),
+        to: Page {
+            text: Scattered,
+            ..BLANKS
+        },
+        most: 920,
+    },
+    Draw {
+        title: "other text",
+        from: Some(FULL),
+        to: Page {
+            text: Letters(7),
+            ..FULL
+        },
+        most: 2000,
+    },
+    Draw {
+        title: "a page erased",
+        from: Some(FULL),
+        to: BLANKS,
+        most: 220,
+    },
+];
+
+/// The letter that so many steps behind `a` is, from `z` on to `a`.
+fn letter(steps: usize) -> char {
+    (b'a' + (steps % 26) as u8) as char
+}
+
+impl Page {
+    fn character(&self, line: usize, column: usize) -> char {
+        if self.changed == Some((line, column)) {
+            return '#';
+        }
+        match self.text {
+            Letters(first) if column < 79 => letter(line % 26 + column % 26 + first as usize),
+            Scattered if column % 10 == 0 => letter(line % 26),
+            _ => ' ',
+        }
+    }
+
+    fn line(&self, alloc: Global, line: usize) -> Result<Vec<Cell>, AllocError> {
+        let mut cells = Vec::with_capacity(alloc, 80)?;
+        for column in 0..80usize {
+            let character = self.character(line, column);
+            cells.push(Cell::narrow(character, Rendition::PLAIN, false))?;
+        }
+        Ok(cells)
+    }
+
+    /// The page as a view: a region over 24 lines, whose caption the blank status line covers.
+    fn view(&self, alloc: Global) -> Result<View, AllocError>
+        ensures { IfOk result (HasSize 24 80) }
+    {
+        let mut lines = Vec::with_capacity(alloc, LINES)?;
+        for line in 0..LINES {
+            lines.push(self.line(alloc, line)?)?;
+        }
+        let mut lent: Vec<&[Cell]> = Vec::with_capacity(alloc, LINES)?;
+        for line in &lines {
+            lent.push(line.as_slice())?;
+        }
+        let pane = Pane::Readable(Contents {
+            number: 0,
+            title: "sh",
+            lines: lent.as_slice(),
+            cursor: Some(self.cursor),
+            shows_cursor: true,
+            is_inverted: false,
+            modes: KeyModes::NORMAL,
+        });
+        let mut boxes = Vec::with_capacity(alloc, 1)?;
+        boxes.push(Rect {
+            line: 1,
+            column: 1,
+            rows: 24,
+            cols: 80,
+        })?;
+        let rects = Rects {
+            boxes,
+            separators: Vec::new(alloc),
+            focus: 0,
+            status: Rect::of_status(24, 80),
+        };
+        compose(alloc, &rects, &[pane], b"")
+    }
+}
+
+/// The bytes of the frame from a page to another.
+fn frame_between(alloc: Global, from: Option<Page>, to: Page) -> Result<Vec<u8>, AllocError> {
+    let mut shadow = Shadow::unknown(24, 80);
+    let mut bytes = Vec::new(alloc);
+    if let Some(from) = from {
+        let view = from.view(alloc)?;
+        frame(alloc, &mut shadow, &view, &mut bytes)?;
+        bytes.clear();
+    }
+    let view = to.view(alloc)?;
+    frame(alloc, &mut shadow, &view, &mut bytes)?;
+    Ok(bytes)
+}
+
+#[test]
+fn frames_are_short(rt: HostRuntime) -> Result<(), Fail> {
+    for draw in &DRAWS {
+        let bytes = frame_between(rt.alloc(), draw.from, draw.to)?;
+        let (title, count) = (draw.title, bytes.len());
+        assert!(rt; 0 < count && count <= draw.most, "{title}: {count}");
+    }
+    Ok(())
+}

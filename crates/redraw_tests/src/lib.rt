@@ -1,0 +1,11 @@
+//! Tests of draws: views that are composed, frames from one to another, and terminals that read them.
+#![tactic(auto)]
+
+#[cfg(test)]
+mod lengths;
+#[cfg(test)]
+mod refusals;
+#[cfg(test)]
+mod stage;
+#[cfg(test)]
+mod steps;
