@@ -1,22 +1,20 @@
 -- Clients that attach.
-use Rattle.std.proofs.Common.{◌≡◌, ◌≢◌, ℕ, ◌<◌, ◌≤◌, Bool, true, false, List, [], ◌∷◌, ◌++◌, length, Some, None, Ok, Err, map, refl, ap, sym, ◌∙◌, subst, arith, Option}
-use Rattle.std.specs.Prelude.{if◌then◌else◌, ◌==◌, ◌&&◌, not, nat_le, slice_get}
-use Rattle.std.proofs.lemmas.Bool.Decides.{nat_tests}
+use Rattle.std.proofs.Common.{◌≡◌, ℕ, ◌<◌, Bool, true, false, List, [], ◌∷◌, ◌++◌, length, Some, None, map, refl, ap, sym, ◌∙◌, subst, arith}
+use Rattle.std.specs.Prelude.{if◌then◌else◌, ◌==◌, not, nat_le, slice_get}
 use Rattle.acl.specs.declared.user_id.UserId.{UserId}
 use Rattle.acl.specs.declared.act.Act.TheVariants.{Attached as WasAttached}
 use Rattle.acl.specs.Same.{same_user}
 use Rattle.terminal_model.specs.Reading.{Terminal, reads, nothing_read}
-use Rattle.terminal_model.specs.Shows.{IsOfSize, View}
 use Rattle.terminal_model.specs.Drawing.{Agrees}
 use Rattle.redraw.specs.Frames.{CanBeShown}
 use Rattle.session.specs.declared.clients.Client.{Client}
 use Rattle.session.specs.declared.session.Session.{Session}
 use Rattle.session.specs.Rows.{row_of}
 use Rattle.session.specs.Keys.{HasRead}
-use Rattle.session.specs.Trace.{Happening, Attach, Entry, History, Attached, with_step, windows_of, clients_of, attached_at, keys_of, delivered, message_of}
+use Rattle.session.specs.Trace.{Attach, Entry, History, with_step, windows_of, clients_of, delivered}
 use Rattle.session.specs.Steps.{IsStep, is_client_size, done}
 use Rattle.session.specs.Stands.{StandsFor, HasClients, ClientAt, ClientStands, ClientMissing}
-use Rattle.session.proofs.Rows.{if_true, if_false, equal_number, other_number, is_equal}
+use Rattle.session.proofs.Rows.{if_true, if_false, equal_number, is_equal}
 use Rattle.session.proofs.Tables.{windows_kept}
 use Rattle.session.proofs.Refused.{many_clients, not_true}
 

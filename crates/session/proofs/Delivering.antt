@@ -1,31 +1,30 @@
 -- Views that are drawn.
-use Rattle.std.proofs.Common.{◌≡◌, ◌≢◌, ℕ, ◌<◌, ◌≤◌, Bool, true, false, List, [], ◌∷◌, ◌++◌, length, Some, None, Ok, Err, map, refl, ap, sym, ◌∙◌, subst, inl, inr, arith, Option}
-use Rattle.std.specs.Prelude.{if◌then◌else◌, ◌==◌, ◌⊎◌, is_some, MatchOption}
+use Rattle.std.proofs.Common.{◌≡◌, ◌≢◌, ℕ, Bool, true, false, List, [], ◌∷◌, ◌++◌, length, Some, None, Err, refl, ap, sym, ◌∙◌, subst, inl, inr, Option}
+use Rattle.std.specs.Prelude.{if◌then◌else◌, ◌==◌, is_some, MatchOption}
 use Rattle.std.proofs.lemmas.List.{append-nil}
-use Rattle.cells.specs.Page.{IsPage, IsGrid, line_at}
+use Rattle.cells.specs.Page.{IsPage, IsGrid}
 use Rattle.terminal_model.specs.Screen.{Screen}
 use Rattle.terminal_model.specs.Reading.{Terminal, reads, joined}
-use Rattle.terminal_model.specs.Shows.{View, Shows, ShowsCursor, ShowsFrom, IsOfSize}
+use Rattle.terminal_model.specs.Shows.{View, Shows, ShowsCursor, IsOfSize}
 use Rattle.terminal_model.specs.Drawing.{Agrees}
-use Rattle.terminal_model.specs.Drawable.{HaveHalves}
 use Rattle.terminal_model.proofs.Readings.{reads-append}
 use Rattle.view.specs.View.{HasSize}
 use Rattle.view.specs.Drawable.{IsDrawable}
 use Rattle.redraw.specs.Shadow.{LooksLike, IsKnown}
-use Rattle.redraw.specs.Frames.{Redraws, CanBeShown}
+use Rattle.redraw.specs.Frames.{Redraws}
 use Rattle.session.specs.declared.event.Effect.{Effect}
-use Rattle.session.specs.declared.event.Effect.TheVariants.{Input, Deliver, Say}
+use Rattle.session.specs.declared.event.Effect.TheVariants.{Deliver}
 use Rattle.session.specs.declared.refusal.Refusal.TheVariants.{NoWindow}
 use Rattle.session.specs.declared.clients.Client.{Client}
 use Rattle.session.specs.declared.session.Session.{Session}
 use Rattle.session.specs.Rows.{row_of, with_row}
 use Rattle.session.specs.Keys.{HasRead}
-use Rattle.session.specs.Trace.{Happening, Draw, Entry, History, Attached, with_step, attached_at, keys_of, deliveries, delivered, message_of}
+use Rattle.session.specs.Trace.{Draw, Entry, History, with_step, deliveries, delivered}
 use Rattle.session.specs.Granted.{granted_view}
 use Rattle.session.specs.Steps.{IsStep, IsDraw, ShowsGranted, done}
-use Rattle.session.specs.Stands.{StandsFor, HasClients, ClientAt, ClientStands}
+use Rattle.session.specs.Stands.{StandsFor, ClientAt, ClientStands}
 use Rattle.session.proofs.Rows.{if_true, if_false, same_number, equal_number, other_number, is_equal, with_same, with_other, serials_stay, serial_is}
-use Rattle.session.proofs.Tables.{Keeps, KeepsClient, kept, windows_kept, client_kept, keys_same}
+use Rattle.session.proofs.Tables.{KeepsClient, kept, windows_kept, client_kept, keys_same}
 
 -- a screen that shows a view shows each that looks like it
 shows_alike : (a b : View) (x : Screen) → LooksLike a b → IsPage x.state.rows x.state.columns b.page → Shows a x → Shows b x

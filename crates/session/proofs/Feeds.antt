@@ -1,7 +1,6 @@
 -- Output that is read.
-use Rattle.std.proofs.Common.{◌≡◌, ◌≢◌, ℕ, ◌<◌, ◌≤◌, Bool, true, false, List, [], ◌∷◌, ◌++◌, length, Some, None, Ok, Err, map, refl, ap, sym, ◌∙◌, subst, arith, Option}
+use Rattle.std.proofs.Common.{◌≡◌, ◌≢◌, ℕ, Bool, true, false, List, [], ◌∷◌, ◌++◌, length, Some, Err, refl, ap, sym, ◌∙◌, subst}
 use Rattle.std.specs.Prelude.{if◌then◌else◌, ◌==◌, ◌&&◌, is_some, option_map}
-use Rattle.std.proofs.lemmas.List.{append-nil}
 use Rattle.std.specs.String.{string_bytes}
 use Rattle.terminal_model.specs.Screen.{starting}
 use Rattle.terminal_model.specs.Reading.{Terminal, ready, reads}
@@ -10,17 +9,16 @@ use Rattle.terminal_model.specs.Drawable.{IsDrawableScreen}
 use Rattle.terminal_model.proofs.Readings.{writes_all-append}
 use Rattle.emulator.specs.Standing as emulator
 use Rattle.session.specs.declared.event.Effect.{Effect}
-use Rattle.session.specs.declared.event.Effect.TheVariants.{Input, Deliver, Say}
 use Rattle.session.specs.declared.refusal.Refusal.TheVariants.{NoWindow}
 use Rattle.session.specs.declared.windows.Window.{Window}
 use Rattle.session.specs.declared.session.Session.{Session}
 use Rattle.session.specs.Rows.{row_of, with_row}
-use Rattle.session.specs.Trace.{Happening, Output, Entry, History, Opened, with_step, opened_at, writing, written_by, deliveries, said_last}
+use Rattle.session.specs.Trace.{Output, Entry, History, Opened, with_step, writing, deliveries, said_last}
 use Rattle.session.specs.Terminals.{terminal_of, terminal_at, reports_of}
 use Rattle.session.specs.Steps.{IsStep, done, input_of}
-use Rattle.session.specs.Stands.{StandsFor, HasWindows, WindowAt, WindowStands}
-use Rattle.session.proofs.Rows.{if_true, if_false, same_number, equal_number, other_number, is_equal, with_same, with_other, serials_stay, serial_is}
-use Rattle.session.proofs.Tables.{KeepsWindow, window_kept, clients_kept}
+use Rattle.session.specs.Stands.{StandsFor, WindowAt, WindowStands}
+use Rattle.session.proofs.Rows.{if_true, if_false, same_number, equal_number, is_equal, with_same, with_other, serials_stay, serial_is}
+use Rattle.session.proofs.Tables.{window_kept, clients_kept}
 
 abbrev pub writing_step : ℕ → List ℕ → List Effect → Entry
 writing_step window bytes effects = record { event = Output window bytes; acts = []; effects = effects; reply = done 0 0 }

@@ -1,25 +1,24 @@
 -- What each step of a run shows.
-use Rattle.std.proofs.Common.{◌≡◌, ◌≢◌, ℕ, ◌<◌, ◌≤◌, ◌+◌, Bool, true, false, List, [], ◌∷◌, ◌++◌, length, zero, suc, Some, None, Ok, Err, refl, ap, sym, ◌∙◌, subst, inl, inr, arith, Option}
-use Rattle.std.specs.Prelude.{if◌then◌else◌, ◌==◌, ◌⊎◌, ◌&&◌, ◌||◌, not, nat_le, is_some, slice_get, MatchOption}
+use Rattle.std.proofs.Common.{◌≡◌, ℕ, Bool, true, false, List, [], ◌∷◌, ◌++◌, length, Some, None, Ok, Err, refl, ap, sym, ◌∙◌, subst, inl, inr, Option}
+use Rattle.std.specs.Prelude.{if◌then◌else◌, ◌==◌, ◌&&◌, not, nat_le, slice_get, MatchOption}
 use Rattle.std.specs.List.{AllByRecursion}
 use Rattle.std.proofs.lemmas.List.{append-nil}
-use Rattle.std.proofs.lemmas.Bool.Decides.{nat_tests}
 use Rattle.acl.specs.declared.user_id.UserId.{UserId}
 use Rattle.acl.specs.Same.{same_user}
 use Rattle.terminal_model.specs.Shows.{ShowsFromAny}
 use Rattle.session.specs.declared.event.Effect.{Effect}
-use Rattle.session.specs.declared.event.Effect.TheVariants.{Input, Deliver, Say}
+use Rattle.session.specs.declared.event.Effect.TheVariants.{Input, Say}
 use Rattle.session.specs.declared.event.Done.{Done}
 use Rattle.session.specs.declared.refusal.Refusal.TheVariants.{NoWindow, UnknownUser, BadSize, TooManyClients}
 use Rattle.session.specs.declared.session.Session.{Session}
 use Rattle.session.specs.Refusals.{text_of}
 use Rattle.session.specs.Keys.{typed_behind}
-use Rattle.session.specs.Trace.{Reply, Happening, Attach, Open, Keys, Output, Draw, Entry, History, Attached, with_step, attached_after, attached_at, clients_of, keys_of, delivered, deliveries, inputs, acts_of, may_type, windows_of}
+use Rattle.session.specs.Trace.{Reply, Happening, Attach, Open, Keys, Output, Draw, Entry, History, Attached, with_step, attached_after, attached_at, clients_of, keys_of, delivered, inputs, may_type, windows_of}
 use Rattle.session.specs.Terminals.{terminal_at, reports_of}
 use Rattle.session.specs.Granted.{granted_view}
 use Rattle.session.specs.Steps.{IsRun, IsRunFrom, IsStep, HasEffects, IsDraw, ShowsGranted, answer, effects_of_typed, input_of, done, is_client_size}
 use Rattle.session.specs.Headline.{AllSteps, Call, SomeRun, SomeSteps, reaching, reaching_of, reaching_in, reporting, TypedBytesReach, DrawShows, DrawShowsOf, IsEffectOf, NoOtherEffect}
-use Rattle.session.proofs.Rows.{if_true, if_false, is_equal, equal_number}
+use Rattle.session.proofs.Rows.{is_equal}
 use Rattle.session.proofs.Attaching.{nil_of_length}
 use Rattle.session.proofs.Runs.{IsNext, with_fact}
 

@@ -1,7 +1,6 @@
 -- One more key.
-use Rattle.std.proofs.Common.{◌≡◌, ℕ, Bool, true, false, List, [], ◌∷◌, ◌++◌, refl, ap, ◌∙◌, arith, eqb, append_assoc}
+use Rattle.std.proofs.Common.{◌≡◌, ℕ, Bool, true, false, List, [], ◌∷◌, ◌++◌, refl, ap}
 use Rattle.std.specs.Prelude.{if◌then◌else◌, ◌==◌}
-use Rattle.std.proofs.lemmas.Bool.Decides.{nat_tests}
 use Rattle.session.specs.Keys.{typed_from, waits_after}
 
 pub waits_after-append : (waits : Bool) (keys more : List ℕ) → waits_after waits (keys ++ more) ≡ waits_after (waits_after waits keys) more

@@ -1,5 +1,5 @@
 -- One more key of a step.
-use Rattle.std.proofs.Common.{◌≡◌, ℕ, ◌+◌, ◌<◌, ◌≤◌, Bool, true, false, List, [], ◌∷◌, ◌++◌, length, take, get_or, refl, sym, ap, subst, ◌∙◌, arith, append_assoc, option_to_list, Option}
+use Rattle.std.proofs.Common.{◌≡◌, ℕ, ◌+◌, ◌<◌, ◌≤◌, List, [], ◌∷◌, ◌++◌, length, take, get_or, sym, ap, subst, ◌∙◌, append_assoc, option_to_list, Option}
 use Rattle.std.proofs.lemmas.List.{take_more, take_all, append-nil}
 use Rattle.session.specs.Keys.{typed, HasRead}
 use Rattle.session.specs.declared.keys.KeyReader.{KeyReader}

@@ -1,19 +1,19 @@
 -- Windows that open.
-use Rattle.std.proofs.Common.{◌≡◌, ◌≢◌, ℕ, ◌<◌, ◌≤◌, Bool, true, false, List, [], ◌∷◌, ◌++◌, length, Some, None, Ok, Err, map, refl, ap, sym, ◌∙◌, subst, arith, Option}
-use Rattle.std.specs.Prelude.{if◌then◌else◌, ◌==◌, ◌&&◌, not, nat_le}
+use Rattle.std.proofs.Common.{◌≡◌, ℕ, ◌<◌, Bool, true, false, List, [], ◌∷◌, ◌++◌, length, Some, None, map, refl, ap, sym, ◌∙◌, subst}
+use Rattle.std.specs.Prelude.{if◌then◌else◌, ◌==◌, not, nat_le}
 use Rattle.std.specs.String.{string_bytes}
 use Rattle.acl.specs.declared.user_id.UserId.{UserId}
 use Rattle.acl.specs.declared.act.Act.TheVariants.{Opened as WasOpened}
 use Rattle.acl.specs.Same.{same_user}
 use Rattle.terminal_model.specs.Screen.{starting}
 use Rattle.terminal_model.specs.Reading.{Terminal, ready, nothing_read}
-use Rattle.terminal_model.specs.Writing.{Writing, writes_all}
+use Rattle.terminal_model.specs.Writing.{writes_all}
 use Rattle.terminal_model.specs.Drawable.{IsDrawableScreen}
 use Rattle.emulator.specs.Standing as emulator
 use Rattle.session.specs.declared.windows.Window.{Window}
 use Rattle.session.specs.declared.session.Session.{Session}
 use Rattle.session.specs.Rows.{row_of}
-use Rattle.session.specs.Trace.{Happening, Open, Entry, History, Opened, with_step, windows_of, opened_at, writing}
+use Rattle.session.specs.Trace.{Open, Entry, History, Opened, with_step, windows_of, writing}
 use Rattle.session.specs.Terminals.{terminal_of}
 use Rattle.session.specs.Steps.{IsStep, is_window_size, is_title, done}
 use Rattle.session.specs.Stands.{StandsFor, HasWindows, WindowAt, WindowStands, WindowMissing}

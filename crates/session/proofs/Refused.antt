@@ -1,6 +1,6 @@
 -- Steps that were refused.
-use Rattle.std.proofs.Common.{◌≡◌, ◌≢◌, ℕ, ◌<◌, ◌≤◌, Bool, true, false, List, [], ◌∷◌, ◌++◌, length, Some, None, Ok, Err, map, refl, ap, sym, ◌∙◌, subst, arith, Option}
-use Rattle.std.specs.Prelude.{if◌then◌else◌, ◌==◌, ◌&&◌, not, nat_le, is_some, is_ok, MatchOption}
+use Rattle.std.proofs.Common.{◌≡◌, ℕ, ◌<◌, ◌≤◌, Bool, true, false, List, [], length, None, Err, refl, ap, sym, ◌∙◌, subst, arith}
+use Rattle.std.specs.Prelude.{if◌then◌else◌, ◌==◌, ◌&&◌, not, nat_le, is_some, MatchOption}
 use Rattle.std.proofs.lemmas.List.{length-map}
 use Rattle.std.proofs.lemmas.Bool.Decides.{nat_tests}
 use Rattle.acl.specs.declared.user_id.UserId.{UserId}
@@ -14,10 +14,10 @@ use Rattle.session.specs.declared.refusal.Refusal.TheVariants.{UnknownUser, NoWi
 use Rattle.session.specs.declared.refusal.WindowsFault.TheVariants.{Full, BadTitle}
 use Rattle.session.specs.Rows.{row_of}
 use Rattle.session.specs.Keys.{typed_behind}
-use Rattle.session.specs.Trace.{Reply, Happening, Attach, Open, Keys, Output, Draw, Entry, History, Opened, Attached, with_step, windows_of, opened_at, clients_of, attached_at, keys_of}
+use Rattle.session.specs.Trace.{Happening, Attach, Open, Keys, Output, Draw, Entry, History, with_step, windows_of, opened_at, clients_of, attached_at, keys_of}
 use Rattle.session.specs.Terminals.{terminal_at, reports_of}
-use Rattle.session.specs.Steps.{IsStep, answer, acts_by, HasEffects, IsDraw, ShowsGranted, is_client_size, is_window_size, is_title, done, effects_of_typed, input_of}
-use Rattle.session.specs.Stands.{StandsFor, WindowAt, WindowStands, ClientAt, ClientStands}
+use Rattle.session.specs.Steps.{answer, acts_by, HasEffects, IsDraw, ShowsGranted, is_client_size, is_window_size, is_title, done, effects_of_typed, input_of}
+use Rattle.session.specs.Stands.{StandsFor, WindowAt, ClientAt}
 use Rattle.session.proofs.Rows.{if_true, if_false}
 use Rattle.session.proofs.Tables.{Keeps, kept}
 
@@ -123,8 +123,8 @@ module _ (h : History) (s : Session) (user : UserId) (rows columns keep : ℕ) (
       (if_false (not (same_user h.owner user)) _ _ (not_true _ known) ∙ (if_false (not (is_window_size rows columns keep)) _ _ (not_true _ good)
       ∙ (if_false (nat_le 1 (length (windows_of h.entries))) _ _ (ap (λ n. nat_le 1 n) (sym (many_windows h s st)) ∙ none_yet (length s.windows) few)
       ∙ if_true (not (is_title title)) _ _ (not_false _ bad)))) refl where
-    none_yet : (n : ℕ) → n < 1 → nat_le 1 n ≡ false
-    none_yet n lt = grind (arith, nat_tests, lt)
+        none_yet : (n : ℕ) → n < 1 → nat_le 1 n ≡ false
+        none_yet n lt = grind (arith, nat_tests, lt)
 
 -- ---- nobody, and nowhere
 
@@ -146,8 +146,8 @@ output_nowhere h s window bytes st none =
     let gone = closed h s window st none in
     refused h s (Output window bytes) NoWindow st (ap (λ o. if is_some o then done 0 0 else Err NoWindow) gone)
     (sym (ap (λ o. input_of window (reports_of o bytes)) (none_there h.entries window gone))) where
-  none_there : (past : List Entry) (w : ℕ) → opened_at past w ≡ None → terminal_at past w ≡ None
-  none_there past w gone = rw (gone) refl
+      none_there : (past : List Entry) (w : ℕ) → opened_at past w ≡ None → terminal_at past w ≡ None
+      none_there past w gone = rw (gone) refl
 
 pub draw_nobody : (h : History) (s : Session) (client : ℕ) → StandsFor h s → row_of (λ (c : Client). c.serial) s.clients client ≡ None → StandsFor (with_step h (refusal_of (Draw client) NoWindow)) s
 draw_nobody h s client st none =

@@ -1,6 +1,6 @@
 -- Tables whose rows have serials, and tests.
-use Rattle.std.proofs.Common.{◌≡◌, ◌≢◌, ℕ, zero, suc, ◌<◌, ◌≤◌, ◌+◌, Bool, true, false, List, [], ◌∷◌, ◌++◌, length, Some, None, Ok, Err, set, map, get_or, refl, ap, sym, subst, ◌∙◌, inl, inr, arith, eqb, Option}
-use Rattle.std.specs.Prelude.{if◌then◌else◌, ◌==◌, ◌⊎◌, slice_get, nat_le, is_some, IsTrue, Result, OnOk, OnErr, IfOk, is_err}
+use Rattle.std.proofs.Common.{◌≡◌, ◌≢◌, ℕ, zero, suc, ◌<◌, ◌≤◌, Bool, true, false, List, [], ◌∷◌, length, Some, None, Ok, Err, set, map, get_or, refl, ap, sym, subst, ◌∙◌, arith, Option}
+use Rattle.std.specs.Prelude.{if◌then◌else◌, ◌==◌, slice_get, nat_le, Result, OnOk, OnErr, IfOk, is_err}
 use Rattle.std.specs.List.{position, position_or_len}
 use Rattle.std.proofs.lemmas.Bool.Decides.{nat_tests}
 use Rattle.std.proofs.lemmas.List.Quantifiers.{position-Some}

@@ -1,5 +1,5 @@
 -- Steps one after another.
-use Rattle.std.proofs.Common.{◌≡◌, ◌≢◌, ℕ, ◌<◌, ◌≤◌, ◌+◌, Bool, true, false, List, [], ◌∷◌, ◌++◌, length, zero, suc, get_or, drop, map, Some, None, Ok, Err, refl, ap, sym, ◌∙◌, subst, inl, inr, arith, append_assoc}
+use Rattle.std.proofs.Common.{◌≡◌, ℕ, ◌<◌, ◌≤◌, ◌+◌, true, false, List, [], ◌∷◌, ◌++◌, length, zero, suc, get_or, drop, map, Ok, Err, refl, ap, sym, ◌∙◌, subst, arith, append_assoc}
 use Rattle.std.proofs.lemmas.List.{append-nil}
 use Rattle.session.specs.declared.session.Session.{Session}
 use Rattle.session.specs.declared.event.Effect.{Effect}
@@ -10,8 +10,7 @@ use Rattle.session.specs.Trace.{Reply, Happening, happening, Attach, Open, Keys,
 use Rattle.session.specs.Steps.{IsRun, IsStep}
 use Rattle.session.specs.Stands.{StandsFor, Takes, wants_memory}
 use Rattle.session.specs.declared.refusal.Refusal.TheVariants.{UnknownUser, NoWindow, TooManyClients, BadSize, NoMemory, Windows}
-use Rattle.session.specs.Headline.{with_steps, AllSteps, left_of, Serves, last_reply, replies_of, effects_of, without_part, Call, AreSteps, SomeRun, SomeSteps, take_call}
-use Rattle.session.specs.declared.session.Taken.{Taken}
+use Rattle.session.specs.Headline.{with_steps, AllSteps, left_of, Serves, last_reply, replies_of, effects_of, without_part, Call, SomeRun, SomeSteps, take_call}
 use Rattle.session.specs.declared.session.Taken.TheVariants.{Whole, Part}
 use Rattle.session.specs.declared.event.Event.{Event}
 use Rattle.session.specs.declared.event.Event.TheVariants as told

@@ -1,9 +1,7 @@
 -- What one more step does to the tables.
-use Rattle.std.proofs.Common.{◌≡◌, ◌≢◌, ℕ, ◌<◌, ◌≤◌, ◌+◌, Bool, true, false, List, [], ◌∷◌, ◌++◌, length, Some, None, Ok, Err, map, refl, ap, sym, ◌∙◌, subst, inl, inr, arith, Option}
-use Rattle.std.specs.Prelude.{if◌then◌else◌, ◌==◌, ◌&&◌, Result}
+use Rattle.std.proofs.Common.{◌≡◌, ℕ, List, [], ◌∷◌, ◌++◌, Some, None, ap, sym, ◌∙◌, subst, Option}
 use Rattle.std.proofs.lemmas.List.{append-nil}
-use Rattle.terminal_model.specs.Reading.{Terminal, reads}
-use Rattle.terminal_model.specs.Shows.{IsOfSize}
+use Rattle.terminal_model.specs.Reading.{reads}
 use Rattle.terminal_model.specs.Drawing.{Agrees}
 use Rattle.terminal_model.specs.Drawable.{IsDrawableScreen}
 use Rattle.emulator.specs.Standing as emulator
@@ -15,7 +13,7 @@ use Rattle.session.specs.Rows.{row_of}
 use Rattle.session.specs.Trace.{Entry, History, Opened, Attached, with_step, windows_after, windows_of, opened_after, opened_at, written_by, writing, clients_after, clients_of, attached_after, attached_at, read_by, keys_of, deliveries, delivered, said_last, message_before, message_of}
 use Rattle.session.specs.Terminals.{terminal_of}
 use Rattle.session.specs.Steps.{IsStep}
-use Rattle.session.specs.Stands.{StandsFor, HasWindows, WindowAt, WindowStands, WindowMissing, HasClients, ClientAt, ClientStands, ClientMissing}
+use Rattle.session.specs.Stands.{StandsFor, HasWindows, WindowAt, WindowStands, HasClients, ClientAt, ClientStands}
 
 -- a step that opens no window and writes to none
 pub record KeepsWindows (e : Entry) : Type 0 where

@@ -1,22 +1,21 @@
 -- Keys that are read.
-use Rattle.std.proofs.Common.{◌≡◌, ◌≢◌, ℕ, ◌<◌, ◌≤◌, Bool, true, false, List, [], ◌∷◌, ◌++◌, length, drop, take, Some, None, Ok, Err, map, refl, ap, sym, ◌∙◌, subst, arith, Option}
-use Rattle.std.specs.Prelude.{if◌then◌else◌, ◌==◌, ◌&&◌, is_some, MatchOption}
-use Rattle.std.proofs.lemmas.List.{append-nil, drop_at, take_all}
-use Rattle.std.proofs.lemmas.Bool.Decides.{nat_tests}
-use Rattle.terminal_model.specs.Reading.{Terminal, reads}
+use Rattle.std.proofs.Common.{◌≡◌, ◌≢◌, ℕ, Bool, true, false, List, [], ◌∷◌, ◌++◌, length, drop, Some, None, Err, refl, ap, sym, ◌∙◌, subst, arith, Option}
+use Rattle.std.specs.Prelude.{if◌then◌else◌, ◌==◌, is_some, MatchOption}
+use Rattle.std.proofs.lemmas.List.{drop_at, take_all}
+use Rattle.terminal_model.specs.Reading.{reads}
 use Rattle.terminal_model.specs.Drawing.{Agrees}
 use Rattle.redraw.specs.Frames.{CanBeShown}
 use Rattle.session.specs.declared.event.Effect.{Effect}
-use Rattle.session.specs.declared.event.Effect.TheVariants.{Input, Deliver, Say}
+use Rattle.session.specs.declared.event.Effect.TheVariants.{Say}
 use Rattle.session.specs.declared.refusal.Refusal.TheVariants.{NoWindow}
 use Rattle.session.specs.declared.clients.Client.{Client}
 use Rattle.session.specs.declared.session.Session.{Session}
 use Rattle.session.specs.Refusals.{text_of}
 use Rattle.session.specs.Rows.{row_of, with_row}
 use Rattle.session.specs.Keys.{HasRead, typed, typed_behind}
-use Rattle.session.specs.Trace.{Happening, Keys, Entry, History, Attached, with_step, attached_at, keys_of, deliveries, delivered, said_last, message_before, message_of, read_by}
-use Rattle.session.specs.Steps.{IsStep, done, effects_of_typed, input_of, message_by}
-use Rattle.session.specs.Stands.{StandsFor, HasClients, ClientAt, ClientStands}
+use Rattle.session.specs.Trace.{Keys, Entry, History, with_step, keys_of, deliveries, delivered, said_last}
+use Rattle.session.specs.Steps.{IsStep, done, effects_of_typed, message_by}
+use Rattle.session.specs.Stands.{StandsFor, ClientAt, ClientStands}
 use Rattle.session.proofs.Rows.{if_true, if_false, same_number, equal_number, other_number, is_equal, with_same, with_other, serials_stay, serial_is}
 use Rattle.session.proofs.Tables.{KeepsClient, windows_kept, client_kept, delivered_same}
 

@@ -1,6 +1,5 @@
 -- The view that is composed for a client.
-use Rattle.std.proofs.Common.{◌≡◌, ℕ, zero, suc, ◌<◌, ◌≤◌, ◌-◌, Bool, true, false, List, [], ◌∷◌, length, Some, None, refl, ap, sym, ◌∙◌, subst, arith, Option}
-use Rattle.std.specs.Prelude.{if◌then◌else◌, ◌==◌, ◌&&◌, ◌||◌, nat_le, nat_lt}
+use Rattle.std.proofs.Common.{◌≡◌, ℕ, zero, suc, true, [], ◌∷◌, Some, None, refl, ap, sym, ◌∙◌, subst, arith}
 use Rattle.std.proofs.lemmas.Bool.Decides.{nat_tests}
 use Rattle.std.specs.String.{string_bytes}
 use Rattle.acl.specs.declared.user_id.UserId.{UserId}
@@ -9,21 +8,18 @@ use Rattle.cells.specs.Page.{line_at}
 use Rattle.cells.specs.Line.{IsPaired}
 use Rattle.regions.specs.declared.rects.Rects.{Rects}
 use Rattle.regions.specs.Shapes.{region}
-use Rattle.regions.specs.Pages.{IsRects, has_room, box_of, status_of}
+use Rattle.regions.specs.Pages.{IsRects, has_room}
 use Rattle.terminal_model.specs.Screen.{Screen}
 use Rattle.terminal_model.specs.Shows.{View}
-use Rattle.terminal_model.specs.Drawable.{IsDrawableScreen, IsDrawableLine}
+use Rattle.terminal_model.specs.Drawable.{IsDrawableLine}
 use Rattle.view.specs.Granted as view
-use Rattle.emulator.specs.Standing as emulator
 use Rattle.session.specs.declared.clients.Client.{Client}
 use Rattle.session.specs.declared.windows.Window.{Window}
-use Rattle.session.specs.declared.session.Session.{Session}
-use Rattle.session.specs.Rows.{row_of}
-use Rattle.session.specs.Trace.{History, Opened, Attached, opened_at, writing, message_of, may_read}
+use Rattle.session.specs.Trace.{History, opened_at, writing, may_read}
 use Rattle.session.specs.Terminals.{terminal_of}
-use Rattle.session.specs.Granted.{window_read, part_read, part_opened, part_shown, layout_for, granted_view}
+use Rattle.session.specs.Granted.{window_read, part_opened, part_shown, layout_for, granted_view}
 use Rattle.session.specs.Steps.{is_client_size}
-use Rattle.session.specs.Stands.{StandsFor, WindowAt, WindowStands, WindowMissing, ClientStands}
+use Rattle.session.specs.Stands.{WindowStands, ClientStands}
 use Rattle.session.proofs.Rows.{if_true}
 
 layout_is : (rows columns : ℕ) (r : Rects) → IsRects region 0 rows columns r → view.layout_of r ≡ layout_for region 0 rows columns

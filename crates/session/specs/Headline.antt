@@ -1,5 +1,5 @@
 -- What a run of a session shows.
-use Rattle.std.specs.Prelude.{ℕ, Bool, true, false, List, [], ◌∷◌, ◌++◌, ◌≡◌, ◌⊎◌, if◌then◌else◌, ◌==◌, ◌&&◌, nat_lt, Option, Some, None, Result, Ok, Err, drop, length, map, MatchOption, is_ok}
+use Rattle.std.specs.Prelude.{ℕ, List, [], ◌∷◌, ◌++◌, ◌≡◌, ◌⊎◌, if◌then◌else◌, ◌==◌, ◌&&◌, nat_lt, Option, Some, None, Result, Ok, Err, drop, length, map, MatchOption}
 use Rattle.std.specs.List.{AllByRecursion}
 use Rattle.acl.specs.declared.user_id.UserId.{UserId}
 use Rattle.terminal_model.specs.Shows.{View, ShowsFromAny}
@@ -14,7 +14,7 @@ use Rattle.session.specs.declared.refusal.Refusal.{Refusal}
 use Rattle.session.specs.declared.refusal.Refusal.TheVariants.{NoWindow, NoMemory}
 use Rattle.session.specs.Refusals.{text_of}
 use Rattle.session.specs.Keys.{typed_behind}
-use Rattle.session.specs.Trace.{Happening, Attach, Open, Keys, Output, Draw, Reply, Entry, History, Attached, with_step, happening, opened_at, attached_at, keys_of, delivered, inputs, may_type}
+use Rattle.session.specs.Trace.{Happening, Keys, Output, Draw, Reply, Entry, History, Attached, with_step, happening, attached_at, keys_of, delivered, inputs, may_type}
 use Rattle.session.specs.Terminals.{terminal_at, reports_of}
 use Rattle.session.specs.Granted.{granted_view}
 use Rattle.session.specs.Stands.{StandsFor}

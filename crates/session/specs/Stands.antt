@@ -1,7 +1,6 @@
 -- What a session stands for.
-use Rattle.std.specs.Prelude.{ℕ, Bool, true, false, List, [], ◌∷◌, ◌++◌, ◌≡◌, Option, Some, None, Result, Ok, Err, map}
+use Rattle.std.specs.Prelude.{ℕ, Bool, true, false, List, [], ◌++◌, ◌≡◌, Option, Some, None, Err, map}
 use Rattle.std.specs.String.{string_bytes}
-use Rattle.acl.specs.declared.user_id.UserId.{UserId}
 use Rattle.acl.specs.declared.act.Act.{Act}
 use Rattle.acl.specs.Same.{same_user}
 use Rattle.terminal_model.specs.Reading.{Terminal, reads}
@@ -14,8 +13,6 @@ use Rattle.session.specs.declared.clients.Client.{Client}
 use Rattle.session.specs.declared.windows.Window.{Window}
 use Rattle.session.specs.declared.session.Session.{Session}
 use Rattle.session.specs.declared.event.Effect.{Effect}
-use Rattle.session.specs.declared.event.Done.{Done}
-use Rattle.session.specs.declared.refusal.Refusal.{Refusal}
 use Rattle.session.specs.declared.refusal.Refusal.TheVariants.{NoMemory}
 use Rattle.session.specs.Keys.{HasRead}
 use Rattle.session.specs.Rows.{row_of}

@@ -1,5 +1,5 @@
 -- The run of a session: one case for each kind of event.
-use Rattle.std.specs.Prelude.{ℕ, Bool, true, false, not, ◌&&◌, nat_lt, nat_le, List, [], ◌∷◌, ◌++◌, ◌≡◌, ◌⊎◌, if◌then◌else◌, ◌==◌, Option, Some, None, Result, Ok, Err, is_some, length, MatchOption}
+use Rattle.std.specs.Prelude.{ℕ, Bool, false, not, ◌&&◌, nat_lt, nat_le, List, [], ◌∷◌, ◌++◌, ◌≡◌, ◌⊎◌, if◌then◌else◌, ◌==◌, Option, Some, None, Ok, Err, is_some, length, MatchOption}
 use Rattle.std.specs.List.{list_all}
 use Rattle.std.specs.Str.{chars}
 use Rattle.acl.specs.declared.user_id.UserId.{UserId}
@@ -11,13 +11,11 @@ use Rattle.unicode_width.specs.Width.{char_width}
 use Rattle.terminal_model.specs.Shows.{ShowsFromAny}
 use Rattle.session.specs.declared.event.Effect.{Effect}
 use Rattle.session.specs.declared.event.Effect.TheVariants.{Input, Deliver, Say}
-use Rattle.session.specs.declared.event.Done.{Done}
-use Rattle.session.specs.declared.refusal.Refusal.{Refusal}
 use Rattle.session.specs.declared.refusal.Refusal.TheVariants.{UnknownUser, NoWindow, TooManyClients, BadSize, Windows}
 use Rattle.session.specs.declared.refusal.WindowsFault.TheVariants.{Full, BadTitle}
 use Rattle.session.specs.Refusals.{text_of}
 use Rattle.session.specs.Keys.{typed_behind}
-use Rattle.session.specs.Trace.{Happening, Attach, Open, Keys, Output, Draw, Reply, Entry, History, Opened, Attached, windows_of, opened_at, writing, clients_of, attached_at, keys_of, delivered, deliveries}
+use Rattle.session.specs.Trace.{Happening, Attach, Open, Keys, Output, Draw, Reply, Entry, History, Attached, windows_of, opened_at, clients_of, attached_at, keys_of, delivered, deliveries}
 use Rattle.session.specs.Terminals.{terminal_at, reports_of}
 use Rattle.session.specs.Granted.{granted_view}
 

@@ -368,7 +368,9 @@ impl Session {
         effects.reserve(1)?;
         let mut bytes = Vec::new(self.alloc);
         self.clients.draw(self.alloc, client, &view, &mut bytes)?;
-        effects.push(Effect::Deliver(client, Bytes::from_vec(bytes))).unwrap();
+        effects
+            .push(Effect::Deliver(client, Bytes::from_vec(bytes)))
+            .unwrap();
         Ok(Done::plain())
     }
 }

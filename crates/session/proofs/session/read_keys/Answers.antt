@@ -1,6 +1,4 @@
-use Rattle.std.proofs.Common.{◌≡◌, ◌++◌, ◌∷◌, [], List, ℕ, get_or, option_to_list, sym, ◌∙◌, ap, subst}
-use Rattle.session.specs.Keys.{HasRead, typed}
-use Rattle.session.proofs.KeysRead.{SoFar, at_first, goes_on, at_last}
+use Rattle.session.proofs.KeysRead.{at_first, goes_on, at_last}
 use Rattle.session.proofs.session.read_keys.Goals as goal
 
 pub loop-key-init : goal.loop-key-init

@@ -1,5 +1,4 @@
-use Rattle.std.proofs.Common.{◌≡◌, sym, ◌∙◌, ap, Some, None, get_or, set, subst, refl}
-use Rattle.view.specs.View.{HasSize}
+use Rattle.std.proofs.Common.{◌≡◌, sym, ◌∙◌, ap, set, subst}
 use Rattle.session.specs.declared.clients.Client.{Client}
 use Rattle.session.specs.Drawn.{Draws}
 use Rattle.session.specs.Rows.{with_row}

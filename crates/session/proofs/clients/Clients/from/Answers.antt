@@ -1,4 +1,4 @@
-use Rattle.std.proofs.Common.{◌≡◌, sym, ◌∙◌, ap, Some, None, get_or}
+use Rattle.std.proofs.Common.{sym, ◌∙◌, ap, Some, get_or}
 use Rattle.session.specs.declared.clients.Client.{Client}
 use Rattle.session.proofs.Rows.{least_found, least_lost, at_least}
 use Rattle.session.proofs.clients.Clients.from.Goals as goal

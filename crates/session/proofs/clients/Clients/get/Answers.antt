@@ -1,4 +1,4 @@
-use Rattle.std.proofs.Common.{◌≡◌, sym, ◌∙◌}
+use Rattle.std.proofs.Common.{sym, ◌∙◌}
 use Rattle.session.specs.declared.clients.Client.{Client}
 use Rattle.session.proofs.Rows.{at_place, lost}
 use Rattle.session.proofs.clients.Clients.get.Goals as goal

@@ -1,4 +1,4 @@
-use Rattle.std.proofs.Common.{◌≡◌, sym, ◌∙◌, ap, Some, None, set, subst, refl}
+use Rattle.std.proofs.Common.{◌≡◌, sym, ◌∙◌, ap, set, subst}
 use Rattle.session.specs.declared.clients.Client.{Client}
 use Rattle.session.specs.Rows.{with_row}
 use Rattle.session.proofs.Rows.{at_place, placed, lost}

@@ -1,7 +1,5 @@
-use Rattle.std.proofs.Common.{◌≡◌, ◌++◌, ◌∷◌, [], List, ℕ, Bool, true, false, sym, subst, ◌∙◌, ap, refl, arith, option_to_list, Option, if◌then◌else◌}
-use Rattle.std.specs.Prelude.{◌==◌}
+use Rattle.std.proofs.Common.{◌≡◌, ◌++◌, ◌∷◌, [], List, ℕ, Bool, true, false, sym, subst, ◌∙◌, ap, refl, arith}
 use Rattle.std.proofs.lemmas.Bool.Decides.{nat_tests}
-use Rattle.std.proofs.lemmas.Grind.{common_steps}
 use Rattle.session.specs.Keys.{typed, typed_from, waits_after, HasRead}
 use Rattle.session.proofs.KeyLists.{waits_after-append, typed_from-append}
 use Rattle.session.specs.declared.keys.KeyReader.{KeyReader}

@@ -1,4 +1,4 @@
-use Rattle.std.proofs.Common.{◌≡◌, refl, sym, ap, subst, ◌∙◌, arith, [], ◌∷◌, ◌++◌, Some, None}
+use Rattle.std.proofs.Common.{◌≡◌, sym, ap, subst, ◌∙◌, [], ◌∷◌, ◌++◌}
 use Rattle.std.specs.Prelude.{option_copied, is_ok}
 use Rattle.std.proofs.lemmas.List.{append-nil}
 use Rattle.redraw.specs.Frames.{Redraws}
@@ -21,8 +21,8 @@ returns-then-not-needs_draw-clause-step c = λ taken h st.
       [],
       sym (append-nil _),
       rw (c.plain.ensures)
-      (draw_none h c.args.self.now c.args.client row c.in_ok-view.view st at c.in_ok-view.ensures.size (λ cs. c.in_ok-view.ensures.exact h c.args.client st cs)
-      (c.needs_draw.ensures.known c.if-not-needs_draw.true) (c.needs_draw.ensures.grid c.if-not-needs_draw.true)),
+          (draw_none h c.args.self.now c.args.client row c.in_ok-view.view st at c.in_ok-view.ensures.size (λ cs. c.in_ok-view.ensures.exact h c.args.client st cs)
+          (c.needs_draw.ensures.known c.if-not-needs_draw.true) (c.needs_draw.ensures.grid c.if-not-needs_draw.true)),
     )
 
 pub returns-clause-step : goal.returns-clause-step
@@ -37,6 +37,6 @@ returns-clause-step c = λ taken h st.
       Deliver c.args.client c.from_vec.result ∷ [],
       c.push.ensures.items ∙ if_true (is_ok c.push.result) _ _ (ap (λ r. is_ok r) c.unwrap.ensures) ∙ ap (λ es. es ++ Deliver c.args.client c.from_vec.result ∷ []) c.in_ok-reserve.ensures.items,
       rw (drawn.known, c.plain-2.ensures)
-      (draw_done h c.args.self.now c.args.client row c.in_ok-view.view st at c.in_ok-view.ensures.size (λ cs. c.in_ok-view.ensures.exact h c.args.client st cs) drawable c.from_vec.result
-      (subst (λ b. Redraws row.shadow.rows row.shadow.columns row.shadow.known c.in_ok-view.view b) bytes frame.2)),
+          (draw_done h c.args.self.now c.args.client row c.in_ok-view.view st at c.in_ok-view.ensures.size (λ cs. c.in_ok-view.ensures.exact h c.args.client st cs) drawable c.from_vec.result
+          (subst (λ b. Redraws row.shadow.rows row.shadow.columns row.shadow.known c.in_ok-view.view b) bytes frame.2)),
     )

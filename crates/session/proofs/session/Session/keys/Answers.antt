@@ -1,4 +1,4 @@
-use Rattle.std.proofs.Common.{◌≡◌, refl, sym, ap, ◌∙◌, arith, [], Some, None}
+use Rattle.std.proofs.Common.{refl, sym, ap, ◌∙◌, []}
 use Rattle.std.specs.Prelude.{option_copied}
 use Rattle.std.proofs.lemmas.List.{append-nil}
 use Rattle.session.specs.declared.clients.Client.{Client}
@@ -18,5 +18,5 @@ returns-clause-step c = λ taken h st.
       effects_of_typed c.args.client row.window c.in_ok-typed.typed,
       c.in_ok-message.ensures.effects,
       rw (c.set_read.ensures row at, c.plain.ensures)
-      (keys_done h c.args.self.now c.args.client c.args.bytes.now c.in_ok-typed.typed row new st at refl refl refl refl c.in_ok-message.ensures.message c.in_ok-typed.ensures),
+          (keys_done h c.args.self.now c.args.client c.args.bytes.now c.in_ok-typed.typed row new st at refl refl refl refl c.in_ok-message.ensures.message c.in_ok-typed.ensures),
     )

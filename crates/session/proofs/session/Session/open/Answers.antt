@@ -1,4 +1,4 @@
-use Rattle.std.proofs.Common.{◌≡◌, refl, sym, ap, ◌∙◌, arith, false, true}
+use Rattle.std.proofs.Common.{refl, sym, ap, ◌∙◌, arith}
 use Rattle.acl.specs.Same.{same_user}
 use Rattle.terminal_model.proofs.DrawableScreens.{drawable-starting}
 use Rattle.session.proofs.Refused.{from_not}

@@ -1,4 +1,4 @@
-use Rattle.std.proofs.Common.{◌≡◌, refl, sym, ap, subst, ◌∙◌, arith, [], Some, None, ◌++◌}
+use Rattle.std.proofs.Common.{refl, sym, ap, subst, ◌∙◌, [], ◌++◌}
 use Rattle.std.specs.Prelude.{option_copied}
 use Rattle.std.proofs.lemmas.List.{append-nil}
 use Rattle.emulator.specs.Standing.{HasRead}
@@ -24,7 +24,7 @@ returns-clause-step c = λ taken h st.
       input_of c.args.window answered,
       c.put_input.ensures ∙ (ap (λ es. es ++ input_of c.args.window c.from_vec.result) c.in_ok-reserve.ensures.items ∙ ap (λ b. c.args.effects.now.items ++ input_of c.args.window b) c.from_vec.ensures),
       rw (fed.known, c.plain.ensures)
-      (output_done h c.args.self.now c.args.window c.args.bytes.now w (record w { emulator = fed.emulator }) st at refl refl refl answered
-      (λ t s. subst (λ b. HasRead t c.args.bytes.now b fed.emulator answered) c.in_ok-reports.ensures.items (fed.reads t s))
-      (λ t s. drawable-reads t c.args.bytes.now s.terminal)),
+          (output_done h c.args.self.now c.args.window c.args.bytes.now w (record w { emulator = fed.emulator }) st at refl refl refl answered
+          (λ t s. subst (λ b. HasRead t c.args.bytes.now b fed.emulator answered) c.in_ok-reports.ensures.items (fed.reads t s))
+          (λ t s. drawable-reads t c.args.bytes.now s.terminal)),
     )

@@ -1,10 +1,9 @@
-use Rattle.std.proofs.Common.{◌≡◌, ◌≤◌, ◌<◌, ◌+◌, refl, sym, ap, subst, ◌∙◌, arith, ◌∷◌, [], ◌++◌, length, map, drop, List}
+use Rattle.std.proofs.Common.{refl, sym, ap, ◌∙◌, arith, ◌∷◌, [], ◌++◌, length}
 use Rattle.std.proofs.lemmas.List.{append-nil}
 use Rattle.std.specs.Prelude.{is_ok}
 use Rattle.session.specs.declared.event.Event.TheVariants.{Attach}
-use Rattle.session.specs.Trace.{happening, History, Happening}
 use Rattle.session.specs.Steps.{IsStep}
-use Rattle.session.specs.Headline.{SomeSteps, AllSteps, run_call, without_part, TypedBytesReach, DrawShows, NoOtherEffect}
+use Rattle.session.specs.Headline.{without_part, TypedBytesReach, DrawShows, NoOtherEffect}
 use Rattle.session.proofs.Rows.{if_true}
 use Rattle.session.proofs.Headlines.{shows, run_step, typed_step, draw_step, own_step}
 use Rattle.session.proofs.Runs.{then_steps, at_end, without_none, without_part-append, rest_at}

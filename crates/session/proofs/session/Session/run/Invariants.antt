@@ -1,4 +1,4 @@
-use Rattle.std.proofs.Common.{◌≡◌, drop, map}
+use Rattle.std.proofs.Common.{drop, map}
 use Rattle.session.specs.Trace.{happening}
 use Rattle.session.specs.Headline.{SomeSteps}
 use Rattle.session.proofs.session.Session.run.Given as goal

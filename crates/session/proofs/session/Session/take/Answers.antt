@@ -1,4 +1,4 @@
-use Rattle.std.proofs.Common.{◌≡◌, sym, ◌∙◌}
+use Rattle.std.proofs.Common.{sym, ◌∙◌}
 use Rattle.session.specs.Trace.{happening}
 use Rattle.session.proofs.Runs.{whole_step}
 use Rattle.session.proofs.session.Session.take.Goals as goal

@@ -1,4 +1,4 @@
-use Rattle.std.proofs.Common.{◌≡◌, refl, sym, ap, subst, ◌∙◌, [], ◌∷◌, ℕ, map, Some, None}
+use Rattle.std.proofs.Common.{◌≡◌, sym, ap, subst, ◌∙◌, [], ◌∷◌, ℕ, map}
 use Rattle.std.specs.Prelude.{option_copied}
 use Rattle.std.specs.String.{string_bytes}
 use Rattle.regions.specs.declared.rects.Rects.{Rects}

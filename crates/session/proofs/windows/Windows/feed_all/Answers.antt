@@ -1,8 +1,6 @@
-use Rattle.std.proofs.Common.{◌≡◌, sym, ◌∙◌, ap, Some, None, get_or, set, subst, refl}
-use Rattle.terminal_model.specs.Reading.{Terminal}
+use Rattle.std.proofs.Common.{◌≡◌, sym, ◌∙◌, ap, set, subst}
 use Rattle.session.specs.declared.windows.Window.{Window}
 use Rattle.session.specs.Feeding.{Feeds}
-use Rattle.session.specs.Rows.{with_row}
 use Rattle.session.proofs.Rows.{at_place, placed, lost, on_ok}
 use Rattle.session.proofs.windows.Windows.feed_all.Goals as goal
 

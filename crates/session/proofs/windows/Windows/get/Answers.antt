@@ -1,4 +1,4 @@
-use Rattle.std.proofs.Common.{◌≡◌, sym, ◌∙◌}
+use Rattle.std.proofs.Common.{sym, ◌∙◌}
 use Rattle.session.specs.declared.windows.Window.{Window}
 use Rattle.session.proofs.Rows.{at_place, lost}
 use Rattle.session.proofs.windows.Windows.get.Goals as goal
