@@ -2,15 +2,28 @@
 #![tactic(auto)]
 
 use session::simulate;
+use std::io::Write;
 use std::process::ExitCode;
 use std::{env, io};
 
-fn main(rt: HostRuntime) -> io::Result<ExitCode> {
+/// The words of the command line, the program's name first.
+fn words(rt: &HostRuntime) -> io::Result<Vec<String>> {
     let mut words = Vec::new(rt.alloc());
     words.push(String::from_str(rt.alloc(), "muxsim")?)?;
-    for word in env::args(&rt)?.skip(1) {
+    for word in env::args(rt)?.skip(1) {
         words.push(word)?;
     }
+    Ok(words)
+}
+
+fn main(rt: HostRuntime) -> ExitCode {
+    let words = match words(&rt) {
+        Ok(words) => words,
+        Err(error) => {
+            let _ = writeln!(rt.stderr(), "muxsim: {error}");
+            return ExitCode::FAILURE;
+        }
+    };
     let status = simulate(
         rt.alloc(),
         words.as_slice(),
@@ -18,5 +31,5 @@ fn main(rt: HostRuntime) -> io::Result<ExitCode> {
         io::writer(&rt),
         &mut rt.stderr(),
     );
-    Ok(ExitCode::from(status))
+    ExitCode::from(status)
 }

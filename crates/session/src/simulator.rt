@@ -8,6 +8,7 @@ use crate::refusal::Refusal;
 use crate::script::read_event;
 use crate::session::Session;
 use acl::UserId;
+use clap::error::ErrorKind;
 use clap::{Arg, ArgAction, ArgMatches, Command, Error};
 use std::alloc::{AllocError, AllocFailed, Global};
 use std::io;
@@ -77,6 +78,9 @@ pub fn simulate<R: Read + Drop, W: Write + Drop, E: Write>(
 ) -> u8 {
     let matches = match read_words(alloc, words) {
         Ok(matches) => matches,
+        Err(error) if error.kind() == ErrorKind::OutOfMemory => {
+            return report(&Fault::NoMemory, errors);
+        }
         Err(error) => return tell(&error, &mut writer, errors),
     };
     let owner = match matches.get_str("owner") {
@@ -88,17 +92,18 @@ pub fn simulate<R: Read + Drop, W: Write + Drop, E: Write>(
         return 2;
     };
     match play(alloc, owner, matches.get_flag("show"), reader, writer) {
-        Ok(()) => return 0,
-        Err(Fault::NotUnderstood(line)) => {
-            let _ = writeln!(errors, "muxsim: line {line}: not understood");
-        }
-        Err(Fault::Io(error)) => {
-            let _ = writeln!(errors, "muxsim: {error}");
-        }
-        Err(Fault::NoMemory) => {
-            let _ = writeln!(errors, "muxsim: out of memory");
-        }
+        Ok(()) => 0,
+        Err(fault) => report(&fault, errors),
     }
+}
+
+/// Writes why a script ended early, and gives the status to exit with.
+fn report<E: Write>(fault: &Fault, errors: &mut E) -> u8 {
+    let _ = match fault {
+        Fault::NotUnderstood(line) => writeln!(errors, "muxsim: line {line}: not understood"),
+        Fault::Io(error) => writeln!(errors, "muxsim: {error}"),
+        Fault::NoMemory => writeln!(errors, "muxsim: out of memory"),
+    };
     1
 }
 
