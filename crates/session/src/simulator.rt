@@ -2,14 +2,11 @@
 
 ghost use Rattle.std.specs.Prelude.{◌<◌, ◌≤◌, IfSome};
 
-use crate::event::{Event, Reply};
-use crate::printing::{print_done, print_effect, print_refusal, print_view};
-use crate::refusal::Refusal;
-use crate::script::read_event;
-use crate::session::Session;
 use acl::UserId;
 use clap::error::ErrorKind;
 use clap::{Arg, ArgAction, ArgMatches, Command, Error};
+use session_core::{Event, Refusal, Reply, Session};
+use session_script::{print_done, print_effect, print_refusal, print_view, read_event};
 use std::alloc::{AllocError, AllocFailed, Global};
 use std::io;
 use std::io::{BufRead, BufReader, BufWriter, Read, Write};

@@ -1,7 +1,0 @@
-use Rattle.std.proofs.Common.{sym, ◌∙◌}
-use Rattle.session.specs.Trace.{happening}
-use Rattle.session.proofs.Runs.{whole_step}
-use Rattle.session.proofs.session.Session.take.Goals as goal
-
-pub returns : goal.returns
-returns c = whole_step _ _ (happening c.args.event) c.step-reply.new.notes _ _ c.step-reply.result c.step-reply.ensures.whole (c.step-reply.ensures.step (sym c.wants_memory.ensures ∙ c.if-wants_memory.false))

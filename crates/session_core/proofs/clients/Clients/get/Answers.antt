@@ -1,0 +1,10 @@
+use Rattle.std.proofs.Common.{sym, ◌∙◌}
+use Rattle.session_core.specs.declared.clients.Client.{Client}
+use Rattle.session_core.proofs.Rows.{at_place, lost}
+use Rattle.session_core.proofs.clients.Clients.get.Goals as goal
+
+pub returns-in-Some : goal.returns-in-Some
+returns-in-Some c = sym (at_place (λ (v : Client). v.serial) c.args.self.now _ c.args.serial c.in-Some.place c.index.result.now c.self.view_is (sym c.place.ensures.place ∙ c.in-Some.is) c.in-Some.ensures.within c.index.ensures)
+
+pub returns-in-None : goal.returns-in-None
+returns-in-None c = sym (lost (λ (v : Client). v.serial) c.args.self.now c.args.serial (sym c.place.ensures.place ∙ c.in-None.is))

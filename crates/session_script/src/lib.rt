@@ -1,0 +1,8 @@
+//! Scripts of a session: events that are read, and lines that are printed.
+#![tactic(auto)]
+
+mod printing;
+mod script;
+
+pub use printing::{print_done, print_effect, print_refusal, print_view};
+pub use script::read_event;
