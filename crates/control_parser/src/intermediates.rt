@@ -54,7 +54,8 @@ impl Intermediates {
 
     /// How many there are.
     pub fn len(&self) -> usize
-        ensures { result ≡ length self.now }
+        ensures value { result ≡ length self.now }
+        ensures few { result ≤ 2 }
     {
         self.as_slice().len()
     }

@@ -1,6 +1,6 @@
 //! What the parser keeps of a sequence that is not ended.
 
-ghost use Rattle.std.specs.Prelude.{◌≡◌, ◌==◌, ◌∷◌, [], true, false, Some, None, length};
+ghost use Rattle.std.specs.Prelude.{◌≡◌, ◌==◌, ◌∷◌, [], true, false, Some, None, length, IsTrue};
 ghost use Rattle.control_parser.specs.Text.{is_intermediate};
 ghost use Rattle.control_parser.specs.Steps.{no_text, text_grown, begun_step, broken_step, escape_step, control_step, breaks_string, is_final_from, step_of, alone_of};
 ghost use Rattle.control_parser.specs.Grammar.{code, is_control, is_c1, is_sequence_text};
@@ -35,9 +35,6 @@ pub enum State {
     String,
     Osc,
 }
-
-/// What a unit completes, and what has begun then.
-pub type Step = (Option<Func>, State);
 
 const BEL: u32 = 0x07;
 
@@ -96,23 +93,36 @@ impl Text {
         }
     }
 
-    // With one character more; None where the text is ignored from here on.
-    fn grown(mut self, c: u8) -> Option<Text>
-        ensures { result ≡ text_grown self c }
+    // The control sequence with this final.
+    fn ended(&self, last: u8) -> Func
+        ensures { result ≡ Func.Csi self.now.mark self.now.params self.now.intermediates last }
+    {
+        Func::Csi {
+            mark: self.mark,
+            params: self.params,
+            intermediates: self.intermediates,
+            last,
+        }
+    }
+
+    // Takes one character more; false where the text is ignored from here on.
+    fn grow(&mut self, c: u8) -> bool
+        ensures grown { IsTrue result → text_grown self.old c ≡ Some self.new }
+        ensures ignored { result ≡ false → text_grown self.old c ≡ None }
     {
         let first = !self.begun;
         self.begun = true;
         match c {
             b' '..=b'/' if self.intermediates.len() < 2 => self.intermediates.push(c),
-            _ if !self.intermediates.is_empty() => return None,
+            _ if !self.intermediates.is_empty() => return false,
             b'0'..=b'9' if self.over => {}
             b'0'..=b'9' => self.params.add_digit(c - b'0'),
             b';' if self.params.len() < 16 => self.params.push(0),
             b';' => self.over = true,
             b'<'..=b'?' if first => self.mark = Some(c),
-            _ => return None,
+            _ => return false,
         }
-        Some(self)
+        true
     }
 }
 
@@ -128,117 +138,107 @@ fn alone(unit: Unit) -> Option<Func>
     }
 }
 
-// What ESC and a final begin.
-fn begun(last: u8) -> Step
-    ensures { result ≡ begun_step last }
-{
-    match last {
-        b'[' => (None, State::Control(Text::empty())),
-        b']' => (None, State::Osc),
-        b'P' | b'X' | b'^' | b'_' | b'k' => (None, State::String),
-        _ => (
-            Some(Func::Esc {
-                intermediates: Intermediates::none(),
-                last,
-            }),
-            State::Ground,
-        ),
-    }
-}
-
-// What a unit does where nothing has begun, or where it breaks off what has.
-fn broken(unit: Unit, inside: bool) -> Step
-    ensures { result ≡ broken_step unit inside }
-{
-    let c = code(unit);
-    if c == SUB && inside {
-        (Some(Func::Print('\u{FFFD}')), State::Ground)
-    } else if c == ESC {
-        (None, State::Escape(Intermediates::none()))
-    } else if is_c1(c) {
-        begun((c - 0x40) as u8)
-    } else {
-        (alone(unit), State::Ground)
-    }
-}
-
-// An intermediate or the final of an escape sequence, or what breaks it off.
-fn escape_step(mut intermediates: Intermediates, unit: Unit) -> Step
-    ensures { result ≡ escape_step intermediates unit }
-{
-    let c = code(unit);
-    if is_intermediate(c) {
-        if intermediates.len() == 2 {
-            return (None, State::EscapeIgnored);
-        }
-        intermediates.push(c as u8);
-        (None, State::Escape(intermediates))
-    } else if c < 0x30 || 0x7E < c {
-        broken(unit, true)
-    } else if intermediates.is_empty() {
-        begun(c as u8)
-    } else {
-        let last = c as u8;
-        (
-            Some(Func::Esc {
-                intermediates,
-                last,
-            }),
-            State::Ground,
-        )
-    }
-}
-
-// A character of the text or the final of a control sequence, or what breaks it off.
-fn control_step(text: Text, unit: Unit) -> Step
-    ensures { result ≡ control_step text unit }
-{
-    let c = code(unit);
-    if c < 0x20 || 0x7E < c {
-        broken(unit, true)
-    } else if c < 0x40 {
-        let grown = text.grown(c as u8);
-        (None, grown.map_or(State::ControlIgnored, State::Control))
-    } else {
-        let Text {
-            mark,
-            params,
-            intermediates,
-            ..
-        } = text;
-        let last = c as u8;
-        (
-            Some(Func::Csi {
-                mark,
-                params,
-                intermediates,
-                last,
-            }),
-            State::Ground,
-        )
-    }
-}
-
 impl State {
-    /// One unit more.
-    pub fn step(self, unit: Unit) -> Step
-        ensures { result ≡ step_of self unit }
+    // What ESC and a final begin.
+    fn begin(&mut self, last: u8) -> Option<Func>
+        ensures { (result, self.new) ≡ begun_step last }
+    {
+        *self = match last {
+            b'[' => State::Control(Text::empty()),
+            b']' => State::Osc,
+            b'P' | b'X' | b'^' | b'_' | b'k' => State::String,
+            _ => {
+                *self = State::Ground;
+                return Some(Func::Esc {
+                    intermediates: Intermediates::none(),
+                    last,
+                });
+            }
+        };
+        None
+    }
+
+    // What a unit does where nothing has begun, or where it breaks off what has.
+    fn break_off(&mut self, unit: Unit, inside: bool) -> Option<Func>
+        ensures { (result, self.new) ≡ broken_step unit inside }
+    {
+        let c = code(unit);
+        if is_c1(c) {
+            return self.begin((c - 0x40) as u8);
+        }
+        if c == ESC {
+            *self = State::Escape(Intermediates::none());
+            return None;
+        }
+        *self = State::Ground;
+        if c == SUB && inside {
+            return Some(Func::Print('\u{FFFD}'));
+        }
+        alone(unit)
+    }
+
+    // An intermediate or the final of an escape sequence, or what breaks it off.
+    fn escape(&mut self, mut intermediates: Intermediates, unit: Unit) -> Option<Func>
+        ensures { (result, self.new) ≡ escape_step intermediates unit }
+    {
+        let c = code(unit);
+        if is_intermediate(c) {
+            if intermediates.len() == 2 {
+                *self = State::EscapeIgnored;
+                return None;
+            }
+            intermediates.push(c as u8);
+            *self = State::Escape(intermediates);
+            return None;
+        }
+        if c < 0x30 || 0x7E < c {
+            return self.break_off(unit, true);
+        }
+        let last = c as u8;
+        if intermediates.is_empty() {
+            return self.begin(last);
+        }
+        *self = State::Ground;
+        Some(Func::Esc {
+            intermediates,
+            last,
+        })
+    }
+
+    /// Reads one unit more, and gives what it completes.
+    pub fn read(&mut self, unit: Unit) -> Option<Func>
+        ensures { (result, self.new) ≡ step_of self.old unit }
     {
         let c = code(unit);
         match self {
-            State::Ground => broken(unit, false),
-            State::Osc if c == BEL => (None, State::Ground),
-            State::String | State::Osc if ends_string(c) => broken(unit, true),
-            State::String | State::Osc => (None, self),
-            _ if is_executed(c) => (Some(Func::Control(c as u8)), self),
-            _ if c == DEL => (None, self),
-            State::Escape(intermediates) => escape_step(intermediates, unit),
-            State::EscapeIgnored if is_intermediate(c) => (None, self),
-            State::EscapeIgnored if 0x2F < c && c < 0x7F => (None, State::Ground),
-            State::Control(text) => control_step(text, unit),
-            State::ControlIgnored if 0x1F < c && c < 0x40 => (None, self),
-            State::ControlIgnored if 0x3F < c && c < 0x7F => (None, State::Ground),
-            State::EscapeIgnored | State::ControlIgnored => broken(unit, true),
+            State::Ground => return self.break_off(unit, false),
+            State::Osc if c == BEL => *self = State::Ground,
+            State::String | State::Osc if ends_string(c) => return self.break_off(unit, true),
+            State::String | State::Osc => {}
+            _ if is_executed(c) => return Some(Func::Control(c as u8)),
+            _ if c == DEL => {}
+            State::Escape(intermediates) => {
+                let intermediates = *intermediates;
+                return self.escape(intermediates, unit);
+            }
+            State::EscapeIgnored if is_intermediate(c) => {}
+            State::EscapeIgnored if 0x2F < c && c < 0x7F => *self = State::Ground,
+            State::Control(text) if 0x1F < c && c < 0x40 => {
+                if !text.grow(c as u8) {
+                    *self = State::ControlIgnored;
+                }
+            }
+            State::Control(text) if 0x3F < c && c < 0x7F => {
+                let func = text.ended(c as u8);
+                *self = State::Ground;
+                return Some(func);
+            }
+            State::ControlIgnored if 0x1F < c && c < 0x40 => {}
+            State::ControlIgnored if 0x3F < c && c < 0x7F => *self = State::Ground,
+            State::EscapeIgnored | State::Control(_) | State::ControlIgnored => {
+                return self.break_off(unit, true);
+            }
         }
+        None
     }
 }
