@@ -10,6 +10,7 @@ use Rattle.terminal_model.specs.Reports.{report}
 use Rattle.terminal_model.specs.Reading.{ready}
 use Rattle.terminal_model.specs.Drawing.{IsDiscreet, IsSpare, IsListed}
 use Rattle.terminal_model.proofs.Spellings.{spelled-acts}
+use Rattle.terminal_model.proofs.Further.{spelled-one}
 use Rattle.redraw.specs.declared.command.Command.{Command}
 use Rattle.redraw.specs.declared.command.Command.TheVariants.{Glyph, MoveTo, NextLine, Forward, Render, EraseCells, EraseToEnd, Arrows, ShowCursor, Keypad}
 use Rattle.redraw.specs.Commands.{func_of, IsCommand}
@@ -177,6 +178,7 @@ one_leads old new x c utf8 is discreet spare = record {
   reading = spelled-acts x (func_of c) (given c is) (utf8 ∙ sym (utf8_read c))
       ∙ ap (λ r. record { terminal = ready (effect x (func_of c)); reports = r; acts = record { before = x; func = func_of c } ∷ [] }) (no_report x c);
   draws = record { discreet = (discreet, tt); spare = (spare, tt) };
+  spelled = spelled-one x (func_of c);
 }
 
 pub silent_leads : (old new : Page) (x : Screen) (c : Command) → x.state.coding ≡ Utf8 → IsCommand c → PrintsNone c → Leads old new x (spelling (func_of c)) (effect x (func_of c))

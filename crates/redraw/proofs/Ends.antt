@@ -11,7 +11,7 @@ use Rattle.terminal_model.specs.declared.state.Position.{Position}
 use Rattle.terminal_model.specs.Screen.{Page, Screen, IsSound, blank_page}
 use Rattle.terminal_model.specs.Reading.{Terminal, IsTerminal, ready, reads, joined}
 use Rattle.terminal_model.specs.Shows.{View, ShowsCursor, IsOfSize}
-use Rattle.terminal_model.specs.Drawing.{frame_bytes, frame_start, Draws, Agrees}
+use Rattle.terminal_model.specs.Drawing.{frame_bytes, frame_start, Draws, AreSpelled, Agrees}
 use Rattle.terminal_model.proofs.Readings.{reads-append}
 use Rattle.terminal_model.proofs.Resets.{frame-terminal, frame-reports}
 use Rattle.terminal_model.proofs.Terminals.{IsTerminal-reads, IsTerminal-ready}
@@ -156,6 +156,8 @@ module _ (rows columns : ℕ) (rh : rows < 9999) (ch : columns < 9999) where
       quiet = λ t a. let l = k.leads t.screen (agreed old t a) in ap (λ r. r.reports) (whole t a ∙ (l.1).reading);
       draws = λ t a. let l = k.leads t.screen (agreed old t a) in
           subst (Draws old.page v.page) (sym (ap (λ r. r.acts) (ap (λ u. reads u k.bytes) (a.1).ready_is ∙ (l.1).reading))) (l.1).draws;
+      spelled = λ t a. let l = k.leads t.screen (agreed old t a) in
+          subst (AreSpelled k.bytes) (sym (ap (λ r. r.acts) (ap (λ u. reads u k.bytes) (a.1).ready_is ∙ (l.1).reading))) (l.1).spelled;
     }
       where
         whole : (t : Terminal) (a : Agrees rows columns (Some old) t) → reads t bytes ≡ reads (ready t.screen) k.bytes
@@ -173,6 +175,8 @@ module _ (rows columns : ℕ) (rh : rows < 9999) (ch : columns < 9999) where
           ap (λ r. r.reports) (whole t a) ∙ ap (λ rs. rs ++ (reads (ready (frame_start t.screen)) k.bytes).reports) (frame-reports t a.terminal) ∙ ap (λ r. r.reports) (l.1).reading;
       draws = λ t a. let l = k.leads (frame_start t.screen) (cleared t a) in
           subst (Draws (blank_page rows columns) v.page) (sym (ap (λ u. (reads u k.bytes).acts) (frame-terminal t a.terminal) ∙ ap (λ r. r.acts) (l.1).reading)) (l.1).draws;
+      spelled = λ t a. let l = k.leads (frame_start t.screen) (cleared t a) in
+          subst (AreSpelled k.bytes) (sym (ap (λ u. (reads u k.bytes).acts) (frame-terminal t a.terminal) ∙ ap (λ r. r.acts) (l.1).reading)) (l.1).spelled;
     }
       where
         begun : bytes ≡ frame_bytes ++ k.bytes

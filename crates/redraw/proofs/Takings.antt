@@ -5,6 +5,7 @@ use Rattle.terminal_model.specs.Screen.{Page, Screen}
 use Rattle.terminal_model.specs.Reading.{Act, ready, reads, joined}
 use Rattle.terminal_model.specs.Drawing.{Draws, IsDiscreet, IsSpare}
 use Rattle.terminal_model.proofs.Readings.{reads-append}
+use Rattle.terminal_model.proofs.Further.{spelled-append}
 use Rattle.redraw.specs.Drawing.{Leads, Takes}
 
 all_append : {A : Type 0} (P : A → Type 0) (xs ys : List A) → AllByRecursion P xs → AllByRecursion P ys → AllByRecursion P (xs ++ ys)
@@ -20,13 +21,14 @@ module _ (old new : Page) where
 
   pub leads_nothing : (x : Screen) → Leads old new x [] x
   unfolding reads
-  leads_nothing x = record { acts = []; reading = refl; draws = record { discreet = tt; spare = tt } }
+  leads_nothing x = record { acts = []; reading = refl; draws = record { discreet = tt; spare = tt }; spelled = refl }
 
   pub leads_then : (x y z : Screen) (a b : List ℕ) → Leads old new x a y → Leads old new y b z → Leads old new x (a ++ b) z
   leads_then x y z a b d e = record {
     acts = d.acts ++ e.acts;
     reading = reads-append (ready x) a b ∙ ap (λ r. joined r (reads r.terminal b)) d.reading ∙ ap (joined (record { terminal = ready y; reports = []; acts = d.acts })) e.reading;
     draws = draws_append d.acts e.acts d.draws e.draws;
+    spelled = spelled-append a b d.acts e.acts d.spelled e.spelled;
   }
 
   module _ (P : Screen → Type 0) where

@@ -14,7 +14,7 @@ use Rattle.terminal_model.specs.Screen.{Page, Screen, IsSound, starting_tabs}
 use Rattle.terminal_model.specs.Reading.{Act, ready, reads}
 use Rattle.terminal_model.specs.declared.state.Position.{Position}
 use Rattle.terminal_model.specs.Shows.{seen_at, ShowsCursor}
-use Rattle.terminal_model.specs.Drawing.{Draws, drawn_state}
+use Rattle.terminal_model.specs.Drawing.{Draws, AreSpelled, drawn_state}
 use Rattle.terminal_model.specs.Drawable.{IsDrawableLine, HasHalves}
 use Rattle.redraw.specs.declared.pen.Pen.{Pen}
 use Rattle.redraw.specs.declared.command.Command.{Command}
@@ -55,11 +55,12 @@ pub record Drawing (rows columns : ℕ) (pen : Pen) (x : Screen) : Type 0 where
   pub column_is : pen.column < columns → x.state.column ≡ pen.column
   pub rendition_is : KnowsRendition pen.rendition x.state.rendition
 
--- the bytes lead from one screen to another, without an answer, by acts that are discreet and spare
+-- the bytes lead from one screen to another, without an answer, by acts that are discreet and spare, and spell these alone
 pub record Leads (old new : Page) (x : Screen) (bytes : List ℕ) (y : Screen) : Type 0 where
   pub acts : List Act
   pub reading : reads (ready x) bytes ≡ record { terminal = ready y; reports = []; acts = acts }
   pub draws : Draws old new acts
+  pub spelled : AreSpelled bytes acts
 
 -- bytes were appended that lead each screen of one kind to one that is related to it
 pub record Takes (old new : Page) (P : Screen → Type 0) (R : Screen → Screen → Type 0) (before after : List ℕ) : Type 0 where

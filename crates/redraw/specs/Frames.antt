@@ -6,7 +6,7 @@ use Rattle.terminal_model.specs.declared.state.Position.{Position}
 use Rattle.terminal_model.specs.Screen.{Page, Screen, blank_page}
 use Rattle.terminal_model.specs.Reading.{Terminal, reads}
 use Rattle.terminal_model.specs.Shows.{View}
-use Rattle.terminal_model.specs.Drawing.{frame_bytes, Draws, Agrees}
+use Rattle.terminal_model.specs.Drawing.{frame_bytes, Draws, AreSpelled, Agrees}
 use Rattle.terminal_model.specs.Drawable.{HaveHalves}
 use Rattle.redraw.specs.declared.pen.Pen.{Pen}
 use Rattle.redraw.specs.Drawing.{Takes, Stage, Final}
@@ -27,13 +27,14 @@ CanBeShown None = Prim.Unit {0}
 CanBeShown (Some v) = HaveHalves v.page
 
 -- Each terminal that agrees with what is known shows the view when it has read the frame, agrees with that, and has answered
--- nothing. What follows the beginning is discreet and spare.
+-- nothing. What follows the beginning is discreet and spare, and holds no string.
 pub record Redraws (rows columns : ℕ) (known : Option View) (v : View) (frame : List ℕ) : Type 0 where
   pub rest : List ℕ
   pub begins : frame ≡ beginning known ++ rest
   pub agrees : (t : Terminal) → Agrees rows columns known t → Agrees rows columns (Some v) (reads t frame).terminal
   pub quiet : (t : Terminal) → Agrees rows columns known t → (reads t frame).reports ≡ []
   pub draws : (t : Terminal) → Agrees rows columns known t → Draws (page_before rows columns known) v.page (reads (reads t (beginning known)).terminal rest).acts
+  pub spelled : (t : Terminal) → Agrees rows columns known t → AreSpelled rest (reads (reads t (beginning known)).terminal rest).acts
 
 -- what is known of a pen where the cursor is shown, or hidden
 abbrev pub pen_of : Option Position → Pen
