@@ -1,5 +1,5 @@
 -- What a frame does to each terminal that agrees with a shadow.
-use Rattle.std.specs.Prelude.{◌≡◌, ℕ, true, false, List, [], ◌++◌, length, Option, Some, None, is_some}
+use Rattle.std.specs.Prelude.{◌≡◌, ℕ, true, false, List, [], ◌++◌, length, Option, Some, None}
 use Rattle.cells.specs.Line.{plain}
 use Rattle.cells.specs.Page.{line_at}
 use Rattle.terminal_model.specs.declared.state.Position.{Position}

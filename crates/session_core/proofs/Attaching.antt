@@ -13,6 +13,7 @@ use Rattle.session_core.specs.Rows.{row_of}
 use Rattle.session_core.specs.Keys.{HasRead}
 use Rattle.session_core.specs.Trace.{Attach, Entry, History, with_step, windows_of, clients_of, delivered}
 use Rattle.session_core.specs.Steps.{IsStep, is_client_size, done}
+use Rattle.session_core.specs.Framed.{KnowsDelivered}
 use Rattle.session_core.specs.Stands.{StandsFor, HasClients, ClientAt, ClientStands, ClientMissing}
 use Rattle.session_core.proofs.Rows.{if_true, if_false, equal_number, is_equal}
 use Rattle.session_core.proofs.Tables.{windows_kept}
@@ -81,6 +82,7 @@ module _ (h : History) (s : Session) (user : UserId) (rows columns made : ℕ) (
     agrees = λ u is. subst (λ r. Agrees rows columns c.shadow.known r.terminal) (sym (reads_nothing t u)) (subst (λ k. Agrees rows columns k u) (sym new.known_is) is);
     quiet = λ u is. ap (λ r. r.reports) (reads_nothing t u);
     can_be_shown = subst (λ k. CanBeShown k) (sym new.known_is) tt;
+    knows = subst (λ k. KnowsDelivered k (delivered (e ∷ h.entries) t)) (sym new.known_is) (undelivered t);
   }
 
   still_missing : (t : ℕ) → (made == t) ≡ false → ClientMissing (e ∷ h.entries) t

@@ -22,8 +22,10 @@ use Rattle.session_core.specs.Keys.{HasRead}
 use Rattle.session_core.specs.Trace.{Draw, Entry, History, with_step, deliveries, delivered}
 use Rattle.session_core.specs.Granted.{granted_view}
 use Rattle.session_core.specs.Steps.{IsStep, IsDraw, ShowsGranted, done}
+use Rattle.session_core.specs.Framed.{IsFrame}
 use Rattle.session_core.specs.Stands.{StandsFor, ClientAt, ClientStands}
 use Rattle.session_core.proofs.Rows.{if_true, if_false, same_number, equal_number, other_number, is_equal, with_same, with_other, serials_stay, serial_is}
+use Rattle.session_core.proofs.Frames.{frame_behind, then_delivered}
 use Rattle.session_core.proofs.Tables.{KeepsClient, kept, windows_kept, client_kept, keys_same}
 
 -- a screen that shows a view shows each that looks like it
@@ -64,11 +66,11 @@ module _ (h : History) (s : Session) (client : ℕ) (row : Client) (v : View) (s
   sized : HasSize stands.attached.rows stands.attached.columns v
   sized = record { rows_are = size.rows_are ∙ stands.rows_are; columns_are = size.columns_are ∙ stands.columns_are }
 
-  step_of : (effects : List Effect) → IsDraw client effects → ShowsGranted h client effects stands.attached → IsStep h (drawing client effects)
+  step_of : (effects : List Effect) → IsDraw h client effects stands.attached → ShowsGranted h client effects stands.attached → IsStep h (drawing client effects)
   step_of effects is shows = record {
     reply = sym (ap (λ o. if is_some o then done 0 0 else Err NoWindow) stands.attached_is);
     acts = refl;
-    effects = subst (λ o. MatchOption o (effects ≡ []) (λ a. IsDraw client effects × ShowsGranted h client effects a)) (sym stands.attached_is) (is, shows);
+    effects = subst (λ o. MatchOption o (effects ≡ []) (λ a. IsDraw h client effects a × ShowsGranted h client effects a)) (sym stands.attached_is) (is, shows);
   }
 
   -- nothing has to be drawn
@@ -106,6 +108,14 @@ module _ (h : History) (s : Session) (client : ℕ) (row : Client) (v : View) (s
     quiet_then t is = ap (λ r. r.reports) (whole t)
         ∙ (ap (λ rs. rs ++ (reads (reads t (delivered h.entries client)).terminal bytes).reports) (stands.quiet t is) ∙ redraws_sized.quiet (reads t (delivered h.entries client)).terminal (stands.agrees t is))
 
+    framed : IsFrame stands.attached.rows stands.attached.columns (delivered h.entries client) (granted_view h client stands.attached) bytes
+    framed = subst (λ u. IsFrame stands.attached.rows stands.attached.columns (delivered h.entries client) u bytes) (granted stands)
+        (frame_behind stands.attached.rows stands.attached.columns row.shadow.known v (delivered h.entries client) bytes stands.knows stands.agrees redraws_sized)
+
+    some_then : delivered (e ∷ h.entries) client ≡ [] → ⊥
+    some_then none = then_delivered stands.attached.rows stands.attached.columns row.shadow.known v (delivered h.entries client) bytes stands.knows redraws_sized
+        (sym (ap (λ bs. delivered h.entries client ++ bs) (delivers_self client bytes)) ∙ none)
+
     mine : ClientStands (with_step h e) client new
     mine = record {
       attached = stands.attached;
@@ -121,6 +131,7 @@ module _ (h : History) (s : Session) (client : ℕ) (row : Client) (v : View) (s
       agrees = agrees_then;
       quiet = quiet_then;
       can_be_shown = λ line lt. (drawable.lines line lt).halves;
+      knows = some_then;
     }
 
     new_serial : new.serial ≡ client
@@ -144,7 +155,7 @@ module _ (h : History) (s : Session) (client : ℕ) (row : Client) (v : View) (s
     draw_done = record {
       run = (
         st.run,
-        step_of e.effects (inr (bytes, refl)) (λ t is. record {
+        step_of e.effects (inr (bytes, refl, framed)) (λ t is. record {
           shows = subst (λ u. Shows u (reads t (delivered h.entries client ++ deliveries e.effects client)).terminal.screen) (granted stands) (agrees_then t is).1.shows;
           quiet = quiet_then t is;
         }),

@@ -16,8 +16,9 @@ use Rattle.session_core.specs.Keys.{typed_behind}
 use Rattle.session_core.specs.Trace.{Reply, Happening, Attach, Open, Keys, Output, Draw, Entry, History, Attached, with_step, attached_after, attached_at, clients_of, keys_of, delivered, inputs, may_type, windows_of}
 use Rattle.session_core.specs.Terminals.{terminal_at, reports_of}
 use Rattle.session_core.specs.Granted.{granted_view}
+use Rattle.session_core.specs.Framed.{IsFrame}
 use Rattle.session_core.specs.Steps.{IsRun, IsRunFrom, IsStep, HasEffects, IsDraw, ShowsGranted, answer, effects_of_typed, input_of, done, is_client_size}
-use Rattle.session_core.specs.Headline.{AllSteps, Call, SomeRun, SomeSteps, reaching, reaching_of, reaching_in, reporting, TypedBytesReach, DrawShows, DrawShowsOf, IsEffectOf, NoOtherEffect}
+use Rattle.session_core.specs.Headline.{AllSteps, Call, SomeRun, SomeSteps, reaching, reaching_of, reaching_in, reporting, TypedBytesReach, DrawShows, DrawShowsOf, IsFrameTo, DeliversFrames, IsEffectOf, NoOtherEffect}
 use Rattle.session_core.proofs.Rows.{is_equal}
 use Rattle.session_core.proofs.Attaching.{nil_of_length}
 use Rattle.session_core.proofs.Runs.{IsNext, with_fact}
@@ -101,13 +102,13 @@ typed_at : (h : History) (client : ℕ) (o : Option Attached) (typed : List ℕ)
 typed_at h client None typed effects window owner is = no_inputs effects window is
 typed_at h client (Some a) typed effects window owner is = ap (λ es. inputs es window) is ∙ typed_in h client a.user a.shows typed window owner
 
-draws_nothing : (client : ℕ) (effects : List Effect) (window : ℕ) → IsDraw client effects → inputs effects window ≡ []
-draws_nothing client effects window (inl none) = no_inputs effects window none
-draws_nothing client effects window (inr bytes) = ap (λ es. inputs es window) bytes.1
+draws_nothing : (h : History) (client : ℕ) (effects : List Effect) (a : Attached) (window : ℕ) → IsDraw h client effects a → inputs effects window ≡ []
+draws_nothing h client effects a window (inl none) = no_inputs effects window none
+draws_nothing h client effects a window (inr bytes) = ap (λ es. inputs es window) bytes.1
 
-drawn_at : (h : History) (client : ℕ) (o : Option Attached) (effects : List Effect) (window : ℕ) → MatchOption o (effects ≡ []) (λ a. IsDraw client effects × ShowsGranted h client effects a) → inputs effects window ≡ []
+drawn_at : (h : History) (client : ℕ) (o : Option Attached) (effects : List Effect) (window : ℕ) → MatchOption o (effects ≡ []) (λ a. IsDraw h client effects a × ShowsGranted h client effects a) → inputs effects window ≡ []
 drawn_at h client None effects window is = no_inputs effects window is
-drawn_at h client (Some a) effects window is = draws_nothing client effects window is.0
+drawn_at h client (Some a) effects window is = draws_nothing h client effects a window is.0
 
 reported_by : (h : History) (at window : ℕ) (bytes : List ℕ) (b : Bool) → (at == window) ≡ b
     → (if b then reports_of (terminal_at h.entries at) bytes else []) ≡ (if b then reports_of (terminal_at h.entries window) bytes else [])
@@ -128,7 +129,7 @@ typed_step h e next window = typed_of h e.event e.effects window next.0 next.1.e
 
 -- ---- draws
 
-draw_at : (h : History) (e : Entry) (client : ℕ) (o : Option Attached) → MatchOption o (e.effects ≡ []) (λ a. IsDraw client e.effects × ShowsGranted h client e.effects a)
+draw_at : (h : History) (e : Entry) (client : ℕ) (o : Option Attached) → MatchOption o (e.effects ≡ []) (λ a. IsDraw h client e.effects a × ShowsGranted h client e.effects a)
     → MatchOption o (Unit {0}) (λ a. ShowsFromAny (delivered (e ∷ h.entries) client) a.rows a.columns (granted_view h client a))
 draw_at h e client None is = tt
 draw_at h e client (Some a) is = is.1
@@ -143,7 +144,7 @@ draw_shows h e (Output window bytes) is = tt
 pub draw_step : (h : History) (e : Entry) → IsNext h e → DrawShows h e
 draw_step h e next = draw_shows h e e.event next.1.effects
 
--- ---- no other effect
+-- ---- effects, one by one
 
 no_effect : (P : Effect → Type 0) (effects : List Effect) → effects ≡ [] → AllByRecursion P effects
 no_effect P effects none = subst (λ es. AllByRecursion P es) (sym none) tt
@@ -151,6 +152,40 @@ no_effect P effects none = subst (λ es. AllByRecursion P es) (sym none) tt
 one_effect : (P : Effect → Type 0) (b : Bool) (effect : Effect) → P effect → AllByRecursion P (if b then [] else effect ∷ [])
 one_effect P true effect is = tt
 one_effect P false effect is = (is, tt)
+
+-- ---- frames
+
+typed_frames : (h : History) (client : ℕ) (shows : Option ℕ) (typed : List ℕ) → AllByRecursion (IsFrameTo h) (effects_of_typed client shows typed)
+typed_frames h client None typed = one_effect (IsFrameTo h) (length typed == 0) (Say client (text_of NoWindow)) tt
+typed_frames h client (Some window) typed = one_effect (IsFrameTo h) (length typed == 0) (Input window typed) tt
+
+keys_frames : (h : History) (client : ℕ) (o : Option Attached) (effects : List Effect) (typed : List ℕ)
+    → MatchOption o (effects ≡ []) (λ a. effects ≡ effects_of_typed client a.shows typed) → AllByRecursion (IsFrameTo h) effects
+keys_frames h client None effects typed is = no_effect (IsFrameTo h) effects is
+keys_frames h client (Some a) effects typed is = subst (λ es. AllByRecursion (IsFrameTo h) es) (sym is) (typed_frames h client a.shows typed)
+
+drawn_frames : (h : History) (client : ℕ) (a : Attached) (effects : List Effect) → attached_at h.entries client ≡ Some a → IsDraw h client effects a → AllByRecursion (IsFrameTo h) effects
+drawn_frames h client a effects at (inl none) = no_effect (IsFrameTo h) effects none
+drawn_frames h client a effects at (inr bytes) = subst (λ es. AllByRecursion (IsFrameTo h) es) (sym bytes.1)
+    (subst (λ o. MatchOption o ⊥ (λ b. IsFrame b.rows b.columns (delivered h.entries client) (granted_view h client b) bytes.0)) (sym at) bytes.2, tt)
+
+draw_frames : (h : History) (client : ℕ) (o : Option Attached) (effects : List Effect) → attached_at h.entries client ≡ o
+    → MatchOption o (effects ≡ []) (λ a. IsDraw h client effects a × ShowsGranted h client effects a) → AllByRecursion (IsFrameTo h) effects
+draw_frames h client None effects at is = no_effect (IsFrameTo h) effects is
+draw_frames h client (Some a) effects at is = drawn_frames h client a effects at is.0
+
+frames_of : (h : History) (event : Happening) (effects : List Effect) → HasEffects h event effects → AllByRecursion (IsFrameTo h) effects
+frames_of h (Keys client bytes) effects is = keys_frames h client (attached_at h.entries client) effects (typed_behind (keys_of h.entries client) bytes) is
+frames_of h (Output window bytes) effects is = subst (λ es. AllByRecursion (IsFrameTo h) es) (sym is)
+    (one_effect (IsFrameTo h) (length (reports_of (terminal_at h.entries window) bytes) == 0) (Input window (reports_of (terminal_at h.entries window) bytes)) tt)
+frames_of h (Draw client) effects is = draw_frames h client (attached_at h.entries client) effects refl is
+frames_of h (Attach user rows columns) effects is = no_effect (IsFrameTo h) effects is
+frames_of h (Open user rows columns keep title) effects is = no_effect (IsFrameTo h) effects is
+
+pub frame_step : (h : History) (e : Entry) → IsNext h e → DeliversFrames h e
+frame_step h e next = frames_of h e.event e.effects next.1.effects
+
+-- ---- no other effect
 
 typed_own : (h : History) (client : ℕ) (bytes : List ℕ) (a : Attached) (typed : List ℕ) (shows : Option ℕ) → attached_at h.entries client ≡ Some a → a.shows ≡ shows
     → AllByRecursion (IsEffectOf h (Keys client bytes)) (effects_of_typed client shows typed)
@@ -165,14 +200,14 @@ keys_own h client bytes None effects typed at is = no_effect (IsEffectOf h (Keys
 keys_own h client bytes (Some a) effects typed at is =
     subst (λ es. AllByRecursion (IsEffectOf h (Keys client bytes)) es) (sym is) (typed_own h client bytes a typed a.shows at refl)
 
-deliver_own : (h : History) (client : ℕ) (effects : List Effect) → IsDraw client effects → AllByRecursion (IsEffectOf h (Draw client)) effects
-deliver_own h client effects (inl none) = no_effect (IsEffectOf h (Draw client)) effects none
-deliver_own h client effects (inr bytes) = subst (λ es. AllByRecursion (IsEffectOf h (Draw client)) es) (sym bytes.1) (refl, tt)
+deliver_own : (h : History) (client : ℕ) (effects : List Effect) (a : Attached) → IsDraw h client effects a → AllByRecursion (IsEffectOf h (Draw client)) effects
+deliver_own h client effects a (inl none) = no_effect (IsEffectOf h (Draw client)) effects none
+deliver_own h client effects a (inr bytes) = subst (λ es. AllByRecursion (IsEffectOf h (Draw client)) es) (sym bytes.1) (refl, tt)
 
-drawn_own : (h : History) (client : ℕ) (o : Option Attached) (effects : List Effect) → MatchOption o (effects ≡ []) (λ a. IsDraw client effects × ShowsGranted h client effects a)
+drawn_own : (h : History) (client : ℕ) (o : Option Attached) (effects : List Effect) → MatchOption o (effects ≡ []) (λ a. IsDraw h client effects a × ShowsGranted h client effects a)
     → AllByRecursion (IsEffectOf h (Draw client)) effects
 drawn_own h client None effects is = no_effect (IsEffectOf h (Draw client)) effects is
-drawn_own h client (Some a) effects is = deliver_own h client effects is.0
+drawn_own h client (Some a) effects is = deliver_own h client effects a is.0
 
 own_of : (h : History) (event : Happening) (effects : List Effect) → HasEffects h event effects → AllByRecursion (IsEffectOf h event) effects
 own_of h (Keys client bytes) effects is = keys_own h client bytes (attached_at h.entries client) effects (typed_behind (keys_of h.entries client) bytes) refl is

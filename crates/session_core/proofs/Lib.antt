@@ -7,6 +7,7 @@ pub mod Attaching
 pub mod Openings
 pub mod Typing
 pub mod Feeds
+pub mod Frames
 pub mod Delivering
 pub mod Headlines
 pub mod Viewing

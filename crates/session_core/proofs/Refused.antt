@@ -153,4 +153,4 @@ pub draw_nobody : (h : History) (s : Session) (client : ℕ) → StandsFor h s �
 draw_nobody h s client st none =
     let gone = absent h s client st none in
     refused h s (Draw client) NoWindow st (ap (λ o. if is_some o then done 0 0 else Err NoWindow) gone)
-    (subst (λ o. MatchOption o ((let es : List Effect = [] in es) ≡ []) (λ a. IsDraw client [] × ShowsGranted h client [] a)) (sym gone) refl)
+    (subst (λ o. MatchOption o ((let es : List Effect = [] in es) ≡ []) (λ a. IsDraw h client [] a × ShowsGranted h client [] a)) (sym gone) refl)

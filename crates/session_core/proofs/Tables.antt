@@ -13,6 +13,7 @@ use Rattle.session_core.specs.Rows.{row_of}
 use Rattle.session_core.specs.Trace.{Entry, History, Opened, Attached, with_step, windows_after, windows_of, opened_after, opened_at, written_by, writing, clients_after, clients_of, attached_after, attached_at, read_by, keys_of, deliveries, delivered, said_last, message_before, message_of}
 use Rattle.session_core.specs.Terminals.{terminal_of}
 use Rattle.session_core.specs.Steps.{IsStep}
+use Rattle.session_core.specs.Framed.{KnowsDelivered}
 use Rattle.session_core.specs.Stands.{StandsFor, HasWindows, WindowAt, WindowStands, HasClients, ClientAt, ClientStands}
 
 -- a step that opens no window and writes to none
@@ -83,6 +84,7 @@ client_stays h e c row k st =
       agrees = λ t is. subst (λ bs. Agrees st.attached.rows st.attached.columns row.shadow.known (reads t bs).terminal) (sym same) (st.agrees t is);
       quiet = λ t is. ap (λ bs. (reads t bs).reports) same ∙ st.quiet t is;
       can_be_shown = st.can_be_shown;
+      knows = subst (λ bs. KnowsDelivered row.shadow.known bs) (sym same) st.knows;
     }
 
 pub client_kept : (h : History) (e : Entry) (c : ℕ) (row : Option Client) → KeepsClient e c → ClientAt h c row → ClientAt (with_step h e) c row

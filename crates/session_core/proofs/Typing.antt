@@ -15,6 +15,7 @@ use Rattle.session_core.specs.Rows.{row_of, with_row}
 use Rattle.session_core.specs.Keys.{HasRead, typed, typed_behind}
 use Rattle.session_core.specs.Trace.{Keys, Entry, History, with_step, keys_of, deliveries, delivered, said_last}
 use Rattle.session_core.specs.Steps.{IsStep, done, effects_of_typed, message_by}
+use Rattle.session_core.specs.Framed.{KnowsDelivered}
 use Rattle.session_core.specs.Stands.{StandsFor, ClientAt, ClientStands}
 use Rattle.session_core.proofs.Rows.{if_true, if_false, same_number, equal_number, other_number, is_equal, with_same, with_other, serials_stay, serial_is}
 use Rattle.session_core.proofs.Tables.{KeepsClient, windows_kept, client_kept, delivered_same}
@@ -94,6 +95,7 @@ module _ (h : History) (s : Session) (client : ℕ) (bytes made : List ℕ) (row
         (subst (λ k. Agrees stands.attached.rows stands.attached.columns k.known (reads t (delivered h.entries client)).terminal) (sym shadow_stays) (stands.agrees t is));
     quiet = λ t is. ap (λ bs. (reads t bs).reports) (same_delivered client) ∙ stands.quiet t is;
     can_be_shown = subst (λ k. CanBeShown k.known) (sym shadow_stays) stands.can_be_shown;
+    knows = subst (λ bs. KnowsDelivered new.shadow.known bs) (sym (same_delivered client)) (subst (λ k. KnowsDelivered k.known (delivered h.entries client)) (sym shadow_stays) stands.knows);
   }
 
   new_serial : new.serial ≡ client

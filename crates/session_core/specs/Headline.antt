@@ -17,6 +17,7 @@ use Rattle.session_core.specs.Keys.{typed_behind}
 use Rattle.session_core.specs.Trace.{Happening, Keys, Output, Draw, Reply, Entry, History, Attached, with_step, happening, attached_at, keys_of, delivered, inputs, may_type}
 use Rattle.session_core.specs.Terminals.{terminal_at, reports_of}
 use Rattle.session_core.specs.Granted.{granted_view}
+use Rattle.session_core.specs.Framed.{IsFrame}
 use Rattle.session_core.specs.Stands.{StandsFor}
 
 -- ---- steps of a call
@@ -155,6 +156,17 @@ DrawShowsOf h e _ = Unit {0}
 
 abbrev pub DrawShows : History → Entry → Type 0
 DrawShows h e = DrawShowsOf h e e.event
+
+-- ---- frames
+
+-- what is delivered to a client is a frame of its granted view behind all that was delivered to it before
+abbrev pub IsFrameTo : History → Effect → Type 0
+IsFrameTo h (Deliver client bytes) = MatchOption (attached_at h.entries client) ⊥ (λ a.
+    IsFrame a.rows a.columns (delivered h.entries client) (granted_view h client a) bytes)
+IsFrameTo h _ = Unit {0}
+
+abbrev pub DeliversFrames : History → Entry → Type 0
+DeliversFrames h e = AllByRecursion (IsFrameTo h) e.effects
 
 -- ---- no other effect
 

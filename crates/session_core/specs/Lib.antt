@@ -7,6 +7,7 @@ pub mod Drawn
 pub mod Feeding
 pub mod Terminals
 pub mod Granted
+pub mod Framed
 pub mod Steps
 pub mod Stands
 pub mod Headline

@@ -18,6 +18,7 @@ use Rattle.session_core.specs.Keys.{HasRead}
 use Rattle.session_core.specs.Rows.{row_of}
 use Rattle.session_core.specs.Trace.{Happening, Reply, Entry, History, Opened, Attached, with_step, windows_of, opened_at, writing, clients_of, attached_at, keys_of, delivered, message_of}
 use Rattle.session_core.specs.Terminals.{terminal_of}
+use Rattle.session_core.specs.Framed.{KnowsDelivered}
 use Rattle.session_core.specs.Steps.{IsRun, is_client_size}
 
 -- a window as it was opened, whose terminal has read its whole writing
@@ -53,6 +54,7 @@ pub record ClientStands (h : History) (serial : ℕ) (c : Client) : Type 0 where
   pub agrees : (t : Terminal) → IsOfSize attached.rows attached.columns t → Agrees attached.rows attached.columns c.shadow.known (reads t (delivered h.entries serial)).terminal
   pub quiet : (t : Terminal) → IsOfSize attached.rows attached.columns t → (reads t (delivered h.entries serial)).reports ≡ []
   pub can_be_shown : CanBeShown c.shadow.known
+  pub knows : KnowsDelivered c.shadow.known (delivered h.entries serial)
 
 -- nothing was read, said or delivered yet
 pub record ClientMissing (past : List Entry) (serial : ℕ) : Type 0 where

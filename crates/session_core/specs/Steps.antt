@@ -18,6 +18,7 @@ use Rattle.session_core.specs.Keys.{typed_behind}
 use Rattle.session_core.specs.Trace.{Happening, Attach, Open, Keys, Output, Draw, Reply, Entry, History, Attached, windows_of, opened_at, clients_of, attached_at, keys_of, delivered, deliveries}
 use Rattle.session_core.specs.Terminals.{terminal_at, reports_of}
 use Rattle.session_core.specs.Granted.{granted_view}
+use Rattle.session_core.specs.Framed.{IsFrame}
 
 -- 4 to 200 lines by 20 to 300 columns
 abbrev pub is_client_size : ℕ → ℕ → Bool
@@ -78,9 +79,10 @@ abbrev pub message_by : Option ℕ → List ℕ → List ℕ
 message_by (Some window) typed = []
 message_by None typed = if length typed == 0 then [] else text_of NoWindow
 
--- no effect, or bytes for the client alone
-abbrev pub IsDraw : ℕ → List Effect → Type 0
-IsDraw client effects = (effects ≡ []) ⊎ ((bytes : List ℕ) × (effects ≡ Deliver client bytes ∷ []))
+-- no effect, or a frame for the client alone
+abbrev pub IsDraw : History → ℕ → List Effect → Attached → Type 0
+IsDraw h client effects a = (effects ≡ []) ⊎ ((bytes : List ℕ) × (effects ≡ Deliver client bytes ∷ [])
+    × IsFrame a.rows a.columns (delivered h.entries client) (granted_view h client a) bytes)
 
 -- whichever bytes draw it: all that was delivered, read by any terminal of the client's size, shows its granted view
 abbrev pub ShowsGranted : History → ℕ → List Effect → Attached → Type 0
@@ -92,7 +94,7 @@ HasEffects h (Keys client bytes) effects =
     MatchOption (attached_at h.entries client) (effects ≡ []) (λ a. effects ≡ effects_of_typed client a.shows (typed_behind (keys_of h.entries client) bytes))
 HasEffects h (Output window bytes) effects = effects ≡ input_of window (reports_of (terminal_at h.entries window) bytes)
 HasEffects h (Draw client) effects =
-    MatchOption (attached_at h.entries client) (effects ≡ []) (λ a. IsDraw client effects × ShowsGranted h client effects a)
+    MatchOption (attached_at h.entries client) (effects ≡ []) (λ a. IsDraw h client effects a × ShowsGranted h client effects a)
 HasEffects h _ effects = effects ≡ []
 
 pub record IsStep (h : History) (e : Entry) : Type 0 where

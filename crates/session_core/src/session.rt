@@ -12,7 +12,7 @@ ghost use Rattle.regions.specs.Shapes.{Shape};
 ghost use Rattle.view.specs.View.{HasSize};
 ghost use Rattle.view.specs.Drawable.{IsDrawable};
 ghost use Rattle.view.specs.Granted.{AreParts, AreDrawable, part_of, view_of};
-ghost use Rattle.session_core.specs.Headline.{SomeRun, SomeSteps, AreSteps, AllSteps, run_call, take_call, left_of, TypedBytesReach, DrawShows, NoOtherEffect, IsViewOf};
+ghost use Rattle.session_core.specs.Headline.{SomeRun, SomeSteps, AreSteps, AllSteps, run_call, take_call, left_of, TypedBytesReach, DrawShows, DeliversFrames, NoOtherEffect, IsViewOf};
 ghost use Rattle.session_core.specs.Least.{least_from};
 
 use crate::bytes::Bytes;
@@ -129,6 +129,8 @@ impl Session {
         ensures typed_bytes { SomeRun self.old (run_call events.now effects.old.items effects.new.items replies.old.items replies.new.items result) self.new (AllSteps TypedBytesReach) }
         // After each draw every terminal of the client's size, having read all that was delivered, shows the granted view.
         ensures draws { SomeRun self.old (run_call events.now effects.old.items effects.new.items replies.old.items replies.new.items result) self.new (AllSteps DrawShows) }
+        // What is delivered is discreet and spare, and begins with the reset exactly where it is the client's first.
+        ensures frames { SomeRun self.old (run_call events.now effects.old.items effects.new.items replies.old.items replies.new.items result) self.new (AllSteps DeliversFrames) }
         // Each effect is one of its event's.
         ensures no_other_effect { SomeRun self.old (run_call events.now effects.old.items effects.new.items replies.old.items replies.new.items result) self.new (AllSteps NoOtherEffect) }
         // Each event was taken, but where a step found no memory.
@@ -171,6 +173,7 @@ impl Session {
     ) -> Result<(Session, Ran), Refusal>
         ensures typed_bytes { IfOk result (λ after. (steps : List Entry) × AreSteps (run_call events.now effects.old.items effects.new.items replies.old.items replies.new.items after.1) steps × AllSteps TypedBytesReach (start owner) steps) }
         ensures draws { IfOk result (λ after. (steps : List Entry) × AreSteps (run_call events.now effects.old.items effects.new.items replies.old.items replies.new.items after.1) steps × AllSteps DrawShows (start owner) steps) }
+        ensures frames { IfOk result (λ after. (steps : List Entry) × AreSteps (run_call events.now effects.old.items effects.new.items replies.old.items replies.new.items after.1) steps × AllSteps DeliversFrames (start owner) steps) }
         ensures no_other_effect { IfOk result (λ after. (steps : List Entry) × AreSteps (run_call events.now effects.old.items effects.new.items replies.old.items replies.new.items after.1) steps × AllSteps NoOtherEffect (start owner) steps) }
     {
         let mut session = Session::new(alloc, owner)?;

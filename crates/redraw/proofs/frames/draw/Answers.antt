@@ -1,4 +1,4 @@
-use Rattle.std.proofs.Common.{rules, ◌≡◌, ◌<◌, IsTrue, Option, Some, length, sym, ap, ◌∙◌, subst, arith}
+use Rattle.std.proofs.Common.{rules, ◌≡◌, IsTrue, Option, Some, length, sym, ap, ◌∙◌, subst, arith}
 use Rattle.cells.specs.Page.{line_at, IsGridSize}
 use Rattle.terminal_model.specs.Shows.{View}
 use Rattle.redraw.specs.Shadow.{Knowledge}

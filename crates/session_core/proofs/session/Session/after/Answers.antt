@@ -7,5 +7,8 @@ returns-clause-typed_bytes c = let r = c.run-ran.ensures.typed_bytes (start c.ar
 pub returns-clause-draws : goal.returns-clause-draws
 returns-clause-draws c = let r = c.run-ran.ensures.draws (start c.args.owner) c.in_ok-session.ensures in (r.0, r.1, r.3)
 
+pub returns-clause-frames : goal.returns-clause-frames
+returns-clause-frames c = let r = c.run-ran.ensures.frames (start c.args.owner) c.in_ok-session.ensures in (r.0, r.1, r.3)
+
 pub returns-clause-no_other_effect : goal.returns-clause-no_other_effect
 returns-clause-no_other_effect c = let r = c.run-ran.ensures.no_other_effect (start c.args.owner) c.in_ok-session.ensures in (r.0, r.1, r.3)

@@ -3,9 +3,9 @@ use Rattle.std.proofs.lemmas.List.{append-nil}
 use Rattle.std.specs.Prelude.{is_ok}
 use Rattle.session_core.specs.declared.event.Event.TheVariants.{Attach}
 use Rattle.session_core.specs.Steps.{IsStep}
-use Rattle.session_core.specs.Headline.{without_part, TypedBytesReach, DrawShows, NoOtherEffect}
+use Rattle.session_core.specs.Headline.{without_part, TypedBytesReach, DrawShows, DeliversFrames, NoOtherEffect}
 use Rattle.session_core.proofs.Rows.{if_true}
-use Rattle.session_core.proofs.Headlines.{shows, run_step, typed_step, draw_step, own_step}
+use Rattle.session_core.proofs.Headlines.{shows, run_step, typed_step, draw_step, frame_step, own_step}
 use Rattle.session_core.proofs.Runs.{then_steps, at_end, without_none, without_part-append, rest_at}
 use Rattle.session_core.proofs.session.Session.run.Goals as goal
 
@@ -43,6 +43,16 @@ returns-in-Part-clause-draws c = shows DrawShows draw_step (let here = rest_at c
 
 pub returns-clause-draws : goal.returns-clause-draws
 returns-clause-draws c = shows DrawShows draw_step (at_end _ _ _ _ _ _ _ c.loop-taken.taken (length c.args.events.now) (omega (arith, c.loop-taken-test.false, c.loop-taken.auto.taken-end)) c.loop-taken.invariant)
+
+pub returns-then-is_err-clause-frames : goal.returns-then-is_err-clause-frames
+returns-then-is_err-clause-frames c = shows DeliversFrames frame_step (rw (c.reserve.ensures.items, without_none) c.loop-taken.invariant)
+
+pub returns-in-Part-clause-frames : goal.returns-in-Part-clause-frames
+returns-in-Part-clause-frames c = shows DeliversFrames frame_step (let here = rest_at c.args.events.now c.loop-taken.taken (Attach (record { name = [] }) 0 0) c.loop-taken-test.true in
+    then_steps _ _ _ _ _ _ _ _ _ _ _ _ _ _ [] _ here (ap (λ es. without_part c.in-Part.part es) here ∙ sym (without_part-append c.in-Part.part _ _)) (c.reserve.ensures.items ∙ sym (append-nil _)) c.loop-taken.invariant c.in-Part.ensures)
+
+pub returns-clause-frames : goal.returns-clause-frames
+returns-clause-frames c = shows DeliversFrames frame_step (at_end _ _ _ _ _ _ _ c.loop-taken.taken (length c.args.events.now) (omega (arith, c.loop-taken-test.false, c.loop-taken.auto.taken-end)) c.loop-taken.invariant)
 
 pub returns-then-is_err-clause-no_other_effect : goal.returns-then-is_err-clause-no_other_effect
 returns-then-is_err-clause-no_other_effect c = shows NoOtherEffect own_step (rw (c.reserve.ensures.items, without_none) c.loop-taken.invariant)
