@@ -6,3 +6,4 @@ pub mod Pages
 pub mod Erasing
 pub mod Putting
 pub mod Grids
+pub mod Runs

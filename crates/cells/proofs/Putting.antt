@@ -209,7 +209,7 @@ module _ (at : ℕ) (fresh cells : List Cell) (room : at + length fresh ≤ leng
         let none : is_right (cell_at cut_twice (length cells)).shape ≡ false = ap (λ (x : Cell). is_right x.shape) (cell_at_past cut_twice (length cells) (omega (arith, two))) in
         ap (λ m. cut_of m cut_twice) end ∙ rw none refl
 
-    outside_is : (k : ℕ) → IsOutside k → k < length cells → settled_at source cells k ≡ cell_at cut_twice k
+    pub outside_is : (k : ℕ) → IsOutside k → k < length cells → settled_at source cells k ≡ cell_at cut_twice k
     outside_is k h within = let n = n_blanks in
         settled_outside k h within
         ∙ sym (cell_at-cells_from blank_source cells k within)

@@ -1,3 +1,4 @@
 pub mod Feeding
 pub mod Writings
 pub mod Backs
+pub mod RunLemmas

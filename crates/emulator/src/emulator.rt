@@ -1,8 +1,10 @@
 //! Bytes to a screen.
 
-ghost use Rattle.std.specs.Prelude.{◌≡◌, ◌≤◌, ◌<◌, ◌+◌, ◌*◌, ◌↔◌, Err, IfOk, IfErr, OnOk, OnErr, IsOk, length, take, vec_len, vec_capacity};
+ghost use Rattle.std.specs.Prelude.{◌≡◌, ◌≤◌, ◌<◌, ◌+◌, ◌*◌, ◌↔◌, true, [], Err, IfOk, IfErr, OnOk, OnErr, IsOk, length, take, vec_len, vec_capacity};
 ghost use Rattle.cells.specs.Page.{IsPage, IsGridSize};
-ghost use Rattle.charsets.specs.Units.{unit_list};
+ghost use Rattle.std.specs.List.{list_all};
+ghost use Rattle.charsets.specs.Units.{is_plain, unit_list};
+ghost use Rattle.control_parser.specs.Kept.{IsIdle};
 ghost use Rattle.terminal_model.specs.Screen.{starting};
 ghost use Rattle.terminal_model.specs.Reading.{Terminal, ready, read_unit, read_units, read_byte, reads};
 ghost use Rattle.terminal_model.specs.Writing.{Size, Clear, Reset, Encoding, reads_anew, writes};
@@ -13,8 +15,8 @@ ghost use Rattle.emulator.specs.Pages.{moved_back};
 use crate::shown::Shown;
 use cells::GridFault;
 use charsets::{Coding, Decoder, Unit, Units};
-use control_parser::Parser;
-use std::alloc::Global;
+use control_parser::{Parser, plain_run};
+use std::alloc::{AllocError, Global};
 use std::marker::Model;
 use terminal_model::{Modes, REPORT_BYTES, Report};
 use vt_screen::Screen;
@@ -78,14 +80,53 @@ impl Emulator {
         ensures read { IfErr result (λ stopped. stopped.read < length bytes.now) }
         ensures room { vec_len out.old + 24 * length bytes.now ≤ vec_capacity out.old → IsOk result }
     {
-        'bytes: for (read, byte) in bytes.iter().enumerate() {
-            if out.reserve(REPORT_BYTES).is_err() {
-                return Err(Stopped { read });
+        let mut read = 0;
+        'bytes: while read < bytes.len() {
+            match self.feed_some(&bytes[read..], out) {
+                Ok(count) => read += count,
+                Err(_) => return Err(Stopped { read }),
             }
-            let report = self.feed(*byte);
-            let _ = out.extend_from_slice(report.as_slice());
         }
         Ok(())
+    }
+
+    /// Reads the first one of some bytes, or all of a run, and appends what is answered. It gives how many it has read.
+    /// Where memory is refused, it has read none.
+    fn feed_some(&mut self, bytes: &[u8], out: &mut Vec<u8>) -> Result<usize, AllocError>
+        requires { 0 < length bytes.now }
+        ensures ok { IfOk result (λ count. (t : Terminal) → StandsFor self.old t → HasRead t (take count bytes.now) out.old.items self.new out.new.items) }
+        ensures some { IfOk result (λ count. 0 < count) }
+        ensures few { IfOk result (λ count. count ≤ length bytes.now) }
+        ensures answers { IfOk result (λ count. vec_len out.new ≤ vec_len out.old + 24 * count) }
+        ensures err { OnErr result (self.new ≡ self.old) }
+        ensures none { OnErr result (out.new.items ≡ out.old.items) }
+        ensures capacity { vec_capacity out.old ≤ vec_capacity out.new }
+        ensures room { vec_len out.old + 24 ≤ vec_capacity out.old → IsOk result }
+    {
+        let run = self.run_of(bytes);
+        if run > 0 {
+            self.screen.print_run(&bytes[..run]);
+            return Ok(run);
+        }
+        out.reserve(REPORT_BYTES)?;
+        let report = self.feed(bytes[0]);
+        let _ = out.extend_from_slice(report.as_slice());
+        Ok(1)
+    }
+
+    /// How many bytes are printed as they are: those of the longest beginning of bytes 20 to 7E, where no character,
+    /// sequence or string has begun.
+    fn run_of(&self, bytes: &[u8]) -> usize
+        ensures plain { list_all is_plain (take result bytes.now) ≡ true }
+        ensures few { result ≤ length bytes.now }
+        ensures whole { 0 < result → self.now.decoding.rest ≡ [] }
+        ensures idle { 0 < result → IsIdle self.now.parsing }
+    {
+        if self.decoder.is_idle() && self.parser.is_idle() {
+            plain_run(bytes)
+        } else {
+            0
+        }
     }
 
     /// Takes the units that a byte completes, and gives what is answered.

@@ -15,3 +15,4 @@ pub mod Frames
 pub mod Shown
 pub mod Further
 pub mod Renditions
+pub mod Plain

@@ -1,11 +1,15 @@
 //! A screen.
 
-ghost use Rattle.std.specs.Prelude.{◌≡◌, ◌<◌, ◌≤◌, ◌↔◌, Err, IfOk, OnOk, OnErr, length, option_copied, slice_get};
+ghost use Rattle.std.specs.Prelude.{◌≡◌, ◌<◌, ◌≤◌, ◌↔◌, true, Err, IfOk, OnOk, OnErr, length, map, option_copied, slice_get};
+ghost use Rattle.std.specs.List.{list_all};
+ghost use Rattle.charsets.specs.Units.{is_plain};
+ghost use Rattle.control_parser.specs.declared.func.Func.TheVariants.{Print};
 ghost use Rattle.cells.specs.Page.{IsGridSize, line_at};
 ghost use Rattle.cells.specs.Line.{cell_at};
 ghost use Rattle.terminal_model.specs.Screen.{IsSound, starting};
 ghost use Rattle.terminal_model.specs.Table.{effect, resized};
 ghost use Rattle.terminal_model.specs.Reports.{report};
+ghost use Rattle.vt_screen.specs.Effects.{effects};
 ghost use Rattle.vt_screen.specs.Sizes.{IsScreenSize};
 
 use cells::{Cell, GridFault};
@@ -57,6 +61,14 @@ impl Screen {
         ensures few { length result ≤ 12 }
     {
         self.display.perform(acts_of(func))
+    }
+
+    /// Prints characters 20 to 7E, one after another: `codes` has their code points. It takes no memory.
+    pub fn print_run(&mut self, codes: &[u8])
+        requires { list_all is_plain codes.now ≡ true }
+        ensures { self.new ≡ effects self.old (map (λ code. Print code) codes.now) }
+    {
+        self.display.print_run(codes);
     }
 
     /// Takes another size. It keeps the upper left part, of the kept lines too; the cursor and the saved place go to the

@@ -3,3 +3,4 @@ pub mod KeptLines
 pub mod Unprotected
 pub mod WideLemmas
 pub mod SizeLemmas
+pub mod RunLemmas

@@ -1,12 +1,12 @@
 -- Lines that are erased one after the other, but for protected cells.
-use Rattle.std.proofs.Common.{◌≡◌, ℕ, ◌+◌, ◌<◌, ◌≤◌, Bool, true, false, ◌&&◌, cond, nat_lt, nat_le, List, [], length, set, refl, sym, ap, ◌∙◌, arith, ⊎_elim}
+use Rattle.std.proofs.Common.{◌≡◌, ℕ, ◌+◌, ◌<◌, ◌≤◌, true, false, ◌&&◌, cond, nat_lt, nat_le, List, [], length, set, refl, sym, ap, ◌∙◌, arith, ⊎_elim}
 use Rattle.std.proofs.lemmas.List.{length-set, get_or-set_same, get_or-set_other}
 use Rattle.std.proofs.lemmas.Bool.{cases_lt, cases_eq}
 use Rattle.std.proofs.lemmas.Bool.Decides.{nat_tests}
 use Rattle.cells.specs.declared.cell.Cell.{Cell}
 use Rattle.cells.specs.Line.{cells_from, unprotected_erased}
-use Rattle.cells.specs.Page.{IsPage, Origin, From, line_at, line_from, page_from, edited, on_line}
-use Rattle.cells.proofs.Pages.{IsPage-page_from, length-page_from, line_at-page_from, line_from-edit, line_from-whole, page_from-edited, page_from-is}
+use Rattle.cells.specs.Page.{IsPage, From, line_at, line_from, page_from, edited, on_line}
+use Rattle.cells.proofs.Pages.{IsPage-page_from, line_at-page_from, line_from-edit, line_from-whole, page_from-edited, page_from-is}
 use Rattle.terminal_model.specs.Table.{unprotected_lines}
 
 within : (first end line : ℕ) → first ≤ line → line < end → (nat_le first line && nat_lt line end) ≡ true

@@ -1,1 +1,2 @@
 pub mod Displays
+pub mod Runs

@@ -9,6 +9,7 @@ mod moving;
 mod performing;
 mod printing;
 mod resetting;
+mod runs;
 mod sizing;
 
 pub use display::Display;

@@ -66,7 +66,7 @@ impl Display {
     }
 
     /// Does a wrap that is due: the first column, and an index.
-    fn wrap(&mut self, is_due: bool)
+    pub fn wrap(&mut self, is_due: bool)
         requires { IsFit self.old }
         ensures screen { screen_of self.new ≡ wrapped is_due (screen_of self.old) }
         ensures fit { IsFit self.new }

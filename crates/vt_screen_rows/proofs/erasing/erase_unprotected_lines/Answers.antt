@@ -1,5 +1,5 @@
-use Rattle.std.proofs.Common.{◌≡◌, ◌<◌, ◌≤◌, sym, ap, ◌∙◌, arith, length}
-use Rattle.cells.specs.Page.{IsPage, line_at, page_from}
+use Rattle.std.proofs.Common.{◌≡◌, ◌<◌, sym, ap, ◌∙◌, arith, length}
+use Rattle.cells.specs.Page.{line_at}
 use Rattle.cells.proofs.Pages.{length-page_from, width-page_from}
 use Rattle.terminal_model.specs.Table.{unprotected_lines}
 use Rattle.vt_screen_rows.proofs.Unprotected.{unprotected_none, unprotected_more}

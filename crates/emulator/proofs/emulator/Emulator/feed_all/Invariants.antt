@@ -1,4 +1,4 @@
-use Rattle.std.proofs.Common.{◌+◌, ◌*◌, ◌≤◌, take, vec_len, vec_capacity}
+use Rattle.std.proofs.Common.{◌+◌, ◌-◌, ◌*◌, ◌≤◌, length, take, vec_len, vec_capacity}
 use Rattle.terminal_model.specs.Reading.{Terminal}
 use Rattle.emulator.specs.Standing.{StandsFor, HasRead}
 use Rattle.emulator.proofs.emulator.Emulator.feed_all.Given as goal
@@ -6,6 +6,10 @@ use Rattle.emulator.proofs.emulator.Emulator.feed_all.Given as goal
 abbrev pub invariant-bytes : goal.invariant-bytes
 invariant-bytes l = record {
   read : (t : Terminal) → StandsFor l.fn.self t → HasRead t (take l.read l.bytes) l.fn.out.items l.self l.out.items;
+  inside : l.read ≤ length l.bytes;
   few : vec_len l.out ≤ vec_len l.fn.out + 24 * l.read;
   capacity : vec_capacity l.fn.out ≤ vec_capacity l.out;
 }
+
+abbrev pub decreases-bytes : goal.decreases-bytes
+decreases-bytes l = length l.bytes - l.read

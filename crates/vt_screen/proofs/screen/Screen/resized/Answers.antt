@@ -1,8 +1,6 @@
 use Rattle.vt_screen_rows.specs.Displays.{screen_of}
 use Rattle.vt_screen_rows.proofs.Widths.{resized_fit}
 use Rattle.vt_screen.proofs.screen.Screen.resized.Goals as goal
-use Rattle.std.proofs.Common.{◌≡◌, subst, sym}
-use Rattle.vt_screen_rows.specs.Displays.{IsFit}
 
 pub invariant_of-self : goal.invariant_of-self
 invariant_of-self c = rw c.in_err-resized.ensures.err c.self.invariant

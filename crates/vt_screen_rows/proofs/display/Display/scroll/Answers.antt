@@ -1,4 +1,4 @@
-use Rattle.std.proofs.Common.{◌≡◌, refl}
+use Rattle.std.proofs.Common.{refl}
 use Rattle.vt_screen_rows.proofs.KeptLines.{reverse-taken_in}
 use Rattle.cells.specs.Page.{line_at}
 use Rattle.vt_screen_rows.proofs.display.Display.scroll.Goals as goal

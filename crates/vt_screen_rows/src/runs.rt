@@ -1,0 +1,91 @@
+//! Runs of characters.
+
+ghost use Rattle.std.specs.Prelude.{◌≡◌, ◌↔◌, ◌+◌, ◌<◌, ◌≤◌, true, length, take, IsTrue};
+ghost use Rattle.std.specs.List.{list_all};
+ghost use Rattle.charsets.specs.Shifts.{set_at};
+ghost use Rattle.charsets.specs.Units.{is_plain};
+ghost use Rattle.terminal_model.specs.Table.{all_acted};
+ghost use Rattle.vt_screen_rows.specs.Displays.{IsFit, screen_of};
+ghost use Rattle.vt_screen_rows.specs.Runs.{TakesRuns, prints, run_placed};
+
+use crate::display::Display;
+use charsets::{CharacterSet, Place, Shifts, Unit};
+use terminal_model::State;
+use vt_screen_state::advance;
+
+impl Display {
+    /// Prints characters 20 to 7E, one after another: `codes` has their code points.
+    pub fn print_run(&mut self, codes: &[u8])
+        requires fit { IsFit self.old }
+        requires plain { list_all is_plain codes.now ≡ true }
+        ensures screen { screen_of self.new ≡ all_acted (screen_of self.old) (prints codes.now) }
+        ensures fit { IsFit self.new }
+    {
+        let mut printed = 0;
+        while printed < codes.len() {
+            printed += self.print_some(&codes[printed..]);
+        }
+    }
+
+    /// Prints the first one of some characters 20 to 7E, or as many of them as have room in a line, and gives how many.
+    fn print_some(&mut self, codes: &[u8]) -> usize
+        requires fit { IsFit self.old }
+        requires plain { list_all is_plain codes.now ≡ true }
+        requires some { 0 < length codes.now }
+        ensures screen { screen_of self.new ≡ all_acted (screen_of self.old) (prints (take result codes.now)) }
+        ensures fit { IsFit self.new }
+        ensures some { 0 < result }
+        ensures few { result ≤ length codes.now }
+    {
+        if !takes_runs(&self.state) {
+            self.print(Unit::Code(codes[0] as char));
+            return 1;
+        }
+        self.wrap(self.state.is_wrap_pending);
+        let count = codes.len().min(self.state.columns - self.state.column);
+        self.place_run(&codes[..count]);
+        count
+    }
+
+    /// Puts characters of width 1 in the cursor's line, in place of as many old cells.
+    fn place_run(&mut self, codes: &[u8])
+        requires fit { IsFit self.old }
+        requires some { 0 < length codes.now }
+        requires room { self.old.state.column + length codes.now ≤ self.old.state.columns }
+        ensures screen { screen_of self.new ≡ run_placed codes.now (screen_of self.old) }
+        ensures width { self.new.ring.columns ≡ self.old.ring.columns }
+    {
+        let state = &self.state;
+        let rendition = state.rendition;
+        let is_protecting = state.is_protecting;
+        self.page.put_run(
+            self.state.line,
+            self.state.column,
+            codes,
+            rendition,
+            is_protecting,
+        );
+        self.state.column += codes.len() - 1;
+        advance(&mut self.state, 1);
+    }
+}
+
+/// Whether 20 to 7E stand for themselves, and each takes the place of an old cell.
+fn takes_runs(state: &State) -> bool
+    ensures { IsTrue result ↔ TakesRuns state.now }
+{
+    let is_ascii = matches!(set_in_use(&state.shifts), CharacterSet::Ascii);
+    is_ascii && state.shifts.single.is_none() && !state.modes.inserts
+}
+
+/// The set that 21 to 7E go through, where no single shift waits.
+fn set_in_use(shifts: &Shifts) -> CharacterSet
+    ensures { result ≡ set_at shifts.now shifts.now.gl }
+{
+    match shifts.gl {
+        Place::G0 => shifts.g0,
+        Place::G1 => shifts.g1,
+        Place::G2 => shifts.g2,
+        Place::G3 => shifts.g3,
+    }
+}
