@@ -95,13 +95,6 @@ impl Page {
         self.stored[self.places[line]].cells()
     }
 
-    /// The stored line that holds a line of the page.
-    pub fn place(&self, line: usize) -> usize
-        requires { line < length self.now }
-    {
-        self.places[line]
-    }
-
     /// Puts blanks into a line, and lets its old cells from `rest` on follow them.
     pub fn splice(&mut self, line: usize, at: usize, count: usize, rest: usize)
         requires line_inside { line < length self.old }
@@ -304,5 +297,15 @@ impl Page {
         let page = self.with_size(rows, cols)?;
         *self = page;
         Ok(())
+    }
+}
+
+#[cfg(test)]
+impl Page {
+    /// The stored line that holds a line of the page.
+    pub(crate) fn place(&self, line: usize) -> usize
+        requires { line < length self.now }
+    {
+        self.places[line]
     }
 }
