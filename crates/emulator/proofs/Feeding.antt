@@ -1,7 +1,8 @@
 -- What an emulator stands for, unit by unit and byte by byte.
-use Rattle.std.proofs.Common.{◌≡◌, ℕ, ◌<◌, ◌+◌, List, [], ◌∷◌, ◌++◌, length, take, get_or, refl, sym, ap, ◌∙◌, subst, append_assoc, append-nil, Result, Ok, Err, OnOk, IsOk, is_ok, is_err, false, if◌then◌else◌}
+use Rattle.std.proofs.Common.{◌≡◌, ◌==◌, true, arith, ℕ, ◌<◌, ◌+◌, List, [], ◌∷◌, ◌++◌, length, take, get_or, refl, sym, ap, ◌∙◌, subst, append_assoc, append-nil, Result, Ok, Err, OnOk, IsOk, is_ok, is_err, false, if◌then◌else◌}
 use Rattle.std.specs.declared.alloc.AllocError.{AllocError}
-use Rattle.std.proofs.lemmas.List.{take_more}
+use Rattle.std.proofs.lemmas.List.{take_more, nil_from_length}
+use Rattle.std.proofs.lemmas.Bool.Decides.{nat_tests}
 use Rattle.charsets.specs.declared.unit.Unit.{Unit}
 use Rattle.charsets.specs.declared.unit.Coding.{Coding}
 use Rattle.charsets.specs.declared.unit.Coding.TheVariants.{Utf8}
@@ -255,3 +256,6 @@ on_ok (Err x) P e h = absurd (cc)
 pub when_ok : {A : Type 0} (r : Result (Prim.Unit {0}) AllocError) (x y : A) → IsOk r → (if is_ok r then x else y) ≡ x
 when_ok (Ok u) x y h = refl
 when_ok (Err e) x y h = absurd (cc)
+
+pub none-said : (said : List ℕ) → (length said == 0) ≡ true → said ≡ []
+none-said said e = nil_from_length said (grind (arith, nat_tests))

@@ -110,6 +110,9 @@ impl Emulator {
         }
         out.reserve(REPORT_BYTES)?;
         let report = self.feed(bytes[0]);
+        if report.is_empty() {
+            return Ok(1);
+        }
         let _ = out.extend_from_slice(report.as_slice());
         Ok(1)
     }
