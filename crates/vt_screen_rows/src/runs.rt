@@ -55,15 +55,12 @@ impl Display {
         ensures screen { screen_of self.new ≡ run_placed codes.now (screen_of self.old) }
         ensures width { self.new.ring.columns ≡ self.old.ring.columns }
     {
-        let state = &self.state;
-        let rendition = state.rendition;
-        let is_protecting = state.is_protecting;
         self.page.put_run(
             self.state.line,
             self.state.column,
             codes,
-            rendition,
-            is_protecting,
+            self.state.rendition,
+            self.state.is_protecting,
         );
         self.state.column += codes.len() - 1;
         advance(&mut self.state, 1);
