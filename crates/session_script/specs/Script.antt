@@ -20,7 +20,7 @@ use Rattle.session_core.specs.Trace.{Happening, Attach, Open, Keys, Output, Draw
 abbrev pub is_blank : ℕ → Bool
 is_blank byte = byte == 0x20
 
--- a line's fields: so many that one blank ends each, as far as there are blanks, and the rest of the line
+-- so many fields, each ended by one blank, and the rest of the line behind them; fewer where there are fewer blanks
 unfoldable pub fields : ℕ → List ℕ → List (List ℕ)
 fields zero line = line ∷ []
 fields (suc more) line = elim (position is_blank line) [
@@ -30,9 +30,12 @@ fields (suc more) line = elim (position is_blank line) [
 
 -- ---- numbers
 
--- a number of 1 to 4 decimal digits
-unfoldable pub number_of : List ℕ → Option ℕ
-number_of word = if list_all is_ascii_digit word && nat_lt 0 (length word) && nat_le (length word) 4 then Some (digits_value 10 word) else None
+-- 1 to 4 decimal digits
+unfoldable pub is_number : List ℕ → Bool
+is_number word = nat_lt 0 (length word) && nat_le (length word) 4 && list_all is_ascii_digit word
+
+abbrev pub number_of : List ℕ → Option ℕ
+number_of word = if is_number word then Some (digits_value 10 word) else None
 
 -- ---- texts
 
@@ -44,7 +47,7 @@ abbrev pub put_before : Option ℕ → Option (List ℕ) → Option (List ℕ)
 put_before (Some byte) (Some bytes) = Some (byte ∷ bytes)
 put_before _ _ = None
 
--- the bytes that a text spells: a backslash and two hexadecimal digits spell one byte, and any other byte spells itself
+-- the bytes that a text spells: a backslash and two hexadecimal digits spell one, and any other byte spells itself
 unfoldable mutual
   pub spelled : List ℕ → Option (List ℕ)
   spelled [] = Some []
