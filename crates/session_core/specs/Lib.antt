@@ -9,4 +9,5 @@ pub mod Terminals
 pub mod Granted
 pub mod Steps
 pub mod Stands
+pub mod Openings
 pub mod Headline
