@@ -2,6 +2,7 @@
 use Rattle.std.proofs.Common.{◌≡◌, ◌≢◌, ℕ, Bool, true, false, List, [], ◌∷◌, ◌++◌, length, Some, Err, refl, ap, sym, ◌∙◌, subst}
 use Rattle.std.specs.Prelude.{if◌then◌else◌, ◌==◌, ◌&&◌, is_some, option_map}
 use Rattle.std.specs.String.{string_bytes}
+use Rattle.std.proofs.Math.Bool.{and-true}
 use Rattle.terminal_model.specs.Screen.{starting}
 use Rattle.terminal_model.specs.Reading.{Terminal, ready, reads}
 use Rattle.terminal_model.specs.Writing as written
@@ -17,23 +18,11 @@ use Rattle.session_core.specs.Trace.{Output, Entry, History, Opened, with_step, 
 use Rattle.session_core.specs.Terminals.{terminal_of, terminal_at, reports_of}
 use Rattle.session_core.specs.Steps.{IsStep, done, input_of}
 use Rattle.session_core.specs.Stands.{StandsFor, WindowAt, WindowStands}
-use Rattle.session_core.proofs.Rows.{if_true, if_false, same_number, equal_number, is_equal, with_same, with_other, serials_stay, serial_is}
+use Rattle.session_core.proofs.Rows.{by_if, if_true, if_false, same_number, equal_number, is_equal, with_same, with_other, serials_stay, serial_is}
 use Rattle.session_core.proofs.Tables.{window_kept, clients_kept}
 
 abbrev pub writing_step : ℕ → List ℕ → List Effect → Entry
 writing_step window bytes effects = record { event = Output window bytes; acts = []; effects = effects; reply = done 0 0 }
-
-by_if : (P : List Effect → Type 0) (b : Bool) (x y : List Effect) → P x → P y → P (if b then x else y)
-by_if P true x y p q = p
-by_if P false x y p q = q
-
-and_true : (b : Bool) → b ≡ true → (b && true) ≡ true
-and_true true is = refl
-and_true false is = is
-
-and_false : (b : Bool) → b ≡ false → (b && true) ≡ false
-and_false true is = is
-and_false false is = refl
 
 one_output : (t : Terminal) (bytes : List ℕ) → (written.writes_all t (written.Output bytes ∷ [])).terminal ≡ (reads t bytes).terminal
 unfolding written.writes_all
@@ -61,7 +50,7 @@ module _ (h : History) (s : Session) (window : ℕ) (bytes : List ℕ) (w new : 
   e = writing_step window bytes (input_of window answered)
 
   written_here : writing (e ∷ h.entries) window ≡ writing h.entries window ++ written.Output bytes ∷ []
-  written_here = ap (λ ws. writing h.entries window ++ ws) (if_true ((window == window) && true) _ _ (and_true _ (same_number window)))
+  written_here = ap (λ ws. writing h.entries window ++ ws) (if_true ((window == window) && true) _ _ (and-true _ ∙ same_number window))
 
   terminal_is : terminal_of stands.opened (writing (e ∷ h.entries) window) ≡ (reads before bytes).terminal
   terminal_is = ap (λ ws. terminal_of stands.opened ws) written_here ∙ terminal_then stands.opened (writing h.entries window) bytes
@@ -88,7 +77,7 @@ module _ (h : History) (s : Session) (window : ℕ) (bytes : List ℕ) (w new : 
   each_by t false is =
       let other : window ≢ t = λ same. absurd (cc (is, equal_number window t same)) in
       subst (λ o. WindowAt (e ∷ h.entries) t o) (sym (with_other (λ (v : Window). v.serial) s.windows window t new new_serial (λ same. other (sym same))))
-      (window_kept h.entries e t (row_of (λ (v : Window). v.serial) s.windows t) (record { opened = λ b. refl; unwritten = if_false ((window == t) && true) _ _ (and_false _ is) }) (st.windows.each t))
+      (window_kept h.entries e t (row_of (λ (v : Window). v.serial) s.windows t) (record { opened = λ b. refl; unwritten = if_false ((window == t) && true) _ _ (and-true _ ∙ is) }) (st.windows.each t))
 
   there : terminal_at h.entries window ≡ Some before
   there = ap (λ o. option_map (λ (p : Opened). terminal_of p (writing h.entries window)) o) stands.opened_is
@@ -111,7 +100,7 @@ module _ (h : History) (s : Session) (window : ℕ) (bytes : List ℕ) (w new : 
     clients = clients_kept h e s.clients (λ b. refl) (λ c. record {
       attached = λ p b. refl;
       unread = refl;
-      unsaid = λ b. by_if (λ es. said_last es c b ≡ b) (length answered == 0) _ _ refl refl;
-      undrawn = by_if (λ es. deliveries es c ≡ []) (length answered == 0) _ _ refl refl;
+      unsaid = λ b. by_if (λ (es : List Effect). said_last es c b ≡ b) (length answered == 0) _ _ refl refl;
+      undrawn = by_if (λ (es : List Effect). deliveries es c ≡ []) (length answered == 0) _ _ refl refl;
     }) st.clients;
   }

@@ -1,5 +1,6 @@
 -- What each step of a run shows.
 use Rattle.std.proofs.Common.{◌≡◌, ℕ, Bool, true, false, List, [], ◌∷◌, ◌++◌, length, Some, None, Ok, Err, refl, ap, sym, ◌∙◌, subst, inl, inr, Option}
+use Rattle.std.proofs.Math.Bool.{and-true}
 use Rattle.std.specs.Prelude.{if◌then◌else◌, ◌==◌, ◌&&◌, not, nat_le, slice_get, MatchOption}
 use Rattle.std.specs.List.{AllByRecursion}
 use Rattle.std.proofs.lemmas.List.{append-nil}
@@ -68,10 +69,6 @@ owners owner (e ∷ past) client run = owners_after owner past client e.event e.
 owner_types : (h : History) (user : UserId) (window : ℕ) → same_user h.owner user ≡ true → may_type h user window ≡ true
 owner_types h user window is = rw (is) refl
 
-and_true : (b : Bool) → (b && true) ≡ b
-and_true true = refl
-and_true false = refl
-
 either_nothing : (b : Bool) → (if b then (let none : List ℕ = [] in none) else []) ≡ []
 either_nothing true = refl
 either_nothing false = refl
@@ -95,7 +92,7 @@ typed_in : (h : History) (client : ℕ) (user : UserId) (shows : Option ℕ) (ty
     → inputs (effects_of_typed client shows typed) window ≡ reaching_in h user shows typed window
 typed_in h client user None typed window is = said_inputs (length typed == 0) client window
 typed_in h client user (Some focus) typed window is =
-    inputs_of focus window typed ∙ sym (ap (λ b. if (focus == window) && b then typed else []) (owner_types h user window is) ∙ ap (λ b. if b then typed else []) (and_true (focus == window)))
+    inputs_of focus window typed ∙ sym (ap (λ b. if (focus == window) && b then typed else []) (owner_types h user window is) ∙ ap (λ b. if b then typed else []) (and-true (focus == window)))
 
 typed_at : (h : History) (client : ℕ) (o : Option Attached) (typed : List ℕ) (effects : List Effect) (window : ℕ) → OwnersClient h.owner o
     → MatchOption o (effects ≡ []) (λ a. effects ≡ effects_of_typed client a.shows typed) → inputs effects window ≡ reaching_of h o typed window

@@ -1,7 +1,6 @@
 -- Windows that open.
 use Rattle.std.proofs.Common.{◌≡◌, ℕ, ◌<◌, Bool, true, false, List, [], ◌∷◌, ◌++◌, length, Some, None, map, refl, ap, sym, ◌∙◌, subst}
 use Rattle.std.specs.Prelude.{if◌then◌else◌, ◌==◌, not, nat_le}
-use Rattle.std.specs.String.{string_bytes}
 use Rattle.acl.specs.declared.user_id.UserId.{UserId}
 use Rattle.acl.specs.declared.act.Act.TheVariants.{Opened as WasOpened}
 use Rattle.acl.specs.Same.{same_user}
@@ -12,6 +11,7 @@ use Rattle.terminal_model.specs.Drawable.{IsDrawableScreen}
 use Rattle.emulator.specs.Standing as emulator
 use Rattle.session_core.specs.declared.windows.Window.{Window}
 use Rattle.session_core.specs.declared.session.Session.{Session}
+use Rattle.session_core.specs.Openings.{IsNewWindow}
 use Rattle.session_core.specs.Rows.{row_of}
 use Rattle.session_core.specs.Trace.{Open, Entry, History, Opened, with_step, windows_of, writing}
 use Rattle.session_core.specs.Terminals.{terminal_of}
@@ -28,13 +28,6 @@ writes_none t = refl
 
 abbrev pub opening : UserId → ℕ → ℕ → ℕ → List ℕ → ℕ → Entry
 opening user rows columns keep title made = record { event = Open user rows columns keep title; acts = WasOpened user made ∷ []; effects = []; reply = done 0 made }
-
--- a window as it starts
-pub record IsNewWindow (rows columns keep : ℕ) (title : List ℕ) (made : ℕ) (w : Window) : Type 0 where
-  pub serial_is : w.serial ≡ made
-  pub number_is : w.number ≡ 0
-  pub title_is : string_bytes w.title ≡ title
-  pub stands : emulator.StandsFor w.emulator (ready (starting rows columns keep))
 
 module _ (h : History) (s : Session) (user : UserId) (rows columns keep : ℕ) (title : List ℕ) (made : ℕ) (w : Window) (st : StandsFor h s) (known : same_user h.owner user ≡ true)
     (good : is_window_size rows columns keep ≡ true) (few : length s.windows < 1) (named : is_title title ≡ true) (first : made ≡ 0) (new : IsNewWindow rows columns keep title made w)

@@ -1,6 +1,7 @@
 -- Steps that were refused.
 use Rattle.std.proofs.Common.{◌≡◌, ℕ, ◌<◌, ◌≤◌, Bool, true, false, List, [], length, None, Err, refl, ap, sym, ◌∙◌, subst, arith}
 use Rattle.std.specs.Prelude.{if◌then◌else◌, ◌==◌, ◌&&◌, not, nat_le, is_some, MatchOption}
+use Rattle.std.proofs.Math.Bool.{and-false}
 use Rattle.std.proofs.lemmas.List.{length-map}
 use Rattle.std.proofs.lemmas.Bool.Decides.{nat_tests}
 use Rattle.acl.specs.declared.user_id.UserId.{UserId}
@@ -24,10 +25,6 @@ use Rattle.session_core.proofs.Tables.{Keeps, kept}
 abbrev pub refusal_of : Happening → Refusal → Entry
 refusal_of event refusal = record { event = event; acts = []; effects = []; reply = Err refusal }
 
-and_false : (b : Bool) → (b && false) ≡ false
-and_false true = refl
-and_false false = refl
-
 -- a refused step leaves every table
 keeps_refused : (event : Happening) (r : Refusal) → Keeps (refusal_of event r)
 keeps_refused (Attach user rows columns) r = record {
@@ -46,7 +43,7 @@ keeps_refused (Keys client bytes) r = record {
   clients = λ c. record { attached = λ p b. refl; unread = refl; unsaid = λ b. refl; undrawn = refl };
 }
 keeps_refused (Output window bytes) r = record {
-  windows = record { serials = λ b. refl; opened = λ w b. refl; unwritten = λ w. if_false ((window == w) && false) _ _ (and_false (window == w)) };
+  windows = record { serials = λ b. refl; opened = λ w b. refl; unwritten = λ w. if_false ((window == w) && false) _ _ (and-false (window == w)) };
   serials = λ b. refl;
   clients = λ c. record { attached = λ p b. refl; unread = refl; unsaid = λ b. refl; undrawn = refl };
 }

@@ -17,17 +17,13 @@ use Rattle.session_core.specs.Trace.{Keys, Entry, History, with_step, keys_of, d
 use Rattle.session_core.specs.Steps.{IsStep, done, effects_of_typed, message_by}
 use Rattle.session_core.specs.Framed.{KnowsDelivered}
 use Rattle.session_core.specs.Stands.{StandsFor, ClientAt, ClientStands}
-use Rattle.session_core.proofs.Rows.{if_true, if_false, same_number, equal_number, other_number, is_equal, with_same, with_other, serials_stay, serial_is}
+use Rattle.session_core.proofs.Rows.{by_if, if_true, if_false, same_number, equal_number, other_number, is_equal, with_same, with_other, serials_stay, serial_is}
 use Rattle.session_core.proofs.Tables.{KeepsClient, windows_kept, client_kept, delivered_same}
-
-by_if : (P : List Effect → Type 0) (b : Bool) (x y : List Effect) → P x → P y → P (if b then x else y)
-by_if P true x y p q = p
-by_if P false x y p q = q
 
 -- typed bytes deliver nothing
 undelivered : (client : ℕ) (shows : Option ℕ) (made : List ℕ) (c : ℕ) → deliveries (effects_of_typed client shows made) c ≡ []
-undelivered client (Some window) made c = by_if (λ es. deliveries es c ≡ []) (length made == 0) _ _ refl refl
-undelivered client None made c = by_if (λ es. deliveries es c ≡ []) (length made == 0) _ _ refl refl
+undelivered client (Some window) made c = by_if (λ (es : List Effect). deliveries es c ≡ []) (length made == 0) _ _ refl refl
+undelivered client None made c = by_if (λ (es : List Effect). deliveries es c ≡ []) (length made == 0) _ _ refl refl
 
 -- and say nothing to others
 unsaid_by : (client c : ℕ) (b : Bool) (before : List ℕ) → client ≢ c → said_last (if b then (let none : List Effect = [] in none) else Say client (text_of NoWindow) ∷ []) c before ≡ before
@@ -35,7 +31,7 @@ unsaid_by client c true before other = refl
 unsaid_by client c false before other = if_false (client == c) _ _ (other_number client c other)
 
 unsaid : (client : ℕ) (shows : Option ℕ) (made : List ℕ) (c : ℕ) (before : List ℕ) → client ≢ c → said_last (effects_of_typed client shows made) c before ≡ before
-unsaid client (Some window) made c before other = by_if (λ es. said_last es c before ≡ before) (length made == 0) _ _ refl refl
+unsaid client (Some window) made c before other = by_if (λ (es : List Effect). said_last es c before ≡ before) (length made == 0) _ _ refl refl
 unsaid client None made c before other = unsaid_by client c (length made == 0) before other
 
 said_by : (client : ℕ) (b : Bool) → said_last (if b then (let none : List Effect = [] in none) else Say client (text_of NoWindow) ∷ []) client [] ≡ (if b then [] else text_of NoWindow)
@@ -43,7 +39,7 @@ said_by client true = refl
 said_by client false = if_true (client == client) _ _ (same_number client)
 
 said : (client : ℕ) (shows : Option ℕ) (made : List ℕ) → said_last (effects_of_typed client shows made) client [] ≡ message_by shows made
-said client (Some window) made = by_if (λ es. said_last es client [] ≡ []) (length made == 0) _ _ refl refl
+said client (Some window) made = by_if (λ (es : List Effect). said_last es client [] ≡ []) (length made == 0) _ _ refl refl
 said client None made = said_by client (length made == 0)
 
 typed_is : (past bytes made : List ℕ) → typed (past ++ bytes) ≡ typed past ++ made → typed_behind past bytes ≡ made

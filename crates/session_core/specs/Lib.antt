@@ -10,4 +10,5 @@ pub mod Granted
 pub mod Framed
 pub mod Steps
 pub mod Stands
+pub mod Openings
 pub mod Headline

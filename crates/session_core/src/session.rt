@@ -23,8 +23,6 @@ use crate::notes::Notes;
 use crate::refusal::{Refusal, WindowsFault};
 use crate::windows::{Window, Windows, is_title};
 use acl::{Act, UserId};
-use cells::GridFault;
-use emulator::Emulator;
 use redraw::Shadow;
 use regions::Rects;
 use std::alloc::{AllocError, Global};
@@ -286,34 +284,13 @@ impl Session {
         if !is_title(title) {
             return settled(Err(Refusal::Windows(WindowsFault::BadTitle)), notes);
         }
-        let serial = self.windows.len() as u32;
-        let emulator = match Emulator::new(
-            self.alloc,
-            rows as usize,
-            cols as usize,
-            keep as usize,
-        ) {
-            Ok(emulator) => emulator,
-            Err(GridFault::BadSize) => return settled(Err(Refusal::BadSize), notes),
-            Err(GridFault::NoMemory) => return Err(Refusal::NoMemory),
-        };
-        let acts = noted(
-            self.alloc,
-            Act::Opened {
-                by: user,
-                window: serial,
-            },
-        )?;
-        let title = String::from_str(self.alloc, title)?;
-        self.windows.push(Window {
-            serial,
-            number: 0,
-            title,
-            emulator,
-        })?;
+        let window = self.windows.len() as u32;
+        let opened = Window::new(self.alloc, window, rows, cols, keep, title)?;
+        let acts = noted(self.alloc, Act::Opened { by: user, window })?;
+        self.windows.push(opened)?;
         *notes = acts;
         Ok(Done {
-            made: serial,
+            made: window,
             ..Done::plain()
         })
     }

@@ -1,11 +1,12 @@
 //! The windows of a session.
 
-ghost use Rattle.std.specs.Prelude.{◌≡◌, ◌++◌, ◌∷◌, ◌==◌, ◌<◌, ◌≤◌, ◌+◌, ◌*◌, [], List, ℕ, Some, None, length, map, take, slice_get, OnOk, OnErr, IfOk, IfSome, IsOk, option_copied, vec_len, vec_capacity};
+ghost use Rattle.std.specs.Prelude.{◌≡◌, ◌++◌, ◌∷◌, ◌==◌, ◌<◌, ◌≤◌, ◌+◌, ◌*◌, [], List, ℕ, Some, None, length, map, take, slice_get, OnOk, OnErr, IfOk, IfErr, true, IfSome, IsOk, option_copied, vec_len, vec_capacity};
 ghost use Rattle.std.specs.List.{position, list_all};
 ghost use Rattle.std.specs.Str.{chars};
 ghost use Rattle.std.specs.String.{string_bytes};
 
-use cells::{Cell, glyph_width};
+use crate::refusal::Refusal;
+use cells::{Cell, GridFault, glyph_width};
 use emulator::{Emulator, Stopped};
 use std::alloc::{AllocError, Global};
 use std::marker::Model;
@@ -146,6 +147,37 @@ impl Windows {
 impl Window {
     ghost use Rattle.view.specs.Granted.{window_of};
     ghost use Rattle.session_core.specs.Granted.{window_read};
+    ghost use Rattle.session_core.specs.Openings.{IsNewWindow};
+    ghost use Rattle.session_core.specs.Steps.{is_window_size};
+    ghost use Rattle.session_core.specs.declared.refusal.Refusal.TheVariants.{NoMemory};
+
+    /// A window of this size and title that opens, with number 0 and a blank screen.
+    pub fn new(
+        alloc: Global,
+        serial: u32,
+        rows: u16,
+        cols: u16,
+        keep: u16,
+        title: &str,
+    ) -> Result<Window, Refusal>
+        requires { is_window_size rows cols keep ≡ true }
+        ensures ok { IfOk result (λ w. IsNewWindow rows cols keep title.now serial w) }
+        ensures err { IfErr result (λ refusal. refusal ≡ NoMemory) }
+    {
+        let rows = rows as usize;
+        let cols = cols as usize;
+        let emulator = match Emulator::new(alloc, rows, cols, keep as usize) {
+            Ok(emulator) => emulator,
+            Err(GridFault::BadSize) => return Err(Refusal::BadSize),
+            Err(GridFault::NoMemory) => return Err(Refusal::NoMemory),
+        };
+        Ok(Window {
+            serial,
+            number: 0,
+            title: String::from_str(alloc, title)?,
+            emulator,
+        })
+    }
 
     /// The lines of the page.
     pub fn lines(&self, alloc: Global) -> Result<Vec<&[Cell]>, AllocError>

@@ -1,0 +1,4 @@
+mod Fields
+mod Numbers
+mod Texts
+mod Events
