@@ -28,7 +28,7 @@ fn main(rt: HostRuntime) -> ExitCode {
         rt.alloc(),
         words.as_slice(),
         rt.reader(),
-        io::writer(&rt),
+        &mut io::writer(&rt),
         &mut rt.stderr(),
     );
     ExitCode::from(status)

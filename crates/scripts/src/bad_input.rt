@@ -146,7 +146,13 @@ fn failing_reads_and_writes_are_told(rt: HostRuntime) -> Result<(), Fail> {
     assert_eq!(rt; output.as_slice(), b"opened 0 0\n".as_slice());
     assert!(rt; errors.starts_with(b"muxsim: "));
     errors.clear();
-    let status = simulate(rt.alloc(), &words, script.as_slice(), Full, &mut errors);
+    let status = simulate(
+        rt.alloc(),
+        &words,
+        script.as_slice(),
+        &mut Full,
+        &mut errors,
+    );
     assert_eq!(rt; status, 1);
     assert!(rt; errors.starts_with(b"muxsim: "));
     Ok(())

@@ -47,7 +47,7 @@ impl Refusal {
     ghost use Rattle.session_core.specs.Refusals.{text_of};
 
     /// The text that names the cause.
-    pub(crate) fn as_bytes(&self) -> &'static [u8]
+    pub fn as_bytes(&self) -> &'static [u8]
         ensures { result.now ≡ text_of self.now }
     {
         match self {

@@ -4,5 +4,5 @@
 mod printing;
 mod script;
 
-pub use printing::{print_done, print_effect, print_refusal, print_view};
+pub use printing::{print_effect, print_reply, print_view};
 pub use script::read_event;

@@ -1,0 +1,113 @@
+-- Lines that are played one after another.
+use Rattle.std.proofs.Common.{ℕ, ◌<◌, ◌≡◌, refl, sym, ◌∙◌, ap, subst, List, [], ◌∷◌, ◌++◌, map, length, arith, Option, Some, None, append_assoc}
+use Rattle.std.proofs.lemmas.Grind.{flat_map-append}
+use Rattle.std.proofs.lemmas.List.{append-nil, map-append}
+use Rattle.std.specs.Io.KnownBytes.{Appends, Keeps}
+use Rattle.session_core.specs.Trace.{Happening, Entry, History, with_step}
+use Rattle.session_core.specs.Stands.{StandsFor}
+use Rattle.session_core.specs.Steps.{IsStep}
+use Rattle.session_core.specs.Headline.{with_steps, AllSteps}
+use Rattle.session_core.proofs.Runs.{with_steps-append, serves_before, serves_on}
+use Rattle.session_core.specs.declared.session.Session.{Session}
+use Rattle.session_script.specs.Script.{event_of}
+use Rattle.session.specs.Played.{filled, Plays, IsBad, step_lines, printed, Runs, Played}
+
+-- ---- known bytes
+
+pub keeps_on : (a b c : Option (List ℕ)) (bytes : List ℕ) → Appends a b bytes → Keeps b c → Appends a c bytes
+keeps_on None b c bytes before behind = tt
+keeps_on (Some olds) None c bytes before behind = absurd before
+keeps_on (Some olds) (Some bs) None bytes before behind = absurd behind
+keeps_on (Some olds) (Some bs) (Some cs) bytes before behind = behind ∙ before
+
+pub appends_kept : (a b c : Option (List ℕ)) (bytes : List ℕ) → Keeps a b → Appends b c bytes → Appends a c bytes
+appends_kept None b c bytes before behind = tt
+appends_kept (Some olds) None c bytes before behind = absurd before
+appends_kept (Some olds) (Some bs) None bytes before behind = absurd behind
+appends_kept (Some olds) (Some bs) (Some cs) bytes before behind = behind ∙ ap (λ xs. xs ++ bytes) before
+
+pub appends_on : (a b c : Option (List ℕ)) (xs ys : List ℕ) → Appends a b xs → Appends b c ys → Appends a c (xs ++ ys)
+appends_on None b c xs ys before behind = tt
+appends_on (Some olds) None c xs ys before behind = absurd before
+appends_on (Some olds) (Some bs) None xs ys before behind = absurd behind
+appends_on (Some olds) (Some bs) (Some cs) xs ys before behind = behind ∙ (ap (λ zs. zs ++ ys) before ∙ append_assoc olds xs ys)
+
+pub appends_none : (a : Option (List ℕ)) → Appends a a []
+appends_none None = tt
+appends_none (Some olds) = sym (append-nil olds)
+
+pub keeps_same : (a : Option (List ℕ)) → Keeps a a
+keeps_same None = tt
+keeps_same (Some olds) = refl
+
+-- ---- steps
+
+steps_on : (P : History → Entry → Type 0) (h : History) (xs ys : List Entry) → AllSteps P h xs → AllSteps P (with_steps h xs) ys → AllSteps P h (xs ++ ys)
+steps_on P h [] ys before behind = behind
+steps_on P h (x ∷ xs) ys before behind = (before.0, steps_on P (with_step h x) xs ys before.1 behind)
+
+-- ---- lines
+
+filled-append : (xs ys : List (List ℕ)) → filled (xs ++ ys) ≡ filled xs ++ filled ys
+filled-append [] ys = refl
+filled-append ([] ∷ xs) ys = filled-append xs ys
+filled-append ((byte ∷ bytes) ∷ xs) ys = ap (λ ls. (byte ∷ bytes) ∷ ls) (filled-append xs ys)
+
+filled_one : (line : List ℕ) → 0 < length line → filled (line ∷ []) ≡ line ∷ []
+filled_one [] some = absurd (omega arith)
+filled_one (byte ∷ bytes) some = refl
+
+-- no line
+pub none_played : (h : History) (s : Session) (known : Option (List ℕ)) → StandsFor h s → Played h [] s known known
+none_played h s known st = record {
+  steps = [];
+  plays = record { events = []; understood = refl; serves = refl; run = tt };
+  stands = st;
+  prints = appends_none known;
+}
+
+-- an empty line
+pub empty_played : (h : History) (s : Session) (line : List ℕ) (known : Option (List ℕ)) → line ≡ [] → StandsFor h s → Played h (line ∷ []) s known known
+empty_played h s line known empty st = record {
+  steps = [];
+  plays = record { events = []; understood = ap (λ l. map event_of (filled (l ∷ []))) empty; serves = refl; run = tt };
+  stands = st;
+  prints = appends_none known;
+}
+
+-- a line that is an event
+pub one_played : (h : History) (line : List ℕ) (event : Happening) (s : Session) (a b : Option (List ℕ)) → 0 < length line → event_of line ≡ Some event → Runs h event s a b
+    → Played h (line ∷ []) s a b
+one_played h line event s a b some is runs = record {
+  steps = runs.steps;
+  plays = record {
+    events = event ∷ [];
+    understood = ap (λ ls. map event_of ls) (filled_one line some) ∙ ap (λ e. e ∷ []) is;
+    serves = runs.serves;
+    run = runs.run;
+  };
+  stands = runs.stands;
+  prints = runs.prints;
+}
+
+-- a line that is none
+pub bad_line : (line : List ℕ) → 0 < length line → event_of line ≡ None → IsBad line
+bad_line line some is = ap (λ ls. map event_of ls) (filled_one line some) ∙ ap (λ e. e ∷ []) is
+
+-- lines behind others
+plays_on : (h : History) (xs ys : List (List ℕ)) (before behind : List Entry) → Plays h xs before → Plays (with_steps h before) ys behind → Plays h (xs ++ ys) (before ++ behind)
+plays_on h xs ys before behind p q = record {
+  events = p.events ++ q.events;
+  understood = ap (λ ls. map event_of ls) (filled-append xs ys) ∙ (map-append event_of (filled xs) (filled ys)
+      ∙ (ap (λ es. es ++ map event_of (filled ys)) p.understood ∙ (ap (λ es. map Some p.events ++ es) q.understood ∙ sym (map-append (λ e. Some e) p.events q.events))));
+  serves = serves_on (p.events ++ q.events) before behind q.events [] (serves_before p.events before [] q.events p.serves) q.serves;
+  run = steps_on IsStep h before behind p.run q.run;
+}
+
+pub played_on : (h : History) (xs ys : List (List ℕ)) (s t : Session) (a b c : Option (List ℕ)) → (p : Played h xs s a b) → Played (with_steps h p.steps) ys t b c → Played h (xs ++ ys) t a c
+played_on h xs ys s t a b c p q = record {
+  steps = p.steps ++ q.steps;
+  plays = plays_on h xs ys p.steps q.steps p.plays q.plays;
+  stands = subst (λ after. StandsFor after t) (sym (with_steps-append h p.steps q.steps)) q.stands;
+  prints = subst (λ text. Appends a c text) (sym (flat_map-append step_lines p.steps q.steps)) (appends_on a b c (printed p.steps) (printed q.steps) p.prints q.prints);
+}

@@ -1,0 +1,150 @@
+//! Plays scripts: one event a line, whose effects and answer are printed before the next line is read.
+
+ghost use Rattle.std.specs.Prelude.{◌≡◌, ◌≤◌, ◌++◌, ◌∷◌, [], List, ℕ, Some, None, IfSome, IfOk, IfErr, OnOk, option_map};
+ghost use Rattle.std.specs.List.{flat_map};
+ghost use Rattle.std.specs.String.{string_bytes};
+ghost use Rattle.std.specs.Io.KnownBytes.{Appends, Keeps};
+ghost use Rattle.session_core.specs.Trace.{History, Entry, happening, start};
+ghost use Rattle.session_core.specs.Stands.{StandsFor};
+ghost use Rattle.session_core.specs.Headline.{with_steps};
+ghost use Rattle.session_script.specs.Printed.{effect_line, reply_line};
+ghost use Rattle.session.specs.Lines.{lines_of};
+ghost use Rattle.session_script.specs.Script.{event_of};
+ghost use Rattle.session.specs.Played.{PlaysAll, PlaysUntil, Played, Runs, IsBad, IfNotUnderstood, views};
+
+use crate::fault::Fault;
+use acl::UserId;
+use session_core::{Effect, Event, Reply, Session};
+use session_script::{print_effect, print_reply, print_view, read_event};
+use std::alloc::{AllocError, Global};
+use std::io;
+use std::io::{BufRead, BufReader, Read, Write};
+
+/// Plays the script on the reader over a new session of this owner, and writes what its effects and answers
+/// print, and behind the last one, if `shows`, what each client is to see.
+pub fn play<R: Read + Drop, W: Write>(
+    alloc: Global,
+    owner: UserId,
+    shows: bool,
+    reader: R,
+    writer: &mut W,
+) -> Result<(), Fault>
+    // The lines were the events of a run of the session, and what was written is what that run prints.
+    ensures whole { OnOk result (IfSome (R.remaining reader) (λ script. PlaysAll owner shows script (W.contents writer.old) (W.contents writer.new))) }
+    // So were the lines before the first one that isn't understood, whose number the fault names.
+    ensures until { IfErr result (λ fault. IfNotUnderstood fault (λ number. IfSome (R.remaining reader) (λ script. PlaysUntil number (start owner) script (W.contents writer.old) (W.contents writer.new)))) }
+{
+    let mut session = Session::new(alloc, owner)?;
+    play_lines(alloc, &mut session, reader, writer)?;
+    if !shows {
+        return Ok(());
+    }
+    show(alloc, &session, writer)?;
+    Ok(())
+}
+
+/// Plays all lines of a reader.
+fn play_lines<R: Read + Drop, W: Write>(
+    alloc: Global,
+    session: &mut Session,
+    reader: R,
+    writer: &mut W,
+) -> Result<(), Fault>
+    ensures whole { OnOk result ((script : List ℕ) → R.remaining reader ≡ Some script → (h : History) → StandsFor h session.old → Played h (lines_of script) session.new (W.contents writer.old) (W.contents writer.new)) }
+    ensures until { IfErr result (λ fault. IfNotUnderstood fault (λ number. (script : List ℕ) → R.remaining reader ≡ Some script → (h : History) → StandsFor h session.old → PlaysUntil number h script (W.contents writer.old) (W.contents writer.new))) }
+{
+    let lines = BufReader::new(alloc, reader)?.split(alloc, b'\n');
+    'lines: for (past, line) in lines.enumerate() {
+        let line = line?;
+        play_line(alloc, session, past as u64 + 1, &line, writer)?;
+    }
+    Ok(())
+}
+
+/// Plays the line of a number.
+fn play_line<W: Write>(
+    alloc: Global,
+    session: &mut Session,
+    number: u64,
+    line: &[u8],
+    writer: &mut W,
+) -> Result<(), Fault>
+    ensures played { OnOk result ((h : History) → StandsFor h session.old → Played h (line.now ∷ []) session.new (W.contents writer.old) (W.contents writer.new)) }
+    ensures bad { IfErr result (λ fault. IfNotUnderstood fault (λ n. (n ≡ number) × IsBad line.now × Keeps (W.contents writer.old) (W.contents writer.new))) }
+{
+    if line.is_empty() {
+        return Ok(());
+    }
+    let mut text = Vec::new(alloc);
+    let Some(event) = read_event(line, &mut text)? else {
+        return Err(Fault::NotUnderstood(number));
+    };
+    submit(alloc, session, event, writer)
+}
+
+/// Runs one event, and writes what came of it.
+fn submit<W: Write>(
+    alloc: Global,
+    session: &mut Session,
+    event: Event,
+    writer: &mut W,
+) -> Result<(), Fault>
+    ensures ran { OnOk result ((h : History) → StandsFor h session.old → Runs h (happening event.entry) session.new (W.contents writer.old) (W.contents writer.new)) }
+    ensures understood { IfErr result (λ fault. IfNotUnderstood fault (λ _. ⊥)) }
+{
+    let mut effects = Vec::new(alloc);
+    let mut replies = Vec::new(alloc);
+    let ran = session.run(&[event], &mut effects, &mut replies);
+    let text = text_of(alloc, &event, &effects, &replies)?;
+    put(&text, writer)?;
+    if ran.stopped {
+        return Err(Fault::NoMemory);
+    }
+    Ok(())
+}
+
+/// The lines of an event's effects, and behind them those of its replies.
+fn text_of(
+    alloc: Global,
+    event: &Event,
+    effects: &[Effect],
+    replies: &[Reply],
+) -> Result<String, AllocError>
+    ensures { IfOk result (λ text. string_bytes text ≡ flat_map effect_line effects.now ++ flat_map (reply_line (happening event.now)) replies.now) }
+{
+    let mut text = String::new(alloc);
+    for effect in effects {
+        print_effect(effect, &mut text)?;
+    }
+    for reply in replies {
+        print_reply(event, reply, &mut text)?;
+    }
+    Ok(text)
+}
+
+/// Writes a text, past each buffer.
+fn put<W: Write>(text: &str, writer: &mut W) -> io::Result<()>
+    ensures { OnOk result (Appends (W.contents writer.old) (W.contents writer.new) text.now) }
+{
+    writer.write_all(text.as_bytes())?;
+    writer.flush()
+}
+
+/// Writes what each client is to see.
+fn show<W: Write>(alloc: Global, session: &Session, writer: &mut W) -> Result<(), Fault>
+    ensures shown { OnOk result ((h : History) → StandsFor h session.now → Appends (W.contents writer.old) (W.contents writer.new) (views h)) }
+    ensures understood { IfErr result (λ fault. IfNotUnderstood fault (λ _. ⊥)) }
+{
+    let mut from = 0;
+    'clients: while let Some(client) = session.clients_from(from) {
+        let view = session.view(client)?;
+        let mut text = String::new(alloc);
+        print_view(client, &view, &mut text)?;
+        put(&text, writer)?;
+        match client.checked_add(1) {
+            Some(next) => from = next,
+            None => break,
+        }
+    }
+    Ok(())
+}
