@@ -2,3 +2,4 @@ mod Fields
 mod Numbers
 mod Texts
 mod Events
+mod ReadBack

@@ -7,6 +7,10 @@ use Rattle.std.specs.Str.{IsUtf8, is_utf8}
 use Rattle.std.proofs.lemmas.Str.{IsUtf8-from_is_utf8, is_utf8-from_IsUtf8}
 use Rattle.session_script.specs.Script.{byte_of, put_before, spelled, if_utf8}
 
+pub spelled-nil : spelled [] ≡ Some []
+unfolding spelled
+spelled-nil = refl
+
 pub spelled-plain : (text : List ℕ) (byte : ℕ) (rest : List ℕ) → text ≡ byte ∷ rest → byte ≢ 0x5C → spelled text ≡ put_before (Some byte) (spelled rest)
 unfolding spelled
 spelled-plain text byte rest e h = rw e (search rules)

@@ -5,4 +5,4 @@ mod printing;
 mod script;
 
 pub use printing::{print_effect, print_reply, print_view};
-pub use script::read_event;
+pub use script::{read_event, reads_printed};

@@ -5,6 +5,7 @@ ghost use Rattle.std.specs.List.{list_all, position};
 ghost use Rattle.std.specs.Char.{is_ascii_digit};
 ghost use Rattle.session_core.specs.Trace.{happening, Keys, Output, Draw};
 ghost use Rattle.session_script.specs.Script.{is_blank, fields, is_number, number_of, byte_of, put_before, spelled, text_of, title_of, attach_in, opened, open_in, bytes_in, event_of};
+ghost use Rattle.session_script.specs.ReadBack.{ReadsPrinted};
 
 use acl::UserId;
 use session_core::Event;
@@ -258,3 +259,8 @@ fn read_draw(rest: &[u8]) -> Option<Event<'static>>
         client: read_serial(rest)?,
     })
 }
+
+/// A law of texts: one that was printed is read as the same bytes.
+pub fn reads_printed()
+    ensures { ReadsPrinted }
+{}
