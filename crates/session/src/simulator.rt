@@ -1,6 +1,11 @@
 //! The simulator: plays a script of events over a session.
 
-ghost use Rattle.std.specs.Prelude.{◌≡◌};
+ghost use Rattle.std.specs.Prelude.{◌≡◌, Bool, true, IfOk, IfErr, map, codes, option_and_then};
+ghost use Rattle.std.specs.String.{string_bytes};
+ghost use Rattle.acl.specs.declared.user_id.UserId.{UserId as Owner};
+ghost use Rattle.acl.specs.Names.{named_by};
+ghost use Rattle.clap.specs.Words.{found_of, kind_of, rows_of, matches_of, takes, first_of};
+ghost use Rattle.session.specs.Words.{muxsim, Asks, Simulates};
 
 use crate::fault::Fault;
 use crate::player::play;
@@ -11,7 +16,10 @@ use std::alloc::Global;
 use std::io::{Read, Write};
 
 /// The words `muxsim [--show] OWNER`, the program's name first.
-fn read_words<'a>(alloc: Global, words: &'a [String]) -> Result<ArgMatches<'a>, Error> {
+fn read_words<'a>(alloc: Global, words: &'a [String]) -> Result<ArgMatches<'a>, Error>
+    ensures ok { IfOk result (λ m. rows_of (found_of m) ≡ matches_of muxsim (map string_bytes words.entry.now)) }
+    ensures err { IfErr result (λ e. takes muxsim (map string_bytes words.entry.now) ≡ true → kind_of e ≡ ErrorKind.OutOfMemory) }
+{
     let show = Arg::new(alloc, "show")
         .long("show")
         .action(ArgAction::SetTrue)
@@ -27,6 +35,16 @@ fn read_words<'a>(alloc: Global, words: &'a [String]) -> Result<ArgMatches<'a>, 
         .try_get_matches_from(words)
 }
 
+/// The owner that the words name.
+fn owner_of(matches: &ArgMatches) -> Option<UserId>
+    ensures { result ≡ option_and_then named_by (first_of (codes "owner") (rows_of (found_of matches.now))) }
+{
+    match matches.get_str("owner") {
+        Some(owner) => UserId::of(owner.as_bytes()),
+        None => None,
+    }
+}
+
 /// Plays the script on the reader, one event a line, and writes its effects and answers. Gives the status
 /// to exit with: 0; 1 for a line that isn't understood or another fault; 2 where the words, of which the
 /// first is the program's name, aren't understood or the owner is no name.
@@ -36,23 +54,20 @@ pub fn simulate<R: Read + Drop, W: Write, E: Write>(
     reader: R,
     writer: &mut W,
     errors: &mut E,
-) -> u8 {
+) -> u8
+    // Words that are understood have the whole script played, unless the status tells of a fault.
+    ensures { (name : Owner) (shows : Bool) → Asks (map string_bytes words.now) name shows → Simulates name shows (R.remaining reader) result (W.contents writer.old) (W.contents writer.new) }
+{
     let matches = match read_words(alloc, words) {
         Ok(matches) => matches,
-        Err(error) if error.kind() == ErrorKind::OutOfMemory => {
-            return report(&Fault::NoMemory, errors);
-        }
         Err(error) => return tell(&error, writer, errors),
     };
-    let owner = match matches.get_str("owner") {
-        Some(owner) => UserId::of(owner.as_bytes()),
-        None => None,
-    };
-    let Some(owner) = owner else {
+    let Some(owner) = owner_of(&matches) else {
         let _ = writeln!(errors, "muxsim: the owner is no name");
         return 2;
     };
-    match play(alloc, owner, matches.get_flag("show"), reader, writer) {
+    let shows = matches.get_flag("show");
+    match play(alloc, owner, shows, reader, writer) {
         Ok(()) => 0,
         Err(fault) => report(&fault, errors),
     }
@@ -66,8 +81,14 @@ fn report<E: Write>(fault: &Fault, errors: &mut E) -> u8
     1
 }
 
-/// Writes why the words give nothing: the help, with status 0, or a mistake, with status 2.
-fn tell<W: Write, E: Write>(error: &Error, writer: &mut W, errors: &mut E) -> u8 {
+/// Writes why the words give nothing: the help, with status 0, a mistake, with status 2, or want of memory,
+/// with status 1.
+fn tell<W: Write, E: Write>(error: &Error, writer: &mut W, errors: &mut E) -> u8
+    ensures { kind_of error.now ≡ ErrorKind.OutOfMemory → result ≡ 1 }
+{
+    if let ErrorKind::OutOfMemory = error.kind() {
+        return report(&Fault::NoMemory, errors);
+    }
     if error.use_stderr() {
         let _ = write!(errors, "{error}");
         return 2;
