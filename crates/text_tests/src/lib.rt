@@ -3,3 +3,5 @@
 
 #[cfg(test)]
 mod decoders;
+#[cfg(test)]
+mod parsers;
