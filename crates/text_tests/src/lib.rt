@@ -5,3 +5,5 @@
 mod decoders;
 #[cfg(test)]
 mod parsers;
+#[cfg(test)]
+mod reports;
