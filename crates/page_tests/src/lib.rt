@@ -4,4 +4,6 @@
 #[cfg(test)]
 mod lines;
 #[cfg(test)]
+mod pages;
+#[cfg(test)]
 mod rings;
