@@ -2,6 +2,8 @@
 #![tactic(auto)]
 
 #[cfg(test)]
+mod layouts;
+#[cfg(test)]
 mod lines;
 #[cfg(test)]
 mod pages;
