@@ -16,6 +16,3 @@ pub use laws::{
 pub use sets::CharacterSet;
 pub use shifts::{Place, Shift, Shifts};
 pub use unit::{Coding, Unit, Units};
-
-#[cfg(test)]
-mod tests;

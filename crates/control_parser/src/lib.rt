@@ -21,6 +21,3 @@ pub use parser::Parser;
 pub use plain::plain_run;
 pub use spelling::spell;
 pub use std::alloc::AllocError as NoMemory;
-
-#[cfg(test)]
-mod tests;

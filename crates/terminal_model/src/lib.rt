@@ -9,8 +9,6 @@ mod limits;
 mod report;
 mod rows;
 mod state;
-#[cfg(test)]
-mod tests;
 
 pub use action::{Action, Attribute, Mode, Part};
 pub use laws::{

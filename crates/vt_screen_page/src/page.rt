@@ -299,13 +299,3 @@ impl Page {
         Ok(())
     }
 }
-
-#[cfg(test)]
-impl Page {
-    /// The stored line that holds a line of the page.
-    pub(crate) fn place(&self, line: usize) -> usize
-        requires { line < length self.now }
-    {
-        self.places[line]
-    }
-}

@@ -44,12 +44,13 @@ pub fn erase_lines(stored: &mut [Line], places: &[usize], first: usize, end: usi
     clear_lines(stored, &places[first..end]);
 }
 
-/// Scrolls the lines of the page from `top` to `bottom` up by `count`.
+/// Scrolls the lines of the page from `top` to `bottom` up by `count`, by their places.
 pub fn scroll_up(stored: &mut [Line], places: &mut [usize], top: usize, bottom: usize, count: usize)
     requires store { IsStore stored.old places.old }
     requires order { top ≤ bottom }
     requires inside { bottom < length places.old }
     requires room { count ≤ bottom + 1 - top }
+    ensures turned { IsTurned top bottom count places.old places.new }
     ensures store { IsStore stored.new places.new }
     ensures page { lines_in_order stored.new places.new ≡ page_from (scrolled_up top bottom count) (lines_in_order stored.old places.old) }
 {
@@ -57,7 +58,7 @@ pub fn scroll_up(stored: &mut [Line], places: &mut [usize], top: usize, bottom: 
     turn(places, top, bottom, count);
 }
 
-/// Scrolls the lines of the page from `top` to `bottom` down by `count`.
+/// Scrolls the lines of the page from `top` to `bottom` down by `count`, by their places.
 pub fn scroll_down(
     stored: &mut [Line],
     places: &mut [usize],
@@ -69,6 +70,7 @@ pub fn scroll_down(
     requires order { top ≤ bottom }
     requires inside { bottom < length places.old }
     requires room { count ≤ bottom + 1 - top }
+    ensures turned { IsTurned top bottom (bottom + 1 - top - count) places.old places.new }
     ensures store { IsStore stored.new places.new }
     ensures page { lines_in_order stored.new places.new ≡ page_from (scrolled_down top bottom count) (lines_in_order stored.old places.old) }
 {
@@ -77,11 +79,13 @@ pub fn scroll_down(
     turn(places, top, bottom, kept);
 }
 
-/// Scrolls the lines of the page from the first one to `bottom` up by one, the first one into a ring.
+/// Scrolls the lines of the page from the first one to `bottom` up by one, by their places, the first one
+/// into a ring.
 pub fn scroll_into(stored: &mut [Line], places: &mut [usize], ring: &mut Ring, bottom: usize)
     requires store { IsStore stored.old places.old }
     requires inside { bottom < length places.old }
     requires width { ring.old.columns ≡ length (line_at (lines_in_order stored.old places.old) 0) }
+    ensures turned { IsTurned 0 bottom 1 places.old places.new }
     ensures store { IsStore stored.new places.new }
     ensures page { lines_in_order stored.new places.new ≡ page_from (scrolled_up 0 bottom 1) (lines_in_order stored.old places.old) }
     ensures kept { ring.new ≡ taken_in ring.old (line_at (lines_in_order stored.old places.old) 0) }

@@ -1,4 +1,9 @@
-use super::*;
+//! Widths, cells, lines and grids.
+
+ghost use Rattle.std.specs.Prelude.{◌≡◌, length, IfOk};
+
+use cells::{Cell, Grid, GridFault, Line, Marks, Rendition, glyph_width, next_unlike};
+use std::alloc::{AllocError, Global};
 use std::mem::size_of;
 use std::test::Fail;
 
@@ -78,21 +83,38 @@ fn a_grid_is_written(rt: HostRuntime) {
     assert_eq!(rt; grid.row(0), [Cell::BLANK; 5].as_slice());
 }
 
-#[test]
-fn a_line_is_resized(rt: HostRuntime) -> Result<(), Fail> {
-    let mut line = Line::blank(rt.alloc(), 5)?;
+/// A line of three characters, the first of them with a mark.
+fn marked_line(alloc: Global) -> Result<Line, AllocError>
+    ensures { IfOk result (λ line. length line ≡ 5) }
+{
+    let mut line = Line::blank(alloc, 5)?;
     line.put(0, &row_of_three());
     line.mark(0, '\u{301}');
-    let [a, _, _, _, _] = row_of_three();
+    Ok(line)
+}
+
+/// Whether a line has these cells in another width.
+fn has_in_width(
+    alloc: Global,
+    line: &Line,
+    width: usize,
+    cells: &[Cell],
+) -> Result<bool, AllocError> {
+    let resized = line.resized(alloc, width)?;
+    Ok(resized.cells() == cells)
+}
+
+#[test]
+fn a_line_is_resized(rt: HostRuntime) -> Result<(), Fail> {
+    let line = marked_line(rt.alloc())?;
+    let [a, left, right, b, blank] = row_of_three();
     let marked = Cell {
         marks: Marks::One('\u{301}'),
         ..a
     };
-    assert_eq!(rt;
-        line.resized(rt.alloc(), 2)?.cells(),
-        [marked, Cell::BLANK].as_slice()
-    );
-    assert_eq!(rt; line.resized(rt.alloc(), 7)?.width(), 7);
+    assert!(rt; has_in_width(rt.alloc(), &line, 2, &[marked, blank])?);
+    let wider = [marked, left, right, b, blank, blank, blank];
+    assert!(rt; has_in_width(rt.alloc(), &line, 7, &wider)?);
     Ok(())
 }
 

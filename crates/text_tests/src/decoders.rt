@@ -1,6 +1,8 @@
-use super::*;
+//! Bytes as units, cut at every place, and the character sets.
+
+use charsets::{CharacterSet, Coding, Decoder, Place, Shift, Shifts, Unit, Units};
 use std::alloc::AllocError;
-use std::test::*;
+use std::test::Fail;
 
 fn read(decoder: &mut Decoder, bytes: &[u8], out: &mut Vec<Unit>) -> Result<(), AllocError> {
     for byte in bytes {

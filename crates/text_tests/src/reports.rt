@@ -1,5 +1,6 @@
-use super::*;
-use std::test::*;
+//! The bytes with which a terminal answers.
+
+use terminal_model::Report;
 
 #[test]
 fn report_of_a_place(rt: HostRuntime) {

@@ -1,7 +1,9 @@
-use super::*;
+//! Units as control functions, cut at every place, and how those are spelled.
+
 use charsets::{Coding, Decoder, Unit, Units};
+use control_parser::{Func, Intermediates, Params, Parser, plain_run, spell};
 use std::alloc::{AllocError, Global};
-use std::test::*;
+use std::test::Fail;
 
 // What was read, written out: P and a character, H, C and a control's letter, E and an escape
 // sequence, S and a control sequence, whose numbers each end in a semicolon.

@@ -1,7 +1,9 @@
+//! The last lines that left a page.
+
 ghost use Rattle.std.specs.Prelude.{◌≡◌, length, IfOk};
 
-use super::*;
 use cells::{Cell, Line, Rendition};
+use scrollback::Ring;
 use std::test::Fail;
 
 /// A line of three cells with a letter in the first one.
