@@ -92,33 +92,33 @@ spelled-one x f = sym (append-nil (spelling f))
 
 -- listed functions
 
-pub cursor-listed : (line column : ℕ) → IsListed (Csi None (line ∷ column ∷ []) [] 0x48)
+pub cursor-listed : (rows line column : ℕ) → IsListed rows (Csi None (line ∷ column ∷ []) [] 0x48)
 unfolding plain_sequence
-cursor-listed line column = record { acts = omega arith; named = refl }
+cursor-listed rows line column = record { acts = omega arith; named = refl; in_order = refl }
 
-pub cells-listed : (n : ℕ) → IsListed (Csi None (n ∷ []) [] 0x58)
+pub cells-listed : (rows n : ℕ) → IsListed rows (Csi None (n ∷ []) [] 0x58)
 unfolding plain_sequence
-cells-listed n = record { acts = omega arith; named = refl }
+cells-listed rows n = record { acts = omega arith; named = refl; in_order = refl }
 
-pub line-listed : IsListed (Csi None (0 ∷ []) [] 0x4B)
+pub line-listed : (rows : ℕ) → IsListed rows (Csi None (0 ∷ []) [] 0x4B)
 unfolding plain_sequence
-line-listed = record { acts = omega arith; named = refl }
+line-listed rows = record { acts = omega arith; named = refl; in_order = refl }
 
 some-acts : (o : Option Action) (a : Action) → o ≡ Some a → 0 < length (option_to_list o ++ [])
 some-acts o a h = subst (λ (v : Option Action). 0 < length (option_to_list v ++ [])) (sym h) (omega arith)
 
-some-named : (o : Option Action) (a : Action) → o ≡ Some a → (is_some o && true) ≡ true
-some-named o a h = ap (λ (v : Option Action). is_some v && true) h
+some-named : (o : Option Action) (a : Action) → o ≡ Some a → (is_some o && true && true) ≡ true
+some-named o a h = ap (λ (v : Option Action). is_some v && true && true) h
 
-pub rendered-listed : (n : ℕ) (a : Action) → rendered n ≡ Some a → IsListed (Csi None (n ∷ []) [] 0x6D)
+pub rendered-listed : (rows n : ℕ) (a : Action) → rendered n ≡ Some a → IsListed rows (Csi None (n ∷ []) [] 0x6D)
 unfolding plain_sequence
-rendered-listed n a h = record { acts = some-acts (rendered n) a h; named = some-named (rendered n) a h }
+rendered-listed rows n a h = record { acts = some-acts (rendered n) a h; named = some-named (rendered n) a h; in_order = refl }
 
-pub mode-listed : (on : Bool) (n : ℕ) (a : Action) → private_mode_set on n ≡ Some a → IsListed (Csi (Some 0x3F) (n ∷ []) [] (mode_final on))
+pub mode-listed : (rows : ℕ) (on : Bool) (n : ℕ) (a : Action) → private_mode_set on n ≡ Some a → IsListed rows (Csi (Some 0x3F) (n ∷ []) [] (mode_final on))
 unfolding private_sequence
-mode-listed true n a h = record { acts = some-acts (private_mode_set true n) a h; named = some-named (private_mode_set true n) a h }
-mode-listed false n a h = record { acts = some-acts (private_mode_set false n) a h; named = some-named (private_mode_set false n) a h }
+mode-listed rows true n a h = record { acts = some-acts (private_mode_set true n) a h; named = some-named (private_mode_set true n) a h; in_order = refl }
+mode-listed rows false n a h = record { acts = some-acts (private_mode_set false n) a h; named = some-named (private_mode_set false n) a h; in_order = refl }
 
-pub keypad-listed : (on : Bool) → IsListed (Esc [] (keypad_final on))
-keypad-listed true = record { acts = omega arith; named = refl }
-keypad-listed false = record { acts = omega arith; named = refl }
+pub keypad-listed : (rows : ℕ) (on : Bool) → IsListed rows (Esc [] (keypad_final on))
+keypad-listed rows true = record { acts = omega arith; named = refl; in_order = refl }
+keypad-listed rows false = record { acts = omega arith; named = refl; in_order = refl }

@@ -157,11 +157,11 @@ pub fn draws_join()
 
 /// The functions that frames are made of beside print are listed, with values that are named.
 pub fn frame_functions_are_listed()
-    ensures cursor { (line column : ℕ) → IsListed (Csi None (line ∷ column ∷ []) [] 0x48) }
-    ensures cells { (n : ℕ) → IsListed (Csi None (n ∷ []) [] 0x58) }
-    ensures line { IsListed (Csi None (0 ∷ []) [] 0x4B) }
-    ensures rendition { (n : ℕ) (a : Action) → rendered n ≡ Some a → IsListed (Csi None (n ∷ []) [] 0x6D) }
-    ensures whole_rendition { (r : Rendition) → IsListed (Csi None (rendition_values r) [] 0x6D) }
-    ensures mode { (on : Bool) (n : ℕ) (a : Action) → private_mode_set on n ≡ Some a → IsListed (Csi (Some 0x3F) (n ∷ []) [] (mode_final on)) }
-    ensures keypad { (on : Bool) → IsListed (Esc [] (keypad_final on)) }
+    ensures cursor { (rows line column : ℕ) → IsListed rows (Csi None (line ∷ column ∷ []) [] 0x48) }
+    ensures cells { (rows n : ℕ) → IsListed rows (Csi None (n ∷ []) [] 0x58) }
+    ensures line { (rows : ℕ) → IsListed rows (Csi None (0 ∷ []) [] 0x4B) }
+    ensures rendition { (rows n : ℕ) (a : Action) → rendered n ≡ Some a → IsListed rows (Csi None (n ∷ []) [] 0x6D) }
+    ensures whole_rendition { (rows : ℕ) (r : Rendition) → IsListed rows (Csi None (rendition_values r) [] 0x6D) }
+    ensures mode { (rows : ℕ) (on : Bool) (n : ℕ) (a : Action) → private_mode_set on n ≡ Some a → IsListed rows (Csi (Some 0x3F) (n ∷ []) [] (mode_final on)) }
+    ensures keypad { (rows : ℕ) (on : Bool) → IsListed rows (Esc [] (keypad_final on)) }
 {}

@@ -3,7 +3,7 @@ use Rattle.cells.specs.declared.cell.Cell.{Cell}
 use Rattle.cells.specs.Line.{cell_at, is_right}
 use Rattle.terminal_model.specs.Drawable.{IsDrawableCell}
 use Rattle.redraw.specs.Drawing.{width_of}
-use Rattle.redraw.proofs.Pieces.{blank_piece, cell_piece, cell_fits}
+use Rattle.redraw.proofs.Pieces.{blank_piece, cell_piece, cell_fits, cell_stands}
 use Rattle.redraw.proofs.painting.draw_piece.Goals.{then-column-erased, else-column-erased}
 use Rattle.redraw.proofs.painting.draw_piece.Goals as goal
 
@@ -38,4 +38,4 @@ returns-clause-draws c old new rows before lh rh lines whole differs =
     cell_piece old new rows c.args.pen.now c.put_cell.new.self c.args.line c.args.column (c.args.column + c.columns_of.result) cell cells c.args.out.now.items c.put_cell.new.out.items
     here lines.new_is lines.new_paired lines.new_drawable whole inside (ap (λ k. c.args.column + k) width)
     (c.in_ok-put_cell.ensures.takes old new rows (length cells) lh rh fits (omega (arith, c.requires.few)) (subst IsDrawableCell (sym here) (lines.new_drawable.printed c.args.column inside))
-    (ap (λ (z : Cell). is_right z.shape) here ∙ whole) (ap (λ (l : List Cell). cell_at l c.args.column) lines.new_is ∙ sym here) differs)
+    (ap (λ (z : Cell). is_right z.shape) here ∙ whole) (cell_stands old new c.args.line before cells lines c.args.column cell here) differs)
