@@ -1,0 +1,46 @@
+-- What the keys of a client give, in steps: each reads up to the first key that completes a command
+-- or a line of the prompt.
+use Rattle.std.specs.Prelude.{ℕ, ◌+◌, Bool, true, false, List, [], ◌∷◌, ◌++◌, Option, Some, None}
+use Rattle.std.specs.Prelude.{length, take, drop, find, unwrap_or}
+use Rattle.std.specs.List.{list_any, flat_map, range_with_len}
+use Rattle.keys.specs.Grammar.{Item, typed, bound, line, Rest, prompt, items}
+use Rattle.session_model.specs.Tables.{Client}
+
+-- the items that more keys complete behind the keys before them
+abbrev pub items_behind : List ℕ → List ℕ → List Item
+items_behind past keys = drop (length (items past).0) (items (past ++ keys)).0
+
+abbrev pub is_command : Item → Bool
+is_command (typed b) = false
+is_command (bound c) = true
+is_command (line bytes) = true
+
+-- how many of these keys a step reads: the least number of them that completes a command or a line,
+-- else all
+abbrev pub completes : List ℕ → List ℕ → ℕ → Bool
+completes past keys count = list_any is_command (items_behind past (take count keys))
+
+abbrev pub taken : List ℕ → List ℕ → ℕ
+taken past keys =
+    unwrap_or (find (completes past keys) (range_with_len 0 (length keys + 1))) (length keys)
+
+-- the items of a step that is given these keys
+abbrev pub step_items : Client → List ℕ → List Item
+step_items c bytes = items_behind c.keys (take (taken c.keys bytes) bytes)
+
+-- the bytes that items type
+abbrev pub typed_byte : Item → List ℕ
+typed_byte (typed b) = b ∷ []
+typed_byte _ = []
+
+abbrev pub typed_bytes : List Item → List ℕ
+typed_bytes given = flat_map typed_byte given
+
+-- the command or the line among them
+abbrev pub command_item : List Item → Option Item
+command_item given = find is_command given
+
+-- the line of the prompt, while it is open
+abbrev pub open_line : Rest → Option (List ℕ)
+open_line (prompt bytes) = Some bytes
+open_line _ = None

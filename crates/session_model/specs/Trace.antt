@@ -1,0 +1,58 @@
+-- What a session was told, and what it answered.
+use Rattle.std.specs.Prelude.{ℕ, List, [], ◌∷◌, Option, Result}
+use Rattle.acl.specs.declared.user_id.UserId.{UserId}
+use Rattle.acl.specs.declared.act.Act.{Act}
+use Rattle.session_model.specs.declared.event.Event.{Event}
+use Rattle.session_model.specs.declared.event.Event.TheVariants as event
+use Rattle.session_model.specs.declared.event.Effect.{Effect}
+use Rattle.session_model.specs.declared.event.Done.{Done}
+use Rattle.session_model.specs.declared.refusal.Refusal.{Refusal}
+use Rattle.session_model.specs.declared.verdict.Verdict.{Verdict}
+use Rattle.session_model.specs.Edition.{Edition}
+
+-- an event, without the places that lent its bytes and texts
+pub data Happening : Type 0 where
+  Attach : (user : UserId) (rows columns : ℕ) → Happening
+  Detach : (client : ℕ) → Happening
+  Keys : (client : ℕ) (bytes : List ℕ) → Happening
+  Command : (user : UserId) (window : Option ℕ) (line : List ℕ) → Happening
+  Resize : (client rows columns : ℕ) → Happening
+  Open : (user : UserId) (rows columns keep : ℕ) (title : List ℕ) → Happening
+  Output : (window : ℕ) (bytes : List ℕ) → Happening
+  Closed : (window : ℕ) → Happening
+  Draw : (client : ℕ) → Happening
+
+abbrev pub happening : Event → Happening
+happening (event.Attach user rows cols) = Attach user rows cols
+happening (event.Detach client) = Detach client
+happening (event.Keys client bytes) = Keys client bytes.now
+happening (event.Command user window line) = Command user window line.now
+happening (event.Resize client rows cols) = Resize client rows cols
+happening (event.Open user rows cols keep title) = Open user rows cols keep title.now
+happening (event.Output window bytes) = Output window bytes.now
+happening (event.Closed window) = Closed window
+happening (event.Draw client) = Draw client
+
+abbrev pub Reply : Type 0
+Reply = Result Done Refusal
+
+-- one step: its event, its reply, its acts and verdicts, and its effects
+pub record Entry : Type 0 where
+  pub event : Happening
+  pub reply : Reply
+  pub acts : List Act
+  pub verdicts : List Verdict
+  pub effects : List Effect
+
+-- a session's edition and owner, and its steps so far, the newest first
+pub record Trace : Type 0 where
+  pub edition : Edition
+  pub owner : UserId
+  pub entries : List Entry
+
+abbrev pub begun : Edition → UserId → Trace
+begun edition owner = record { edition = edition; owner = owner; entries = [] }
+
+-- the trace with one more step
+abbrev pub with_step : Trace → Entry → Trace
+with_step h e = record h { entries = e ∷ h.entries }

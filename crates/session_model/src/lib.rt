@@ -1,0 +1,22 @@
+//! A session as this project means it: its tables, what each event and each command does to them,
+//! and what a run promises. The definitions stand in `specs/`; here are the plain types that code
+//! and definitions share.
+#![tactic(auto)]
+
+mod bytes;
+mod check;
+mod event;
+mod leaders;
+mod message;
+mod needs;
+mod refusal;
+mod verdict;
+
+pub use bytes::Bytes;
+pub use check::Check;
+pub use event::{Done, Effect, Event, Ran, Reason, Reply};
+pub use leaders::Leaders;
+pub use message::Message;
+pub use needs::Needs;
+pub use refusal::{Denied, EntryDenied, LockDenied, Refusal, WindowsFault};
+pub use verdict::Verdict;
