@@ -1,9 +1,15 @@
 //! Keys and what they complete, from the keys' table.
 
-use crate::{Binding, KeyItem, KeyReader};
 use command_lang::{Command, print};
+use keys::{Binding, KeyItem, KeyReader};
 use std::alloc::{AllocError, Global};
 use std::test::Fail;
+
+/// The command of a binding, as it is printed.
+fn printed(alloc: Global, binding: Binding) -> Result<String, AllocError> {
+    let command = binding.command(alloc)?;
+    print(alloc, &command)
+}
 
 /// Appends what one key completes.
 fn note(
@@ -15,8 +21,7 @@ fn note(
     match reader.push(key) {
         Some(KeyItem::Typed(byte)) => write!(out, "[{byte}]"),
         Some(KeyItem::Bound(binding)) => {
-            let command = binding.command(alloc)?;
-            let text = print(alloc, &command)?;
+            let text = printed(alloc, binding)?;
             write!(out, "[{text}]")
         }
         Some(KeyItem::Line) => {
