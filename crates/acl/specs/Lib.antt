@@ -1,6 +1,8 @@
 pub mod BitSets
 pub mod Commands
+pub mod Deeds
 pub mod History
+pub mod Leaders
 pub mod Lists
 pub mod Names
 pub mod Same

@@ -1,23 +1,26 @@
 //! The users' rows and the masks.
 
 ghost use Rattle.std.specs.Prelude.{◌≡◌, ◌<◌, ◌≤◌, ◌||◌, not, map, filter, Some, length};
+ghost use Rattle.acl.specs.History.{leaders_with};
 ghost use Rattle.std.specs.Map.{lookup};
 ghost use Rattle.indexmap.specs.IndexMap.{spare};
 ghost use Rattle.acl.specs.Same.{same_user};
-ghost use Rattle.acl.specs.Table.{mask_bits, opening_bits, with_window, without_leader, remaining_leader, bits_on, with_right};
+ghost use Rattle.acl.specs.Table.{mask_bits, opening_bits, with_window, without_leader, bits_on, with_right};
 
 use crate::act::Object;
 use crate::bits::{Bit, Bits};
+use crate::edition::Edition;
+use crate::leaders::Leaders;
 use crate::user_id::UserId;
 use acl_slots::Slots;
 use indexmap::IndexMap;
 
-/// What a known user has, and his leader.
+/// What a known user has, and his leaders.
 #[derive(Drop)]
 pub struct Row {
     pub commands: [Bits; 31],
     pub windows: [Bits; 40],
-    pub leader: Option<UserId>,
+    pub leaders: Leaders,
 }
 
 /// The known users' rows, in the order in which they became known.
@@ -37,7 +40,7 @@ impl Row {
         Row {
             commands: [command_preset; 31],
             windows: [window_preset; 40],
-            leader: None,
+            leaders: Leaders::none(),
         }
     }
 }
@@ -105,13 +108,13 @@ pub fn give_window(rows: &mut Rows, masks: &Masks, by: UserId, slot: usize)
     }
 }
 
-/// The leader, unless he is the one who is gone.
-fn remaining_leader(leader: Option<UserId>, gone: UserId) -> Option<UserId>
-    ensures { result ≡ remaining_leader gone leader }
+/// Gives the user whose row it is a leader, or none, where that leaves him no more than eight.
+pub fn regroup(row: &mut Row, edition: Edition, leader: Option<UserId>)
+    ensures { length (leaders_with edition leader row.old.leaders) ≤ 8 →
+        row.new ≡ record row.old { leaders = leaders_with edition leader row.old.leaders } }
 {
-    match leader {
-        Some(leader) => if gone == leader { None } else { Some(leader) },
-        None => None,
+    if let Some(leaders) = row.leaders.with(edition, leader) {
+        row.leaders = leaders;
     }
 }
 
@@ -122,7 +125,7 @@ pub fn forget_leader(rows: &mut Rows, gone: UserId)
 {
     for i in 0..rows.len() {
         let (_, row) = rows.pair_mut(i);
-        row.leader = remaining_leader(row.leader, gone);
+        row.leaders = row.leaders.without(gone);
     }
 }
 
