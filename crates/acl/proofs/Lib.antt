@@ -1,7 +1,8 @@
-pub mod AllowedLemmas
 pub mod AsideLemmas
 pub mod BitSetLemmas
+pub mod FollowingLemmas
 pub mod InPlace
+pub mod LeaderLemmas
 pub mod NameLemmas
 pub mod PlanLemmas
 pub mod RowLemmas

@@ -10,7 +10,7 @@ use Rattle.acl.specs.declared.bits.Bit.TheVariants.{Read, Write, Execute}
 use Rattle.acl.specs.declared.bits.BitChange.{BitChange}
 use Rattle.acl.specs.declared.act.Object.{Object}
 use Rattle.acl.specs.declared.act.Act.{Act}
-use Rattle.acl.specs.declared.act.Act.TheVariants.{Known, Gone, Set, Grouped, Masked, Preset}
+use Rattle.acl.specs.declared.act.Act.TheVariants.{Known, Gone, Set, Grouped, Masked, Preset, Attached, Parted, Entered, Left, Mode, Default}
 use Rattle.acl.specs.declared.faults.AclFault.{AclFault}
 use Rattle.acl.specs.declared.faults.AclFault.TheVariants.{UnknownUser, OwnerKept, TooManyUsers, ReservedName, NoSuchGroup, NoMemory, TooManyGroups}
 use Rattle.acl.specs.declared.edition.Edition.{Edition}
@@ -181,6 +181,16 @@ MayFollow edition owner h _ = ⊥
 abbrev pub AllMayFollow : Edition → UserId → History → List Act → Type 0
 AllMayFollow edition owner h [] = Unit {0}
 AllMayFollow edition owner h (a ∷ acts) = MayFollow edition owner h a × AllMayFollow edition owner (a ∷ h) acts
+
+-- an act of clients or locks, which leaves all rights as they are
+abbrev pub IsAside : Act → Type 0
+IsAside (Attached client user) = Unit {0}
+IsAside (Parted client) = Unit {0}
+IsAside (Entered user window) = Unit {0}
+IsAside (Left user window) = Unit {0}
+IsAside (Mode by window mode) = Unit {0}
+IsAside (Default mode) = Unit {0}
+IsAside _ = ⊥
 
 -- whether the act needs a row, or a mask
 abbrev pub makes_known : Act → Bool

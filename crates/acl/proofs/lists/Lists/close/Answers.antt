@@ -12,6 +12,6 @@ pub returns : goal.returns
 returns c =
     let t = table_of c.args.self.now in
     let w = c.args.window in
-    λ owner h s.
-    subst (λ ws. StandsFor (let u : Table = record t { windows = ws } in u) owner (Closed w ∷ h)) (sym c.close.ensures)
-    (StandsFor-Closed t owner h s _ w (slot_of-closed t.windows w) (slots-closed t.windows (is_open h) (open_count h) s.slots w))
+    λ edition owner h s.
+    subst (λ ws. StandsFor (let u : Table = record t { windows = ws } in u) edition owner (Closed w ∷ h)) (sym c.close.ensures)
+    (StandsFor-Closed t edition owner h s _ w (slot_of-closed t.windows w) (slots-closed t.windows (is_open h) (open_count h) s.slots w))
