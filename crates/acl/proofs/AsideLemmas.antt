@@ -1,5 +1,5 @@
 -- Acts that are none of rights: what the lists stand for goes on.
-use Rattle.std.proofs.Common.{◌≡◌, [], ◌∷◌, List}
+use Rattle.std.proofs.Common.{[], ◌∷◌, List}
 use Rattle.std.specs.List.{AllByRecursion}
 use Rattle.acl.specs.declared.edition.Edition.{Edition}
 use Rattle.acl.specs.declared.user_id.UserId.{UserId}

@@ -1,5 +1,5 @@
 -- The acts of a command that isn't refused may come, each after the ones before it.
-use Rattle.std.proofs.Common.{◌≡◌, ◌∙◌, ◌≤◌, ◌&&◌, not, nat_le, sym, ℕ, ap, Bool, true, false, ◌||◌, List, [], ◌∷◌, ◌++◌, Option, Some, None, unwrap_or, All, true≢false, suc, arith, slice_index_or, length, drop, refl, Result, Ok, Err, OnOk, subst, IfOk}
+use Rattle.std.proofs.Common.{◌≡◌, ◌∙◌, ◌≤◌, ◌&&◌, not, nat_le, sym, ℕ, ap, Bool, true, false, ◌||◌, List, [], ◌∷◌, ◌++◌, Option, Some, None, unwrap_or, All, suc, arith, slice_index_or, length, drop, refl, Result, Ok, Err, OnOk, subst}
 use Rattle.std.proofs.Math.Seq.{drop-append_seam}
 use Rattle.std.specs.Option.{option_or}
 use Rattle.acl.specs.Same.{same_user}
@@ -21,8 +21,8 @@ use Rattle.std.proofs.Common.{if◌then◌else◌}
 use Rattle.acl.specs.declared.faults.AclFault.{AclFault}
 use Rattle.acl.specs.declared.faults.AclFault.TheVariants.{UnknownUser, OwnerKept, NoSuchGroup, TooManyGroups}
 use Rattle.acl.specs.History.{History, followed_by, leaders_of, leaders_with, is_known, users_of, among, there, decided, latest, decides_known}
-use Rattle.acl.specs.Commands.{Answers, AllMayFollow, sets_on, sets, user_acts, name_acts, change_acts, new_acts, known_acts, name_sets, names_sets, add_acts, added, chosen_leader, with_name, with_names, names_user, scope_acts, mask_acts, known_name_fault, group_fault, leader_fault, group_acts, removal_acts}
-use Rattle.acl.specs.Table.{Table, StandsFor, users_in, knows}
+use Rattle.acl.specs.Commands.{Answers, AllMayFollow, sets_on, sets, user_acts, change_acts, new_acts, known_acts, names_sets, add_acts, added, chosen_leader, with_name, with_names, names_user, scope_acts, mask_acts, known_name_fault, group_fault, leader_fault, group_acts, removal_acts}
+use Rattle.acl.specs.Table.{Table, StandsFor}
 use Rattle.acl.specs.Deeds.{IsDone, TakesAll, FollowsAll}
 use Rattle.acl.proofs.StandsForLemmas.{same_user-true, same_user-refl}
 use Rattle.std.specs.List.{list_any}
@@ -215,7 +215,7 @@ named : (owner : UserId) (g : History) (users : List UserId) (names : List (Opti
 named owner g users [] known = tt
 named owner g users (None ∷ names) known = named owner g users names known
 named owner g users (Some u ∷ names) known =
-    (known u ∙ among-with_names (with_name users (Some u)) names u ∙ ap (λ c. c || list_any (names_user u) names) (here u) , named owner g (with_name users (Some u)) names known)
+    (known u ∙ among-with_names (with_name users (Some u)) names u ∙ ap (λ c. c || list_any (names_user u) names) (here u), named owner g (with_name users (Some u)) names known)
   where
     here : (u : UserId) → among (with_name users (Some u)) u ≡ true
     here u = among-with_name users (Some u) u ∙ ap (λ c. among users u || c) (same_user-refl u) ∙ or-true (among users u)
@@ -265,9 +265,13 @@ allowed-removal_acts edition owner h users (Some u) e = (by (same_user owner u) 
 pub allowed-group_acts : (edition : Edition) (owner : UserId) (h : History) (users : List UserId) (name : Option UserId) (leader : NewLeader)
     → ((v : UserId) → is_known owner h v ≡ among users v) → group_fault edition owner users (leaders_of edition h) name leader ≡ None → AllMayFollow edition owner h (group_acts name leader)
 allowed-group_acts edition owner h users None leader agrees e = tt
-allowed-group_acts edition owner h users (Some u) leader agrees e =
-    ((agrees u ∙ known_name owner users u (first (known_name_fault owner users (Some u)) (leader_fault edition owner users (leaders_of edition h) (Some u) leader) e),
-    few leader (second (known_name_fault owner users (Some u)) (leader_fault edition owner users (leaders_of edition h) (Some u) leader) e)), tt)
+allowed-group_acts edition owner h users (Some u) leader agrees e = (
+  (
+    agrees u ∙ known_name owner users u (first (known_name_fault owner users (Some u)) (leader_fault edition owner users (leaders_of edition h) (Some u) leader) e),
+    few leader (second (known_name_fault owner users (Some u)) (leader_fault edition owner users (leaders_of edition h) (Some u) leader) e),
+  ),
+  tt,
+)
   where
     first : (f g : Option AclFault) → option_or f g ≡ None → f ≡ None
     first None g e = refl

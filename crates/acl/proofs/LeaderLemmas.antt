@@ -1,5 +1,5 @@
 -- Names at the front of a fixed array.
-use Rattle.std.proofs.Common.{◌≡◌, ℕ, ◌+◌, ◌-◌, ◌<◌, List, drop, replicate, arith, ap, ◌∙◌, sym, set}
+use Rattle.std.proofs.Common.{ℕ, ◌+◌, ◌-◌, ◌<◌, List, drop, replicate, arith, ap, ◌∙◌, sym, set}
 use Rattle.std.proofs.lemmas.List.{drop-set-lt, drop-replicate, length-set, drop-drop}
 use Rattle.acl.specs.Leaders.{AreFront, blank}
 use Rattle.acl.specs.declared.user_id.UserId.{UserId}

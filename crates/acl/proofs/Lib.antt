@@ -4,6 +4,7 @@ pub mod FollowingLemmas
 pub mod InPlace
 pub mod LeaderLemmas
 pub mod NameLemmas
+pub mod OpenSlots
 pub mod PlanLemmas
 pub mod RowLemmas
 pub mod StandsForLemmas

@@ -1,5 +1,5 @@
 -- A right that is set in a row, and look-ups in rows and masks that change.
-use Rattle.std.proofs.Common.{◌≡◌, ◌≢◌, ◌∙◌, ℕ, ◌<◌, Bool, true, false, not, ◌==◌, ◌&&◌, ◌||◌, cond, ap, subst, sym, refl, arith, List, [], ◌∷◌, Option, Some, None, is_some, filter, map, if◌then◌else◌, slice_index_or, slice_set, replicate, true≢false, length, get_or-set_same, get_or-set_other, eq-eqb, nat_eq, lit<}
+use Rattle.std.proofs.Common.{◌≡◌, ◌≢◌, ◌∙◌, ℕ, ◌<◌, Bool, true, false, not, ◌==◌, ◌&&◌, ◌||◌, cond, ap, sym, refl, arith, List, [], ◌∷◌, Option, Some, None, is_some, filter, map, if◌then◌else◌, slice_index_or, slice_set, replicate, true≢false, length, get_or-set_same, get_or-set_other, eq-eqb, lit<}
 use Rattle.std.proofs.lemmas.List.{get_or-replicate}
 use Rattle.std.specs.Option.{option_map_or, option_map}
 use Rattle.std.specs.Map.{lookup}
@@ -10,7 +10,7 @@ use Rattle.acl.specs.BitSets.{allows, with_bit, no_bits, all_bits}
 use Rattle.acl_slots.specs.Slots.{slot_of, is_window}
 use Rattle.acl_slots.proofs.SlotLemmas.{slots-new}
 use Rattle.std.specs.Map.{keys_of}
-use Rattle.acl.specs.Table.{bits_on, same_pair, with_window, with_right, new_row, Table, StandsFor, granted, shows, is_there}
+use Rattle.acl.specs.Table.{bits_on, same_pair, with_window, with_right, new_row, Table, StandsFor, granted, is_there}
 use Rattle.std.proofs.Common.{◌++◌}
 use Rattle.std.specs.List.{list_any}
 use Rattle.indexmap.specs.IndexSet.{remove_key}

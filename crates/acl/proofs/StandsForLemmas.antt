@@ -1,15 +1,14 @@
 -- Each act, done to the table, gives the history with that act in front.
-use Rattle.std.proofs.Common.{◌≡◌, ◌≢◌, ◌∙◌, ℕ, ◌<◌, Bool, true, false, not, ◌==◌, ◌&&◌, ◌||◌, ap, subst, sym, refl, arith, List, [], ◌∷◌, Option, Some, None, is_some, unwrap_or, filter, if◌then◌else◌, slice_index_or, slice_set, true≢false, length, get_or-set_same, get_or-set_other, ◌++◌, ◌+◌, ◌-◌}
+use Rattle.std.proofs.Common.{◌≡◌, ◌≢◌, ◌∙◌, ℕ, ◌<◌, Bool, true, false, not, ◌==◌, ◌&&◌, ◌||◌, ap, sym, refl, List, [], ◌∷◌, Option, Some, None, is_some, unwrap_or, filter, if◌then◌else◌, slice_index_or, true≢false, length, get_or-set_same, get_or-set_other, ◌++◌}
 use Rattle.std.specs.Option.{option_map_or, option_map}
 use Rattle.std.specs.List.{list_any}
 use Rattle.std.specs.Map.{lookup, keys_of}
 use Rattle.std.proofs.lemmas.Slice.Eq.{bytes_eq-Decides}
-use borrow.Author.Tests.{eqb-true}
-use Rattle.acl.specs.Same.{same_user, same_bit, same_object, same_preset, index_of_command}
+use Rattle.acl.specs.Same.{same_user, same_bit, same_object, same_preset}
 use Rattle.acl.specs.BitSets.{allows, with_bit, all_bits, no_bits}
 use Rattle.acl_slots.specs.Slots.{slot_of, SlotsStandFor}
-use Rattle.acl.specs.History.{History, users_of, without_user, open_count, there, decided, latest, is_known, decides_known, is_open, mask, preset_of, has, leaders_of, leaders_with, greeting, opening, may, decision}
-use Rattle.acl.specs.Table.{Table, StandsFor, row_of, users_in, knows, shows, bits_on, granted, same_pair, masked, preset_bits, led_by, is_there, without_leader, remaining_leaders, opening_bits, mask_bits, with_window, lets}
+use Rattle.acl.specs.History.{History, without_user, open_count, there, decided, is_known, is_open, mask, preset_of, has, leaders_of, leaders_with, greeting, opening, may}
+use Rattle.acl.specs.Table.{Table, StandsFor, row_of, users_in, knows, bits_on, granted, same_pair, preset_bits, is_there, without_leader, opening_bits, mask_bits, with_window, lets}
 use Rattle.acl.proofs.BitSetLemmas.{allows-with_bit, allows-all_bits}
 use Rattle.acl.specs.declared.edition.Edition.{Edition}
 use Rattle.acl.specs.declared.user_id.UserId.{UserId}
@@ -19,7 +18,6 @@ use Rattle.acl.specs.declared.act.Object.{Object}
 use Rattle.acl.specs.declared.act.Object.TheVariants.{Window, Command}
 use Rattle.acl.specs.declared.act.PresetKind.{PresetKind}
 use Rattle.acl.specs.declared.act.PresetKind.TheVariants as preset
-use Rattle.acl.specs.declared.act.Act.{Act}
 use Rattle.acl.specs.declared.act.Act.TheVariants.{Known, Gone, Set, Grouped, Masked, Preset, Opened, Closed}
 use Rattle.acl.specs.declared.rows.Row.{Row}
 

@@ -3,7 +3,7 @@
 use Rattle.std.specs.Prelude.{◌≡◌, ◌≤◌, ℕ, Bool, true, false, not, ◌||◌, ◌&&◌, nat_lt, nat_le, List, [], ◌∷◌, ◌++◌, Option, Some, None, Result, Ok, Err, map, length, if◌then◌else◌}
 use Rattle.std.specs.Option.{option_or}
 use Rattle.acl.specs.Same.{same_user}
-use Rattle.acl.specs.History.{History, is_known, among, there, followed_by, leaders_of, leaders_with}
+use Rattle.acl.specs.History.{History, is_known, among, there, leaders_of, leaders_with}
 use Rattle.acl.specs.declared.user_id.UserId.{UserId}
 use Rattle.acl.specs.declared.bits.Bit.{Bit}
 use Rattle.acl.specs.declared.bits.Bit.TheVariants.{Read, Write, Execute}

@@ -1,5 +1,5 @@
 -- What an act, and a list command, does to the table, to the list of acts and to what follows them.
-use Rattle.std.specs.Prelude.{◌≡◌, ℕ, Bool, true, false, List, ◌∷◌, ◌++◌, Option, Result, All}
+use Rattle.std.specs.Prelude.{◌≡◌, true, List, ◌∷◌, ◌++◌, Option, Result, All}
 use Rattle.acl.specs.History.{History, there, followed_by}
 use Rattle.acl.specs.Commands.{Answers, MayFollow, AllMayFollow}
 use Rattle.acl.specs.Table.{Table, StandsFor}

@@ -6,4 +6,5 @@ pub mod Leaders
 pub mod Lists
 pub mod Names
 pub mod Same
+pub mod Slots
 pub mod Table

@@ -10,9 +10,7 @@ use crate::faults::AclFault;
 use crate::follower::Follower;
 use crate::leaders::Leaders;
 use crate::lists::Lists;
-use crate::plan::{
-    change_fault, plan_addition, plan_change, plan_group, plan_masks, plan_removal,
-};
+use crate::plan::{change_fault, plan_addition, plan_change, plan_group, plan_masks, plan_removal};
 use crate::user_id::UserId;
 use std::alloc::{AllocError, Global};
 use std::marker::Model;

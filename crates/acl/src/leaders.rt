@@ -102,7 +102,11 @@ impl Leaders {
         };
         match edition {
             Edition::First => Leaders::none().and(leader),
-            Edition::Second => if self.has(leader) { Some(self) } else { self.and(leader) },
+            Edition::Second => if self.has(leader) {
+                Some(self)
+            } else {
+                self.and(leader)
+            },
         }
     }
 

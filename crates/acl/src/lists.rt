@@ -128,9 +128,7 @@ impl Lists {
     fn is_granted_to_any(&self, users: &[UserId], bit: Bit, object: Object) -> bool
         ensures { result ≡ list_any (λ user. granted (table_of self.now) user bit object) users.now }
     {
-        users
-            .iter()
-            .any(|user| self.is_granted(*user, bit, object))
+        users.iter().any(|user| self.is_granted(*user, bit, object))
     }
 
     /// Whether the user has the bit on an object that is there, himself or by a leader of his, or else why not.

@@ -6,12 +6,12 @@ use Rattle.acl.specs.Same.{same_user}
 use Rattle.acl.specs.History.{History, may, decided, latest}
 use Rattle.acl.specs.declared.user_id.UserId.{UserId}
 use Rattle.acl.specs.declared.edition.Edition.{Edition}
-use Rattle.acl.specs.declared.bits.Bit.TheVariants.{Read, Write, Execute}
-use Rattle.acl.specs.declared.act.Object.TheVariants.{Window, Command}
+use Rattle.acl.specs.declared.bits.Bit.TheVariants.{Write}
+use Rattle.acl.specs.declared.act.Object.TheVariants.{Window}
 use Rattle.acl.specs.declared.act.LockMode.{LockMode}
 use Rattle.acl.specs.declared.act.LockMode.TheVariants.{Off, Auto, On}
 use Rattle.acl.specs.declared.act.Act.{Act}
-use Rattle.acl.specs.declared.act.Act.TheVariants.{Known, Gone, Set, Grouped, Masked, Preset, Opened, Closed, Attached, Parted, Entered, Left, Mode, Default}
+use Rattle.acl.specs.declared.act.Act.TheVariants.{Gone, Set, Opened, Closed, Attached, Parted, Entered, Left, Mode, Default}
 
 abbrev pub is_off : LockMode → Bool
 is_off Off = true

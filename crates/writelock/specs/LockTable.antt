@@ -3,16 +3,15 @@ use Rattle.std.specs.Prelude.{◌≡◌, ℕ, Bool, true, false, ◌==◌, ◌&&
 use Rattle.std.specs.Option.{option_map_or}
 use Rattle.acl.specs.Same.{same_user}
 use Rattle.acl.specs.History.{History, is_open, open_count, may}
-use Rattle.acl_slots.specs.Slots.{slot_of, SlotsStandFor}
+use Rattle.acl.specs.Slots.{slot_of, SlotsStandFor}
 use Rattle.acl.specs.Table.{Table, lets}
 use Rattle.acl.specs.declared.edition.Edition.{Edition}
 use Rattle.acl.specs.declared.user_id.UserId.{UserId}
 use Rattle.acl.specs.declared.act.LockMode.{LockMode}
-use Rattle.acl.specs.declared.act.LockMode.TheVariants.{Off, Auto, On}
-use Rattle.acl.specs.declared.bits.Bit.TheVariants.{Read, Write, Execute}
-use Rattle.acl.specs.declared.act.Object.TheVariants.{Window, Command}
+use Rattle.acl.specs.declared.bits.Bit.TheVariants.{Write}
+use Rattle.acl.specs.declared.act.Object.TheVariants.{Window}
 use Rattle.acl.specs.declared.act.Act.{Act}
-use Rattle.acl.specs.declared.act.Act.TheVariants.{Known, Gone, Set, Grouped, Masked, Preset, Opened, Closed, Attached, Parted, Entered, Left, Mode, Default}
+use Rattle.acl.specs.declared.act.Act.TheVariants.{Gone, Set}
 use Rattle.writelock.specs.declared.lock.Lock.{Lock}
 use Rattle.writelock.specs.declared.locks.Locks.{Locks}
 use Rattle.writelock.specs.Holding.{is_auto, is_off, is_on, default_of, mode_of, holder}

@@ -1,10 +1,8 @@
-use Rattle.std.proofs.Common.{[], ◌≡◌, ◌∙◌, ◌+◌, ◌∷◌, sym, subst, arith, drop, slice_index_or}
-use Rattle.acl.specs.declared.edition.Edition.{Edition}
+use Rattle.std.proofs.Common.{[], ◌∙◌, ◌∷◌, sym, subst, arith, slice_index_or}
 use Rattle.acl.specs.declared.act.Act.{Act}
 use Rattle.acl.specs.declared.act.Act.TheVariants.{Known}
 use Rattle.acl.specs.History.{followed_by}
 use Rattle.acl.specs.Commands.{AllMayFollow, makes_known, sets_mask}
-use Rattle.acl.specs.Lists.{table_of}
 use Rattle.acl.proofs.PlanLemmas.{counted}
 use Rattle.acl.proofs.InPlace.{drop-next}
 use Rattle.acl.proofs.carry.apply_all.Goals as goal

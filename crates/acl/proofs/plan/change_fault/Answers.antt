@@ -1,4 +1,4 @@
-use Rattle.std.proofs.Common.{◌∙◌, ◌+◌, ap, sym, arith, drop, length, take, slice_index_or, None}
+use Rattle.std.proofs.Common.{◌∙◌, ◌+◌, ap, sym, arith, drop, length, take, None}
 use Rattle.acl.specs.Commands.{change_fault, with_names}
 use Rattle.acl.specs.Table.{users_in}
 use Rattle.acl.specs.Lists.{table_of}

@@ -1,4 +1,4 @@
-use Rattle.std.proofs.Common.{◌≡◌, ◌∙◌, ◌++◌, ◌+◌, ap, arith, drop, append_assoc, take, slice_index_or, None}
+use Rattle.std.proofs.Common.{◌∙◌, ◌++◌, ◌+◌, ap, arith, drop, append_assoc, take, slice_index_or, None}
 use Rattle.acl.specs.Commands.{known_acts, with_name, with_names}
 use Rattle.acl.specs.Table.{users_in}
 use Rattle.acl.specs.Lists.{table_of}

@@ -1,4 +1,4 @@
-use Rattle.std.proofs.Common.{◌≡◌, ◌∙◌, ◌++◌, ◌+◌, ap, sym, arith, drop, append_assoc, take, slice_index_or, None}
+use Rattle.std.proofs.Common.{◌∙◌, ◌++◌, ◌+◌, ap, sym, arith, drop, append_assoc, take, slice_index_or, None}
 use Rattle.std.proofs.lemmas.Result.{err_from_is_err_and}
 use Rattle.acl.specs.Commands.{change_acts, new_acts, name_sets, with_name, with_names}
 use Rattle.acl.specs.Table.{users_in}

@@ -1,4 +1,4 @@
-use Rattle.std.proofs.Common.{◌≡◌, ◌∙◌, ap, sym, arith, length}
+use Rattle.std.proofs.Common.{◌∙◌, ap, arith, length}
 use Rattle.acl.specs.declared.rows.Row.{Row}
 use Rattle.acl.specs.Table.{without_leader}
 use Rattle.acl_slots.proofs.InPlace.{mapped_below-all, length-mapped_below}

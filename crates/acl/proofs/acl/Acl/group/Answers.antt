@@ -1,7 +1,7 @@
-use Rattle.std.proofs.Common.{◌≡◌, ◌∙◌, sym, subst, ap, rules, ◌++◌}
+use Rattle.std.proofs.Common.{◌∙◌, sym, subst, rules}
 use Rattle.std.proofs.lemmas.Result.{IfOk-at_ok}
 use Rattle.acl.specs.Table.{StandsFor}
-use Rattle.acl.specs.History.{users_of, leaders_of}
+use Rattle.acl.specs.History.{users_of}
 use Rattle.acl.specs.Commands.{group_fault}
 use Rattle.acl.proofs.FollowingLemmas.{allowed-group_acts, known-among, at_ok, on_ok_all, is_done}
 use Rattle.acl.proofs.acl.Acl.group.Goals as goal

@@ -1,7 +1,6 @@
-use Rattle.std.proofs.Common.{◌≡◌, ◌∙◌, sym, subst, ap, rules, ◌++◌}
+use Rattle.std.proofs.Common.{sym, subst, rules}
 use Rattle.std.proofs.lemmas.Result.{IfOk-at_ok}
 use Rattle.acl.specs.Table.{StandsFor}
-use Rattle.acl.specs.History.{users_of, leaders_of}
 use Rattle.acl.proofs.FollowingLemmas.{allowed-mask_acts, on_ok_all, is_done}
 use Rattle.acl.proofs.acl.Acl.mask.Goals as goal
 

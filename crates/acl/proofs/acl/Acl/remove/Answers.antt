@@ -1,4 +1,4 @@
-use Rattle.std.proofs.Common.{◌≡◌, ◌∙◌, sym, subst, rules}
+use Rattle.std.proofs.Common.{◌∙◌, sym, subst, rules}
 use Rattle.std.proofs.lemmas.Result.{IfOk-at_ok}
 use Rattle.acl.specs.Table.{StandsFor}
 use Rattle.acl.specs.History.{users_of}

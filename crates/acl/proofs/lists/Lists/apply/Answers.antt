@@ -1,4 +1,4 @@
-use Rattle.std.proofs.Common.{◌≡◌, ◌∷◌, sym, subst}
+use Rattle.std.proofs.Common.{◌∷◌, sym, subst}
 use Rattle.acl.specs.Commands.{MayFollow}
 use Rattle.acl.specs.Table.{StandsFor}
 use Rattle.acl.specs.Lists.{table_of}

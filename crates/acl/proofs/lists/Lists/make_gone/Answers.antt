@@ -1,4 +1,4 @@
-use Rattle.std.proofs.Common.{◌≡◌, ◌∙◌, ap, sym, subst, Option, None, Bool, true, false, if◌then◌else◌, refl}
+use Rattle.std.proofs.Common.{◌≡◌, ◌∙◌, ap, Option, None, Bool, true, false, if◌then◌else◌, refl}
 use Rattle.std.specs.Option.{option_map}
 use Rattle.std.specs.Map.{lookup, keys_of}
 use Rattle.indexmap.proofs.CallerLemmas.{keys-shift_remove_entry}

@@ -1,4 +1,4 @@
-use Rattle.std.proofs.Common.{◌≡◌, ◌∙◌, ap, sym, subst, IsSome, is_some, refl, arith, true≢false}
+use Rattle.std.proofs.Common.{◌∙◌, ap, sym, subst, IsSome, is_some, refl, true≢false}
 use Rattle.acl.specs.BitSets.{allows}
 use Rattle.acl.specs.Table.{bits_on}
 use Rattle.acl.specs.Lists.{table_of}

@@ -18,7 +18,7 @@ returns-in-Some-clause-stands c =
     λ edition owner h s follows.
     let led : row.leaders ≡ leaders_of edition h u = ap (λ o. option_map_or (λ (r : Row). r.leaders) o []) c.in-Some.ensures.value ∙ s.led u in
     let few : length (leaders_with t.edition leader row.leaders) ≤ 8 =
-        subst (λ n. n ≤ 8) (λ i. length (leaders_with (sym s.edition_is i) leader (sym led i))) follows.1 in
+    subst (λ n. n ≤ 8) (λ i. length (leaders_with (sym s.edition_is i) leader (sym led i))) follows.1 in
     let written = c.regroup.ensures few ∙ (λ i. let r : Row = record row { leaders = leaders_with (s.edition_is i) leader row.leaders } in r) in
     StandsFor-Grouped t edition owner h s u _ leader row
     (sym c.in-Some.ensures.value)

@@ -1,4 +1,4 @@
-use Rattle.std.proofs.Common.{◌≡◌, ◌∙◌, ap, sym, Some, if◌then◌else◌}
+use Rattle.std.proofs.Common.{◌∙◌, ap, Some, if◌then◌else◌}
 use Rattle.std.specs.Map.{lookup}
 use Rattle.acl.specs.BitSets.{with_bit}
 use Rattle.acl.specs.Table.{same_pair}

@@ -1,8 +1,8 @@
-use Rattle.std.proofs.Common.{◌≡◌, ◌∷◌, ap, sym, subst}
+use Rattle.std.proofs.Common.{◌∷◌, sym, subst}
 use Rattle.acl.specs.declared.act.Act.TheVariants.{Preset}
 use Rattle.acl.specs.declared.act.PresetKind.TheVariants as preset
 use Rattle.acl.specs.declared.bits.Bits.{Bits}
-use Rattle.acl.specs.Table.{Table, StandsFor}
+use Rattle.acl.specs.Table.{StandsFor}
 use Rattle.acl.specs.Lists.{table_of}
 use Rattle.acl.proofs.StandsForLemmas.{StandsFor-Preset-windows, StandsFor-Preset-commands}
 use Rattle.acl.proofs.lists.Lists.set_preset.Goals as goal
