@@ -1,9 +1,9 @@
-ghost use Rattle.std.specs.Prelude.{◌≡◌, ◌-◌, ◌≤◌, [], is_ok, IfOk, IfErr, OnOk, OnErr, length, slice_get, true, false, vec_len};
+ghost use Rattle.std.specs.Prelude.{◌≡◌, ◌+◌, ◌≤◌, [], is_ok, IfOk, IfErr, OnOk, OnErr, length, slice_get, true, false, vec_len};
 ghost use Rattle.std.specs.Vec.{vec_capacity};
 
 use crate::act::{Act, Object};
 use crate::bits::{Bit, BitChange};
-use crate::carry::{conclude, room_in};
+use crate::carry::conclude;
 use crate::edition::Edition;
 use crate::entries::{EntryDenial, MaskEntry, NewLeader};
 use crate::faults::AclFault;
@@ -15,12 +15,13 @@ use crate::user_id::UserId;
 use std::alloc::{AllocError, Global};
 use std::marker::Model;
 
-/// The access lists of a session: who is known, what each user may do, who leads whom, masks and presets.
+/// The access lists of a session: who is known, what each user may do, who leads whom, masks and
+/// presets.
 ///
-/// Each list command is done whole or refused whole; the refusal is its first fault from the left, or that memory was
-/// refused. Its words for users are given as `UserId::of` answers them, none for a word that is no name. Its acts go to
-/// the end of `acts`, in order, and each to the follower once it is done. The room that `acts` had behind its acts is there
-/// afterwards too, behind the command's.
+/// Each list command is done whole or refused whole; the refusal is its first fault from the left, or that
+/// memory was refused. Its words for users are given as `UserId::of` answers them, none for a word that is no
+/// name. Its acts go to the end of `acts`, in order, and each to the follower once it is done. `room` is how many
+/// acts more there is room for behind them, which a caller may then push without a growth.
 #[derive(Drop)]
 pub struct Acl {
     lists: Lists,
@@ -104,7 +105,8 @@ impl Acl {
         self.lists.leaders_of(user)
     }
 
-    /// Whether the user has the bit on an object that is there, himself or by a leader of his, or else why not.
+    /// Whether the user has the bit on an object that is there, himself or by a leader of his, or else
+    /// why not.
     pub fn may(&self, user: UserId, bit: Bit, object: Object) -> Result<(), EntryDenial>
         ensures answer { (edition : Edition) (owner : UserId) (h : History) →
             StandsFor self.now edition owner h → there h object ≡ true →
@@ -117,57 +119,61 @@ impl Acl {
         self.lists.may(user, bit, object)
     }
 
-    /// The fault that refuses a change of these names' bits, or their addition: the first from the left.
+    /// The fault that refuses a change of these names' bits, or their addition: the first from the
+    /// left.
     pub fn change_fault(&self, names: &[Option<UserId>]) -> Option<AclFault>
-        ensures { (edition : Edition) (owner : UserId) (h : History) → StandsFor self.now edition owner h →
+        ensures { (edition : Edition) (owner : UserId) (h : History) →
+            StandsFor self.now edition owner h →
             result ≡ change_fault owner (users_of owner h) names.now }
     {
         change_fault(&self.lists, names)
     }
 
-    /// `aclchg`: changes users' bits on objects that are there. A name that isn't known becomes known.
+    /// `aclchg`: changes users' bits on objects that are there. A name that isn't known becomes
+    /// known.
     pub fn change<F: Follower>(
         &mut self,
         names: &[Option<UserId>],
         changes: &[BitChange],
         objects: &[Object],
         acts: &mut Vec<Act>,
+        room: usize,
         follower: &mut F,
     ) -> Result<(), AclFault>
-        ensures answer { Refuses self.old (λ _ owner h. change_fault owner (users_of owner h) names.now) result }
+        ensures answer { Refuses self.old
+            (λ _ owner h. change_fault owner (users_of owner h) names.now) result }
         ensures done { OnOk result (Does self.old self.new acts.old.items acts.new.items
             (F.follows follower.old) (F.follows follower.new) objects.now
             (λ owner h. change_acts (users_of owner h) names.now changes.now objects.now)) }
-        ensures room { OnOk result
-            (vec_capacity acts.old - vec_len acts.old ≤ vec_capacity acts.new - vec_len acts.new) }
+        ensures room { OnOk result (vec_len acts.new + room ≤ vec_capacity acts.new) }
         ensures err { OnErr result ((self.new ≡ self.old) × (acts.new.items ≡ acts.old.items)
             × (follower.new ≡ follower.old)) }
     {
         let start = acts.len();
-        let room = room_in(acts);
         let planned = plan_change(&self.lists, names, changes, objects, acts);
         conclude(&mut self.lists, planned, start, room, acts, follower)
     }
 
-    /// `acladd`: makes names known, and then grants each of these users each bit on the objects, which are there.
+    /// `acladd`: makes names known, and then grants each of these users each bit on the objects, which
+    /// are there.
     pub fn add<F: Follower>(
         &mut self,
         names: &[Option<UserId>],
         objects: &[Object],
         acts: &mut Vec<Act>,
+        room: usize,
         follower: &mut F,
     ) -> Result<(), AclFault>
-        ensures answer { Refuses self.old (λ _ owner h. change_fault owner (users_of owner h) names.now) result }
+        ensures answer { Refuses self.old
+            (λ _ owner h. change_fault owner (users_of owner h) names.now) result }
         ensures done { OnOk result (Does self.old self.new acts.old.items acts.new.items
             (F.follows follower.old) (F.follows follower.new) objects.now
             (λ owner h. add_acts (users_of owner h) names.now objects.now)) }
-        ensures room { OnOk result
-            (vec_capacity acts.old - vec_len acts.old ≤ vec_capacity acts.new - vec_len acts.new) }
+        ensures room { OnOk result (vec_len acts.new + room ≤ vec_capacity acts.new) }
         ensures err { OnErr result ((self.new ≡ self.old) × (acts.new.items ≡ acts.old.items)
             × (follower.new ≡ follower.old)) }
     {
         let start = acts.len();
-        let room = room_in(acts);
         let planned = plan_addition(&self.lists, names, objects, acts);
         conclude(&mut self.lists, planned, start, room, acts, follower)
     }
@@ -177,43 +183,43 @@ impl Acl {
         &mut self,
         name: Option<UserId>,
         acts: &mut Vec<Act>,
+        room: usize,
         follower: &mut F,
     ) -> Result<(), AclFault>
-        ensures answer { Refuses self.old (λ _ owner h. known_name_fault owner (users_of owner h) name) result }
+        ensures answer { Refuses self.old
+            (λ _ owner h. known_name_fault owner (users_of owner h) name) result }
         ensures done { OnOk result (Does self.old self.new acts.old.items acts.new.items
             (F.follows follower.old) (F.follows follower.new) []
             (λ owner h. removal_acts name)) }
-        ensures room { OnOk result
-            (vec_capacity acts.old - vec_len acts.old ≤ vec_capacity acts.new - vec_len acts.new) }
+        ensures room { OnOk result (vec_len acts.new + room ≤ vec_capacity acts.new) }
         ensures err { OnErr result ((self.new ≡ self.old) × (acts.new.items ≡ acts.old.items)
             × (follower.new ≡ follower.old)) }
     {
         let start = acts.len();
-        let room = room_in(acts);
         let planned = plan_removal(&self.lists, name, acts);
         conclude(&mut self.lists, planned, start, room, acts, follower)
     }
 
-    /// `aclgrp`: gives a user a leader, or none. A new leader takes the former one's place, or in the second edition comes last.
+    /// `aclgrp`: gives a user a leader, or none. In the first edition a new leader takes the former
+    /// one's place; in the second he comes last, and one who is there keeps his place.
     pub fn group<F: Follower>(
         &mut self,
         name: Option<UserId>,
         leader: NewLeader,
         acts: &mut Vec<Act>,
+        room: usize,
         follower: &mut F,
     ) -> Result<(), AclFault>
-        ensures answer { Refuses self.old (λ edition owner h.
-            group_fault edition owner (users_of owner h) (leaders_of edition h) name leader) result }
+        ensures answer { Refuses self.old (λ edition owner h. group_fault edition owner
+            (users_of owner h) (leaders_of edition h) name leader) result }
         ensures done { OnOk result (Does self.old self.new acts.old.items acts.new.items
             (F.follows follower.old) (F.follows follower.new) []
             (λ owner h. group_acts name leader)) }
-        ensures room { OnOk result
-            (vec_capacity acts.old - vec_len acts.old ≤ vec_capacity acts.new - vec_len acts.new) }
+        ensures room { OnOk result (vec_len acts.new + room ≤ vec_capacity acts.new) }
         ensures err { OnErr result ((self.new ≡ self.old) × (acts.new.items ≡ acts.old.items)
             × (follower.new ≡ follower.old)) }
     {
         let start = acts.len();
-        let room = room_in(acts);
         let planned = plan_group(&self.lists, name, leader, acts);
         conclude(&mut self.lists, planned, start, room, acts, follower)
     }
@@ -224,26 +230,27 @@ impl Acl {
         by: UserId,
         entries: &[MaskEntry],
         acts: &mut Vec<Act>,
+        room: usize,
         follower: &mut F,
     ) -> Result<(), AclFault>
-        ensures answer { Refuses self.old (λ _ owner h. mask_fault owner (users_of owner h) entries.now) result }
+        ensures answer { Refuses self.old
+            (λ _ owner h. mask_fault owner (users_of owner h) entries.now) result }
         ensures done { OnOk result (Does self.old self.new acts.old.items acts.new.items
             (F.follows follower.old) (F.follows follower.new) []
             (λ owner h. mask_acts by entries.now)) }
-        ensures room { OnOk result
-            (vec_capacity acts.old - vec_len acts.old ≤ vec_capacity acts.new - vec_len acts.new) }
+        ensures room { OnOk result (vec_len acts.new + room ≤ vec_capacity acts.new) }
         ensures err { OnErr result ((self.new ≡ self.old) × (acts.new.items ≡ acts.old.items)
             × (follower.new ≡ follower.old)) }
     {
         let start = acts.len();
-        let room = room_in(acts);
         let planned = plan_masks(&self.lists, by, entries, acts);
         conclude(&mut self.lists, planned, start, room, acts, follower)
     }
 
     /// A known user opened a window, whose serial number is new. At most 39 others are open.
     pub fn window_opened(&mut self, by: UserId, window: u32)
-        ensures { (edition : Edition) (owner : UserId) (h : History) → StandsFor self.old edition owner h →
+        ensures { (edition : Edition) (owner : UserId) (h : History) →
+            StandsFor self.old edition owner h →
             is_known owner h by ≡ true → is_open h window ≡ false → open_count h < 40 →
             StandsFor self.new edition owner (Opened by window ∷ h) }
     {
@@ -252,7 +259,8 @@ impl Acl {
 
     /// A window was closed.
     pub fn window_closed(&mut self, window: u32)
-        ensures { (edition : Edition) (owner : UserId) (h : History) → StandsFor self.old edition owner h →
+        ensures { (edition : Edition) (owner : UserId) (h : History) →
+            StandsFor self.old edition owner h →
             StandsFor self.new edition owner (Closed window ∷ h) }
     {
         self.lists.close(window);

@@ -1,6 +1,6 @@
 //! How the acts of a list command are carried out.
 
-ghost use Rattle.std.specs.Prelude.{◌≡◌, ◌+◌, ◌≤◌, ◌<◌, count_by, length, take, drop, vec_len, ◌-◌, OnOk, OnErr, IfErr, IfOk, Ok, Err, Option};
+ghost use Rattle.std.specs.Prelude.{◌≡◌, ◌+◌, ◌≤◌, ◌<◌, count_by, length, take, drop, vec_len, OnOk, OnErr, IfErr, IfOk, Ok, Err, Option};
 ghost use Rattle.indexmap.specs.IndexMap.{spare};
 ghost use Rattle.std.specs.Vec.{vec_capacity};
 ghost use Rattle.acl.specs.Commands.{Answers, makes_known, sets_mask};
@@ -39,9 +39,11 @@ fn make_room(
     acts: &mut Vec<Act>,
 ) -> Result<(), AclFault>
     requires { start ≤ vec_len acts.old }
-    ensures rows { OnOk result (count_by makes_known (drop start acts.old.items) ≤ spare lists.new.rows) }
-    ensures masks { OnOk result (count_by sets_mask (drop start acts.old.items) ≤ spare lists.new.masks) }
-    ensures room { OnOk result (room ≤ vec_capacity acts.new - vec_len acts.new) }
+    ensures rows { OnOk result
+        (count_by makes_known (drop start acts.old.items) ≤ spare lists.new.rows) }
+    ensures masks { OnOk result
+        (count_by sets_mask (drop start acts.old.items) ≤ spare lists.new.masks) }
+    ensures room { OnOk result (vec_len acts.new + room ≤ vec_capacity acts.new) }
     ensures acts { acts.new.items ≡ acts.old.items }
     ensures len { vec_len acts.new ≡ vec_len acts.old }
     ensures same { table_of lists.new ≡ table_of lists.old }
@@ -65,7 +67,8 @@ fn apply_all<F: Follower>(lists: &mut Lists, acts: &[Act], follower: &mut F)
     requires rows { count_by makes_known acts.now ≤ spare lists.old.rows }
     requires masks { count_by sets_mask acts.now ≤ spare lists.old.masks }
     ensures stands { TakesAll (table_of lists.old) (table_of lists.new) acts.now }
-    ensures follower { FollowsAll (F.follows follower.old) (F.follows follower.new) (table_of lists.old) acts.now }
+    ensures follower { FollowsAll (F.follows follower.old) (F.follows follower.new)
+        (table_of lists.old) acts.now }
 {
     for act in acts {
         lists.apply(*act);
@@ -73,15 +76,8 @@ fn apply_all<F: Follower>(lists: &mut Lists, acts: &[Act], follower: &mut F)
     }
 }
 
-/// How many acts more there is room for.
-pub fn room_in(acts: &Vec<Act>) -> usize
-    ensures { result ≡ vec_capacity acts.now - vec_len acts.now }
-{
-    acts.capacity() - acts.len()
-}
-
-/// Does the acts from `start` on where they were planned well and leave room for so many more; else takes them back, and
-/// answers the fault.
+/// Does the acts from `start` on where they were planned well, with room for so many more behind them;
+/// else takes them back, and answers the fault.
 pub fn conclude<F: Follower>(
     lists: &mut Lists,
     planned: Result<(), AclFault>,
@@ -93,13 +89,14 @@ pub fn conclude<F: Follower>(
     requires { start ≤ vec_len acts.old }
     ensures answer { (fault : Option AclFault) → Answers planned fault → Answers result fault }
     ensures acts { OnOk result (acts.new.items ≡ acts.old.items) }
-    ensures stands { OnOk result (TakesAll (table_of lists.old) (table_of lists.new) (drop start acts.old.items)) }
-    ensures follower { OnOk result (FollowsAll (F.follows follower.old) (F.follows follower.new) (table_of lists.old)
-        (drop start acts.old.items)) }
-    ensures room { OnOk result (room ≤ vec_capacity acts.new - vec_len acts.new) }
+    ensures stands { OnOk result
+        (TakesAll (table_of lists.old) (table_of lists.new) (drop start acts.old.items)) }
+    ensures follower { OnOk result (FollowsAll (F.follows follower.old) (F.follows follower.new)
+        (table_of lists.old) (drop start acts.old.items)) }
+    ensures room { OnOk result (vec_len acts.new + room ≤ vec_capacity acts.new) }
     ensures ok { OnOk result (planned ≡ Ok tt) }
-    ensures err { OnErr result ((table_of lists.new ≡ table_of lists.old) × (acts.new.items ≡ take start acts.old.items)
-        × (follower.new ≡ follower.old)) }
+    ensures err { OnErr result ((table_of lists.new ≡ table_of lists.old)
+        × (acts.new.items ≡ take start acts.old.items) × (follower.new ≡ follower.old)) }
 {
     let ready = match planned {
         Ok(()) => make_room(lists, room, start, acts),

@@ -1,4 +1,5 @@
-//! Laws of the definitions, for the crates above. Each function here does nothing; its contract says what holds.
+//! Laws of the definitions, for the crates above. Each function here does nothing; its contract says
+//! what holds.
 
 ghost use Rattle.std.specs.Prelude.{◌≡◌, ◌∷◌, ◌++◌, List, true};
 ghost use Rattle.std.specs.List.{AllByRecursion};
@@ -12,8 +13,8 @@ ghost use Rattle.acl.specs.declared.user_id.UserId.{UserId};
 
 /// Acts of clients and locks leave all rights as they are.
 pub fn acts_aside()
-    ensures one { (t : Table) (edition : Edition) (owner : UserId) (h : History) (act : Act) → IsAside act →
-        StandsFor t edition owner h → StandsFor t edition owner (act ∷ h) }
+    ensures one { (t : Table) (edition : Edition) (owner : UserId) (h : History) (act : Act) →
+        IsAside act → StandsFor t edition owner h → StandsFor t edition owner (act ∷ h) }
     ensures all { (t : Table) (edition : Edition) (owner : UserId) (h : History) (acts : List Act) →
         AllByRecursion IsAside acts → StandsFor t edition owner h →
         StandsFor t edition owner (followed_by h acts) }

@@ -82,7 +82,8 @@ impl Leaders {
 
     /// The leaders and this one at the end; none where they are eight already.
     fn and(self, leader: UserId) -> Option<Leaders>
-        ensures { result ≡ (if nat_le (length (self ++ leader ∷ [])) 8 then Some (self ++ leader ∷ []) else None) }
+        ensures { result ≡ (if nat_le (length (self ++ leader ∷ [])) 8
+            then Some (self ++ leader ∷ []) else None) }
     {
         if self.as_slice().len() >= MOST {
             return None;
@@ -92,7 +93,8 @@ impl Leaders {
         Some(more)
     }
 
-    /// The leaders of a user who is given this one, or none, in this edition; none where they would be more than eight.
+    /// The leaders of a user who is given this one, or none, in this edition; none where they would
+    /// be more than eight.
     pub(crate) fn with(self, edition: Edition, leader: Option<UserId>) -> Option<Leaders>
         ensures { result ≡ (if nat_le (length (leaders_with edition leader self)) 8
             then Some (leaders_with edition leader self) else None) }

@@ -106,8 +106,8 @@ impl Lists {
 
     /// Whether the user may be given this leader too: no more than eight lead him then.
     pub(crate) fn has_place(&self, user: UserId, leader: UserId) -> bool
-        ensures { result ≡ nat_le (length
-            (leaders_with (table_of self.now).edition (Some leader) (led_by (table_of self.now) user))) 8 }
+        ensures { result ≡ nat_le (length (leaders_with (table_of self.now).edition
+            (Some leader) (led_by (table_of self.now) user))) 8 }
     {
         self.leaders_of(user)
             .with(self.edition, Some(leader))
@@ -126,12 +126,14 @@ impl Lists {
 
     /// Whether one of these users' entries has the bit.
     fn is_granted_to_any(&self, users: &[UserId], bit: Bit, object: Object) -> bool
-        ensures { result ≡ list_any (λ user. granted (table_of self.now) user bit object) users.now }
+        ensures { result
+            ≡ list_any (λ user. granted (table_of self.now) user bit object) users.now }
     {
         users.iter().any(|user| self.is_granted(*user, bit, object))
     }
 
-    /// Whether the user has the bit on an object that is there, himself or by a leader of his, or else why not.
+    /// Whether the user has the bit on an object that is there, himself or by a leader of his, or else
+    /// why not.
     pub fn may(&self, user: UserId, bit: Bit, object: Object) -> Result<(), EntryDenial>
         ensures answer { (edition : Edition) (owner : UserId) (h : History) →
             StandsFor (table_of self.now) edition owner h → there h object ≡ true →
@@ -251,8 +253,10 @@ impl Lists {
         requires rows_room { makes_known act ≡ true → 0 < spare self.old.rows }
         requires masks_room { sets_mask act ≡ true → 0 < spare self.old.masks }
         ensures stands { Takes (table_of self.old) (table_of self.new) act }
-        ensures rows_left { spare self.old.rows ≤ spare self.new.rows + (if makes_known act then 1 else 0) }
-        ensures masks_left { spare self.old.masks ≤ spare self.new.masks + (if sets_mask act then 1 else 0) }
+        ensures rows_left { spare self.old.rows
+            ≤ spare self.new.rows + (if makes_known act then 1 else 0) }
+        ensures masks_left { spare self.old.masks
+            ≤ spare self.new.masks + (if sets_mask act then 1 else 0) }
     {
         match act {
             Act::Known { user } => self.make_known(user),

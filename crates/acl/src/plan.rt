@@ -93,7 +93,8 @@ fn plan_sets(
     objects: &[Object],
     acts: &mut Vec<Act>,
 ) -> Result<(), AclFault>
-    ensures ok { OnOk result (acts.new.items ≡ acts.old.items ++ sets user changes.now objects.now) }
+    ensures ok { OnOk result
+        (acts.new.items ≡ acts.old.items ++ sets user changes.now objects.now) }
     ensures err { OnErr result (Keeps acts.old.items acts.new.items) }
     ensures memory { IfErr result (λ fault. fault ≡ AclFault.NoMemory) }
 {
@@ -124,7 +125,8 @@ fn is_named(lists: &Lists, before: &[Option<UserId>], user: UserId) -> bool
     lists.knows(user) || names_any(before, user)
 }
 
-/// How many users are known behind one more word of a change, where so many are behind the words before it; or its fault.
+/// How many users are known behind one more word of a change, where `count` are behind the words
+/// before it; or its fault.
 fn count_with(
     lists: &Lists,
     before: &[Option<UserId>],
@@ -151,7 +153,8 @@ fn count_with(
 
 /// The fault of a change of these names: the first from the left.
 pub fn change_fault(lists: &Lists, names: &[Option<UserId>]) -> Option<AclFault>
-    ensures { result ≡ change_fault (table_of lists.now).owner (users_in (table_of lists.now)) names.now }
+    ensures { result
+        ≡ change_fault (table_of lists.now).owner (users_in (table_of lists.now)) names.now }
 {
     let mut count = lists.user_count();
     for i in 0..names.len() {
@@ -192,7 +195,8 @@ fn plan_name_sets(
     objects: &[Object],
     acts: &mut Vec<Act>,
 ) -> Result<(), AclFault>
-    ensures ok { OnOk result (acts.new.items ≡ acts.old.items ++ name_sets changes.now objects.now name) }
+    ensures ok { OnOk result
+        (acts.new.items ≡ acts.old.items ++ name_sets changes.now objects.now name) }
     ensures err { OnErr result (Keeps acts.old.items acts.new.items) }
     ensures memory { IfErr result (λ fault. fault ≡ AclFault.NoMemory) }
 {
@@ -259,7 +263,8 @@ fn plan_grants(
     Ok(())
 }
 
-/// An addition of names: each that isn't known becomes known, and then each user is granted each bit.
+/// An addition of names: each that isn't known becomes known, and then each user is granted each
+/// bit.
 pub fn plan_addition(
     lists: &Lists,
     names: &[Option<UserId>],
@@ -281,7 +286,8 @@ pub fn plan_addition(
 
 /// The known user, not the owner, whom a word names.
 fn known_name(lists: &Lists, name: Option<UserId>) -> Result<UserId, AclFault>
-    ensures answer { Answers result (known_name_fault (table_of lists.now).owner (users_in (table_of lists.now)) name) }
+    ensures answer { Answers result
+        (known_name_fault (table_of lists.now).owner (users_in (table_of lists.now)) name) }
     ensures user { IfOk result (λ user. name ≡ Some user) }
 {
     let user = new_name(lists, name)?;
@@ -298,7 +304,8 @@ pub fn plan_removal(
     name: Option<UserId>,
     acts: &mut Vec<Act>,
 ) -> Result<(), AclFault>
-    ensures answer { Answers result (known_name_fault (table_of lists.now).owner (users_in (table_of lists.now)) name) }
+    ensures answer { Answers result
+        (known_name_fault (table_of lists.now).owner (users_in (table_of lists.now)) name) }
     ensures ok { OnOk result (acts.new.items ≡ acts.old.items ++ removal_acts name) }
     ensures err { OnErr result (acts.new.items ≡ acts.old.items) }
 {
@@ -308,14 +315,16 @@ pub fn plan_removal(
 
 /// Whether a known user may lead another.
 fn may_lead(lists: &Lists, user: UserId, leader: UserId) -> bool
-    ensures { result ≡ (among (users_in (table_of lists.now)) leader && not (same_user user leader)) }
+    ensures { result
+        ≡ (among (users_in (table_of lists.now)) leader && not (same_user user leader)) }
 {
     lists.knows(leader) && !(user == leader)
 }
 
 /// The leader whom a word names for a user.
 fn leader_for(lists: &Lists, user: UserId, leader: NewLeader) -> Result<Option<UserId>, AclFault>
-    ensures answer { Answers result (leader_fault (table_of lists.now).edition (table_of lists.now).owner
+    ensures answer { Answers result
+        (leader_fault (table_of lists.now).edition (table_of lists.now).owner
         (users_in (table_of lists.now)) (led_by (table_of lists.now)) (Some user) leader) }
     ensures leader { IfOk result (λ chosen. chosen ≡ chosen_leader leader) }
 {
@@ -341,7 +350,8 @@ pub fn plan_group(
     leader: NewLeader,
     acts: &mut Vec<Act>,
 ) -> Result<(), AclFault>
-    ensures answer { Answers result (group_fault (table_of lists.now).edition (table_of lists.now).owner
+    ensures answer { Answers result
+        (group_fault (table_of lists.now).edition (table_of lists.now).owner
         (users_in (table_of lists.now)) (led_by (table_of lists.now)) name leader) }
     ensures ok { OnOk result (acts.new.items ≡ acts.old.items ++ group_acts name leader) }
     ensures err { OnErr result (acts.new.items ≡ acts.old.items) }
@@ -358,8 +368,10 @@ fn plan_mask(
     entry: MaskEntry,
     acts: &mut Vec<Act>,
 ) -> Result<(), AclFault>
-    ensures answer { Answers result (scope_fault (table_of lists.now).owner (users_in (table_of lists.now)) entry.scope) }
-    ensures ok { OnOk result (acts.new.items ≡ acts.old.items ++ scope_acts by entry.scope entry.bit entry.value) }
+    ensures answer { Answers result
+        (scope_fault (table_of lists.now).owner (users_in (table_of lists.now)) entry.scope) }
+    ensures ok { OnOk result
+        (acts.new.items ≡ acts.old.items ++ scope_acts by entry.scope entry.bit entry.value) }
     ensures err { OnErr result (acts.new.items ≡ acts.old.items) }
 {
     match entry.scope {
@@ -393,7 +405,8 @@ pub fn plan_masks(
     entries: &[MaskEntry],
     acts: &mut Vec<Act>,
 ) -> Result<(), AclFault>
-    ensures answer { Answers result (mask_fault (table_of lists.now).owner (users_in (table_of lists.now)) entries.now) }
+    ensures answer { Answers result
+        (mask_fault (table_of lists.now).owner (users_in (table_of lists.now)) entries.now) }
     ensures ok { OnOk result (acts.new.items ≡ acts.old.items ++ mask_acts by entries.now) }
     ensures err { OnErr result (Keeps acts.old.items acts.new.items) }
 {

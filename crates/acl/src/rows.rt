@@ -99,8 +99,10 @@ pub fn opening_bits(masks: &Masks, by: UserId, user: UserId) -> Bits
 /// Gives each user what he gets on the window that `by` opens in the slot.
 pub fn give_window(rows: &mut Rows, masks: &Masks, by: UserId, slot: usize)
     requires { slot < 40 }
-    ensures given { rows.new.entries ≡ map (λ e. (e.0, with_window slot (opening_bits masks.now.entries by e.0) e.1)) rows.old.entries }
-    ensures wide { (user : UserId) (row : Row) → lookup (same_user user) rows.old.entries ≡ Some row → length row.windows ≡ 40 }
+    ensures given { rows.new.entries
+        ≡ map (λ e. (e.0, with_window slot (opening_bits masks.now.entries by e.0) e.1)) rows.old.entries }
+    ensures wide { (user : UserId) (row : Row) →
+        lookup (same_user user) rows.old.entries ≡ Some row → length row.windows ≡ 40 }
 {
     for i in 0..rows.len() {
         let (user, row) = rows.pair_mut(i);
@@ -120,7 +122,8 @@ pub fn regroup(row: &mut Row, edition: Edition, leader: Option<UserId>)
 
 /// Takes a leader away from all whom he leads.
 pub fn forget_leader(rows: &mut Rows, gone: UserId)
-    ensures forgotten { rows.new.entries ≡ map (λ e. (e.0, without_leader gone e.1)) rows.old.entries }
+    ensures forgotten { rows.new.entries
+        ≡ map (λ e. (e.0, without_leader gone e.1)) rows.old.entries }
     ensures room { spare rows.new ≡ spare rows.old }
 {
     for i in 0..rows.len() {
@@ -131,12 +134,14 @@ pub fn forget_leader(rows: &mut Rows, gone: UserId)
 
 /// Forgets the masks that a user gave or got.
 pub fn forget_masks(masks: &mut Masks, user: UserId)
-    ensures forgotten { masks.new.entries ≡ filter (λ e. not (same_user user e.0.0 || same_user user e.0.1)) masks.old.entries }
+    ensures forgotten { masks.new.entries
+        ≡ filter (λ e. not (same_user user e.0.0 || same_user user e.0.1)) masks.old.entries }
     ensures room { spare masks.old ≤ spare masks.new }
 {
     masks.retain(
         |pair: &(UserId, UserId), bits: &mut Bits| -> bool
-            ensures { (result ≡ not (same_user user pair.now.0 || same_user user pair.now.1)) × (bits.new ≡ bits.old) }
+            ensures { (result ≡ not (same_user user pair.now.0 || same_user user pair.now.1))
+                × (bits.new ≡ bits.old) }
         { !(user == pair.0 || user == pair.1) },
     );
 }

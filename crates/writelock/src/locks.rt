@@ -54,7 +54,8 @@ impl Locks {
 
     /// Changes the lock of an open window.
     fn put(&mut self, window: u32, lock: Lock)
-        ensures locks { (q : ℕ) → lock_in self.new q ≡ (if nat_eq window q then option_map (λ _. lock) (lock_in self.old q) else lock_in self.old q) }
+        ensures locks { (q : ℕ) → lock_in self.new q ≡ (if nat_eq window q
+            then option_map (λ _. lock) (lock_in self.old q) else lock_in self.old q) }
         ensures windows { self.new.windows ≡ self.old.windows }
         ensures default { self.new.default ≡ self.old.default }
         ensures all { length self.new.locks ≡ length self.old.locks }
@@ -66,7 +67,8 @@ impl Locks {
 
     /// Who holds the lock of a window.
     pub fn holder(&self, window: u32) -> Option<UserId>
-        ensures { (edition : Edition) (owner : UserId) (h : History) → LocksStandFor self.now edition owner h →
+        ensures { (edition : Edition) (owner : UserId) (h : History) →
+            LocksStandFor self.now edition owner h →
             result ≡ holder edition owner h window }
     {
         match self.lock_of(window) {
@@ -77,7 +79,8 @@ impl Locks {
 
     /// The mode of an open window.
     pub fn mode(&self, window: u32) -> Option<LockMode>
-        ensures { (edition : Edition) (owner : UserId) (h : History) → LocksStandFor self.now edition owner h →
+        ensures { (edition : Edition) (owner : UserId) (h : History) →
+            LocksStandFor self.now edition owner h →
             result ≡ (if is_open h window then Some (mode_of h window) else None) }
     {
         match self.lock_of(window) {
@@ -88,10 +91,12 @@ impl Locks {
 
     /// Whether no other user holds the lock of a window, or else who does.
     pub fn may_type(&self, user: UserId, window: u32) -> Result<(), LockDenial>
-        ensures free { (edition : Edition) (owner : UserId) (h : History) → LocksStandFor self.now edition owner h →
+        ensures free { (edition : Edition) (owner : UserId) (h : History) →
+            LocksStandFor self.now edition owner h →
             is_ok result ≡ stops_nobody_but user (holder edition owner h window) }
         ensures denial { IfErr result (λ d. (d.window ≡ window) ×
-            ((edition : Edition) (owner : UserId) (h : History) → LocksStandFor self.now edition owner h →
+            ((edition : Edition) (owner : UserId) (h : History) →
+            LocksStandFor self.now edition owner h →
             holder edition owner h window ≡ Some d.holder)) }
     {
         match self.holder(window) {
@@ -106,7 +111,8 @@ impl Locks {
 
     /// `defwritelock`: sets the mode of windows that are opened later.
     pub fn set_default(&mut self, mode: LockMode)
-        ensures { (edition : Edition) (owner : UserId) (h : History) → LocksStandFor self.old edition owner h →
+        ensures { (edition : Edition) (owner : UserId) (h : History) →
+            LocksStandFor self.old edition owner h →
             LocksStandFor self.new edition owner (Default mode ∷ h) }
     {
         self.default = mode;
@@ -114,7 +120,8 @@ impl Locks {
 
     /// A user opened a window, whose serial number is new. At most 39 others are open.
     pub fn opened(&mut self, by: UserId, window: u32)
-        ensures { (edition : Edition) (owner : UserId) (h : History) → LocksStandFor self.old edition owner h →
+        ensures { (edition : Edition) (owner : UserId) (h : History) →
+            LocksStandFor self.old edition owner h →
             is_open h window ≡ false → open_count h < 40 →
             LocksStandFor self.new edition owner (Opened by window ∷ h) }
     {
@@ -126,7 +133,8 @@ impl Locks {
 
     /// A window was closed.
     pub fn closed(&mut self, window: u32)
-        ensures { (edition : Edition) (owner : UserId) (h : History) → LocksStandFor self.old edition owner h →
+        ensures { (edition : Edition) (owner : UserId) (h : History) →
+            LocksStandFor self.old edition owner h →
             LocksStandFor self.new edition owner (Closed window ∷ h) }
     {
         self.windows.close(window);
@@ -134,7 +142,8 @@ impl Locks {
 
     /// A user entered an open window; `may_write` tells truly whether he may write there.
     pub fn entered(&mut self, user: UserId, window: u32, may_write: bool)
-        ensures { (edition : Edition) (owner : UserId) (h : History) → LocksStandFor self.old edition owner h →
+        ensures { (edition : Edition) (owner : UserId) (h : History) →
+            LocksStandFor self.old edition owner h →
             is_open h window ≡ true → may_write ≡ may edition owner h user Write (Window window) →
             LocksStandFor self.new edition owner (Entered user window ∷ h) }
     {
@@ -145,7 +154,8 @@ impl Locks {
 
     /// A user left a window: no focused region of his shows it any more.
     pub fn left(&mut self, user: UserId, window: u32)
-        ensures { (edition : Edition) (owner : UserId) (h : History) → LocksStandFor self.old edition owner h →
+        ensures { (edition : Edition) (owner : UserId) (h : History) →
+            LocksStandFor self.old edition owner h →
             LocksStandFor self.new edition owner (Left user window ∷ h) }
     {
         if let Some(lock) = self.lock_of(window) {
@@ -165,9 +175,11 @@ impl Locks {
         }
     }
 
-    /// `writelock`: sets the mode of an open window. The lock is the user's, who may write there, or in mode off nobody's.
+    /// `writelock`: sets the mode of an open window. The lock is the user's, who may write there, or in
+    /// mode off nobody's.
     pub fn set_mode(&mut self, by: UserId, window: u32, mode: LockMode)
-        ensures { (edition : Edition) (owner : UserId) (h : History) → LocksStandFor self.old edition owner h →
+        ensures { (edition : Edition) (owner : UserId) (h : History) →
+            LocksStandFor self.old edition owner h →
             is_open h window ≡ true →
             (is_off mode ≡ false → may edition owner h by Write (Window window) ≡ true) →
             LocksStandFor self.new edition owner (Mode by window mode ∷ h) }
@@ -177,7 +189,8 @@ impl Locks {
 
     /// Frees the locks that an act of a list command releases, with the lists after it.
     pub fn withdraw(&mut self, lists: &Lists, act: Act)
-        ensures { Follows (LocksStandFor self.old) (LocksStandFor self.new) (table_of lists.now) act }
+        ensures { Follows (LocksStandFor self.old) (LocksStandFor self.new)
+            (table_of lists.now) act }
     {
         for i in 0..self.locks.len() {
             self.locks[i] = after_act(lists, act, self.windows.serial_at(i), self.locks[i]);
