@@ -19,10 +19,12 @@ use control_parser::{Parser, plain_run};
 use std::alloc::{AllocError, Global};
 use std::marker::Model;
 use terminal_model::{Modes, REPORT_BYTES, Report};
+use thiserror::Error;
 use vt_screen::Screen;
 
 /// Memory was refused behind so many bytes, which were read, and their reports appended.
-#[derive(Clone, Copy, Debug, PartialEq, Eq)]
+#[derive(Clone, Copy, Debug, PartialEq, Eq, Error)]
+#[error("out of memory behind {read} bytes")]
 pub struct Stopped {
     pub read: usize,
 }

@@ -31,7 +31,7 @@ fn blank_run(cells: &[Cell], from: usize) -> usize
     ensures blanks { (c : ℕ) → from ≤ c → c < from + result → cell_at cells.now c ≡ blank }
 {
     let mut end = from;
-    while end < cells.len() && cells[end].is_like(&Cell::BLANK) && !cells[end].is_protected {
+    while end < cells.len() && cells[end].is_blank() {
         end += 1;
     }
     end - from

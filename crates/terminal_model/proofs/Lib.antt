@@ -14,6 +14,8 @@ pub mod Places
 pub mod Frames
 pub mod Shown
 pub mod DrawnRows
+pub mod Leaving
+pub mod WholeReading
 pub mod Further
 pub mod Renditions
 pub mod Plain
