@@ -36,8 +36,9 @@ Refuses old fault result =
     (edition : Edition) (owner : UserId) (h : History) → StandsFor old edition owner h → Answers result (fault edition owner h)
 
 -- a list command was done after the history h: the table stands for h and then its acts, which are given out in order, and so does
--- what follows the acts
+-- what follows the acts. Each act may follow those before it
 pub record IsDone (edition : Edition) (owner : UserId) (h : History) (given : List Act) (new : Table) (before after : List Act) (follows followed : Edition → UserId → History → Type 0) : Type 0 where
+  pub follow : AllMayFollow edition owner h given
   pub stands : StandsFor new edition owner (followed_by h given)
   pub acts : after ≡ before ++ given
   pub follower : follows edition owner h → followed edition owner (followed_by h given)
