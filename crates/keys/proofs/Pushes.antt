@@ -2,7 +2,7 @@
 use Rattle.std.proofs.Common.{◌≡◌, ℕ, zero, suc, ◌+◌, ◌≤◌, Bool, true, false, cond, List, [], ◌∷◌, ◌++◌, length, refl, sym, ap, ◌∙◌, subst, arith, append_assoc, length-append}
 use Rattle.std.specs.Prelude.{◌==◌}
 use Rattle.std.proofs.lemmas.List.{append-nil}
-use Rattle.keys.specs.Grammar.{Item, typed, line, Rest, nothing, command_key, prompt, chosen, edited, line_of, ends_line, stays, while, Piece, ends, unended, prompt_end, prompt_piece, command_piece, piece, with_front, items_behind, items}
+use Rattle.keys.specs.Grammar.{Item, typed, line, Rest, nothing, command_key, prompt, key_items, line_after_key, line_of, ends_line, stays, span, Piece, ends, unended, prompt_end, prompt_piece, command_piece, piece, with_front, items_behind, items}
 use Rattle.keys.specs.Steps.{rest_step}
 
 -- a prompt, key by key
@@ -11,23 +11,23 @@ ended bytes k = cond (ends_line k) (line bytes ∷ []) []
 
 abbrev prompt_from : List ℕ → ℕ → List ℕ → Piece
 prompt_from bytes n [] = unended (prompt bytes)
-prompt_from bytes n (k ∷ keys) = cond (stays k) (prompt_from (edited bytes k) (n + 1) keys) (ends (ended bytes k) (n + 1))
+prompt_from bytes n (k ∷ keys) = cond (stays k) (prompt_from (line_after_key bytes k) (n + 1) keys) (ends (ended bytes k) (n + 1))
 
 whole : List ℕ → ℕ → List ℕ × List ℕ → Piece
 whole bytes n w = prompt_end (line_of bytes w.0) (length w.0 + n) w.1
 
-prompt-is : (bytes : List ℕ) (n : ℕ) (keys : List ℕ) → prompt_end (line_of bytes (while stays keys).0) (length (while stays keys).0 + n) (while stays keys).1 ≡ prompt_from bytes n keys
+prompt-is : (bytes : List ℕ) (n : ℕ) (keys : List ℕ) → prompt_end (line_of bytes (span stays keys).0) (length (span stays keys).0 + n) (span stays keys).1 ≡ prompt_from bytes n keys
 unfolding line_of
 prompt-is bytes n [] = refl
-prompt-is bytes n (k ∷ keys) = by (stays k) (prompt-is (edited bytes k) (n + 1) keys)
+prompt-is bytes n (k ∷ keys) = by (stays k) (prompt-is (line_after_key bytes k) (n + 1) keys)
   where
     by : (b : Bool)
-        → prompt_end (line_of (edited bytes k) (while stays keys).0) (length (while stays keys).0 + (n + 1)) (while stays keys).1 ≡ prompt_from (edited bytes k) (n + 1) keys
-        → (let w = cond {A = List ℕ × List ℕ} b (k ∷ (while stays keys).0, (while stays keys).1) ([], k ∷ keys) in prompt_end (line_of bytes w.0) (length w.0 + n) w.1)
-        ≡ cond b (prompt_from (edited bytes k) (n + 1) keys) (ends (ended bytes k) (n + 1))
+        → prompt_end (line_of (line_after_key bytes k) (span stays keys).0) (length (span stays keys).0 + (n + 1)) (span stays keys).1 ≡ prompt_from (line_after_key bytes k) (n + 1) keys
+        → (let w = cond {A = List ℕ × List ℕ} b (k ∷ (span stays keys).0, (span stays keys).1) ([], k ∷ keys) in prompt_end (line_of bytes w.0) (length w.0 + n) w.1)
+        ≡ cond b (prompt_from (line_after_key bytes k) (n + 1) keys) (ends (ended bytes k) (n + 1))
     by true again =
-        let e : suc (length (while stays keys).0) + n ≡ length (while stays keys).0 + (n + 1) = omega arith in
-        ap (λ m. prompt_end (line_of (edited bytes k) (while stays keys).0) m (while stays keys).1) e ∙ again
+        let e : suc (length (span stays keys).0) + n ≡ length (span stays keys).0 + (n + 1) = omega arith in
+        ap (λ m. prompt_end (line_of (line_after_key bytes k) (span stays keys).0) m (span stays keys).1) e ∙ again
     by false again =
         let e : 0 + n ≡ n = omega arith in
         ap (λ m. ends (ended bytes k) (m + 1)) e
@@ -45,22 +45,22 @@ grows_cond k n false x y x' y' h g = g
 grows_prompt : (k : ℕ) (bytes : List ℕ) (n : ℕ) (keys : List ℕ) (m : ℕ) → m ≡ n + length keys → Grows k m (prompt_from bytes n keys) (prompt_from bytes n (keys ++ k ∷ []))
 grows_prompt k bytes n [] m e = by (stays k) refl
   where
-    by : (b : Bool) → rest_step (prompt bytes) k ≡ cond b ([], prompt (edited bytes k)) (ended bytes k, nothing)
-        → Grows k m (unended (prompt bytes)) (cond b (unended (prompt (edited bytes k))) (ends (ended bytes k) (n + 1)))
+    by : (b : Bool) → rest_step (prompt bytes) k ≡ cond b ([], prompt (line_after_key bytes k)) (ended bytes k, nothing)
+        → Grows k m (unended (prompt bytes)) (cond b (unended (prompt (line_after_key bytes k))) (ends (ended bytes k) (n + 1)))
     by true h = h
     by false h = (h, omega (arith, e))
 grows_prompt k bytes n (y ∷ keys) m e =
-    grows_cond k m (stays y) _ _ _ _ (grows_prompt k (edited bytes y) (n + 1) keys m (omega (arith, e))) (refl, omega (arith, e))
+    grows_cond k m (stays y) _ _ _ _ (grows_prompt k (line_after_key bytes y) (n + 1) keys m (omega (arith, e))) (refl, omega (arith, e))
 
 grows_command : (k : ℕ) (keys : List ℕ) → Grows k (length keys) (command_piece keys) (command_piece (keys ++ k ∷ []))
 unfolding line_of
 grows_command k [] = by (k == 0x3A) refl
   where
-    by : (b : Bool) → rest_step command_key k ≡ cond b ([], prompt []) (chosen k, nothing)
-        → Grows k 0 (unended command_key) (cond b (unended (prompt [])) (ends (chosen k) 1))
+    by : (b : Bool) → rest_step command_key k ≡ cond b ([], prompt []) (key_items k, nothing)
+        → Grows k 0 (unended command_key) (cond b (unended (prompt [])) (ends (key_items k) 1))
     by true h = h
     by false h = (h, refl)
-grows_command k (y ∷ keys) = grows_cond k (suc (length keys)) (y == 0x3A) (prompt_piece keys) (ends (chosen y) 1) (prompt_piece (keys ++ k ∷ [])) (ends (chosen y) 1)
+grows_command k (y ∷ keys) = grows_cond k (suc (length keys)) (y == 0x3A) (prompt_piece keys) (ends (key_items y) 1) (prompt_piece (keys ++ k ∷ [])) (ends (key_items y) 1)
     (subst (λ p. Grows k (suc (length keys)) p (prompt_piece (keys ++ k ∷ []))) (sym (prompt-is [] 1 keys))
     (subst (λ p. Grows k (suc (length keys)) (prompt_from [] 1 keys) p) (sym (prompt-is [] 1 (keys ++ k ∷ []))) (grows_prompt k [] 1 keys (suc (length keys)) (omega arith))))
     (refl, omega arith)
