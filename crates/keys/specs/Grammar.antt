@@ -1,6 +1,6 @@
 -- The items of a client's keys. C-a is the command key, as in the GNU Screen manual, section Default Key Bindings; this
 -- project's own are the prompt's edits, which are those of a line by ECMA-48's DEL and BS, and its length of 1,024 bytes.
-use Rattle.std.specs.Prelude.{ℕ, zero, suc, ◌+◌, Bool, true, false, not, ◌&&◌, ◌||◌, nat_lt, ◌==◌, if◌then◌else◌, List, [], ◌∷◌, ◌++◌, length, map, find, Option, Some, None}
+use Rattle.std.specs.Prelude.{◌≡◌, ◌≢◌, ℕ, Bool, true, false, not, ◌&&◌, ◌||◌, nat_lt, ◌==◌, if◌then◌else◌, List, [], ◌∷◌, ◌++◌, length, map, find, Option, Some, None}
 use Rattle.std.specs.Option.{option_map}
 use Rattle.std.specs.List.{list_all}
 use Rattle.command_lang.specs.command.Command.{Command}
@@ -74,39 +74,33 @@ closes k = k == 0x1B || (k == 0x03 || k == 0x07)
 abbrev pub stays : ℕ → Bool
 stays k = not (ends_line k || closes k)
 
--- the longest front that passes, and what follows it
-abbrev pub span : (ℕ → Bool) → List ℕ → List ℕ × List ℕ
-span p [] = ([], [])
-span p (x ∷ xs) = if p x then (x ∷ (span p xs).0, (span p xs).1) else ([], x ∷ xs)
+-- what the key that ends or closes a prompt completes
+abbrev pub line_items : List ℕ → ℕ → List Item
+line_items bytes k = if ends_line k then line bytes ∷ [] else []
 
--- A piece of the keys: the items that it gives, and how many keys it has beside its first one; or it is unended.
-pub data Piece : Type 0 where
-  ends : List Item → ℕ → Piece
-  unended : Rest → Piece
+-- Keys, the items that they complete, and what is unended at their end: typed bytes, the command key with the key behind it,
+-- and prompts. The keys of a prompt are those that edit its line, up to one that ends or closes it.
+pub data Keys : List ℕ → List Item → Rest → Type 0 where
+  none : Keys [] [] nothing
+  plain : {k : ℕ} {keys : List ℕ} {given : List Item} {rest : Rest} → k ≢ 0x01 → Keys keys given rest → Keys (k ∷ keys) (typed k ∷ given) rest
+  waits : Keys (0x01 ∷ []) [] command_key
+  behind : {k : ℕ} {keys : List ℕ} {given : List Item} {rest : Rest} → k ≢ 0x3A → Keys keys given rest → Keys (0x01 ∷ k ∷ keys) (key_items k ++ given) rest
+  opens : (edits : List ℕ) → list_all stays edits ≡ true → Keys (0x01 ∷ 0x3A ∷ edits) [] (prompt (line_of [] edits))
+  ends : (edits : List ℕ) (k : ℕ) (keys : List ℕ) {given : List Item} {rest : Rest} → list_all stays edits ≡ true → stays k ≡ false → Keys keys given rest
+      → Keys (0x01 ∷ 0x3A ∷ (edits ++ k ∷ keys)) (line_items (line_of [] edits) k ++ given) rest
 
--- the prompt whose keys are these
-abbrev pub prompt_end : List ℕ → ℕ → List ℕ → Piece
-prompt_end bytes n [] = unended (prompt bytes)
-prompt_end bytes n (k ∷ keys) = ends (if ends_line k then line bytes ∷ [] else []) (n + 1)
-
-abbrev pub prompt_piece : List ℕ → Piece
-prompt_piece keys = prompt_end (line_of [] (span stays keys).0) (length (span stays keys).0 + 1) (span stays keys).1
-
-abbrev pub command_piece : List ℕ → Piece
-command_piece [] = unended command_key
-command_piece (k ∷ keys) = if k == 0x3A then prompt_piece keys else ends (key_items k) 1
-
-unfoldable pub piece : ℕ → List ℕ → Piece
-piece k keys = if k == 1 then command_piece keys else ends (typed k ∷ []) 0
+-- The same, computed key by key: what a key completes behind what is unended, and what is unended then.
+abbrev pub rest_step : Rest → ℕ → List Item × Rest
+rest_step nothing k = if k == 0x01 then ([], command_key) else (typed k ∷ [], nothing)
+rest_step command_key k = if k == 0x3A then ([], prompt []) else (key_items k, nothing)
+rest_step (prompt bytes) k = if stays k then ([], prompt (line_after_key bytes k)) else (line_items bytes k, nothing)
 
 abbrev pub with_front : List Item → List Item × Rest → List Item × Rest
 with_front front later = (front ++ later.0, later.1)
 
--- the items of the keys behind the first skip, which belong to a piece that began before, and what is unended
-unfoldable pub items_behind : ℕ → List ℕ → List Item × Rest
-items_behind skip [] = ([], nothing)
-items_behind (suc skip) (k ∷ keys) = items_behind skip keys
-items_behind zero (k ∷ keys) = elim (piece k keys) [ ends given more ↦ with_front given (items_behind more keys) | unended rest ↦ ([], rest) ]
+unfoldable pub items_from : Rest → List ℕ → List Item × Rest
+items_from rest [] = ([], rest)
+items_from rest (k ∷ keys) = let step = rest_step rest k in with_front step.0 (items_from step.1 keys)
 
 abbrev pub items : List ℕ → List Item × Rest
-items keys = items_behind 0 keys
+items keys = items_from nothing keys

@@ -59,12 +59,11 @@ fn is_closing(key: u8) -> bool
 }
 
 impl KeyReader {
-    ghost use Rattle.keys.specs.Grammar.{items, open_line};
-    ghost use Rattle.keys.specs.Steps.{rest_step};
+    ghost use Rattle.keys.specs.Grammar.{items, open_line, rest_step};
     ghost use Rattle.keys.specs.Kept.{StandsFor, rest_of, item_list};
 
     /// A reader that has read nothing.
-    #[tactic(auto, unfolding(crate::specs::Grammar::items_behind))]
+    #[tactic(auto, unfolding(crate::specs::Grammar::items_from))]
     pub fn new() -> KeyReader
         ensures stands { StandsFor result [] }
     {
