@@ -8,11 +8,11 @@ use Rattle.acl.specs.declared.command_name.CommandName.TheVariants as name
 use Rattle.command_lang_table.specs.declared.command.Command.{Command}
 use Rattle.command_lang_table.specs.declared.command.Command.TheVariants as command
 use Rattle.command_lang_table.specs.declared.command.Mask.{Mask}
-use Rattle.command_lang_table.specs.declared.table.Kind.TheVariants as kind
+use Rattle.command_lang_table.specs.declared.rows.Kind.TheVariants as kind
 use Rattle.command_lang_table.specs.declared.fault.FaultKind.TheVariants as faults
 use Rattle.command_lang_table.specs.MaskFaults.{unless}
 use Rattle.command_lang_table.specs.Values.{number_in, number_after, is_vertical, lock_mode_in, switch_in, coding_in, users_of, items_of, leader_of, bits_of, mask_of}
-use Rattle.command_lang_table.specs.Table.{row}
+use Rattle.command_lang_table.specs.Rows.{takes}
 use Rattle.command_lang_table.specs.Meaning.{bare, with_word, with_words, command_of}
 use Rattle.command_lang_table.specs.Names.{name_of}
 use Rattle.command_lang_printing.specs.Printing.{words_of, mask_word, bits_word}
@@ -24,14 +24,14 @@ use Rattle.command_lang.proofs.Canonical.{some-same, items_again, users_again, l
 pub record Sound (n : CommandName) (c : Command) : Type 0 where
   pub named : name_of c ≡ n
   pub again : command_of n (words_of c) ≡ Some c
-  pub fit : Fits (row n) (words_of c)
+  pub fit : Fits (takes n) (words_of c)
   pub text : AllText (words_of c)
 
-exact : (n : CommandName) (c : Command) (ts : List (List ℕ)) → name_of c ≡ n → words_of c ≡ ts → command_of n ts ≡ Some c → Fits (row n) ts → AllText ts → Sound n c
+exact : (n : CommandName) (c : Command) (ts : List (List ℕ)) → name_of c ≡ n → words_of c ≡ ts → command_of n ts ≡ Some c → Fits (takes n) ts → AllText ts → Sound n c
 exact n c ts m e h f u = record {
   named = m;
   again = ap (command_of n) e ∙ h;
-  fit = subst (Fits (row n)) (sym e) f;
+  fit = subst (Fits (takes n)) (sym e) f;
   text = subst AllText (sym e) u;
 }
 
@@ -52,7 +52,7 @@ numbered n f limit t c l h g =
 number-read : (limit v : ℕ) → Again limit v → number_in limit (decimal v) ≡ Some v
 number-read limit v a = ap (λ b. cond b (Some (number_after 0 (decimal v))) None) a.fine ∙ ap (λ m. Some m) a.value
 
-bare_sound : (n : CommandName) → Fits (row n) [] → (c : Command) → bare n ≡ Some c → Sound n c
+bare_sound : (n : CommandName) → Fits (takes n) [] → (c : Command) → bare n ≡ Some c → Sound n c
 bare_sound name.Acladd f c h = absurd f
 bare_sound name.Aclchg f c h = absurd f
 bare_sound name.Acldel f c h = absurd f
@@ -85,7 +85,7 @@ bare_sound name.Windows f c h = at name.Windows command.Windows c h (exact name.
 bare_sound name.Displays f c h = at name.Displays command.Displays c h (exact name.Displays command.Displays [] refl refl refl tt tt)
 bare_sound name.Quit f c h = at name.Quit command.Quit c h (exact name.Quit command.Quit [] refl refl refl tt tt)
 
-word_sound : (n : CommandName) (t : List ℕ) → Fits (row n) (t ∷ []) → IsUtf8 t → (c : Command) → with_word n t ≡ Some c → Sound n c
+word_sound : (n : CommandName) (t : List ℕ) → Fits (takes n) (t ∷ []) → IsUtf8 t → (c : Command) → with_word n t ≡ Some c → Sound n c
 word_sound name.Acladd t f u c h = at name.Acladd (command.Acladd (users_of t)) c h (exact name.Acladd (command.Acladd (users_of t)) (t ∷ []) refl (ap (λ w. w ∷ []) (users_again t)) refl f (u, tt))
 word_sound name.Aclchg t f u c h = absurd f
 word_sound name.Acldel t f u c h = at name.Acldel (command.Acldel t) c h (exact name.Acldel (command.Acldel t) (t ∷ []) refl refl refl f (u, tt))
@@ -157,7 +157,7 @@ masks_again (t ∷ ts) f u =
       text = (m.text, r.text);
     }
 
-words_sound : (n : CommandName) (t u : List ℕ) (ts : List (List ℕ)) → Fits (row n) (t ∷ u ∷ ts) → AllText (t ∷ u ∷ ts) → (c : Command) → with_words n (t ∷ u ∷ ts) ≡ Some c → Sound n c
+words_sound : (n : CommandName) (t u : List ℕ) (ts : List (List ℕ)) → Fits (takes n) (t ∷ u ∷ ts) → AllText (t ∷ u ∷ ts) → (c : Command) → with_words n (t ∷ u ∷ ts) ≡ Some c → Sound n c
 words_sound name.Aclumask t u ts f x c h =
     let r = masks_again (t ∷ u ∷ ts) f x in
     at name.Aclumask (command.Aclumask (map mask_of (t ∷ u ∷ ts))) c h
@@ -177,7 +177,7 @@ words_sound name.Aclchg t u (v ∷ []) f x c h =
 words_sound name.Aclchg t u (v ∷ w ∷ ts) f x c h = absurd f
 words_sound _ t u ts f x c h = absurd f
 
-pub sound : (n : CommandName) (ts : List (List ℕ)) → Fits (row n) ts → AllText ts → (c : Command) → command_of n ts ≡ Some c → Sound n c
+pub sound : (n : CommandName) (ts : List (List ℕ)) → Fits (takes n) ts → AllText ts → (c : Command) → command_of n ts ≡ Some c → Sound n c
 sound n [] f u c h = bare_sound n f c h
 sound n (t ∷ []) f u c h = word_sound n t f u.0 c h
 sound n (t ∷ v ∷ ts) f u c h = words_sound n t v ts f u c h

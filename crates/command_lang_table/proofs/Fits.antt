@@ -5,9 +5,9 @@ use Rattle.std.proofs.lemmas.Bool.Decides.{nat_tests}
 use Rattle.std.specs.Option.{is_some, option_map}
 use Rattle.acl.specs.declared.command_name.CommandName.{CommandName}
 use Rattle.acl.specs.declared.command_name.CommandName.TheVariants as name
-use Rattle.command_lang_table.specs.declared.table.Kind.{Kind}
-use Rattle.command_lang_table.specs.declared.table.Words.{Words}
-use Rattle.command_lang_table.specs.declared.table.Words.TheVariants.{Nothing, One, Perhaps, OneOrTwo, Three, Several}
+use Rattle.command_lang_table.specs.declared.rows.Kind.{Kind}
+use Rattle.command_lang_table.specs.declared.rows.Words.{Words}
+use Rattle.command_lang_table.specs.declared.rows.Words.TheVariants.{Nothing, One, Perhaps, OneOrTwo, Three, Several}
 use Rattle.command_lang_words.specs.declared.word.Word.{Word}
 use Rattle.command_lang_table.specs.declared.fault.FaultKind.{FaultKind}
 use Rattle.command_lang_table.specs.declared.fault.FaultKind.TheVariants as faults
@@ -16,7 +16,8 @@ use Rattle.command_lang_table.specs.declared.command.Command.{Command}
 use Rattle.command_lang_table.specs.declared.command.Command.TheVariants as command
 use Rattle.command_lang_table.specs.MaskFaults.{unless}
 use Rattle.command_lang_table.specs.Values.{number_in, is_number, number_after, is_vertical}
-use Rattle.command_lang_table.specs.Table.{row, least, kind_at, kind_fault, at_place, word_fault, words_faults, first_of}
+use Rattle.command_lang_table.specs.Rows.{takes}
+use Rattle.command_lang_table.specs.Table.{least, kind_at, kind_fault, at_place, word_fault, words_faults, first_of}
 use Rattle.command_lang_table.specs.Meaning.{bare, with_word, with_words, command_of, texts_of}
 
 -- the texts are those that the row wants
@@ -106,7 +107,7 @@ mapped f (Some x) k h = refl
 numbered : (f : ℕ → Command) (limit : ℕ) (text : List ℕ) → unless (is_number limit text) faults.BadNumber ≡ None → is_some (option_map f (number_in limit text)) ≡ true
 numbered f limit text h = ap (λ b. is_some (option_map f (cond b (Some (number_after 0 text)) None))) (passes (is_number limit text) faults.BadNumber h)
 
-bare_is : (n : CommandName) → Fits (row n) [] → is_some (bare n) ≡ true
+bare_is : (n : CommandName) → Fits (takes n) [] → is_some (bare n) ≡ true
 bare_is name.Acladd h = absurd h
 bare_is name.Aclchg h = absurd h
 bare_is name.Acldel h = absurd h
@@ -139,7 +140,7 @@ bare_is name.Windows h = refl
 bare_is name.Displays h = refl
 bare_is name.Quit h = refl
 
-one_is : (n : CommandName) (t : List ℕ) → Fits (row n) (t ∷ []) → is_some (with_word n t) ≡ true
+one_is : (n : CommandName) (t : List ℕ) → Fits (takes n) (t ∷ []) → is_some (with_word n t) ≡ true
 one_is name.Acladd t h = refl
 one_is name.Aclchg t h = absurd h
 one_is name.Acldel t h = refl
@@ -172,7 +173,7 @@ one_is name.Windows t h = absurd h
 one_is name.Displays t h = absurd h
 one_is name.Quit t h = absurd h
 
-several_is : (n : CommandName) (t u : List ℕ) (ts : List (List ℕ)) → Fits (row n) (t ∷ u ∷ ts) → is_some (with_words n (t ∷ u ∷ ts)) ≡ true
+several_is : (n : CommandName) (t u : List ℕ) (ts : List (List ℕ)) → Fits (takes n) (t ∷ u ∷ ts) → is_some (with_words n (t ∷ u ∷ ts)) ≡ true
 several_is name.Aclumask t u ts h = refl
 several_is name.Aclgrp t u [] h = refl
 several_is name.Aclgrp t u (v ∷ ts) h = absurd h
@@ -182,7 +183,7 @@ several_is name.Aclchg t u (v ∷ w ∷ ts) h = absurd h
 several_is _ t u ts h = absurd h
 
 -- texts that fit mean a command
-pub means_one : (n : CommandName) (ts : List (List ℕ)) → Fits (row n) ts → is_some (command_of n ts) ≡ true
+pub means_one : (n : CommandName) (ts : List (List ℕ)) → Fits (takes n) ts → is_some (command_of n ts) ≡ true
 means_one n [] h = bare_is n h
 means_one n (t ∷ []) h = one_is n t h
 means_one n (t ∷ u ∷ ts) h = several_is n t u ts h
