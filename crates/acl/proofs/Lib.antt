@@ -1,8 +1,10 @@
-pub mod AllowedLemmas
 pub mod AsideLemmas
 pub mod BitSetLemmas
+pub mod FollowingLemmas
 pub mod InPlace
+pub mod LeaderLemmas
 pub mod NameLemmas
+pub mod OpenSlots
 pub mod PlanLemmas
 pub mod RowLemmas
 pub mod StandsForLemmas

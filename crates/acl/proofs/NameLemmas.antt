@@ -7,7 +7,7 @@ use Rattle.acl.specs.Same.{same_user}
 use Rattle.acl.specs.History.{among}
 use Rattle.acl.specs.Commands.{with_name, with_names, names_user}
 use Rattle.acl.specs.declared.user_id.UserId.{UserId}
-use Rattle.acl.proofs.StandsForLemmas.{same_user-true, same_user-refl}
+use Rattle.acl.proofs.StandsForLemmas.{same_user-true}
 
 or-false : (c : Bool) → (c || false) ≡ c
 or-false true = refl

@@ -1,10 +1,17 @@
 -- Lists of acts that grow.
-use Rattle.std.proofs.Common.{◌≡◌, ◌∙◌, ap, sym, refl, List, [], ◌∷◌, ◌++◌, append_assoc, Option, Some, None, Err}
+use Rattle.std.proofs.Common.{◌≡◌, ◌∙◌, ◌+◌, ◌<◌, ℕ, Bool, true, false, drop, length, slice_index_or, count_by, if◌then◌else◌, ap, sym, refl, List, [], ◌∷◌, ◌++◌, append_assoc, Option, Some, None, Err}
 use Rattle.std.specs.Option.{option_or}
+use Rattle.std.proofs.lemmas.List.Sums.{sum_by-cons}
+use Rattle.acl.proofs.InPlace.{drop-next}
 use Rattle.acl.specs.declared.faults.AclFault.{AclFault}
-use Rattle.acl.specs.declared.faults.AclFault.TheVariants.{UnknownUser, OwnerKept, TooManyUsers, ReservedName, NoSuchGroup, NoMemory}
+use Rattle.acl.specs.declared.faults.AclFault.TheVariants.{UnknownUser, OwnerKept, TooManyUsers, ReservedName, NoSuchGroup, NoMemory, TooManyGroups}
 use Rattle.acl.specs.declared.act.Act.{Act}
-use Rattle.acl.specs.Commands.{Keeps, Answers}
+use Rattle.acl.specs.declared.user_id.UserId.{UserId}
+use Rattle.acl.specs.declared.bits.BitChange.{BitChange}
+use Rattle.acl.specs.declared.act.Object.{Object}
+use Rattle.acl.specs.declared.act.Act.TheVariants.{Known}
+use Rattle.acl.specs.History.{among}
+use Rattle.acl.specs.Commands.{Keeps, Answers, sets, user_acts, name_acts, new_acts, name_sets}
 
 pub append-nil : (xs : List Act) → xs ≡ xs ++ []
 append-nil [] = refl
@@ -29,6 +36,7 @@ answers-first X Y OwnerKept f g a = ap (λ o. option_or o g) a
 answers-first X Y TooManyUsers f g a = ap (λ o. option_or o g) a
 answers-first X Y ReservedName f g a = ap (λ o. option_or o g) a
 answers-first X Y NoSuchGroup f g a = ap (λ o. option_or o g) a
+answers-first X Y TooManyGroups f g a = ap (λ o. option_or o g) a
 answers-first X Y NoMemory f g a = tt
 
 -- where there is no first fault, the second counts
@@ -42,4 +50,18 @@ answers-other X Y OwnerKept f a = a
 answers-other X Y TooManyUsers f a = a
 answers-other X Y ReservedName f a = a
 answers-other X Y NoSuchGroup f a = a
+answers-other X Y TooManyGroups f a = a
 answers-other X Y NoMemory f a = tt
+
+-- how many are counted from i on
+pub counted : (p : Act → Bool) (xs : List Act) (i : ℕ) (d : Act) → i < length xs → count_by p (drop i xs) ≡ (if p (slice_index_or xs i d) then 1 else 0) + count_by p (drop (i + 1) xs)
+counted p xs i d below = ap (count_by p) (sym (drop-next xs i d below)) ∙ sum_by-cons (λ y. if p y then 1 else 0) (slice_index_or xs i d) (drop (i + 1) xs)
+
+-- a name becomes known where it isn't, and then come its sets
+pub name_acts-parts : (users : List UserId) (name : Option UserId) (changes : List BitChange) (objects : List Object) → name_acts users name changes objects ≡ new_acts users name ++ name_sets changes objects name
+name_acts-parts users None changes objects = refl
+name_acts-parts users (Some u) changes objects = by (among users u)
+  where
+    by : (b : Bool) → user_acts b u changes objects ≡ (if b then [] else Known u ∷ []) ++ sets u changes objects
+    by true = refl
+    by false = refl

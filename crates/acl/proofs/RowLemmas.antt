@@ -1,5 +1,5 @@
 -- A right that is set in a row, and look-ups in rows and masks that change.
-use Rattle.std.proofs.Common.{◌≡◌, ◌≢◌, ◌∙◌, ℕ, ◌<◌, Bool, true, false, not, ◌==◌, ◌&&◌, ◌||◌, cond, ap, subst, sym, refl, arith, List, [], ◌∷◌, Option, Some, None, is_some, filter, map, if◌then◌else◌, slice_index_or, slice_set, replicate, true≢false, length, get_or-set_same, get_or-set_other, eq-eqb, nat_eq, lit<}
+use Rattle.std.proofs.Common.{◌≡◌, ◌≢◌, ◌∙◌, ℕ, ◌<◌, Bool, true, false, not, ◌==◌, ◌&&◌, ◌||◌, cond, ap, sym, refl, arith, List, [], ◌∷◌, Option, Some, None, is_some, filter, map, if◌then◌else◌, slice_index_or, slice_set, replicate, true≢false, length, get_or-set_same, get_or-set_other, eq-eqb, lit<}
 use Rattle.std.proofs.lemmas.List.{get_or-replicate}
 use Rattle.std.specs.Option.{option_map_or, option_map}
 use Rattle.std.specs.Map.{lookup}
@@ -10,16 +10,17 @@ use Rattle.acl.specs.BitSets.{allows, with_bit, no_bits, all_bits}
 use Rattle.acl_slots.specs.Slots.{slot_of, is_window}
 use Rattle.acl_slots.proofs.SlotLemmas.{slots-new}
 use Rattle.std.specs.Map.{keys_of}
-use Rattle.acl.specs.Table.{bits_on, same_pair, with_window, with_right, new_row, Table, StandsFor, granted, shows, is_there}
+use Rattle.acl.specs.Table.{bits_on, same_pair, with_window, with_right, new_row, Table, StandsFor, granted, is_there}
 use Rattle.std.proofs.Common.{◌++◌}
 use Rattle.std.specs.List.{list_any}
 use Rattle.indexmap.specs.IndexSet.{remove_key}
-use Rattle.acl.specs.History.{listed, without_user}
+use Rattle.acl.specs.History.{without_user}
 use Rattle.acl.specs.declared.act.PresetKind.{PresetKind}
 use Rattle.acl.specs.declared.act.PresetKind.TheVariants as preset
 use Rattle.acl.proofs.BitSetLemmas.{allows-with_bit, allows-no_bits, allows-all_bits}
 use Rattle.acl_slots.proofs.SlotLemmas.{found, slot_of-apart}
 use Rattle.acl.proofs.StandsForLemmas.{same_user-true}
+use Rattle.acl.specs.declared.edition.Edition.{Edition}
 use Rattle.acl.specs.declared.user_id.UserId.{UserId}
 use Rattle.acl.specs.declared.bits.Bit.{Bit}
 use Rattle.acl.specs.declared.bits.Bits.{Bits}
@@ -168,11 +169,11 @@ lookup-without_user u p ms =
     by true = refl
     by false = refl
 
-pub leader-with_right : (ws : List (Option ℕ)) (object : Object) (bit : Bit) (value : Bool) (row : Row) → (with_right ws object bit value row).leader ≡ row.leader
-leader-with_right ws (Command c) bit value row = refl
-leader-with_right ws (Window w) bit value row = by (slot_of ws w)
+pub leaders-with_right : (ws : List (Option ℕ)) (object : Object) (bit : Bit) (value : Bool) (row : Row) → (with_right ws object bit value row).leaders ≡ row.leaders
+leaders-with_right ws (Command c) bit value row = refl
+leaders-with_right ws (Window w) bit value row = by (slot_of ws w)
   where
-    by : (o : Option ℕ) → (option_map_or (λ slot. with_window slot (with_bit bit value (slice_index_or row.windows slot no_bits)) row) o row).leader ≡ row.leader
+    by : (o : Option ℕ) → (option_map_or (λ slot. with_window slot (with_bit bit value (slice_index_or row.windows slot no_bits)) row) o row).leaders ≡ row.leaders
     by None = refl
     by (Some s) = refl
 
@@ -186,17 +187,18 @@ bits_on-new_row t long (Window w) there = by (slot_of t.windows w) refl there
     by (Some s) e h = get_or-replicate 40 s t.window_preset no_bits (omega (arith, long, (found (is_window w) s t.windows e).0))
 
 -- the lists of a new session stand for the empty history
-pub StandsFor-new : (owner : UserId) (es : List (UserId × Row)) → ((q : UserId) → lookup (same_user q) es ≡ (if same_user owner q then Some (new_row no_bits no_bits) else None))
+pub StandsFor-new : (edition : Edition) (owner : UserId) (es : List (UserId × Row)) → ((q : UserId) → lookup (same_user q) es ≡ (if same_user owner q then Some (new_row no_bits no_bits) else None))
     → keys_of es ≡ owner ∷ []
-    → StandsFor (record { owner = owner; rows = es; masks = []; windows = replicate 40 None; window_preset = all_bits; command_preset = all_bits }) owner []
-StandsFor-new owner es rows keys = record {
+    → StandsFor (record { edition = edition; owner = owner; rows = es; masks = []; windows = replicate 40 None; window_preset = all_bits; command_preset = all_bits }) edition owner []
+StandsFor-new edition owner es rows keys = record {
+  edition_is = refl;
   owned = refl;
   users = keys;
   known = λ q. ap is_some (rows q) ∙ known_now (same_user owner q);
   slots = slots-new;
   rights = λ q bit object there. rights_now q bit object there;
   strangers = λ q bit object none. refl;
-  led = λ q. ap (λ o. option_map_or (λ r. listed r.leader) o []) (rows q) ∙ led_now (same_user owner q);
+  led = λ q. ap (λ o. option_map_or (λ r. r.leaders) o []) (rows q) ∙ led_now (same_user owner q);
   masks = λ by q bit. refl;
   presets = λ kind bit. presets_now kind bit;
 }
@@ -205,7 +207,7 @@ StandsFor-new owner es rows keys = record {
     known_now true = refl
     known_now false = refl
 
-    led_now : (c : Bool) → option_map_or (λ (r : Row). listed r.leader) (if c then Some (new_row no_bits no_bits) else None) [] ≡ []
+    led_now : (c : Bool) → option_map_or (λ (r : Row). r.leaders) (if c then Some (new_row no_bits no_bits) else None) [] ≡ []
     led_now true = refl
     led_now false = refl
 
@@ -213,8 +215,8 @@ StandsFor-new owner es rows keys = record {
     command_now bit c true = ap (allows bit) (get_or-replicate 31 (index_of_command c) no_bits no_bits (index_of_command-lt c)) ∙ allows-no_bits bit
     command_now bit c false = refl
 
-    rights_now : (q : UserId) (bit : Bit) (object : Object) → is_there (record { owner = owner; rows = es; masks = []; windows = replicate 40 None; window_preset = all_bits; command_preset = all_bits }) object ≡ true
-        → granted (record { owner = owner; rows = es; masks = []; windows = replicate 40 None; window_preset = all_bits; command_preset = all_bits }) q bit object ≡ false
+    rights_now : (q : UserId) (bit : Bit) (object : Object) → is_there (record { edition = edition; owner = owner; rows = es; masks = []; windows = replicate 40 None; window_preset = all_bits; command_preset = all_bits }) object ≡ true
+        → granted (record { edition = edition; owner = owner; rows = es; masks = []; windows = replicate 40 None; window_preset = all_bits; command_preset = all_bits }) q bit object ≡ false
     rights_now q bit (Window w) there = absurd (true≢false (sym there))
     rights_now q bit (Command c) there = ap (λ o. option_map_or (λ (r : Row). allows bit (slice_index_or r.commands (index_of_command c) no_bits)) o false) (rows q) ∙ command_now bit c (same_user owner q)
 

@@ -1,16 +1,16 @@
 -- Each act, done to the table, gives the history with that act in front.
-use Rattle.std.proofs.Common.{◌≡◌, ◌≢◌, ◌∙◌, ℕ, ◌<◌, Bool, true, false, not, ◌==◌, ◌&&◌, ◌||◌, ap, subst, sym, refl, arith, List, [], ◌∷◌, Option, Some, None, is_some, unwrap_or, filter, if◌then◌else◌, slice_index_or, slice_set, true≢false, length, get_or-set_same, get_or-set_other, ◌++◌, ◌+◌, ◌-◌}
+use Rattle.std.proofs.Common.{◌≡◌, ◌≢◌, ◌∙◌, ℕ, ◌<◌, Bool, true, false, not, ◌==◌, ◌&&◌, ◌||◌, ap, sym, refl, List, [], ◌∷◌, Option, Some, None, is_some, unwrap_or, filter, if◌then◌else◌, slice_index_or, true≢false, length, get_or-set_same, get_or-set_other, ◌++◌}
 use Rattle.std.specs.Option.{option_map_or, option_map}
 use Rattle.std.specs.List.{list_any}
 use Rattle.std.specs.Map.{lookup, keys_of}
 use Rattle.std.proofs.lemmas.Slice.Eq.{bytes_eq-Decides}
-use borrow.Author.Tests.{eqb-true}
-use Rattle.acl.specs.Same.{same_user, same_bit, same_object, same_preset, index_of_command}
+use Rattle.acl.specs.Same.{same_user, same_bit, same_object, same_preset}
 use Rattle.acl.specs.BitSets.{allows, with_bit, all_bits, no_bits}
 use Rattle.acl_slots.specs.Slots.{slot_of, SlotsStandFor}
-use Rattle.acl.specs.History.{History, users_of, without_user, open_count, there, decided, latest, is_known, decides_known, is_open, mask, preset_of, has, leaders_of, listed, greeting, opening, may, decision}
-use Rattle.acl.specs.Table.{Table, StandsFor, row_of, users_in, knows, shows, bits_on, granted, same_pair, masked, preset_bits, led_by, is_there, without_leader, remaining_leader, opening_bits, mask_bits, with_window, lets}
+use Rattle.acl.specs.History.{History, without_user, open_count, there, decided, is_known, is_open, mask, preset_of, has, leaders_of, leaders_with, greeting, opening, may}
+use Rattle.acl.specs.Table.{Table, StandsFor, row_of, users_in, knows, bits_on, granted, same_pair, preset_bits, is_there, without_leader, opening_bits, mask_bits, with_window, lets}
 use Rattle.acl.proofs.BitSetLemmas.{allows-with_bit, allows-all_bits}
+use Rattle.acl.specs.declared.edition.Edition.{Edition}
 use Rattle.acl.specs.declared.user_id.UserId.{UserId}
 use Rattle.acl.specs.declared.bits.Bit.{Bit}
 use Rattle.acl.specs.declared.bits.Bits.{Bits}
@@ -18,7 +18,6 @@ use Rattle.acl.specs.declared.act.Object.{Object}
 use Rattle.acl.specs.declared.act.Object.TheVariants.{Window, Command}
 use Rattle.acl.specs.declared.act.PresetKind.{PresetKind}
 use Rattle.acl.specs.declared.act.PresetKind.TheVariants as preset
-use Rattle.acl.specs.declared.act.Act.{Act}
 use Rattle.acl.specs.declared.act.Act.TheVariants.{Known, Gone, Set, Grouped, Masked, Preset, Opened, Closed}
 use Rattle.acl.specs.declared.rows.Row.{Row}
 
@@ -58,23 +57,24 @@ not_both c t f = absurd (true≢false (sym t ∙ f))
 abbrev at_row : List (Option ℕ) → Bit → Object → Option Row → Bool
 at_row windows bit object row = option_map_or (λ r. allows bit (bits_on windows object r)) row false
 
-abbrev leader_at : Option Row → List UserId
-leader_at row = option_map_or (λ r. listed r.leader) row []
+abbrev leaders_at : Option Row → List UserId
+leaders_at row = option_map_or (λ r. r.leaders) row []
 
 abbrev mask_at : Bit → Option Bits → Bool
 mask_at bit set = option_map_or (allows bit) set true
 
-module _ (t : Table) (owner : UserId) (h : History) (s : StandsFor t owner h) (u : UserId) where
+module _ (t : Table) (edition : Edition) (owner : UserId) (h : History) (s : StandsFor t edition owner h) (u : UserId) where
   -- a user becomes known: his row is new, and no mask names him
   pub StandsFor-Known : (es : List (UserId × Row)) (ms : List ((UserId × UserId) × Bits)) (row : Row)
       → keys_of es ≡ users_in t ++ u ∷ []
       → ((q : UserId) → lookup (same_user q) es ≡ (if same_user u q then Some row else row_of t q))
       → ((p : UserId × UserId) → lookup (same_pair p) ms ≡ (if same_user u p.0 || same_user u p.1 then None else lookup (same_pair p) t.masks))
-      → row.leader ≡ None
+      → row.leaders ≡ []
       → ((object : Object) → is_there t object ≡ true → bits_on t.windows object row ≡ (elim object [ Window w ↦ t.window_preset | Command c ↦ t.command_preset ]))
       → row_of t u ≡ None
-      → StandsFor (record t { rows = es; masks = ms }) owner (Known u ∷ h)
+      → StandsFor (record t { rows = es; masks = ms }) edition owner (Known u ∷ h)
   StandsFor-Known es ms row keys rows masks alone bits absent = record {
+    edition_is = s.edition_is;
     owned = s.owned;
     users = keys ∙ ap (λ users. users ++ u ∷ []) s.users;
     known = λ q. ap is_some (rows q) ∙ known_step (same_user u q) (same_user owner q) true _ (Some row) (row_of t q) (λ _. sym (or-true (same_user owner q))) (s.known q);
@@ -83,7 +83,7 @@ module _ (t : Table) (owner : UserId) (h : History) (s : StandsFor t owner h) (u
         ∙ step (at_row t.windows bit object) (same_user u q) (Some row) (row_of t q) (greeting h bit object) (has owner h q bit object)
         (λ _. ap (allows bit) (bits object there) ∙ greeted bit object q there) (s.rights q bit object there);
     strangers = λ q bit object none. stranger bit object q (same_user u q) refl (sym (ap is_some (rows q)) ∙ none);
-    led = λ q. ap leader_at (rows q) ∙ led_same q (same_user u q) refl;
+    led = λ q. ap leaders_at (rows q) ∙ led_same q (same_user u q) refl;
     masks = λ by q bit. ap (mask_at bit) (masks (by, q)) ∙ step (mask_at bit) (same_user u by || same_user u q) None (lookup (same_pair (by, q)) t.masks) (Some true) (mask h by q bit) (λ _. refl) (s.masks by q bit);
     presets = s.presets;
   }
@@ -96,8 +96,8 @@ module _ (t : Table) (owner : UserId) (h : History) (s : StandsFor t owner h) (u
       stranger bit object q true e none = absurd (true≢false none)
       stranger bit object q false e none = s.strangers q bit object none
 
-      led_same : (q : UserId) (c : Bool) → same_user u q ≡ c → leader_at (if c then Some row else row_of t q) ≡ leaders_of h q
-      led_same q true e = ap listed alone ∙ sym (ap leader_at absent) ∙ s.led u ∙ ap (leaders_of h) (same_user-true u q e)
+      led_same : (q : UserId) (c : Bool) → same_user u q ≡ c → leaders_at (if c then Some row else row_of t q) ≡ leaders_of edition h q
+      led_same q true e = alone ∙ sym (ap leaders_at absent) ∙ s.led u ∙ ap (leaders_of edition h) (same_user-true u q e)
       led_same q false e = s.led q
 
   -- a user is gone: no row and no mask is his, and he leads nobody
@@ -106,8 +106,9 @@ module _ (t : Table) (owner : UserId) (h : History) (s : StandsFor t owner h) (u
       → ((q : UserId) → lookup (same_user q) es ≡ (if same_user u q then None else option_map (without_leader u) (row_of t q)))
       → ((p : UserId × UserId) → lookup (same_pair p) ms ≡ (if same_user u p.0 || same_user u p.1 then None else lookup (same_pair p) t.masks))
       → same_user owner u ≡ false
-      → StandsFor (record t { rows = es; masks = ms }) owner (Gone u ∷ h)
+      → StandsFor (record t { rows = es; masks = ms }) edition owner (Gone u ∷ h)
   StandsFor-Gone es ms keys rows masks other = record {
+    edition_is = s.edition_is;
     owned = s.owned;
     users = keys ∙ ap (without_user u) s.users;
     known = λ q. ap is_some (rows q) ∙ known_step (same_user u q) (same_user owner q) false _ None (option_map (without_leader u) (row_of t q)) (λ e. sym (or-false (same_user owner q) ∙ ap (same_user owner) (sym (same_user-true u q e)) ∙ other)) (kept (row_of t q) ∙ s.known q);
@@ -116,7 +117,7 @@ module _ (t : Table) (owner : UserId) (h : History) (s : StandsFor t owner h) (u
         ∙ step (at_row t.windows bit object) (same_user u q) None (option_map (without_leader u) (row_of t q)) (Some false) (has owner h q bit object)
         (λ _. refl) (same_bits bit object (row_of t q) ∙ s.rights q bit object there);
     strangers = λ q bit object none. stranger bit object q (same_user u q) (sym (ap is_some (rows q)) ∙ none);
-    led = λ q. ap leader_at (rows q) ∙ led_still q (same_user u q);
+    led = λ q. ap leaders_at (rows q) ∙ led_still q (same_user u q);
     masks = λ by q bit. ap (mask_at bit) (masks (by, q)) ∙ step (mask_at bit) (same_user u by || same_user u q) None (lookup (same_pair (by, q)) t.masks) (Some true) (mask h by q bit) (λ _. refl) (s.masks by q bit);
     presets = s.presets;
   }
@@ -134,15 +135,11 @@ module _ (t : Table) (owner : UserId) (h : History) (s : StandsFor t owner h) (u
       stranger bit object q true none = refl
       stranger bit object q false none = s.strangers q bit object (sym (kept (row_of t q)) ∙ none)
 
-      remaining : (o : Option UserId) → listed (remaining_leader u o) ≡ filter (λ leader. not (same_user u leader)) (listed o)
-      remaining None = refl
-      remaining (Some l) = elim (same_user u l) as (λ c. listed (if c then None else Some l) ≡ (if not c then l ∷ [] else [])) [ true ↦ refl | false ↦ refl ]
-
-      of_row : (o : Option Row) → leader_at (option_map (without_leader u) o) ≡ filter (λ leader. not (same_user u leader)) (leader_at o)
+      of_row : (o : Option Row) → leaders_at (option_map (without_leader u) o) ≡ filter (λ leader. not (same_user u leader)) (leaders_at o)
       of_row None = refl
-      of_row (Some r) = remaining r.leader
+      of_row (Some r) = refl
 
-      led_still : (q : UserId) (c : Bool) → leader_at (if c then None else option_map (without_leader u) (row_of t q)) ≡ (if c then [] else filter (λ leader. not (same_user u leader)) (leaders_of h q))
+      led_still : (q : UserId) (c : Bool) → leaders_at (if c then None else option_map (without_leader u) (row_of t q)) ≡ (if c then [] else filter (λ leader. not (same_user u leader)) (leaders_of edition h q))
       led_still q true = refl
       led_still q false = of_row (row_of t q) ∙ ap (filter (λ leader. not (same_user u leader))) (s.led q)
 
@@ -151,10 +148,11 @@ module _ (t : Table) (owner : UserId) (h : History) (s : StandsFor t owner h) (u
       → row_of t u ≡ Some row
       → keys_of es ≡ users_in t
       → ((q : UserId) → lookup (same_user q) es ≡ (if same_user u q then Some row' else row_of t q))
-      → row'.leader ≡ row.leader
+      → row'.leaders ≡ row.leaders
       → ((b : Bit) (place : Object) → is_there t place ≡ true → allows b (bits_on t.windows place row') ≡ (if same_bit bit b && same_object object place then value else allows b (bits_on t.windows place row)))
-      → StandsFor (record t { rows = es }) owner (Set u bit object value ∷ h)
-  StandsFor-Set es bit object value row row' had keys rows leader bits = record {
+      → StandsFor (record t { rows = es }) edition owner (Set u bit object value ∷ h)
+  StandsFor-Set es bit object value row row' had keys rows leaders bits = record {
+    edition_is = s.edition_is;
     owned = s.owned;
     users = keys ∙ s.users;
     known = λ q. ap is_some (rows q) ∙ known_same (same_user u q) q refl;
@@ -164,7 +162,7 @@ module _ (t : Table) (owner : UserId) (h : History) (s : StandsFor t owner h) (u
         (λ e. bits b place there ∙ chosen (same_bit bit b && same_object object place) _ _ (sym (ap (at_row t.windows b place) had) ∙ ap (at_row t.windows b place) (ap (row_of t) (same_user-true u q e)) ∙ s.rights q b place there))
         (s.rights q b place there);
     strangers = λ q b place none. stranger b place q (same_user u q) refl (sym (ap is_some (rows q)) ∙ none);
-    led = λ q. ap leader_at (rows q) ∙ led_same (same_user u q) q refl;
+    led = λ q. ap leaders_at (rows q) ∙ led_same (same_user u q) q refl;
     masks = s.masks;
     presets = s.presets;
   }
@@ -181,52 +179,54 @@ module _ (t : Table) (owner : UserId) (h : History) (s : StandsFor t owner h) (u
       stranger b place q true e none = absurd (true≢false none)
       stranger b place q false e none = s.strangers q b place none
 
-      led_same : (c : Bool) (q : UserId) → same_user u q ≡ c → leader_at (if c then Some row' else row_of t q) ≡ leaders_of h q
-      led_same true q e = ap listed leader ∙ sym (ap leader_at had) ∙ s.led u ∙ ap (leaders_of h) (same_user-true u q e)
+      led_same : (c : Bool) (q : UserId) → same_user u q ≡ c → leaders_at (if c then Some row' else row_of t q) ≡ leaders_of edition h q
+      led_same true q e = leaders ∙ sym (ap leaders_at had) ∙ s.led u ∙ ap (leaders_of edition h) (same_user-true u q e)
       led_same false q e = s.led q
 
   -- a known user gets a leader, or none
   pub StandsFor-Grouped : (es : List (UserId × Row)) (leader : Option UserId) (row : Row)
       → row_of t u ≡ Some row
       → keys_of es ≡ users_in t
-      → ((q : UserId) → lookup (same_user q) es ≡ (if same_user u q then Some (record row { leader = leader }) else row_of t q))
-      → StandsFor (record t { rows = es }) owner (Grouped u leader ∷ h)
+      → ((q : UserId) → lookup (same_user q) es ≡ (if same_user u q then Some (record row { leaders = leaders_with edition leader row.leaders }) else row_of t q))
+      → StandsFor (record t { rows = es }) edition owner (Grouped u leader ∷ h)
   StandsFor-Grouped es leader row had keys rows = record {
+    edition_is = s.edition_is;
     owned = s.owned;
     users = keys ∙ s.users;
     known = λ q. ap is_some (rows q) ∙ known_same (same_user u q) q refl;
     slots = s.slots;
     rights = λ q b place there. ap (at_row t.windows b place) (rows q) ∙ rights_same b place there (same_user u q) q refl;
     strangers = λ q b place none. s.strangers q b place (s.known q ∙ sym (known_same (same_user u q) q refl) ∙ sym (ap is_some (rows q)) ∙ none);
-    led = λ q. ap leader_at (rows q) ∙ led_new (same_user u q) q;
+    led = λ q. ap leaders_at (rows q) ∙ led_new (same_user u q) q refl;
     masks = s.masks;
     presets = s.presets;
   }
     where
-      row' : Row
-      row' = record row { leader = leader }
+      led : List UserId
+      led = leaders_with edition leader row.leaders
 
-      known_same : (c : Bool) (q : UserId) → same_user u q ≡ c → is_some (if c then Some (record row { leader = leader }) else row_of t q) ≡ is_known owner h q
+      known_same : (c : Bool) (q : UserId) → same_user u q ≡ c → is_some (if c then Some (record row { leaders = led }) else row_of t q) ≡ is_known owner h q
       known_same true q e = sym (ap is_some had) ∙ s.known u ∙ ap (is_known owner h) (same_user-true u q e)
       known_same false q e = s.known q
 
-      bits_same : (b : Bit) (place : Object) → at_row t.windows b place (Some (record row { leader = leader })) ≡ at_row t.windows b place (Some row)
+      bits_same : (b : Bit) (place : Object) → at_row t.windows b place (Some (record row { leaders = led })) ≡ at_row t.windows b place (Some row)
       bits_same b (Window w) = refl
       bits_same b (Command c) = refl
 
-      rights_same : (b : Bit) (place : Object) → is_there t place ≡ true → (c : Bool) (q : UserId) → same_user u q ≡ c → at_row t.windows b place (if c then Some (record row { leader = leader }) else row_of t q) ≡ has owner h q b place
+      rights_same : (b : Bit) (place : Object) → is_there t place ≡ true → (c : Bool) (q : UserId) → same_user u q ≡ c → at_row t.windows b place (if c then Some (record row { leaders = led }) else row_of t q) ≡ has owner h q b place
       rights_same b place there true q e = bits_same b place ∙ sym (ap (at_row t.windows b place) had) ∙ s.rights u b place there ∙ ap (λ v. has owner h v b place) (same_user-true u q e)
       rights_same b place there false q e = s.rights q b place there
 
-      led_new : (c : Bool) (q : UserId) → leader_at (if c then Some (record row { leader = leader }) else row_of t q) ≡ (if c then listed leader else leaders_of h q)
-      led_new true q = refl
-      led_new false q = s.led q
+      led_new : (c : Bool) (q : UserId) → same_user u q ≡ c → leaders_at (if c then Some (record row { leaders = led }) else row_of t q) ≡ (if c then leaders_with edition leader (leaders_of edition h q) else leaders_of edition h q)
+      led_new true q e = ap (leaders_with edition leader) (sym (ap leaders_at had) ∙ s.led u ∙ ap (leaders_of edition h) (same_user-true u q e))
+      led_new false q e = s.led q
 
   -- what u gives `of` on windows that u opens later
   pub StandsFor-Masked : (ms : List ((UserId × UserId) × Bits)) (named : UserId) (bit : Bit) (value : Bool)
       → ((p : UserId × UserId) → lookup (same_pair p) ms ≡ (if same_pair (u, named) p then Some (with_bit bit value (mask_bits t.masks u named)) else lookup (same_pair p) t.masks))
-      → StandsFor (record t { masks = ms }) owner (Masked u named bit value ∷ h)
+      → StandsFor (record t { masks = ms }) edition owner (Masked u named bit value ∷ h)
   StandsFor-Masked ms named bit value masks = record {
+    edition_is = s.edition_is;
     owned = s.owned;
     users = s.users;
     known = s.known;
@@ -254,7 +254,7 @@ module _ (t : Table) (owner : UserId) (h : History) (s : StandsFor t owner h) (u
       masked_now by q b true false e f = s.masks by q b
       masked_now by q b false d e f = s.masks by q b
 
-module _ (t : Table) (owner : UserId) (h : History) (s : StandsFor t owner h) where
+module _ (t : Table) (edition : Edition) (owner : UserId) (h : History) (s : StandsFor t edition owner h) where
   chosen_bit : (bit b : Bit) (value : Bool) (set : Bits) (y : Bool) → allows b set ≡ y → allows b (with_bit bit value set) ≡ unwrap_or (decided (same_bit bit b) value) y
   chosen_bit bit b value set y e = allows-with_bit bit b value set ∙ by (same_bit bit b)
     where
@@ -263,8 +263,9 @@ module _ (t : Table) (owner : UserId) (h : History) (s : StandsFor t owner h) wh
       by false = e
 
   -- the preset of windows
-  pub StandsFor-Preset-windows : (bit : Bit) (value : Bool) → StandsFor (record t { window_preset = with_bit bit value t.window_preset }) owner (Preset preset.Windows bit value ∷ h)
+  pub StandsFor-Preset-windows : (bit : Bit) (value : Bool) → StandsFor (record t { window_preset = with_bit bit value t.window_preset }) edition owner (Preset preset.Windows bit value ∷ h)
   StandsFor-Preset-windows bit value = record {
+    edition_is = s.edition_is;
     owned = s.owned;
     users = s.users;
     known = s.known;
@@ -280,8 +281,9 @@ module _ (t : Table) (owner : UserId) (h : History) (s : StandsFor t owner h) wh
       by preset.Windows b = chosen_bit bit b value t.window_preset (preset_of h preset.Windows b) (s.presets preset.Windows b)
       by preset.Commands b = s.presets preset.Commands b
 
-  pub StandsFor-Preset-commands : (bit : Bit) (value : Bool) → StandsFor (record t { command_preset = with_bit bit value t.command_preset }) owner (Preset preset.Commands bit value ∷ h)
+  pub StandsFor-Preset-commands : (bit : Bit) (value : Bool) → StandsFor (record t { command_preset = with_bit bit value t.command_preset }) edition owner (Preset preset.Commands bit value ∷ h)
   StandsFor-Preset-commands bit value = record {
+    edition_is = s.edition_is;
     owned = s.owned;
     users = s.users;
     known = s.known;
@@ -298,8 +300,9 @@ module _ (t : Table) (owner : UserId) (h : History) (s : StandsFor t owner h) wh
       by preset.Commands b = chosen_bit bit b value t.command_preset (preset_of h preset.Commands b) (s.presets preset.Commands b)
 
   -- a window is closed
-  pub StandsFor-Closed : (ws : List (Option ℕ)) (w : ℕ) → ((v : ℕ) → slot_of ws v ≡ (if w == v then None else slot_of t.windows v)) → SlotsStandFor ws (is_open (Closed w ∷ h)) (open_count (Closed w ∷ h)) → StandsFor (record t { windows = ws }) owner (Closed w ∷ h)
+  pub StandsFor-Closed : (ws : List (Option ℕ)) (w : ℕ) → ((v : ℕ) → slot_of ws v ≡ (if w == v then None else slot_of t.windows v)) → SlotsStandFor ws (is_open (Closed w ∷ h)) (open_count (Closed w ∷ h)) → StandsFor (record t { windows = ws }) edition owner (Closed w ∷ h)
   StandsFor-Closed ws w slots stand = record {
+    edition_is = s.edition_is;
     owned = s.owned;
     users = s.users;
     known = s.known;
@@ -331,15 +334,16 @@ module _ (t : Table) (owner : UserId) (h : History) (s : StandsFor t owner h) wh
       → ((q : UserId) (row : Row) → row_of t q ≡ Some row → slot < length row.windows)
       → ((v k : ℕ) → slot_of t.windows v ≡ Some k → k ≢ slot)
       → knows t by ≡ true
-      → StandsFor (record t { windows = ws; rows = es }) owner (Opened by w ∷ h)
+      → StandsFor (record t { windows = ws; rows = es }) edition owner (Opened by w ∷ h)
   StandsFor-Opened ws es by w slot slots stand keys rows room apart opener = record {
+    edition_is = s.edition_is;
     owned = s.owned;
     users = keys ∙ s.users;
     known = λ q. ap is_some (rows q) ∙ kept q (row_of t q) ∙ s.known q;
     slots = stand;
     rights = rights_now;
     strangers = λ q b place none. stranger q b place (sym (kept q (row_of t q)) ∙ sym (ap is_some (rows q)) ∙ none);
-    led = λ q. ap leader_at (rows q) ∙ led_same q (row_of t q) ∙ s.led q;
+    led = λ q. ap leaders_at (rows q) ∙ led_same q (row_of t q) ∙ s.led q;
     masks = s.masks;
     presets = s.presets;
   }
@@ -348,7 +352,7 @@ module _ (t : Table) (owner : UserId) (h : History) (s : StandsFor t owner h) wh
       kept q None = refl
       kept q (Some r) = refl
 
-      led_same : (q : UserId) (o : Option Row) → leader_at (option_map (with_window slot (opening_bits t.masks by q)) o) ≡ leader_at o
+      led_same : (q : UserId) (o : Option Row) → leaders_at (option_map (with_window slot (opening_bits t.masks by q)) o) ≡ leaders_at o
       led_same q None = refl
       led_same q (Some r) = refl
 
@@ -406,11 +410,12 @@ module _ (t : Table) (owner : UserId) (h : History) (s : StandsFor t owner h) wh
               same_slot (Some k) g = ap (allows b) (get_or-set_other r.windows slot k (opening_bits t.masks by q) no_bits (apart v k g))
 
 -- what the table lets is what the definition says
-pub may-StandsFor : (t : Table) (owner : UserId) (h : History) (s : StandsFor t owner h) (u : UserId) (bit : Bit) (object : Object) → is_there t object ≡ true → lets t u bit object ≡ may owner h u bit object
-may-StandsFor t owner h s u bit object there =
+pub may-StandsFor : (t : Table) (edition : Edition) (owner : UserId) (h : History) (s : StandsFor t edition owner h) (u : UserId) (bit : Bit) (object : Object)
+    → is_there t object ≡ true → lets t u bit object ≡ may edition owner h u bit object
+may-StandsFor t edition owner h s u bit object there =
     (λ i. same_user (s.owned i) u || s.rights u bit object there i || list_any (λ leader. s.rights leader bit object there i) (s.led u i))
 
 -- an object that is there stands in the table
-pub there-StandsFor : (t : Table) (owner : UserId) (h : History) (s : StandsFor t owner h) (object : Object) → is_there t object ≡ there h object
-there-StandsFor t owner h s (Window w) = s.slots.shown w
-there-StandsFor t owner h s (Command c) = refl
+pub there-StandsFor : (t : Table) (edition : Edition) (owner : UserId) (h : History) (s : StandsFor t edition owner h) (object : Object) → is_there t object ≡ there h object
+there-StandsFor t edition owner h s (Window w) = s.slots.shown w
+there-StandsFor t edition owner h s (Command c) = refl

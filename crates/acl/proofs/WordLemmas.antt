@@ -1,5 +1,5 @@
 -- A name in an array that ends in zeros.
-use Rattle.std.proofs.Common.{◌≡◌, ◌∙◌, ℕ, zero, suc, ◌+◌, ◌-◌, ◌<◌, ◌≤◌, Bool, true, false, not, ◌&&◌, ◌||◌, ◌==◌, nat_le, nat_eq, cond, ap, sym, refl, arith, List, [], ◌∷◌, ◌++◌, length, take, replicate, slice_set, slice_index_or, position, unwrap_or, Option, Some, None, add-one, true≢false, codes, zero-add, if◌then◌else◌}
+use Rattle.std.proofs.Common.{◌≡◌, ◌∙◌, ℕ, zero, suc, ◌+◌, ◌-◌, ◌<◌, ◌≤◌, Bool, true, false, not, ◌&&◌, ◌==◌, nat_le, nat_eq, cond, ap, sym, refl, arith, List, [], ◌∷◌, ◌++◌, length, take, replicate, slice_set, slice_index_or, position, unwrap_or, Some, add-one, true≢false, codes, zero-add, if◌then◌else◌}
 use Rattle.std.specs.List.{list_all, position_from}
 use Rattle.std.specs.Cmp.Lexicographic.{pointwise}
 use Rattle.std.proofs.lemmas.Iterator.Adapters.{position_from-zero}

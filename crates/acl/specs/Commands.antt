@@ -1,18 +1,19 @@
 -- The list commands of the GNU Screen manual (acladd, aclchg, acldel, aclgrp, aclumask): the fault that refuses one, which is the
 -- first from the left, and the acts of one that is done. A name is none where its word is no name.
-use Rattle.std.specs.Prelude.{◌≡◌, ℕ, Bool, true, false, not, ◌||◌, ◌&&◌, nat_lt, List, [], ◌∷◌, ◌++◌, Option, Some, None, Result, Ok, Err, map, length, if◌then◌else◌}
+use Rattle.std.specs.Prelude.{◌≡◌, ◌≤◌, ℕ, Bool, true, false, not, ◌||◌, ◌&&◌, nat_lt, nat_le, List, [], ◌∷◌, ◌++◌, Option, Some, None, Result, Ok, Err, map, length, if◌then◌else◌}
 use Rattle.std.specs.Option.{option_or}
 use Rattle.acl.specs.Same.{same_user}
-use Rattle.acl.specs.History.{History, is_known, among, there, followed_by}
+use Rattle.acl.specs.History.{History, is_known, among, there, leaders_of, leaders_with}
 use Rattle.acl.specs.declared.user_id.UserId.{UserId}
 use Rattle.acl.specs.declared.bits.Bit.{Bit}
 use Rattle.acl.specs.declared.bits.Bit.TheVariants.{Read, Write, Execute}
 use Rattle.acl.specs.declared.bits.BitChange.{BitChange}
 use Rattle.acl.specs.declared.act.Object.{Object}
 use Rattle.acl.specs.declared.act.Act.{Act}
-use Rattle.acl.specs.declared.act.Act.TheVariants.{Known, Gone, Set, Grouped, Masked, Preset}
+use Rattle.acl.specs.declared.act.Act.TheVariants.{Known, Gone, Set, Grouped, Masked, Preset, Attached, Parted, Entered, Left, Mode, Default}
 use Rattle.acl.specs.declared.faults.AclFault.{AclFault}
-use Rattle.acl.specs.declared.faults.AclFault.TheVariants.{UnknownUser, OwnerKept, TooManyUsers, ReservedName, NoSuchGroup, NoMemory}
+use Rattle.acl.specs.declared.faults.AclFault.TheVariants.{UnknownUser, OwnerKept, TooManyUsers, ReservedName, NoSuchGroup, NoMemory, TooManyGroups}
+use Rattle.acl.specs.declared.edition.Edition.{Edition}
 use Rattle.acl.specs.declared.entries.NewLeader.{NewLeader}
 use Rattle.acl.specs.declared.entries.NewLeader.TheVariants.{Nobody, Named}
 use Rattle.acl.specs.declared.entries.MaskEntry.{MaskEntry}
@@ -33,6 +34,7 @@ number_of_fault TooManyUsers = 3
 number_of_fault ReservedName = 4
 number_of_fault NoSuchGroup = 5
 number_of_fault NoMemory = 6
+number_of_fault TooManyGroups = 7
 
 -- the list of acts is the old one, with perhaps more at its end
 abbrev pub Keeps : List Act → List Act → Type 0
@@ -92,9 +94,30 @@ abbrev pub change_acts : List UserId → List (Option UserId) → List BitChange
 change_acts users [] changes objects = []
 change_acts users (name ∷ names) changes objects = name_acts users name changes objects ++ change_acts (with_name users name) names changes objects
 
--- what a name that is added gets: +rwx
+-- acladd: each name that isn't known becomes known
+abbrev pub new_acts : List UserId → Option UserId → List Act
+new_acts users None = []
+new_acts users (Some u) = if among users u then [] else Known u ∷ []
+
+abbrev pub known_acts : List UserId → List (Option UserId) → List Act
+known_acts users [] = []
+known_acts users (name ∷ names) = new_acts users name ++ known_acts (with_name users name) names
+
+-- and is then granted this: +rwx
 abbrev pub added : List BitChange
 added = record { bit = Read; value = true } ∷ record { bit = Write; value = true } ∷ record { bit = Execute; value = true } ∷ []
+
+abbrev pub name_sets : List BitChange → List Object → Option UserId → List Act
+name_sets changes objects None = []
+name_sets changes objects (Some u) = sets u changes objects
+
+-- user by user
+abbrev pub names_sets : List Object → List (Option UserId) → List Act
+names_sets objects [] = []
+names_sets objects (name ∷ names) = name_sets added objects name ++ names_sets objects names
+
+abbrev pub add_acts : List UserId → List (Option UserId) → List Object → List Act
+add_acts users names objects = known_acts users names ++ names_sets objects names
 
 -- acldel, aclgrp, aclumask: a name that is known
 abbrev pub known_name_fault : UserId → List UserId → Option UserId → Option AclFault
@@ -105,16 +128,18 @@ abbrev pub removal_acts : Option UserId → List Act
 removal_acts None = []
 removal_acts (Some u) = Gone u ∷ []
 
--- a leader is known, and neither the owner nor the user himself
-abbrev pub leader_fault : UserId → List UserId → Option UserId → NewLeader → Option AclFault
-leader_fault owner users name Nobody = None
-leader_fault owner users name (Named None) = Some NoSuchGroup
-leader_fault owner users None (Named (Some leader)) = None
-leader_fault owner users (Some u) (Named (Some leader)) =
-    if same_user owner leader then Some OwnerKept else (if among users leader && not (same_user u leader) then None else Some NoSuchGroup)
+-- a leader is known, and neither the owner nor the user himself. At most eight lead a user
+abbrev pub leader_fault : Edition → UserId → List UserId → (UserId → List UserId) → Option UserId → NewLeader → Option AclFault
+leader_fault edition owner users leaders name Nobody = None
+leader_fault edition owner users leaders name (Named None) = Some NoSuchGroup
+leader_fault edition owner users leaders None (Named (Some leader)) = None
+leader_fault edition owner users leaders (Some u) (Named (Some leader)) =
+    if same_user owner leader then Some OwnerKept
+    else (if not (among users leader && not (same_user u leader)) then Some NoSuchGroup
+    else (if nat_le (length (leaders_with edition (Some leader) (leaders u))) 8 then None else Some TooManyGroups))
 
-abbrev pub group_fault : UserId → List UserId → Option UserId → NewLeader → Option AclFault
-group_fault owner users name leader = option_or (known_name_fault owner users name) (leader_fault owner users name leader)
+abbrev pub group_fault : Edition → UserId → List UserId → (UserId → List UserId) → Option UserId → NewLeader → Option AclFault
+group_fault edition owner users leaders name leader = option_or (known_name_fault owner users name) (leader_fault edition owner users leaders name leader)
 
 abbrev pub chosen_leader : NewLeader → Option UserId
 chosen_leader Nobody = None
@@ -143,18 +168,29 @@ mask_acts by [] = []
 mask_acts by (e ∷ entries) = scope_acts by e.scope e.bit e.value ++ mask_acts by entries
 
 -- an act of a list command that may come after h: it names users who are known, or not yet, and objects that are there
-abbrev pub IsAllowed : UserId → History → Act → Type 0
-IsAllowed owner h (Known u) = is_known owner h u ≡ false
-IsAllowed owner h (Gone u) = same_user owner u ≡ false
-IsAllowed owner h (Set u bit object value) = (is_known owner h u ≡ true) × (there h object ≡ true)
-IsAllowed owner h (Grouped u leader) = is_known owner h u ≡ true
-IsAllowed owner h (Masked by u bit value) = Unit {0}
-IsAllowed owner h (Preset kind bit value) = Unit {0}
-IsAllowed owner h _ = ⊥
+abbrev pub MayFollow : Edition → UserId → History → Act → Type 0
+MayFollow edition owner h (Known u) = is_known owner h u ≡ false
+MayFollow edition owner h (Gone u) = same_user owner u ≡ false
+MayFollow edition owner h (Set u bit object value) = (is_known owner h u ≡ true) × (there h object ≡ true)
+MayFollow edition owner h (Grouped u leader) = (is_known owner h u ≡ true) × (length (leaders_with edition leader (leaders_of edition h u)) ≤ 8)
+MayFollow edition owner h (Masked by u bit value) = Unit {0}
+MayFollow edition owner h (Preset kind bit value) = Unit {0}
+MayFollow edition owner h _ = ⊥
 
-abbrev pub AllAllowed : UserId → History → List Act → Type 0
-AllAllowed owner h [] = Unit {0}
-AllAllowed owner h (a ∷ acts) = IsAllowed owner h a × AllAllowed owner (a ∷ h) acts
+-- and these acts, each after those before it
+abbrev pub AllMayFollow : Edition → UserId → History → List Act → Type 0
+AllMayFollow edition owner h [] = Unit {0}
+AllMayFollow edition owner h (a ∷ acts) = MayFollow edition owner h a × AllMayFollow edition owner (a ∷ h) acts
+
+-- an act of clients or locks, which leaves all rights as they are
+abbrev pub IsAside : Act → Type 0
+IsAside (Attached client user) = Unit {0}
+IsAside (Parted client) = Unit {0}
+IsAside (Entered user window) = Unit {0}
+IsAside (Left user window) = Unit {0}
+IsAside (Mode by window mode) = Unit {0}
+IsAside (Default mode) = Unit {0}
+IsAside _ = ⊥
 
 -- whether the act needs a row, or a mask
 abbrev pub makes_known : Act → Bool

@@ -1,6 +1,6 @@
 -- What the acts of a session decide: who is known, who has which right, who leads whom. A history is a list of acts, the newest
 -- first. The rules are those of the GNU Screen manual, section "Multiuser Session", with the entries named below; what those leave
--- open (what a name that becomes known gets, when a mask counts, groups of one leader) is this project's own profile.
+-- open (what a name that becomes known gets, when a mask counts, how many leaders a user has) is this project's own profile.
 use Rattle.std.specs.Prelude.{ℕ, Bool, true, false, not, ◌||◌, ◌&&◌, ◌==◌, ◌+◌, ◌-◌, List, [], ◌∷◌, Option, Some, None, unwrap_or, filter, ◌++◌, if◌then◌else◌}
 use Rattle.std.specs.List.{list_any}
 use Rattle.acl.specs.Same.{same_user, same_bit, same_object, same_preset}
@@ -12,6 +12,8 @@ use Rattle.acl.specs.declared.act.PresetKind.{PresetKind}
 use Rattle.acl.specs.declared.act.PresetKind.TheVariants as preset
 use Rattle.acl.specs.declared.act.Act.{Act}
 use Rattle.acl.specs.declared.act.Act.TheVariants.{Known, Gone, Set, Grouped, Masked, Preset, Opened, Closed}
+use Rattle.acl.specs.declared.edition.Edition.{Edition}
+use Rattle.acl.specs.declared.edition.Edition.TheVariants.{First, Second}
 
 abbrev pub History : Type 0
 History = List Act
@@ -114,24 +116,27 @@ abbrev pub has : UserId → History → UserId → Bit → Object → Bool
 has owner [] u bit object = false
 has owner (a ∷ h) u bit object = unwrap_or (decision owner a h u bit object) (has owner h u bit object)
 
-abbrev pub listed : Option UserId → List UserId
-listed None = []
-listed (Some leader) = leader ∷ []
+-- aclgrp: a user's leaders, once he is given one, or none. In the first edition a new leader takes the former one's place; in the
+-- second he comes last, and one who leads the user already keeps his place
+abbrev pub leaders_with : Edition → Option UserId → List UserId → List UserId
+leaders_with edition None before = []
+leaders_with First (Some leader) before = leader ∷ []
+leaders_with Second (Some leader) before = if among before leader then before else before ++ leader ∷ []
 
--- aclgrp: the leaders of u after an act. The latest `grouped` of u names them, unless u or the leader is gone since
-abbrev pub leaders_after : Act → UserId → List UserId → List UserId
-leaders_after (Grouped v leader) u before = if same_user v u then listed leader else before
-leaders_after (Gone v) u before = if same_user v u then [] else filter (λ leader. not (same_user v leader)) before
-leaders_after _ u before = before
+-- the leaders of u after an act. Nobody leads a user who is gone, and one who is gone leads nobody
+abbrev pub leaders_after : Edition → Act → UserId → List UserId → List UserId
+leaders_after edition (Grouped v leader) u before = if same_user v u then leaders_with edition leader before else before
+leaders_after edition (Gone v) u before = if same_user v u then [] else filter (λ leader. not (same_user v leader)) before
+leaders_after edition _ u before = before
 
-abbrev pub leaders_of : History → UserId → List UserId
-leaders_of [] u = []
-leaders_of (a ∷ h) u = leaders_after a u (leaders_of h u)
+abbrev pub leaders_of : Edition → History → UserId → List UserId
+leaders_of edition [] u = []
+leaders_of edition (a ∷ h) u = leaders_after edition a u (leaders_of edition h u)
 
--- u is the owner, or has the bit, or a leader of his has it. A leader's own leader isn't asked
-abbrev pub may : UserId → History → UserId → Bit → Object → Bool
-may owner h u bit object =
-    same_user owner u || has owner h u bit object || list_any (λ leader. has owner h leader bit object) (leaders_of h u)
+-- u is the owner, or has the bit, or a leader of his has it. A leader's own leaders aren't asked
+abbrev pub may : Edition → UserId → History → UserId → Bit → Object → Bool
+may edition owner h u bit object =
+    same_user owner u || has owner h u bit object || list_any (λ leader. has owner h leader bit object) (leaders_of edition h u)
 
 -- an object that is there: a command, or an open window
 abbrev pub there : History → Object → Bool

@@ -1,7 +1,10 @@
 pub mod BitSets
 pub mod Commands
+pub mod Deeds
 pub mod History
+pub mod Leaders
 pub mod Lists
 pub mod Names
 pub mod Same
+pub mod Slots
 pub mod Table

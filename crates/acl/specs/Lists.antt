@@ -4,6 +4,7 @@ use Rattle.acl.specs.declared.lists.Lists.{Lists}
 
 abbrev pub table_of : Lists → Table
 table_of l = record {
+  edition = l.edition;
   owner = l.owner;
   rows = l.rows.entries;
   masks = l.masks.entries;

@@ -1,12 +1,12 @@
 -- The table that the code keeps, and the histories that it stands for.
-use Rattle.std.specs.Prelude.{◌≡◌, ℕ, Bool, true, false, ◌&&◌, ◌||◌, List, [], ◌∷◌, ◌++◌, Option, Some, None, is_some, slice_index_or, slice_set, replicate, unwrap_or, map, if◌then◌else◌}
+use Rattle.std.specs.Prelude.{◌≡◌, ℕ, Bool, true, false, not, ◌&&◌, ◌||◌, All, filter, List, [], Option, is_some, slice_index_or, slice_set, replicate, unwrap_or, if◌then◌else◌}
 use Rattle.std.specs.Option.{option_map_or}
 use Rattle.std.specs.List.{list_any}
 use Rattle.std.specs.Map.{lookup, keys_of}
 use Rattle.acl.specs.Same.{same_user, index_of_command}
 use Rattle.acl.specs.BitSets.{allows, with_bit, no_bits, all_bits}
 use Rattle.acl_slots.specs.Slots.{slot_of, SlotsStandFor}
-use Rattle.acl.specs.History.{History, is_known, users_of, is_open, open_count, mask, preset_of, has, leaders_of, listed, followed_by}
+use Rattle.acl.specs.History.{History, is_known, users_of, is_open, open_count, mask, preset_of, has, leaders_of}
 use Rattle.acl.specs.declared.user_id.UserId.{UserId}
 use Rattle.acl.specs.declared.bits.Bit.{Bit}
 use Rattle.acl.specs.declared.bits.Bits.{Bits}
@@ -14,11 +14,13 @@ use Rattle.acl.specs.declared.act.Object.{Object}
 use Rattle.acl.specs.declared.act.Object.TheVariants.{Window, Command}
 use Rattle.acl.specs.declared.act.PresetKind.{PresetKind}
 use Rattle.acl.specs.declared.act.PresetKind.TheVariants as preset
-use Rattle.acl.specs.declared.act.Act.{Act}
+use Rattle.acl.specs.declared.edition.Edition.{Edition}
+use Rattle.acl.specs.declared.entries.EntryDenial.{EntryDenial}
 use Rattle.acl.specs.declared.rows.Row.{Row}
 
 -- a session's rights: a row for each known user, masks by opener and user, and the slots of open windows
 pub record Table : Type 0 where
+  pub edition : Edition
   pub owner : UserId
   pub rows : List (UserId × Row)
   pub masks : List ((UserId × UserId) × Bits)
@@ -58,7 +60,7 @@ preset_bits t preset.Windows = t.window_preset
 preset_bits t preset.Commands = t.command_preset
 
 abbrev pub led_by : Table → UserId → List UserId
-led_by t u = option_map_or (λ row. listed row.leader) (row_of t u) []
+led_by t u = option_map_or (λ row. row.leaders) (row_of t u) []
 
 -- an object that is there: a command, or an open window
 abbrev pub is_there : Table → Object → Bool
@@ -67,16 +69,15 @@ is_there t (Command c) = true
 
 -- what a name that becomes known has
 abbrev pub new_row : Bits → Bits → Row
-new_row command_preset window_preset = record { commands = replicate 31 command_preset; windows = replicate 40 window_preset; leader = None }
+new_row command_preset window_preset = record { commands = replicate 31 command_preset; windows = replicate 40 window_preset; leaders = [] }
 
--- the leader, unless he is the one who is gone
-abbrev pub remaining_leader : UserId → Option UserId → Option UserId
-remaining_leader gone None = None
-remaining_leader gone (Some leader) = if same_user gone leader then None else Some leader
+-- the leaders, without the one who is gone
+abbrev pub remaining_leaders : UserId → List UserId → List UserId
+remaining_leaders gone leaders = filter (λ leader. not (same_user gone leader)) leaders
 
 -- the row, once `gone` leads nobody any more
 abbrev pub without_leader : UserId → Row → Row
-without_leader gone row = record row { leader = remaining_leader gone row.leader }
+without_leader gone row = record row { leaders = remaining_leaders gone row.leaders }
 
 -- what a mask says before it is set
 abbrev pub mask_bits : List ((UserId × UserId) × Bits) → UserId → UserId → Bits
@@ -101,21 +102,24 @@ with_right windows (Command c) bit value row =
 abbrev pub lets : Table → UserId → Bit → Object → Bool
 lets t u bit object = same_user t.owner u || granted t u bit object || list_any (λ leader. granted t leader bit object) (led_by t u)
 
--- the table is what the definitions give of the history of this owner's session
-pub record StandsFor (t : Table) (owner : UserId) (h : History) : Type 0 where
+-- the table is what the definitions give of the history of this owner's session, of this edition
+pub record StandsFor (t : Table) (edition : Edition) (owner : UserId) (h : History) : Type 0 where
+  pub edition_is : t.edition ≡ edition
   pub owned : t.owner ≡ owner
   pub users : users_in t ≡ users_of owner h
   pub known : (u : UserId) → knows t u ≡ is_known owner h u
   pub slots : SlotsStandFor t.windows (is_open h) (open_count h)
   pub rights : (u : UserId) (bit : Bit) (object : Object) → is_there t object ≡ true → granted t u bit object ≡ has owner h u bit object
   pub strangers : (u : UserId) (bit : Bit) (object : Object) → knows t u ≡ false → has owner h u bit object ≡ false
-  pub led : (u : UserId) → led_by t u ≡ leaders_of h u
+  pub led : (u : UserId) → led_by t u ≡ leaders_of edition h u
   pub masks : (by u : UserId) (bit : Bit) → masked t by u bit ≡ mask h by u bit
   pub presets : (kind : PresetKind) (bit : Bit) → allows bit (preset_bits t kind) ≡ preset_of h kind bit
 
--- a list command was done after the history h: the table stands for h and then its acts, which are given out in order, and so does
--- what follows the acts
-pub record IsDone (owner : UserId) (h : History) (given : List Act) (new : Table) (before after : List Act) (follows followed : UserId → History → Type 0) : Type 0 where
-  pub stands : StandsFor new owner (followed_by h given)
-  pub acts : after ≡ before ++ given
-  pub follower : follows owner h → followed owner (followed_by h given)
+-- a denial of an entry tells whom it denies what, and his leaders in their order; neither his entry nor a leader's has the bit
+pub record IsDenial (edition : Edition) (owner : UserId) (h : History) (u : UserId) (bit : Bit) (object : Object) (d : EntryDenial) : Type 0 where
+  pub user_is : d.user ≡ u
+  pub bit_is : d.bit ≡ bit
+  pub object_is : d.object ≡ object
+  pub leaders_are : d.leaders ≡ leaders_of edition h u
+  pub entry : has owner h u bit object ≡ false
+  pub entries : All (λ leader. has owner h leader bit object ≡ false) d.leaders

@@ -1,38 +1,27 @@
-ghost use Rattle.std.specs.Prelude.{◌≡◌, [], All, Some, is_ok, IfOk, IfErr, OnOk, OnErr, length, slice_get, true, false};
+ghost use Rattle.std.specs.Prelude.{◌≡◌, ◌+◌, ◌≤◌, [], is_ok, IfOk, IfErr, OnOk, OnErr, length, slice_get, true, false, vec_len};
+ghost use Rattle.std.specs.Vec.{vec_capacity};
 
 use crate::act::{Act, Object};
 use crate::bits::{Bit, BitChange};
 use crate::carry::conclude;
+use crate::edition::Edition;
 use crate::entries::{EntryDenial, MaskEntry, NewLeader};
 use crate::faults::AclFault;
 use crate::follower::Follower;
+use crate::leaders::Leaders;
 use crate::lists::Lists;
-use crate::plan::{plan_change, plan_group, plan_masks, plan_removal};
+use crate::plan::{change_fault, plan_addition, plan_change, plan_group, plan_masks, plan_removal};
 use crate::user_id::UserId;
 use std::alloc::{AllocError, Global};
 use std::marker::Model;
 
-/// What a name that is added gets on each object.
-const ADDED: [BitChange; 3] = [
-    BitChange {
-        bit: Bit::Read,
-        value: true,
-    },
-    BitChange {
-        bit: Bit::Write,
-        value: true,
-    },
-    BitChange {
-        bit: Bit::Execute,
-        value: true,
-    },
-];
-
-/// The access lists of a session: who is known, what each user may do, who leads whom, masks and presets.
+/// The access lists of a session: who is known, what each user may do, who leads whom, masks and
+/// presets.
 ///
-/// Each list command is done whole or refused whole; the refusal is its first fault from the left, or that memory was
-/// refused. Its words for users are given as `UserId::of` answers them, none for a word that is no name. Its acts go to
-/// the end of `acts`, in order, and each to the follower once it is done.
+/// Each list command is done whole or refused whole; the refusal is its first fault from the left, or that
+/// memory was refused. Its words for users are given as `UserId::of` answers them, none for a word that is no
+/// name. Its acts go to the end of `acts`, in order, and each to the follower once it is done. `room` is how many
+/// acts more there is room for behind them, which a caller may then push without a growth.
 #[derive(Drop)]
 pub struct Acl {
     lists: Lists,
@@ -50,18 +39,20 @@ impl Model for Acl {
 
 impl Acl {
     ghost use Rattle.std.specs.Prelude.{◌≡◌, ◌∷◌, ◌<◌};
-    ghost use Rattle.acl.specs.History.{History, is_known, is_open, open_count, users_of, leaders_of, listed, there, has, may};
-    ghost use Rattle.acl.specs.Commands.{Answers, added, change_fault, change_acts, known_name_fault, removal_acts, group_fault, group_acts, mask_fault, mask_acts};
-    ghost use Rattle.acl.specs.Table.{StandsFor, IsDone, knows, led_by, lets, users_in};
+    ghost use Rattle.acl.specs.History.{History, is_known, is_open, open_count, users_of, leaders_of, there, may};
+    ghost use Rattle.acl.specs.Commands.{add_acts, change_fault, change_acts, known_name_fault, removal_acts, group_fault, group_acts, mask_fault, mask_acts};
+    ghost use Rattle.acl.specs.Deeds.{Refuses, Does};
+    ghost use Rattle.acl.specs.Table.{StandsFor, IsDenial, knows, led_by, lets, users_in};
     ghost use Rattle.acl.specs.Lists.{table_of};
+    ghost use Rattle.acl.specs.declared.edition.Edition.{Edition};
     ghost use Rattle.acl.specs.declared.act.Act.TheVariants.{Opened, Closed};
 
     /// The lists of a session that only its owner has entered.
-    pub fn new(alloc: Global, owner: UserId) -> Result<Self, AllocError>
-        ensures { IfOk result (λ acl. StandsFor acl owner []) }
+    pub fn new(alloc: Global, owner: UserId, edition: Edition) -> Result<Self, AllocError>
+        ensures { IfOk result (λ acl. StandsFor acl edition owner []) }
     {
         Ok(Acl {
-            lists: Lists::new(alloc, owner)?,
+            lists: Lists::new(alloc, owner, edition)?,
         })
     }
 
@@ -70,6 +61,13 @@ impl Acl {
         ensures { table_of result.now ≡ self.now }
     {
         &self.lists
+    }
+
+    /// How many groups a user may be in. It never changes.
+    pub fn edition(&self) -> Edition
+        ensures { result ≡ self.now.edition }
+    {
+        self.lists.edition()
     }
 
     /// The session's owner.
@@ -100,54 +98,84 @@ impl Acl {
         self.lists.user_at(place)
     }
 
-    /// The user's leader.
-    pub fn leader_of(&self, user: UserId) -> Option<UserId>
-        ensures { listed result ≡ led_by self.now user }
+    /// The user's leaders, in the order in which they were named.
+    pub fn leaders_of(&self, user: UserId) -> Leaders
+        ensures { result ≡ led_by self.now user }
     {
-        self.lists.leader_of(user)
+        self.lists.leaders_of(user)
     }
 
-    /// Whether the user has the bit on an object that is there, himself or by his leader, or else why not.
+    /// Whether the user has the bit on an object that is there, himself or by a leader of his, or else
+    /// why not.
     pub fn may(&self, user: UserId, bit: Bit, object: Object) -> Result<(), EntryDenial>
-        ensures answer { (owner : UserId) (h : History) → StandsFor self.now owner h → there h object ≡ true → is_ok result ≡ may owner h user bit object }
+        ensures answer { (edition : Edition) (owner : UserId) (h : History) →
+            StandsFor self.now edition owner h → there h object ≡ true →
+            is_ok result ≡ may edition owner h user bit object }
         ensures table { is_ok result ≡ lets self.now user bit object }
-        ensures denial { IfErr result (λ d. (d.user ≡ user) × (d.bit ≡ bit) × (d.object ≡ object) × (listed d.leader ≡ led_by self.now user)) }
-        ensures entries { IfErr result (λ d. (owner : UserId) (h : History) → StandsFor self.now owner h → there h object ≡ true → (has owner h user bit object ≡ false) × All (λ leader. has owner h leader bit object ≡ false) (leaders_of h user)) }
+        ensures denial { IfErr result (λ d. (edition : Edition) (owner : UserId) (h : History) →
+            StandsFor self.now edition owner h → there h object ≡ true →
+            IsDenial edition owner h user bit object d) }
     {
         self.lists.may(user, bit, object)
     }
 
-    /// `aclchg`: changes users' bits on objects that are there. A name that isn't known becomes known.
+    /// The fault that refuses a change of these names' bits, or their addition: the first from the
+    /// left.
+    pub fn change_fault(&self, names: &[Option<UserId>]) -> Option<AclFault>
+        ensures { (edition : Edition) (owner : UserId) (h : History) →
+            StandsFor self.now edition owner h →
+            result ≡ change_fault owner (users_of owner h) names.now }
+    {
+        change_fault(&self.lists, names)
+    }
+
+    /// `aclchg`: changes users' bits on objects that are there. A name that isn't known becomes
+    /// known.
     pub fn change<F: Follower>(
         &mut self,
         names: &[Option<UserId>],
         changes: &[BitChange],
         objects: &[Object],
         acts: &mut Vec<Act>,
+        room: usize,
         follower: &mut F,
     ) -> Result<(), AclFault>
-        ensures answer { (owner : UserId) (h : History) → StandsFor self.old owner h → Answers result (change_fault owner (users_of owner h) names.now) }
-        ensures done { OnOk result ((owner : UserId) (h : History) → StandsFor self.old owner h → All (λ object. there h object ≡ true) objects.now → IsDone owner h (change_acts (users_of owner h) names.now changes.now objects.now) self.new acts.old.items acts.new.items (F.follows follower.old) (F.follows follower.new)) }
-        ensures err { OnErr result ((self.new ≡ self.old) × (acts.new.items ≡ acts.old.items) × (follower.new ≡ follower.old)) }
+        ensures answer { Refuses self.old
+            (λ _ owner h. change_fault owner (users_of owner h) names.now) result }
+        ensures done { OnOk result (Does self.old self.new acts.old.items acts.new.items
+            (F.follows follower.old) (F.follows follower.new) objects.now
+            (λ owner h. change_acts (users_of owner h) names.now changes.now objects.now)) }
+        ensures room { OnOk result (vec_len acts.new + room ≤ vec_capacity acts.new) }
+        ensures err { OnErr result ((self.new ≡ self.old) × (acts.new.items ≡ acts.old.items)
+            × (follower.new ≡ follower.old)) }
     {
         let start = acts.len();
         let planned = plan_change(&self.lists, names, changes, objects, acts);
-        conclude(&mut self.lists, planned, start, acts, follower)
+        conclude(&mut self.lists, planned, start, room, acts, follower)
     }
 
-    /// `acladd`: makes names known, and grants each of these users each bit on the objects.
+    /// `acladd`: makes names known, and then grants each of these users each bit on the objects, which
+    /// are there.
     pub fn add<F: Follower>(
         &mut self,
         names: &[Option<UserId>],
         objects: &[Object],
         acts: &mut Vec<Act>,
+        room: usize,
         follower: &mut F,
     ) -> Result<(), AclFault>
-        ensures answer { (owner : UserId) (h : History) → StandsFor self.old owner h → Answers result (change_fault owner (users_of owner h) names.now) }
-        ensures done { OnOk result ((owner : UserId) (h : History) → StandsFor self.old owner h → All (λ object. there h object ≡ true) objects.now → IsDone owner h (change_acts (users_of owner h) names.now added objects.now) self.new acts.old.items acts.new.items (F.follows follower.old) (F.follows follower.new)) }
-        ensures err { OnErr result ((self.new ≡ self.old) × (acts.new.items ≡ acts.old.items) × (follower.new ≡ follower.old)) }
+        ensures answer { Refuses self.old
+            (λ _ owner h. change_fault owner (users_of owner h) names.now) result }
+        ensures done { OnOk result (Does self.old self.new acts.old.items acts.new.items
+            (F.follows follower.old) (F.follows follower.new) objects.now
+            (λ owner h. add_acts (users_of owner h) names.now objects.now)) }
+        ensures room { OnOk result (vec_len acts.new + room ≤ vec_capacity acts.new) }
+        ensures err { OnErr result ((self.new ≡ self.old) × (acts.new.items ≡ acts.old.items)
+            × (follower.new ≡ follower.old)) }
     {
-        self.change(names, &ADDED, objects, acts, follower)
+        let start = acts.len();
+        let planned = plan_addition(&self.lists, names, objects, acts);
+        conclude(&mut self.lists, planned, start, room, acts, follower)
     }
 
     /// `acldel`: takes a user away, with all that is his.
@@ -155,32 +183,45 @@ impl Acl {
         &mut self,
         name: Option<UserId>,
         acts: &mut Vec<Act>,
+        room: usize,
         follower: &mut F,
     ) -> Result<(), AclFault>
-        ensures answer { (owner : UserId) (h : History) → StandsFor self.old owner h → Answers result (known_name_fault owner (users_of owner h) name) }
-        ensures done { OnOk result ((owner : UserId) (h : History) → StandsFor self.old owner h → IsDone owner h (removal_acts name) self.new acts.old.items acts.new.items (F.follows follower.old) (F.follows follower.new)) }
-        ensures err { OnErr result ((self.new ≡ self.old) × (acts.new.items ≡ acts.old.items) × (follower.new ≡ follower.old)) }
+        ensures answer { Refuses self.old
+            (λ _ owner h. known_name_fault owner (users_of owner h) name) result }
+        ensures done { OnOk result (Does self.old self.new acts.old.items acts.new.items
+            (F.follows follower.old) (F.follows follower.new) []
+            (λ owner h. removal_acts name)) }
+        ensures room { OnOk result (vec_len acts.new + room ≤ vec_capacity acts.new) }
+        ensures err { OnErr result ((self.new ≡ self.old) × (acts.new.items ≡ acts.old.items)
+            × (follower.new ≡ follower.old)) }
     {
         let start = acts.len();
         let planned = plan_removal(&self.lists, name, acts);
-        conclude(&mut self.lists, planned, start, acts, follower)
+        conclude(&mut self.lists, planned, start, room, acts, follower)
     }
 
-    /// `aclgrp`: puts a user into the group of a leader, in place of his former group, or takes him out of it.
+    /// `aclgrp`: gives a user a leader, or none. In the first edition a new leader takes the former
+    /// one's place; in the second he comes last, and one who is there keeps his place.
     pub fn group<F: Follower>(
         &mut self,
         name: Option<UserId>,
         leader: NewLeader,
         acts: &mut Vec<Act>,
+        room: usize,
         follower: &mut F,
     ) -> Result<(), AclFault>
-        ensures answer { (owner : UserId) (h : History) → StandsFor self.old owner h → Answers result (group_fault owner (users_of owner h) name leader) }
-        ensures done { OnOk result ((owner : UserId) (h : History) → StandsFor self.old owner h → IsDone owner h (group_acts name leader) self.new acts.old.items acts.new.items (F.follows follower.old) (F.follows follower.new)) }
-        ensures err { OnErr result ((self.new ≡ self.old) × (acts.new.items ≡ acts.old.items) × (follower.new ≡ follower.old)) }
+        ensures answer { Refuses self.old (λ edition owner h. group_fault edition owner
+            (users_of owner h) (leaders_of edition h) name leader) result }
+        ensures done { OnOk result (Does self.old self.new acts.old.items acts.new.items
+            (F.follows follower.old) (F.follows follower.new) []
+            (λ owner h. group_acts name leader)) }
+        ensures room { OnOk result (vec_len acts.new + room ≤ vec_capacity acts.new) }
+        ensures err { OnErr result ((self.new ≡ self.old) × (acts.new.items ≡ acts.old.items)
+            × (follower.new ≡ follower.old)) }
     {
         let start = acts.len();
         let planned = plan_group(&self.lists, name, leader, acts);
-        conclude(&mut self.lists, planned, start, acts, follower)
+        conclude(&mut self.lists, planned, start, room, acts, follower)
     }
 
     /// `aclumask`: sets what users get on windows that `by` opens later, and the presets.
@@ -189,27 +230,38 @@ impl Acl {
         by: UserId,
         entries: &[MaskEntry],
         acts: &mut Vec<Act>,
+        room: usize,
         follower: &mut F,
     ) -> Result<(), AclFault>
-        ensures answer { (owner : UserId) (h : History) → StandsFor self.old owner h → Answers result (mask_fault owner (users_of owner h) entries.now) }
-        ensures done { OnOk result ((owner : UserId) (h : History) → StandsFor self.old owner h → IsDone owner h (mask_acts by entries.now) self.new acts.old.items acts.new.items (F.follows follower.old) (F.follows follower.new)) }
-        ensures err { OnErr result ((self.new ≡ self.old) × (acts.new.items ≡ acts.old.items) × (follower.new ≡ follower.old)) }
+        ensures answer { Refuses self.old
+            (λ _ owner h. mask_fault owner (users_of owner h) entries.now) result }
+        ensures done { OnOk result (Does self.old self.new acts.old.items acts.new.items
+            (F.follows follower.old) (F.follows follower.new) []
+            (λ owner h. mask_acts by entries.now)) }
+        ensures room { OnOk result (vec_len acts.new + room ≤ vec_capacity acts.new) }
+        ensures err { OnErr result ((self.new ≡ self.old) × (acts.new.items ≡ acts.old.items)
+            × (follower.new ≡ follower.old)) }
     {
         let start = acts.len();
         let planned = plan_masks(&self.lists, by, entries, acts);
-        conclude(&mut self.lists, planned, start, acts, follower)
+        conclude(&mut self.lists, planned, start, room, acts, follower)
     }
 
     /// A known user opened a window, whose serial number is new. At most 39 others are open.
     pub fn window_opened(&mut self, by: UserId, window: u32)
-        ensures { (owner : UserId) (h : History) → StandsFor self.old owner h → is_known owner h by ≡ true → is_open h window ≡ false → open_count h < 40 → StandsFor self.new owner (Opened by window ∷ h) }
+        ensures { (edition : Edition) (owner : UserId) (h : History) →
+            StandsFor self.old edition owner h →
+            is_known owner h by ≡ true → is_open h window ≡ false → open_count h < 40 →
+            StandsFor self.new edition owner (Opened by window ∷ h) }
     {
         self.lists.open(by, window);
     }
 
     /// A window was closed.
     pub fn window_closed(&mut self, window: u32)
-        ensures { (owner : UserId) (h : History) → StandsFor self.old owner h → StandsFor self.new owner (Closed window ∷ h) }
+        ensures { (edition : Edition) (owner : UserId) (h : History) →
+            StandsFor self.old edition owner h →
+            StandsFor self.new edition owner (Closed window ∷ h) }
     {
         self.lists.close(window);
     }

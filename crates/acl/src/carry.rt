@@ -2,9 +2,9 @@
 
 ghost use Rattle.std.specs.Prelude.{◌≡◌, ◌+◌, ◌≤◌, ◌<◌, count_by, length, take, drop, vec_len, OnOk, OnErr, IfErr, IfOk, Ok, Err, Option};
 ghost use Rattle.indexmap.specs.IndexMap.{spare};
-ghost use Rattle.acl.specs.History.{History, followed_by};
-ghost use Rattle.acl.specs.Commands.{AllAllowed, Answers, makes_known, sets_mask};
-ghost use Rattle.acl.specs.Table.{StandsFor};
+ghost use Rattle.std.specs.Vec.{vec_capacity};
+ghost use Rattle.acl.specs.Commands.{Answers, makes_known, sets_mask};
+ghost use Rattle.acl.specs.Deeds.{TakesAll, FollowsAll};
 ghost use Rattle.acl.specs.Lists.{table_of};
 
 use crate::act::Act;
@@ -31,17 +31,32 @@ fn count_masked(acts: &[Act]) -> usize
         .count()
 }
 
-/// Makes room for these acts.
-fn make_room(lists: &mut Lists, acts: &[Act]) -> Result<(), AclFault>
-    ensures rows { OnOk result (count_by makes_known acts.now ≤ spare lists.new.rows) }
-    ensures masks { OnOk result (count_by sets_mask acts.now ≤ spare lists.new.masks) }
+/// Makes room for the acts from `start` on, and behind them for so many more.
+fn make_room(
+    lists: &mut Lists,
+    room: usize,
+    start: usize,
+    acts: &mut Vec<Act>,
+) -> Result<(), AclFault>
+    requires { start ≤ vec_len acts.old }
+    ensures rows { OnOk result
+        (count_by makes_known (drop start acts.old.items) ≤ spare lists.new.rows) }
+    ensures masks { OnOk result
+        (count_by sets_mask (drop start acts.old.items) ≤ spare lists.new.masks) }
+    ensures room { OnOk result (vec_len acts.new + room ≤ vec_capacity acts.new) }
+    ensures acts { acts.new.items ≡ acts.old.items }
+    ensures len { vec_len acts.new ≡ vec_len acts.old }
     ensures same { table_of lists.new ≡ table_of lists.old }
     ensures memory { IfErr result (λ fault. fault ≡ AclFault.NoMemory) }
 {
-    if lists.rows.reserve(count_known(acts)).is_err() {
+    if acts.reserve(room).is_err() {
         return Err(AclFault::NoMemory);
     }
-    if lists.masks.reserve(count_masked(acts)).is_err() {
+    let planned = &acts.as_slice()[start..];
+    if lists.rows.reserve(count_known(planned)).is_err() {
+        return Err(AclFault::NoMemory);
+    }
+    if lists.masks.reserve(count_masked(planned)).is_err() {
         return Err(AclFault::NoMemory);
     }
     Ok(())
@@ -51,8 +66,9 @@ fn make_room(lists: &mut Lists, acts: &[Act]) -> Result<(), AclFault>
 fn apply_all<F: Follower>(lists: &mut Lists, acts: &[Act], follower: &mut F)
     requires rows { count_by makes_known acts.now ≤ spare lists.old.rows }
     requires masks { count_by sets_mask acts.now ≤ spare lists.old.masks }
-    ensures stands { (owner : UserId) (h : History) → StandsFor (table_of lists.old) owner h → AllAllowed owner h acts.now → StandsFor (table_of lists.new) owner (followed_by h acts.now) }
-    ensures follower { (owner : UserId) (h : History) → StandsFor (table_of lists.old) owner h → AllAllowed owner h acts.now → F.follows follower.old owner h → F.follows follower.new owner (followed_by h acts.now) }
+    ensures stands { TakesAll (table_of lists.old) (table_of lists.new) acts.now }
+    ensures follower { FollowsAll (F.follows follower.old) (F.follows follower.new)
+        (table_of lists.old) acts.now }
 {
     for act in acts {
         lists.apply(*act);
@@ -60,24 +76,30 @@ fn apply_all<F: Follower>(lists: &mut Lists, acts: &[Act], follower: &mut F)
     }
 }
 
-/// Does the acts from `start` on where they were planned well; else takes them back, and answers the fault.
+/// Does the acts from `start` on where they were planned well, with room for so many more behind them;
+/// else takes them back, and answers the fault.
 pub fn conclude<F: Follower>(
     lists: &mut Lists,
     planned: Result<(), AclFault>,
     start: usize,
+    room: usize,
     acts: &mut Vec<Act>,
     follower: &mut F,
 ) -> Result<(), AclFault>
     requires { start ≤ vec_len acts.old }
     ensures answer { (fault : Option AclFault) → Answers planned fault → Answers result fault }
     ensures acts { OnOk result (acts.new.items ≡ acts.old.items) }
-    ensures stands { OnOk result ((owner : UserId) (h : History) → StandsFor (table_of lists.old) owner h → AllAllowed owner h (drop start acts.old.items) → StandsFor (table_of lists.new) owner (followed_by h (drop start acts.old.items))) }
-    ensures follower { OnOk result ((owner : UserId) (h : History) → StandsFor (table_of lists.old) owner h → AllAllowed owner h (drop start acts.old.items) → F.follows follower.old owner h → F.follows follower.new owner (followed_by h (drop start acts.old.items))) }
+    ensures stands { OnOk result
+        (TakesAll (table_of lists.old) (table_of lists.new) (drop start acts.old.items)) }
+    ensures follower { OnOk result (FollowsAll (F.follows follower.old) (F.follows follower.new)
+        (table_of lists.old) (drop start acts.old.items)) }
+    ensures room { OnOk result (vec_len acts.new + room ≤ vec_capacity acts.new) }
     ensures ok { OnOk result (planned ≡ Ok tt) }
-    ensures err { OnErr result ((table_of lists.new ≡ table_of lists.old) × (acts.new.items ≡ take start acts.old.items) × (follower.new ≡ follower.old)) }
+    ensures err { OnErr result ((table_of lists.new ≡ table_of lists.old)
+        × (acts.new.items ≡ take start acts.old.items) × (follower.new ≡ follower.old)) }
 {
     let ready = match planned {
-        Ok(()) => make_room(lists, &acts.as_slice()[start..]),
+        Ok(()) => make_room(lists, room, start, acts),
         Err(fault) => Err(fault),
     };
     if let Err(fault) = ready {

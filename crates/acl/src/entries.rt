@@ -1,14 +1,15 @@
 use crate::act::{Object, PresetKind};
 use crate::bits::Bit;
+use crate::leaders::Leaders;
 use crate::user_id::UserId;
 
-/// Why a check of a bit failed: neither this user's entry nor his leader's has it.
+/// Why a check of a bit failed: neither this user's entry nor that of any of his leaders has it.
 #[derive(Clone, Copy, PartialEq, Eq, Debug)]
 pub struct EntryDenial {
     pub user: UserId,
     pub bit: Bit,
     pub object: Object,
-    pub leader: Option<UserId>,
+    pub leaders: Leaders,
 }
 
 /// Whom a user is to follow: nobody, or the leader whom a word names (none where it is no name).

@@ -15,13 +15,15 @@ pub enum AclFault {
     NoSuchGroup,
     #[error("out of memory")]
     NoMemory,
+    #[error("the user is in eight groups")]
+    TooManyGroups,
 }
 
 impl AclFault {
     ghost use Rattle.std.specs.Prelude.{◌≡◌};
     ghost use Rattle.acl.specs.Commands.{number_of_fault};
 
-    /// The fault's number, 1 to 6.
+    /// The fault's number, 1 to 7.
     pub fn number(self) -> u8
         ensures { result ≡ number_of_fault self }
     {
@@ -32,6 +34,7 @@ impl AclFault {
             AclFault::ReservedName => 4,
             AclFault::NoSuchGroup => 5,
             AclFault::NoMemory => 6,
+            AclFault::TooManyGroups => 7,
         }
     }
 }

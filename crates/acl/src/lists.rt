@@ -2,9 +2,12 @@
 
 use crate::act::{Act, Object, PresetKind};
 use crate::bits::{Bit, Bits};
+use crate::edition::Edition;
 use crate::entries::EntryDenial;
+use crate::leaders::Leaders;
 use crate::rows::{
-    Masks, Row, Rows, bits_on, forget_leader, forget_masks, give_window, mask_bits, set_right,
+    Masks, Row, Rows, bits_on, forget_leader, forget_masks, give_window, mask_bits, regroup,
+    set_right,
 };
 use crate::user_id::UserId;
 use acl_slots::Slots;
@@ -14,6 +17,7 @@ use std::alloc::{AllocError, Global};
 /// The rights of a session's users at one moment.
 #[derive(Drop)]
 pub struct Lists {
+    edition: Edition,
     owner: UserId,
     pub(crate) rows: Rows,
     pub(crate) masks: Masks,
@@ -23,22 +27,25 @@ pub struct Lists {
 }
 
 impl Lists {
-    ghost use Rattle.std.specs.Prelude.{◌≡◌, ◌+◌, ◌≤◌, ◌<◌, ◌∷◌, [], All, true, false, Some, is_some, is_ok, IfOk, IfErr, length, slice_get, if◌then◌else◌};
+    ghost use Rattle.std.specs.Prelude.{◌≡◌, ◌+◌, ◌≤◌, ◌<◌, ◌∷◌, [], true, false, is_ok, IfOk, IfErr, length, slice_get, nat_le, Some, if◌then◌else◌};
+    ghost use Rattle.std.specs.List.{list_any};
     ghost use Rattle.indexmap.specs.IndexMap.{spare};
-    ghost use Rattle.acl.specs.Same.{same_user};
-    ghost use Rattle.acl.specs.History.{History, among, is_known, is_open, open_count, users_of, leaders_of, listed, there, has, may};
-    ghost use Rattle.acl.specs.Commands.{IsAllowed, makes_known, sets_mask};
-    ghost use Rattle.acl.specs.Table.{StandsFor, knows, granted, led_by, lets, users_in};
+    ghost use Rattle.acl.specs.History.{History, among, is_known, is_open, open_count, there, leaders_with, may};
+    ghost use Rattle.acl.specs.Commands.{makes_known, sets_mask};
+    ghost use Rattle.acl.specs.Deeds.{Takes};
+    ghost use Rattle.acl.specs.Table.{StandsFor, IsDenial, knows, granted, led_by, lets, users_in};
     ghost use Rattle.acl.specs.Lists.{table_of};
+    ghost use Rattle.acl.specs.declared.edition.Edition.{Edition};
     ghost use Rattle.acl.specs.declared.act.Act.TheVariants.{Known, Gone, Set, Grouped, Masked, Preset, Opened, Closed};
 
     /// The lists of a session that only its owner has entered.
-    pub(crate) fn new(alloc: Global, owner: UserId) -> Result<Self, AllocError>
-        ensures { IfOk result (λ lists. StandsFor (table_of lists) owner []) }
+    pub(crate) fn new(alloc: Global, owner: UserId, edition: Edition) -> Result<Self, AllocError>
+        ensures { IfOk result (λ lists. StandsFor (table_of lists) edition owner []) }
     {
         let mut rows = IndexMap::new(alloc);
         rows.insert(owner, Row::new(Bits::NONE, Bits::NONE))?;
         Ok(Lists {
+            edition,
             owner,
             rows,
             masks: IndexMap::new(alloc),
@@ -46,6 +53,13 @@ impl Lists {
             window_preset: Bits::ALL,
             command_preset: Bits::ALL,
         })
+    }
+
+    /// How many groups a user may be in.
+    pub fn edition(&self) -> Edition
+        ensures { result ≡ (table_of self.now).edition }
+    {
+        self.edition
     }
 
     /// The session's owner.
@@ -80,14 +94,24 @@ impl Lists {
         }
     }
 
-    /// The user's leader.
-    pub fn leader_of(&self, user: UserId) -> Option<UserId>
-        ensures { listed result ≡ led_by (table_of self.now) user }
+    /// The user's leaders, in the order in which they were named.
+    pub fn leaders_of(&self, user: UserId) -> Leaders
+        ensures { result ≡ led_by (table_of self.now) user }
     {
         match self.rows.get(&user) {
-            Some(row) => row.leader,
-            None => None,
+            Some(row) => row.leaders,
+            None => Leaders::none(),
         }
+    }
+
+    /// Whether the user may be given this leader too: no more than eight lead him then.
+    pub(crate) fn has_place(&self, user: UserId, leader: UserId) -> bool
+        ensures { result ≡ nat_le (length (leaders_with (table_of self.now).edition
+            (Some leader) (led_by (table_of self.now) user))) 8 }
+    {
+        self.leaders_of(user)
+            .with(self.edition, Some(leader))
+            .is_some()
     }
 
     /// Whether the user's own entry has the bit.
@@ -100,37 +124,44 @@ impl Lists {
         }
     }
 
-    /// Whether the user has the bit on an object that is there, himself or by his leader, or else why not.
+    /// Whether one of these users' entries has the bit.
+    fn is_granted_to_any(&self, users: &[UserId], bit: Bit, object: Object) -> bool
+        ensures { result
+            ≡ list_any (λ user. granted (table_of self.now) user bit object) users.now }
+    {
+        users.iter().any(|user| self.is_granted(*user, bit, object))
+    }
+
+    /// Whether the user has the bit on an object that is there, himself or by a leader of his, or else
+    /// why not.
     pub fn may(&self, user: UserId, bit: Bit, object: Object) -> Result<(), EntryDenial>
-        ensures answer { (owner : UserId) (h : History) → StandsFor (table_of self.now) owner h → there h object ≡ true → is_ok result ≡ may owner h user bit object }
+        ensures answer { (edition : Edition) (owner : UserId) (h : History) →
+            StandsFor (table_of self.now) edition owner h → there h object ≡ true →
+            is_ok result ≡ may edition owner h user bit object }
         ensures table { is_ok result ≡ lets (table_of self.now) user bit object }
-        ensures denial { IfErr result (λ d. (d.user ≡ user) × (d.bit ≡ bit) × (d.object ≡ object) × (listed d.leader ≡ led_by (table_of self.now) user)) }
-        ensures entries { IfErr result (λ d. (owner : UserId) (h : History) → StandsFor (table_of self.now) owner h → there h object ≡ true → (has owner h user bit object ≡ false) × All (λ leader. has owner h leader bit object ≡ false) (leaders_of h user)) }
+        ensures denial { IfErr result (λ d. (edition : Edition) (owner : UserId) (h : History) →
+            StandsFor (table_of self.now) edition owner h → there h object ≡ true →
+            IsDenial edition owner h user bit object d) }
     {
         if self.owner == user || self.is_granted(user, bit, object) {
             return Ok(());
         }
-        let leader = self.leader_of(user);
-        let by_leader = match leader {
-            Some(leader) => self.is_granted(leader, bit, object),
-            None => false,
-        };
-        if by_leader {
-            Ok(())
-        } else {
-            Err(EntryDenial {
-                user,
-                bit,
-                object,
-                leader,
-            })
+        let leaders = self.leaders_of(user);
+        if self.is_granted_to_any(leaders.as_slice(), bit, object) {
+            return Ok(());
         }
+        Err(EntryDenial {
+            user,
+            bit,
+            object,
+            leaders,
+        })
     }
 
     /// A user becomes known, where room was made for him.
     fn make_known(&mut self, user: UserId)
         requires { 0 < spare self.old.rows }
-        ensures stands { (owner : UserId) (h : History) → StandsFor (table_of self.old) owner h → is_known owner h user ≡ false → StandsFor (table_of self.new) owner (Known user ∷ h) }
+        ensures stands { Takes (table_of self.old) (table_of self.new) (Known user) }
         ensures rows_room { spare self.old.rows ≤ spare self.new.rows + 1 }
         ensures masks_room { spare self.old.masks ≤ spare self.new.masks }
     {
@@ -141,7 +172,7 @@ impl Lists {
 
     /// A user who isn't the owner is gone.
     fn make_gone(&mut self, user: UserId)
-        ensures stands { (owner : UserId) (h : History) → StandsFor (table_of self.old) owner h → same_user owner user ≡ false → StandsFor (table_of self.new) owner (Gone user ∷ h) }
+        ensures stands { Takes (table_of self.old) (table_of self.new) (Gone user) }
         ensures rows_room { spare self.old.rows ≤ spare self.new.rows }
         ensures masks_room { spare self.old.masks ≤ spare self.new.masks }
     {
@@ -152,7 +183,7 @@ impl Lists {
 
     /// Sets a known user's bit on an object that is there.
     fn set(&mut self, user: UserId, bit: Bit, object: Object, value: bool)
-        ensures stands { (owner : UserId) (h : History) → StandsFor (table_of self.old) owner h → is_known owner h user ≡ true → there h object ≡ true → StandsFor (table_of self.new) owner (Set user bit object value ∷ h) }
+        ensures stands { Takes (table_of self.old) (table_of self.new) (Set user bit object value) }
         ensures rows_room { spare self.old.rows ≤ spare self.new.rows }
         ensures masks { self.new.masks ≡ self.old.masks }
     {
@@ -161,21 +192,21 @@ impl Lists {
         }
     }
 
-    /// Gives a known user a leader, or none.
+    /// Gives a known user a leader, or none; at most eight lead him then.
     fn set_leader(&mut self, user: UserId, leader: Option<UserId>)
-        ensures stands { (owner : UserId) (h : History) → StandsFor (table_of self.old) owner h → is_known owner h user ≡ true → StandsFor (table_of self.new) owner (Grouped user leader ∷ h) }
+        ensures stands { Takes (table_of self.old) (table_of self.new) (Grouped user leader) }
         ensures rows_room { spare self.old.rows ≤ spare self.new.rows }
         ensures masks { self.new.masks ≡ self.old.masks }
     {
         if let Some(row) = self.rows.get_mut(&user) {
-            row.leader = leader;
+            regroup(row, self.edition, leader);
         }
     }
 
     /// Sets what `by` gives a user on windows that `by` opens later, where room was made.
     fn set_mask(&mut self, by: UserId, user: UserId, bit: Bit, value: bool)
         requires { 0 < spare self.old.masks }
-        ensures stands { (owner : UserId) (h : History) → StandsFor (table_of self.old) owner h → StandsFor (table_of self.new) owner (Masked by user bit value ∷ h) }
+        ensures stands { Takes (table_of self.old) (table_of self.new) (Masked by user bit value) }
         ensures rows { self.new.rows ≡ self.old.rows }
         ensures masks_room { spare self.old.masks ≤ spare self.new.masks + 1 }
     {
@@ -185,7 +216,7 @@ impl Lists {
 
     /// Sets what names that become known get.
     fn set_preset(&mut self, kind: PresetKind, bit: Bit, value: bool)
-        ensures stands { (owner : UserId) (h : History) → StandsFor (table_of self.old) owner h → StandsFor (table_of self.new) owner (Preset kind bit value ∷ h) }
+        ensures stands { Takes (table_of self.old) (table_of self.new) (Preset kind bit value) }
         ensures rows { self.new.rows ≡ self.old.rows }
         ensures masks { self.new.masks ≡ self.old.masks }
     {
@@ -197,7 +228,10 @@ impl Lists {
 
     /// A known user opened a window, whose serial number is new. At most 39 others are open.
     pub(crate) fn open(&mut self, by: UserId, window: u32)
-        ensures { (owner : UserId) (h : History) → StandsFor (table_of self.old) owner h → is_known owner h by ≡ true → is_open h window ≡ false → open_count h < 40 → StandsFor (table_of self.new) owner (Opened by window ∷ h) }
+        ensures { (edition : Edition) (owner : UserId) (h : History) →
+            StandsFor (table_of self.old) edition owner h →
+            is_known owner h by ≡ true → is_open h window ≡ false → open_count h < 40 →
+            StandsFor (table_of self.new) edition owner (Opened by window ∷ h) }
     {
         if let Some(slot) = self.windows.free_slot() {
             give_window(&mut self.rows, &self.masks, by, slot);
@@ -207,7 +241,9 @@ impl Lists {
 
     /// A window was closed.
     pub(crate) fn close(&mut self, window: u32)
-        ensures { (owner : UserId) (h : History) → StandsFor (table_of self.old) owner h → StandsFor (table_of self.new) owner (Closed window ∷ h) }
+        ensures { (edition : Edition) (owner : UserId) (h : History) →
+            StandsFor (table_of self.old) edition owner h →
+            StandsFor (table_of self.new) edition owner (Closed window ∷ h) }
     {
         self.windows.close(window);
     }
@@ -216,9 +252,11 @@ impl Lists {
     pub(crate) fn apply(&mut self, act: Act)
         requires rows_room { makes_known act ≡ true → 0 < spare self.old.rows }
         requires masks_room { sets_mask act ≡ true → 0 < spare self.old.masks }
-        ensures stands { (owner : UserId) (h : History) → StandsFor (table_of self.old) owner h → IsAllowed owner h act → StandsFor (table_of self.new) owner (act ∷ h) }
-        ensures rows_left { spare self.old.rows ≤ spare self.new.rows + (if makes_known act then 1 else 0) }
-        ensures masks_left { spare self.old.masks ≤ spare self.new.masks + (if sets_mask act then 1 else 0) }
+        ensures stands { Takes (table_of self.old) (table_of self.new) act }
+        ensures rows_left { spare self.old.rows
+            ≤ spare self.new.rows + (if makes_known act then 1 else 0) }
+        ensures masks_left { spare self.old.masks
+            ≤ spare self.new.masks + (if sets_mask act then 1 else 0) }
     {
         match act {
             Act::Known { user } => self.make_known(user),

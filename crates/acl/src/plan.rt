@@ -1,20 +1,36 @@
 //! The acts of list commands, and the fault that refuses one: the first from the left.
 
-ghost use Rattle.std.specs.Prelude.{◌≡◌, ◌&&◌, ◌||◌, ◌++◌, ◌∷◌, [], not, Some, IfOk, IfErr, OnOk, OnErr, length};
+ghost use Rattle.std.specs.Prelude.{◌≡◌, ◌&&◌, ◌||◌, ◌++◌, ◌∷◌, [], not, Some, None, IfOk, IfErr, OnOk, OnErr, length};
 ghost use Rattle.std.specs.List.{list_any};
-ghost use Rattle.acl.specs.Commands.{Answers, Keeps, names_user, with_name, with_names, new_name, new_name_fault, name_acts, change_fault, sets_on, sets, change_acts, known_name_fault, removal_acts, leader_fault, chosen_leader, group_fault, group_acts, scope_fault, scope_acts, mask_fault, mask_acts};
+ghost use Rattle.acl.specs.Commands.{Answers, Keeps, names_user, with_name, with_names, new_name, new_name_fault, new_acts, known_acts, name_sets, names_sets, name_acts, added, add_acts, change_fault, sets_on, sets, change_acts, known_name_fault, removal_acts, leader_fault, chosen_leader, group_fault, group_acts, scope_fault, scope_acts, mask_fault, mask_acts};
 ghost use Rattle.acl.specs.Same.{same_user};
 ghost use Rattle.acl.specs.History.{among};
-ghost use Rattle.acl.specs.Table.{users_in};
+ghost use Rattle.acl.specs.Table.{users_in, led_by};
 ghost use Rattle.acl.specs.Lists.{table_of};
 
 use crate::act::{Act, Object};
-use crate::bits::BitChange;
+use crate::bits::{Bit, BitChange};
 use crate::entries::{MaskEntry, MaskScope, NewLeader};
 use crate::faults::AclFault;
 use crate::limits::USERS;
 use crate::lists::Lists;
 use crate::user_id::UserId;
+
+/// What a name that is added gets on each object.
+const ADDED: [BitChange; 3] = [
+    BitChange {
+        bit: Bit::Read,
+        value: true,
+    },
+    BitChange {
+        bit: Bit::Write,
+        value: true,
+    },
+    BitChange {
+        bit: Bit::Execute,
+        value: true,
+    },
+];
 
 /// Whether the word names the user.
 fn names_user(name: Option<UserId>, user: UserId) -> bool
@@ -77,7 +93,8 @@ fn plan_sets(
     objects: &[Object],
     acts: &mut Vec<Act>,
 ) -> Result<(), AclFault>
-    ensures ok { OnOk result (acts.new.items ≡ acts.old.items ++ sets user changes.now objects.now) }
+    ensures ok { OnOk result
+        (acts.new.items ≡ acts.old.items ++ sets user changes.now objects.now) }
     ensures err { OnErr result (Keeps acts.old.items acts.new.items) }
     ensures memory { IfErr result (λ fault. fault ≡ AclFault.NoMemory) }
 {
@@ -108,33 +125,85 @@ fn is_named(lists: &Lists, before: &[Option<UserId>], user: UserId) -> bool
     lists.knows(user) || names_any(before, user)
 }
 
-/// The acts of one word of a change, behind the words before it, which leave so many users known. The new number.
-fn plan_name(
+/// How many users are known behind one more word of a change, where `count` are behind the words
+/// before it; or its fault.
+fn count_with(
     lists: &Lists,
     before: &[Option<UserId>],
     count: usize,
     name: Option<UserId>,
-    changes: &[BitChange],
-    objects: &[Object],
-    acts: &mut Vec<Act>,
 ) -> Result<usize, AclFault>
     requires { count ≡ length (with_names (users_in (table_of lists.now)) before.now) }
-    ensures answer { Answers result (new_name_fault (table_of lists.now).owner (with_names (users_in (table_of lists.now)) before.now) name) }
-    ensures count { IfOk result (λ more. more ≡ length (with_name (with_names (users_in (table_of lists.now)) before.now) name)) }
-    ensures ok { OnOk result (acts.new.items ≡ acts.old.items ++ name_acts (with_names (users_in (table_of lists.now)) before.now) name changes.now objects.now) }
-    ensures err { OnErr result (Keeps acts.old.items acts.new.items) }
+    ensures ok { IfOk result (λ more. more ≡ length
+        (with_name (with_names (users_in (table_of lists.now)) before.now) name)) }
+    ensures none { OnOk result (new_name_fault (table_of lists.now).owner
+        (with_names (users_in (table_of lists.now)) before.now) name ≡ None) }
+    ensures err { IfErr result (λ fault. new_name_fault (table_of lists.now).owner
+        (with_names (users_in (table_of lists.now)) before.now) name ≡ Some fault) }
 {
     let user = new_name(lists, name)?;
     if is_named(lists, before, user) {
-        plan_sets(user, changes, objects, acts)?;
         return Ok(count);
     }
     if count >= USERS {
         return Err(AclFault::TooManyUsers);
     }
-    push_act(acts, Act::Known { user })?;
-    plan_sets(user, changes, objects, acts)?;
     Ok(count + 1)
+}
+
+/// The fault of a change of these names: the first from the left.
+pub fn change_fault(lists: &Lists, names: &[Option<UserId>]) -> Option<AclFault>
+    ensures { result
+        ≡ change_fault (table_of lists.now).owner (users_in (table_of lists.now)) names.now }
+{
+    let mut count = lists.user_count();
+    for i in 0..names.len() {
+        match count_with(lists, &names[..i], count, names[i]) {
+            Ok(more) => count = more,
+            Err(fault) => return Some(fault),
+        }
+    }
+    None
+}
+
+/// A name that isn't known, behind the words before it, becomes known.
+fn plan_known(
+    lists: &Lists,
+    before: &[Option<UserId>],
+    name: Option<UserId>,
+    acts: &mut Vec<Act>,
+) -> Result<(), AclFault>
+    ensures ok { OnOk result (acts.new.items ≡ acts.old.items
+        ++ new_acts (with_names (users_in (table_of lists.now)) before.now) name) }
+    ensures err { OnErr result (acts.new.items ≡ acts.old.items) }
+    ensures memory { IfErr result (λ fault. fault ≡ AclFault.NoMemory) }
+{
+    match name {
+        Some(user) => if is_named(lists, before, user) {
+            Ok(())
+        } else {
+            push_act(acts, Act::Known { user })
+        },
+        None => Ok(()),
+    }
+}
+
+/// The sets of the bits of the user whom a word names.
+fn plan_name_sets(
+    name: Option<UserId>,
+    changes: &[BitChange],
+    objects: &[Object],
+    acts: &mut Vec<Act>,
+) -> Result<(), AclFault>
+    ensures ok { OnOk result
+        (acts.new.items ≡ acts.old.items ++ name_sets changes.now objects.now name) }
+    ensures err { OnErr result (Keeps acts.old.items acts.new.items) }
+    ensures memory { IfErr result (λ fault. fault ≡ AclFault.NoMemory) }
+{
+    match name {
+        Some(user) => plan_sets(user, changes, objects, acts),
+        None => Ok(()),
+    }
 }
 
 /// A change of bits, user by user. A name that isn't known becomes known.
@@ -145,20 +214,80 @@ pub fn plan_change(
     objects: &[Object],
     acts: &mut Vec<Act>,
 ) -> Result<(), AclFault>
-    ensures answer { Answers result (change_fault (table_of lists.now).owner (users_in (table_of lists.now)) names.now) }
-    ensures ok { OnOk result (acts.new.items ≡ acts.old.items ++ change_acts (users_in (table_of lists.now)) names.now changes.now objects.now) }
+    ensures answer { Answers result
+        (change_fault (table_of lists.now).owner (users_in (table_of lists.now)) names.now) }
+    ensures ok { OnOk result (acts.new.items ≡ acts.old.items
+        ++ change_acts (users_in (table_of lists.now)) names.now changes.now objects.now) }
     ensures err { OnErr result (Keeps acts.old.items acts.new.items) }
 {
-    let mut count = lists.user_count();
+    if let Some(fault) = change_fault(lists, names) {
+        return Err(fault);
+    }
     for i in 0..names.len() {
-        count = plan_name(lists, &names[..i], count, names[i], changes, objects, acts)?;
+        plan_known(lists, &names[..i], names[i], acts)?;
+        plan_name_sets(names[i], changes, objects, acts)?;
     }
     Ok(())
 }
 
+/// Each name that isn't known becomes known.
+fn plan_all_known(
+    lists: &Lists,
+    names: &[Option<UserId>],
+    acts: &mut Vec<Act>,
+) -> Result<(), AclFault>
+    ensures ok { OnOk result (acts.new.items ≡ acts.old.items
+        ++ known_acts (users_in (table_of lists.now)) names.now) }
+    ensures err { OnErr result (Keeps acts.old.items acts.new.items) }
+    ensures memory { IfErr result (λ fault. fault ≡ AclFault.NoMemory) }
+{
+    for i in 0..names.len() {
+        plan_known(lists, &names[..i], names[i], acts)?;
+    }
+    Ok(())
+}
+
+/// The sets of what names that are added get, user by user.
+fn plan_grants(
+    names: &[Option<UserId>],
+    objects: &[Object],
+    acts: &mut Vec<Act>,
+) -> Result<(), AclFault>
+    ensures ok { OnOk result (acts.new.items ≡ acts.old.items ++ names_sets objects.now names.now) }
+    ensures err { OnErr result (Keeps acts.old.items acts.new.items) }
+    ensures memory { IfErr result (λ fault. fault ≡ AclFault.NoMemory) }
+{
+    for name in names {
+        plan_name_sets(*name, &ADDED, objects, acts)?;
+    }
+    Ok(())
+}
+
+/// An addition of names: each that isn't known becomes known, and then each user is granted each
+/// bit.
+pub fn plan_addition(
+    lists: &Lists,
+    names: &[Option<UserId>],
+    objects: &[Object],
+    acts: &mut Vec<Act>,
+) -> Result<(), AclFault>
+    ensures answer { Answers result
+        (change_fault (table_of lists.now).owner (users_in (table_of lists.now)) names.now) }
+    ensures ok { OnOk result (acts.new.items ≡ acts.old.items
+        ++ add_acts (users_in (table_of lists.now)) names.now objects.now) }
+    ensures err { OnErr result (Keeps acts.old.items acts.new.items) }
+{
+    if let Some(fault) = change_fault(lists, names) {
+        return Err(fault);
+    }
+    plan_all_known(lists, names, acts)?;
+    plan_grants(names, objects, acts)
+}
+
 /// The known user, not the owner, whom a word names.
 fn known_name(lists: &Lists, name: Option<UserId>) -> Result<UserId, AclFault>
-    ensures answer { Answers result (known_name_fault (table_of lists.now).owner (users_in (table_of lists.now)) name) }
+    ensures answer { Answers result
+        (known_name_fault (table_of lists.now).owner (users_in (table_of lists.now)) name) }
     ensures user { IfOk result (λ user. name ≡ Some user) }
 {
     let user = new_name(lists, name)?;
@@ -175,7 +304,8 @@ pub fn plan_removal(
     name: Option<UserId>,
     acts: &mut Vec<Act>,
 ) -> Result<(), AclFault>
-    ensures answer { Answers result (known_name_fault (table_of lists.now).owner (users_in (table_of lists.now)) name) }
+    ensures answer { Answers result
+        (known_name_fault (table_of lists.now).owner (users_in (table_of lists.now)) name) }
     ensures ok { OnOk result (acts.new.items ≡ acts.old.items ++ removal_acts name) }
     ensures err { OnErr result (acts.new.items ≡ acts.old.items) }
 {
@@ -185,14 +315,17 @@ pub fn plan_removal(
 
 /// Whether a known user may lead another.
 fn may_lead(lists: &Lists, user: UserId, leader: UserId) -> bool
-    ensures { result ≡ (among (users_in (table_of lists.now)) leader && not (same_user user leader)) }
+    ensures { result
+        ≡ (among (users_in (table_of lists.now)) leader && not (same_user user leader)) }
 {
     lists.knows(leader) && !(user == leader)
 }
 
 /// The leader whom a word names for a user.
 fn leader_for(lists: &Lists, user: UserId, leader: NewLeader) -> Result<Option<UserId>, AclFault>
-    ensures answer { Answers result (leader_fault (table_of lists.now).owner (users_in (table_of lists.now)) (Some user) leader) }
+    ensures answer { Answers result
+        (leader_fault (table_of lists.now).edition (table_of lists.now).owner
+        (users_in (table_of lists.now)) (led_by (table_of lists.now)) (Some user) leader) }
     ensures leader { IfOk result (λ chosen. chosen ≡ chosen_leader leader) }
 {
     match leader {
@@ -200,10 +333,12 @@ fn leader_for(lists: &Lists, user: UserId, leader: NewLeader) -> Result<Option<U
         NewLeader::Named(None) => Err(AclFault::NoSuchGroup),
         NewLeader::Named(Some(leader)) => if lists.owner() == leader {
             Err(AclFault::OwnerKept)
-        } else if may_lead(lists, user, leader) {
-            Ok(Some(leader))
-        } else {
+        } else if !may_lead(lists, user, leader) {
             Err(AclFault::NoSuchGroup)
+        } else if !lists.has_place(user, leader) {
+            Err(AclFault::TooManyGroups)
+        } else {
+            Ok(Some(leader))
         },
     }
 }
@@ -215,7 +350,9 @@ pub fn plan_group(
     leader: NewLeader,
     acts: &mut Vec<Act>,
 ) -> Result<(), AclFault>
-    ensures answer { Answers result (group_fault (table_of lists.now).owner (users_in (table_of lists.now)) name leader) }
+    ensures answer { Answers result
+        (group_fault (table_of lists.now).edition (table_of lists.now).owner
+        (users_in (table_of lists.now)) (led_by (table_of lists.now)) name leader) }
     ensures ok { OnOk result (acts.new.items ≡ acts.old.items ++ group_acts name leader) }
     ensures err { OnErr result (acts.new.items ≡ acts.old.items) }
 {
@@ -231,8 +368,10 @@ fn plan_mask(
     entry: MaskEntry,
     acts: &mut Vec<Act>,
 ) -> Result<(), AclFault>
-    ensures answer { Answers result (scope_fault (table_of lists.now).owner (users_in (table_of lists.now)) entry.scope) }
-    ensures ok { OnOk result (acts.new.items ≡ acts.old.items ++ scope_acts by entry.scope entry.bit entry.value) }
+    ensures answer { Answers result
+        (scope_fault (table_of lists.now).owner (users_in (table_of lists.now)) entry.scope) }
+    ensures ok { OnOk result
+        (acts.new.items ≡ acts.old.items ++ scope_acts by entry.scope entry.bit entry.value) }
     ensures err { OnErr result (acts.new.items ≡ acts.old.items) }
 {
     match entry.scope {
@@ -266,7 +405,8 @@ pub fn plan_masks(
     entries: &[MaskEntry],
     acts: &mut Vec<Act>,
 ) -> Result<(), AclFault>
-    ensures answer { Answers result (mask_fault (table_of lists.now).owner (users_in (table_of lists.now)) entries.now) }
+    ensures answer { Answers result
+        (mask_fault (table_of lists.now).owner (users_in (table_of lists.now)) entries.now) }
     ensures ok { OnOk result (acts.new.items ≡ acts.old.items ++ mask_acts by entries.now) }
     ensures err { OnErr result (Keeps acts.old.items acts.new.items) }
 {

@@ -1,23 +1,26 @@
 //! The users' rows and the masks.
 
 ghost use Rattle.std.specs.Prelude.{◌≡◌, ◌<◌, ◌≤◌, ◌||◌, not, map, filter, Some, length};
+ghost use Rattle.acl.specs.History.{leaders_with};
 ghost use Rattle.std.specs.Map.{lookup};
 ghost use Rattle.indexmap.specs.IndexMap.{spare};
 ghost use Rattle.acl.specs.Same.{same_user};
-ghost use Rattle.acl.specs.Table.{mask_bits, opening_bits, with_window, without_leader, remaining_leader, bits_on, with_right};
+ghost use Rattle.acl.specs.Table.{mask_bits, opening_bits, with_window, without_leader, bits_on, with_right};
 
 use crate::act::Object;
 use crate::bits::{Bit, Bits};
+use crate::edition::Edition;
+use crate::leaders::Leaders;
 use crate::user_id::UserId;
 use acl_slots::Slots;
 use indexmap::IndexMap;
 
-/// What a known user has, and his leader.
+/// What a known user has, and his leaders.
 #[derive(Drop)]
 pub struct Row {
     pub commands: [Bits; 31],
     pub windows: [Bits; 40],
-    pub leader: Option<UserId>,
+    pub leaders: Leaders,
 }
 
 /// The known users' rows, in the order in which they became known.
@@ -37,7 +40,7 @@ impl Row {
         Row {
             commands: [command_preset; 31],
             windows: [window_preset; 40],
-            leader: None,
+            leaders: Leaders::none(),
         }
     }
 }
@@ -96,8 +99,10 @@ pub fn opening_bits(masks: &Masks, by: UserId, user: UserId) -> Bits
 /// Gives each user what he gets on the window that `by` opens in the slot.
 pub fn give_window(rows: &mut Rows, masks: &Masks, by: UserId, slot: usize)
     requires { slot < 40 }
-    ensures given { rows.new.entries ≡ map (λ e. (e.0, with_window slot (opening_bits masks.now.entries by e.0) e.1)) rows.old.entries }
-    ensures wide { (user : UserId) (row : Row) → lookup (same_user user) rows.old.entries ≡ Some row → length row.windows ≡ 40 }
+    ensures given { rows.new.entries
+        ≡ map (λ e. (e.0, with_window slot (opening_bits masks.now.entries by e.0) e.1)) rows.old.entries }
+    ensures wide { (user : UserId) (row : Row) →
+        lookup (same_user user) rows.old.entries ≡ Some row → length row.windows ≡ 40 }
 {
     for i in 0..rows.len() {
         let (user, row) = rows.pair_mut(i);
@@ -105,35 +110,38 @@ pub fn give_window(rows: &mut Rows, masks: &Masks, by: UserId, slot: usize)
     }
 }
 
-/// The leader, unless he is the one who is gone.
-fn remaining_leader(leader: Option<UserId>, gone: UserId) -> Option<UserId>
-    ensures { result ≡ remaining_leader gone leader }
+/// Gives the user whose row it is a leader, or none, where that leaves him no more than eight.
+pub fn regroup(row: &mut Row, edition: Edition, leader: Option<UserId>)
+    ensures { length (leaders_with edition leader row.old.leaders) ≤ 8 →
+        row.new ≡ record row.old { leaders = leaders_with edition leader row.old.leaders } }
 {
-    match leader {
-        Some(leader) => if gone == leader { None } else { Some(leader) },
-        None => None,
+    if let Some(leaders) = row.leaders.with(edition, leader) {
+        row.leaders = leaders;
     }
 }
 
 /// Takes a leader away from all whom he leads.
 pub fn forget_leader(rows: &mut Rows, gone: UserId)
-    ensures forgotten { rows.new.entries ≡ map (λ e. (e.0, without_leader gone e.1)) rows.old.entries }
+    ensures forgotten { rows.new.entries
+        ≡ map (λ e. (e.0, without_leader gone e.1)) rows.old.entries }
     ensures room { spare rows.new ≡ spare rows.old }
 {
     for i in 0..rows.len() {
         let (_, row) = rows.pair_mut(i);
-        row.leader = remaining_leader(row.leader, gone);
+        row.leaders = row.leaders.without(gone);
     }
 }
 
 /// Forgets the masks that a user gave or got.
 pub fn forget_masks(masks: &mut Masks, user: UserId)
-    ensures forgotten { masks.new.entries ≡ filter (λ e. not (same_user user e.0.0 || same_user user e.0.1)) masks.old.entries }
+    ensures forgotten { masks.new.entries
+        ≡ filter (λ e. not (same_user user e.0.0 || same_user user e.0.1)) masks.old.entries }
     ensures room { spare masks.old ≤ spare masks.new }
 {
     masks.retain(
         |pair: &(UserId, UserId), bits: &mut Bits| -> bool
-            ensures { (result ≡ not (same_user user pair.now.0 || same_user user pair.now.1)) × (bits.new ≡ bits.old) }
+            ensures { (result ≡ not (same_user user pair.now.0 || same_user user pair.now.1))
+                × (bits.new ≡ bits.old) }
         { !(user == pair.0 || user == pair.1) },
     );
 }

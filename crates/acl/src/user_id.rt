@@ -80,6 +80,9 @@ impl UserId {
     ghost use Rattle.std.specs.Prelude.{◌≡◌, IfSome};
     ghost use Rattle.acl.specs.Names.{named_by, name_of};
 
+    /// What stands where there is no name.
+    pub(crate) const BLANK: UserId = UserId { name: [0; 20] };
+
     /// The user whom the word names; none where it is no name.
     pub fn of(word: &[u8]) -> Option<UserId>
         ensures named { result ≡ named_by word.now }

@@ -3,8 +3,8 @@
 use crate::stage::{Answer, Call, Name, Stage, user};
 use Bit::{Execute, Read, Write};
 use Name::{Ann, Bob, Eve, Own, Zed};
-use Want::{Leader, Locked, NoEntry, Passes};
-use acl::{Bit, CommandName, LockMode, Object, PresetKind};
+use Want::{Leader, Leaders, Locked, NoEntry, Passes};
+use acl::{Bit, CommandName, Edition, LockMode, Object, PresetKind};
 use std::process::Abort;
 use std::test::Fail;
 
@@ -16,6 +16,8 @@ enum Want {
     NoEntry,
     /// Denied, and his leader, who is named, hasn't it either.
     Leader(Name),
+    /// Denied, and these two lead him, in this order.
+    Leaders(Name, Name),
     /// Another user, who is named, holds the lock.
     Locked(Name),
 }
@@ -74,6 +76,102 @@ const LEADER_GONE: [Row; 4] = [
     (Call::Group(Bob, Some(Ann)), Bob, Write, TWO, Passes),
     (Call::Remove(Ann), Bob, Write, TWO, NoEntry),
     (Call::Add(Ann, 2), Bob, Write, TWO, NoEntry),
+];
+
+/// The first edition: a new leader takes the former one's place.
+const ONE_GROUP: [Row; 5] = [
+    (
+        Call::Change(Bob, Write, false, TWO),
+        Bob,
+        Write,
+        TWO,
+        NoEntry,
+    ),
+    (
+        Call::Change(Ann, Write, false, TWO),
+        Bob,
+        Write,
+        TWO,
+        NoEntry,
+    ),
+    (Call::Group(Bob, Some(Ann)), Bob, Write, TWO, Leader(Ann)),
+    (Call::Group(Bob, Some(Eve)), Bob, Write, TWO, Passes),
+    (Call::Group(Bob, Some(Ann)), Bob, Write, TWO, Leader(Ann)),
+];
+
+/// The second edition: a new leader comes last, and one who is there keeps his place.
+const TWO_GROUPS: [Row; 11] = [
+    (
+        Call::Change(Bob, Write, false, TWO),
+        Bob,
+        Write,
+        TWO,
+        NoEntry,
+    ),
+    (
+        Call::Change(Ann, Write, false, TWO),
+        Bob,
+        Write,
+        TWO,
+        NoEntry,
+    ),
+    (Call::Group(Bob, Some(Ann)), Bob, Write, TWO, Leader(Ann)),
+    (Call::Group(Bob, Some(Eve)), Bob, Write, TWO, Passes),
+    (
+        Call::Change(Eve, Write, false, TWO),
+        Bob,
+        Write,
+        TWO,
+        Leaders(Ann, Eve),
+    ),
+    (
+        Call::Group(Bob, Some(Ann)),
+        Bob,
+        Write,
+        TWO,
+        Leaders(Ann, Eve),
+    ),
+    (Call::Remove(Ann), Bob, Write, TWO, Leader(Eve)),
+    // She comes back with each right, and leads nobody.
+    (Call::Add(Ann, 2), Bob, Write, TWO, Leader(Eve)),
+    // A leader's own leaders aren't asked.
+    (Call::Group(Eve, Some(Ann)), Bob, Write, TWO, Leader(Eve)),
+    (Call::Group(Bob, Some(Ann)), Bob, Write, TWO, Passes),
+    (Call::Group(Bob, None), Bob, Write, TWO, NoEntry),
+];
+
+/// A lock goes with the right of the leader by whom its holder may write, be he the first or not.
+const LOCKED_BY_GROUP: [Row; 6] = [
+    (
+        Call::Change(Bob, Write, false, TWO),
+        Bob,
+        Write,
+        TWO,
+        NoEntry,
+    ),
+    (Call::Group(Bob, Some(Ann)), Bob, Write, TWO, Passes),
+    (Call::Group(Bob, Some(Eve)), Bob, Write, TWO, Passes),
+    (
+        Call::Lock(Bob, 2, LockMode::On),
+        Own,
+        Write,
+        TWO,
+        Locked(Bob),
+    ),
+    (
+        Call::Change(Ann, Write, false, TWO),
+        Own,
+        Write,
+        TWO,
+        Locked(Bob),
+    ),
+    (
+        Call::Change(Eve, Write, false, TWO),
+        Own,
+        Write,
+        TWO,
+        Passes,
+    ),
 ];
 
 /// A window goes, and one that is opened later has none of its entries, but what the mask says.
@@ -274,15 +372,16 @@ const DEFAULTS: [Row; 7] = [
 fn wanted(want: Want) -> Option<Answer> {
     match want {
         Passes => Some(Answer::Passes),
-        NoEntry => Some(Answer::NoEntry(None)),
-        Leader(name) => Some(Answer::NoEntry(Some(user(name)?))),
+        NoEntry => Some(Answer::NoEntry([None, None])),
+        Leader(name) => Some(Answer::NoEntry([Some(user(name)?), None])),
+        Leaders(name, next) => Some(Answer::NoEntry([Some(user(name)?), Some(user(next)?)])),
         Locked(name) => Some(Answer::Locked(user(name)?)),
     }
 }
 
 /// Plays the calls of a history in turn, and asks behind each.
-fn judge(rt: &(impl Abort + AllocGlobal), rows: &[Row]) -> Result<(), Fail> {
-    let mut stage = Stage::new(rt.alloc())?;
+fn judge(rt: &(impl Abort + AllocGlobal), edition: Edition, rows: &[Row]) -> Result<(), Fail> {
+    let mut stage = Stage::new(rt.alloc(), edition)?;
     for (call, name, bit, object, want) in rows {
         stage.play(*call)?;
         let asker = user(*name).ok_or("no name")?;
@@ -294,17 +393,26 @@ fn judge(rt: &(impl Abort + AllocGlobal), rows: &[Row]) -> Result<(), Fail> {
 
 #[test]
 fn rights(rt: HostRuntime) -> Result<(), Fail> {
-    judge(&rt, &LED)?;
-    judge(&rt, &LEADER_GONE)?;
-    judge(&rt, &MASKED)?;
-    judge(&rt, &RETURNED)?;
-    judge(&rt, &COMMANDS)
+    judge(&rt, Edition::First, &LED)?;
+    judge(&rt, Edition::First, &LEADER_GONE)?;
+    judge(&rt, Edition::Second, &LEADER_GONE)?;
+    judge(&rt, Edition::Second, &MASKED)?;
+    judge(&rt, Edition::Second, &RETURNED)?;
+    judge(&rt, Edition::Second, &COMMANDS)
+}
+
+#[test]
+fn groups(rt: HostRuntime) -> Result<(), Fail> {
+    judge(&rt, Edition::First, &ONE_GROUP)?;
+    judge(&rt, Edition::Second, &TWO_GROUPS)?;
+    judge(&rt, Edition::Second, &LOCKED_BY_GROUP)
 }
 
 #[test]
 fn locks(rt: HostRuntime) -> Result<(), Fail> {
-    judge(&rt, &HELD)?;
-    judge(&rt, &RELEASED)?;
-    judge(&rt, &ENTERED)?;
-    judge(&rt, &DEFAULTS)
+    judge(&rt, Edition::First, &HELD)?;
+    judge(&rt, Edition::First, &RELEASED)?;
+    judge(&rt, Edition::Second, &RELEASED)?;
+    judge(&rt, Edition::Second, &ENTERED)?;
+    judge(&rt, Edition::Second, &DEFAULTS)
 }

@@ -1,9 +1,11 @@
 //! Commands that are refused: the first fault from the left, and nothing has changed.
 
 use crate::stage::{Name, Stage, user};
-use AclFault::{NoMemory, NoSuchGroup, OwnerKept, ReservedName, TooManyUsers, UnknownUser};
+use AclFault::{
+    NoMemory, NoSuchGroup, OwnerKept, ReservedName, TooManyGroups, TooManyUsers, UnknownUser,
+};
 use Name::{Ann, Bob, Eve, Own, Yan, Zed};
-use acl::{AclFault, Bit, MaskEntry, MaskScope, NewLeader, PresetKind, UserId};
+use acl::{AclFault, Bit, Edition, MaskEntry, MaskScope, NewLeader, PresetKind, UserId};
 use std::test::Fail;
 
 /// At most one allocation is refused in a run, so a second try never is.
@@ -62,13 +64,14 @@ const MASKS: [([Option<Word>; 2], Option<AclFault>); 7] = [
     ([None, None], None),
 ];
 
-const TEXTS: [(AclFault, u8, &str); 6] = [
+const TEXTS: [(AclFault, u8, &str); 7] = [
     (UnknownUser, 1, "the user isn't known"),
     (OwnerKept, 2, "the owner's rights are kept"),
     (TooManyUsers, 3, "too many users are known"),
     (ReservedName, 4, "the word is no name"),
     (NoSuchGroup, 5, "there is no such group"),
     (NoMemory, 6, "out of memory"),
+    (TooManyGroups, 7, "the user is in eight groups"),
 ];
 
 fn of_word(word: Word) -> Option<UserId> {
@@ -82,7 +85,7 @@ fn change(stage: &mut Stage, names: &[Option<UserId>]) -> Option<AclFault> {
     for _ in 0..TRIES {
         let done = stage
             .acl
-            .change(names, &[], &[], &mut stage.acts, &mut stage.locks);
+            .change(names, &[], &[], &mut stage.acts, 0, &mut stage.locks);
         if done != Err(NoMemory) {
             return done.err();
         }
@@ -94,7 +97,7 @@ fn remove(stage: &mut Stage, name: Word) -> Option<AclFault> {
     for _ in 0..TRIES {
         let done = stage
             .acl
-            .remove(of_word(name), &mut stage.acts, &mut stage.locks);
+            .remove(of_word(name), &mut stage.acts, 0, &mut stage.locks);
         if done != Err(NoMemory) {
             return done.err();
         }
@@ -107,10 +110,14 @@ fn group(stage: &mut Stage, name: Word, leader: Option<Word>) -> Option<AclFault
         Some(leader) => NewLeader::Named(of_word(leader)),
         None => NewLeader::Nobody,
     };
+    give_leader(stage, of_word(name), leader)
+}
+
+fn give_leader(stage: &mut Stage, name: Option<UserId>, leader: NewLeader) -> Option<AclFault> {
     for _ in 0..TRIES {
         let done = stage
             .acl
-            .group(of_word(name), leader, &mut stage.acts, &mut stage.locks);
+            .group(name, leader, &mut stage.acts, 0, &mut stage.locks);
         if done != Err(NoMemory) {
             return done.err();
         }
@@ -136,7 +143,7 @@ fn mask(stage: &mut Stage, words: [Option<Word>; 2]) -> Option<AclFault> {
     for _ in 0..TRIES {
         let done = stage
             .acl
-            .mask(by, &entries, &mut stage.acts, &mut stage.locks);
+            .mask(by, &entries, &mut stage.acts, 0, &mut stage.locks);
         if done != Err(NoMemory) {
             return done.err();
         }
@@ -144,11 +151,15 @@ fn mask(stage: &mut Stage, words: [Option<Word>; 2]) -> Option<AclFault> {
     Some(NoMemory)
 }
 
+/// One of the names beside those of the tests.
+fn other_name(i: u8) -> Option<UserId> {
+    UserId::of(&[b'u', b'a'.saturating_add(i / 8), b'a'.saturating_add(i % 8)])
+}
+
 /// Makes so many more names known.
 fn crowd(stage: &mut Stage, more: u8) {
     for i in 0..more {
-        let name = UserId::of(&[b'u', b'a'.saturating_add(i / 8), b'a'.saturating_add(i % 8)]);
-        let _ = change(stage, &[name]);
+        let _ = change(stage, &[other_name(i)]);
     }
 }
 
@@ -160,10 +171,12 @@ fn size(stage: &Stage) -> (usize, usize) {
 #[test]
 fn changes(rt: HostRuntime) -> Result<(), Fail> {
     for (more, words, want) in CHANGES {
-        let mut stage = Stage::new(rt.alloc())?;
+        let mut stage = Stage::new(rt.alloc(), Edition::Second)?;
         crowd(&mut stage, more);
         let before = size(&stage);
-        let fault = change(&mut stage, &[of_word(words[0]), of_word(words[1])]);
+        let names = [of_word(words[0]), of_word(words[1])];
+        assert_eq!(rt; stage.acl.change_fault(&names), want, "{more} {words:?}");
+        let fault = change(&mut stage, &names);
         assert_eq!(rt; fault, want, "{more} {words:?}");
         assert!(rt;
             fault.is_none() || size(&stage) == before,
@@ -176,7 +189,7 @@ fn changes(rt: HostRuntime) -> Result<(), Fail> {
 #[test]
 fn removals(rt: HostRuntime) -> Result<(), Fail> {
     for (word, want) in REMOVALS {
-        let mut stage = Stage::new(rt.alloc())?;
+        let mut stage = Stage::new(rt.alloc(), Edition::Second)?;
         let before = size(&stage);
         let fault = remove(&mut stage, word);
         assert_eq!(rt; fault, want, "{word:?}");
@@ -187,7 +200,7 @@ fn removals(rt: HostRuntime) -> Result<(), Fail> {
 
 #[test]
 fn groups(rt: HostRuntime) -> Result<(), Fail> {
-    let mut stage = Stage::new(rt.alloc())?;
+    let mut stage = Stage::new(rt.alloc(), Edition::Second)?;
     for (word, leader, want) in GROUPS {
         let before = size(&stage);
         let fault = group(&mut stage, word, leader);
@@ -200,9 +213,38 @@ fn groups(rt: HostRuntime) -> Result<(), Fail> {
     Ok(())
 }
 
+/// Gives bob nine leaders in turn, and then the first of them again; the faults.
+fn nine_leaders(stage: &mut Stage) -> [Option<AclFault>; 10] {
+    crowd(stage, 9);
+    let mut faults = [None; 10];
+    for i in 0..10u8 {
+        let leader = NewLeader::Named(other_name(i % 9));
+        faults[i as usize] = give_leader(stage, user(Bob), leader);
+    }
+    faults
+}
+
+#[test]
+fn ninth_leader(rt: HostRuntime) -> Result<(), Fail> {
+    let bob = user(Bob).ok_or("no name")?;
+    let mut stage = Stage::new(rt.alloc(), Edition::Second)?;
+    let mut wanted = [None; 10];
+    wanted[8] = Some(TooManyGroups);
+    assert_eq!(rt; nine_leaders(&mut stage), wanted);
+    let leaders = stage.acl.leaders_of(bob);
+    assert_eq!(rt; leaders.as_slice().len(), 8);
+    for (place, leader) in leaders.as_slice().iter().enumerate() {
+        assert_eq!(rt; Some(*leader), other_name(place as u8));
+    }
+    let mut first = Stage::new(rt.alloc(), Edition::First)?;
+    assert_eq!(rt; nine_leaders(&mut first), [None; 10]);
+    assert_eq!(rt; first.acl.leaders_of(bob).as_slice().len(), 1);
+    Ok(())
+}
+
 #[test]
 fn masks(rt: HostRuntime) -> Result<(), Fail> {
-    let mut stage = Stage::new(rt.alloc())?;
+    let mut stage = Stage::new(rt.alloc(), Edition::Second)?;
     for (words, want) in MASKS {
         let before = size(&stage);
         let fault = mask(&mut stage, words);

@@ -1,8 +1,8 @@
 //! A session's lists and locks, as calls change them.
 
 use acl::{
-    Acl, AclFault, Act, Bit, BitChange, CommandName, LockMode, MaskEntry, MaskScope, NewLeader,
-    Object, PresetKind, UserId,
+    Acl, AclFault, Act, Bit, BitChange, CommandName, Edition, LockMode, MaskEntry, MaskScope,
+    NewLeader, Object, PresetKind, UserId,
 };
 use std::alloc::Global;
 use std::test::Fail;
@@ -24,6 +24,7 @@ pub enum Name {
 pub enum Call {
     Nothing,
     Add(Name, u32),
+    AddAll(Name, Name, Name),
     Change(Name, Bit, bool, Object),
     /// `-w+w` on a window.
     TakeAndGive(Name, u32),
@@ -42,11 +43,11 @@ pub enum Call {
     Part(Name),
 }
 
-/// What a check answers, with the leader or the holder whom a denial names.
+/// What a check answers, with the leaders, at most two, or the holder whom a denial names.
 #[derive(Clone, Copy, PartialEq, Eq, Debug)]
 pub enum Answer {
     Passes,
-    NoEntry(Option<UserId>),
+    NoEntry([Option<UserId>; 2]),
     Locked(UserId),
 }
 
@@ -71,47 +72,32 @@ pub fn user(name: Name) -> Option<UserId> {
 }
 
 /// The lists of a session of own. Made again where memory was refused.
-fn new_acl(alloc: Global, owner: UserId) -> Result<Acl, Fail> {
-    match Acl::new(alloc, owner) {
+fn new_acl(alloc: Global, owner: UserId, edition: Edition) -> Result<Acl, Fail> {
+    match Acl::new(alloc, owner, edition) {
         Ok(acl) => Ok(acl),
-        Err(_) => Ok(Acl::new(alloc, owner)?),
+        Err(_) => Ok(Acl::new(alloc, owner, edition)?),
     }
 }
 
 impl Stage {
     /// Own alone, without a window.
-    pub fn empty(alloc: Global) -> Result<Stage, Fail> {
+    pub fn empty(alloc: Global, edition: Edition) -> Result<Stage, Fail> {
         let owner = user(Name::Own).ok_or("no name")?;
         Ok(Stage {
-            acl: new_acl(alloc, owner)?,
+            acl: new_acl(alloc, owner, edition)?,
             locks: Locks::new(),
             acts: Vec::new(alloc),
         })
     }
 
     /// Own adds ann, bob and eve, and opens the windows 0, 1 and 2.
-    pub fn new(alloc: Global) -> Result<Stage, Fail> {
-        let mut stage = Stage::empty(alloc)?;
-        stage.add_all()?;
+    pub fn new(alloc: Global, edition: Edition) -> Result<Stage, Fail> {
+        let mut stage = Stage::empty(alloc, edition)?;
+        stage.play(Call::AddAll(Name::Ann, Name::Bob, Name::Eve))?;
         for window in 0..3u32 {
             stage.play(Call::Open(Name::Own, window))?;
         }
         Ok(stage)
-    }
-
-    /// Adds ann, bob and eve, once more where memory was refused.
-    fn add_all(&mut self) -> Result<(), AclFault> {
-        let names = [user(Name::Ann), user(Name::Bob), user(Name::Eve)];
-        let objects = [Object::Command(CommandName::Kill)];
-        match self
-            .acl
-            .add(&names, &objects, &mut self.acts, &mut self.locks)
-        {
-            Err(AclFault::NoMemory) => self
-                .acl
-                .add(&names, &objects, &mut self.acts, &mut self.locks),
-            answer => answer,
-        }
     }
 
     /// Does a call, once more where memory was refused: at most one allocation is in a run.
@@ -128,13 +114,24 @@ impl Stage {
                 &[user(name)],
                 &[Object::Window(window)],
                 &mut self.acts,
+                0,
+                &mut self.locks,
+            ),
+            Call::AddAll(first, second, third) => self.acl.add(
+                &[user(first), user(second), user(third)],
+                &[Object::Command(CommandName::Kill)],
+                &mut self.acts,
+                0,
                 &mut self.locks,
             ),
             Call::Change(name, bit, value, object) => {
                 self.change(name, &[BitChange { bit, value }], object)
             }
             Call::TakeAndGive(name, window) => self.take_and_give(name, window),
-            Call::Remove(name) => { self.acl.remove(user(name), &mut self.acts, &mut self.locks) }
+            Call::Remove(name) => {
+                self.acl
+                    .remove(user(name), &mut self.acts, 0, &mut self.locks)
+            }
             Call::Group(name, leader) => self.group(name, leader),
             Call::Mask(name, bit, value) => self.mask(MaskScope::User(user(name)), bit, value),
             Call::Preset(kind, bit, value) => self.mask(MaskScope::Preset(kind), bit, value),
@@ -156,6 +153,7 @@ impl Stage {
             changes,
             &[object],
             &mut self.acts,
+            0,
             &mut self.locks,
         )
     }
@@ -178,7 +176,7 @@ impl Stage {
             None => NewLeader::Nobody,
         };
         self.acl
-            .group(user(name), leader, &mut self.acts, &mut self.locks)
+            .group(user(name), leader, &mut self.acts, 0, &mut self.locks)
     }
 
     fn mask(&mut self, scope: MaskScope, bit: Bit, value: bool) -> Result<(), AclFault> {
@@ -187,6 +185,7 @@ impl Stage {
             owner,
             &[MaskEntry { scope, bit, value }],
             &mut self.acts,
+            0,
             &mut self.locks,
         )
     }
@@ -224,7 +223,8 @@ impl Stage {
     /// Whether the user has the bit on the object, and for w on a window also whether no lock stops him.
     pub fn answer(&self, user: UserId, bit: Bit, object: Object) -> Answer {
         if let Err(denial) = self.acl.may(user, bit, object) {
-            return Answer::NoEntry(denial.leader);
+            let leaders = denial.leaders.as_slice();
+            return Answer::NoEntry([leaders.get(0).copied(), leaders.get(1).copied()]);
         }
         match (bit, object) {
             (Bit::Write, Object::Window(window)) => match self.locks.may_type(user, window) {

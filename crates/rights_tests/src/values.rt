@@ -1,7 +1,7 @@
 //! Names, sets of bits, and what is read of the lists.
 
 use crate::stage::{Call, Name, Stage, user};
-use acl::{Bit, Bits, LockMode, UserId};
+use acl::{Act, Bit, Bits, CommandName, Edition, LockMode, Object, UserId};
 use std::test::Fail;
 
 /// Words, and whether they are names.
@@ -48,7 +48,7 @@ fn bits(rt: HostRuntime) {
 /// The users stand in the order in which they became known, the owner first.
 #[test]
 fn users(rt: HostRuntime) -> Result<(), Fail> {
-    let mut stage = Stage::new(rt.alloc())?;
+    let mut stage = Stage::new(rt.alloc(), Edition::Second)?;
     stage.play(Call::Remove(Name::Ann))?;
     stage.play(Call::Add(Name::Ann, 0))?;
     for (place, name) in [Name::Own, Name::Bob, Name::Eve, Name::Ann]
@@ -64,20 +64,51 @@ fn users(rt: HostRuntime) -> Result<(), Fail> {
 
 #[test]
 fn one_user(rt: HostRuntime) -> Result<(), Fail> {
-    let mut stage = Stage::new(rt.alloc())?;
+    let mut stage = Stage::new(rt.alloc(), Edition::Second)?;
     stage.play(Call::Group(Name::Bob, Some(Name::Ann)))?;
     let bob = user(Name::Bob).ok_or("no name")?;
     let zed = user(Name::Zed).ok_or("no name")?;
     assert_eq!(rt; Some(stage.acl.owner()), user(Name::Own));
     assert!(rt; stage.acl.knows(bob) && !stage.acl.knows(zed));
-    assert_eq!(rt; stage.acl.leader_of(bob), user(Name::Ann));
-    assert_eq!(rt; stage.acl.leader_of(zed), None);
+    assert_eq!(rt;
+        stage.acl.leaders_of(bob).as_slice().first().copied(),
+        user(Name::Ann)
+    );
+    assert!(rt; stage.acl.leaders_of(zed).as_slice().is_empty());
+    assert_eq!(rt; stage.acl.edition(), Edition::Second);
+    Ok(())
+}
+
+/// An addition makes each new name known, and then sets the rights, user by user.
+#[test]
+fn additions(rt: HostRuntime) -> Result<(), Fail> {
+    let mut stage = Stage::new(rt.alloc(), Edition::Second)?;
+    let start = stage.acts.len();
+    stage.play(Call::AddAll(Name::Zed, Name::Bob, Name::Yan))?;
+    let zed = user(Name::Zed).ok_or("no name")?;
+    let yan = user(Name::Yan).ok_or("no name")?;
+    let bob = user(Name::Bob).ok_or("no name")?;
+    let acts = &stage.acts.as_slice()[start..];
+    assert_eq!(rt; acts.len(), 11);
+    assert_eq!(rt; acts.first().copied(), Some(Act::Known { user: zed }));
+    assert_eq!(rt; acts.get(1).copied(), Some(Act::Known { user: yan }));
+    for (place, user) in [zed, bob, yan].iter().enumerate() {
+        for (i, bit) in BITS.iter().enumerate() {
+            let set = Act::Set {
+                user: *user,
+                bit: *bit,
+                object: Object::Command(CommandName::Kill),
+                value: true,
+            };
+            assert_eq!(rt; acts.get(2 + 3 * place + i).copied(), Some(set));
+        }
+    }
     Ok(())
 }
 
 #[test]
 fn one_lock(rt: HostRuntime) -> Result<(), Fail> {
-    let mut stage = Stage::new(rt.alloc())?;
+    let mut stage = Stage::new(rt.alloc(), Edition::Second)?;
     assert_eq!(rt; stage.locks.mode(2), Some(LockMode::Off));
     assert_eq!(rt; stage.locks.holder(2), None);
     stage.play(Call::Lock(Name::Bob, 2, LockMode::Auto))?;

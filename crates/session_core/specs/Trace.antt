@@ -2,6 +2,7 @@
 use Rattle.std.specs.Prelude.{ℕ, Bool, List, [], ◌∷◌, ◌++◌, if◌then◌else◌, ◌==◌, ◌&&◌, Option, Some, None, Result, Ok, is_ok, take, slice_get}
 use Rattle.acl.specs.declared.user_id.UserId.{UserId}
 use Rattle.acl.specs.declared.act.Act.{Act}
+use Rattle.acl.specs.declared.edition.Edition.TheVariants.{Second}
 use Rattle.acl.specs.declared.act.Object.TheVariants.{Window}
 use Rattle.acl.specs.declared.bits.Bit.TheVariants.{Read, Write}
 use Rattle.acl.specs.History.{followed_by, may}
@@ -169,7 +170,7 @@ acts_of (e ∷ past) = followed_by (acts_of past) e.acts
 
 -- whether a user may read a window, and type into it, by the acts of all steps before
 abbrev pub may_read : History → UserId → ℕ → Bool
-may_read h user window = may h.owner (acts_of h.entries) user Read (Window window)
+may_read h user window = may Second h.owner (acts_of h.entries) user Read (Window window)
 
 abbrev pub may_type : History → UserId → ℕ → Bool
-may_type h user window = may h.owner (acts_of h.entries) user Write (Window window)
+may_type h user window = may Second h.owner (acts_of h.entries) user Write (Window window)

@@ -1,9 +1,9 @@
 -- The locks in their slots, as slots and locks change.
-use Rattle.std.proofs.Common.{◌≡◌, ◌≢◌, ◌∙◌, ℕ, zero, suc, ◌+◌, ◌<◌, ◌≤◌, Bool, true, false, ◌==◌, nat_eq, nat_le, ap, subst, sym, refl, arith, List, [], ◌∷◌, Option, Some, None, is_some, if◌then◌else◌, true≢false, slice_get, slice_set, slice_index_or, length, map, option_and_then, eq-eqb}
-use Rattle.std.specs.Option.{option_map, option_map_or}
+use Rattle.std.proofs.Common.{◌≡◌, ◌≢◌, ◌∙◌, ℕ, zero, suc, ◌+◌, ◌<◌, ◌≤◌, Bool, true, false, ◌==◌, nat_le, ap, subst, sym, refl, arith, List, [], ◌∷◌, Option, Some, None, if◌then◌else◌, true≢false, slice_get, slice_set, slice_index_or, length, map, option_and_then, eq-eqb}
+use Rattle.std.specs.Option.{option_map}
 use borrow.Author.Tests.{eqb-true, leb-true, leb-false}
-use Rattle.acl_slots.specs.Slots.{slot_of, free_slot, is_window, without_window}
-use Rattle.acl_slots.proofs.SlotLemmas.{found, slot_of-opened, slot_of-closed, slot_of-free, slot_of-apart, free_slot-empty}
+use Rattle.acl.specs.Slots.{slot_of, free_slot, is_window, without_window}
+use Rattle.acl.proofs.OpenSlots.{found, slot_of-opened, slot_of-closed, slot_of-free, slot_of-apart, free_slot-empty}
 use Rattle.writelock.specs.declared.lock.Lock.{Lock}
 use Rattle.writelock.specs.LockTable.{lock_at}
 

@@ -5,12 +5,13 @@ use Rattle.std.specs.List.{list_any}
 use Rattle.acl.specs.Same.{same_user}
 use Rattle.acl.specs.History.{History, may, decided, latest}
 use Rattle.acl.specs.declared.user_id.UserId.{UserId}
-use Rattle.acl.specs.declared.bits.Bit.TheVariants.{Read, Write, Execute}
-use Rattle.acl.specs.declared.act.Object.TheVariants.{Window, Command}
+use Rattle.acl.specs.declared.edition.Edition.{Edition}
+use Rattle.acl.specs.declared.bits.Bit.TheVariants.{Write}
+use Rattle.acl.specs.declared.act.Object.TheVariants.{Window}
 use Rattle.acl.specs.declared.act.LockMode.{LockMode}
 use Rattle.acl.specs.declared.act.LockMode.TheVariants.{Off, Auto, On}
 use Rattle.acl.specs.declared.act.Act.{Act}
-use Rattle.acl.specs.declared.act.Act.TheVariants.{Known, Gone, Set, Grouped, Masked, Preset, Opened, Closed, Attached, Parted, Entered, Left, Mode, Default}
+use Rattle.acl.specs.declared.act.Act.TheVariants.{Gone, Set, Opened, Closed, Attached, Parted, Entered, Left, Mode, Default}
 
 abbrev pub is_off : LockMode → Bool
 is_off Off = true
@@ -73,26 +74,28 @@ ends (Closed x) h u w = x == w
 ends _ h u w = false
 
 -- an act releases the lock where it does so by itself, or where u may not write after it
-abbrev pub releases : UserId → Act → History → UserId → ℕ → Bool
-releases owner a h u w = ends a h u w || not (may owner (a ∷ h) u Write (Window w))
+abbrev pub releases : Edition → UserId → Act → History → UserId → ℕ → Bool
+releases edition owner a h u w = ends a h u w || not (may edition owner (a ∷ h) u Write (Window w))
 
 -- the user to whom an act after h gives the lock of w, which `held` holds till then
-abbrev pub given : UserId → Act → History → ℕ → Option UserId → Option UserId
-given owner (Mode by v mode) h w held = decided (v == w && not (is_off mode)) by
-given owner (Opened by v) h w held = decided (v == w && is_on (default_of h)) by
-given owner (Entered u v) h w held = decided (v == w && is_auto (mode_of h w) && is_none held && may owner h u Write (Window w)) u
-given owner _ h w held = None
+abbrev pub given : Edition → UserId → Act → History → ℕ → Option UserId → Option UserId
+given edition owner (Mode by v mode) h w held = decided (v == w && not (is_off mode)) by
+given edition owner (Opened by v) h w held = decided (v == w && is_on (default_of h)) by
+given edition owner (Entered u v) h w held =
+    decided (v == w && is_auto (mode_of h w) && is_none held && may edition owner h u Write (Window w)) u
+given edition owner _ h w held = None
 
 -- who holds the lock after an act: the user whom it gives the lock, or the holder whose lock it doesn't release
-abbrev pub kept : UserId → Act → History → ℕ → Option UserId → Option UserId
-kept owner a h w None = None
-kept owner a h w (Some u) = if releases owner a h u w then None else Some u
+abbrev pub kept : Edition → UserId → Act → History → ℕ → Option UserId → Option UserId
+kept edition owner a h w None = None
+kept edition owner a h w (Some u) = if releases edition owner a h u w then None else Some u
 
 abbrev pub or_else : Option UserId → Option UserId → Option UserId
 or_else (Some u) held = Some u
 or_else None held = held
 
 -- the holder of w: an act gave him the lock, and none since released it
-abbrev pub holder : UserId → History → ℕ → Option UserId
-holder owner [] w = None
-holder owner (a ∷ h) w = or_else (given owner a h w (holder owner h w)) (kept owner a h w (holder owner h w))
+abbrev pub holder : Edition → UserId → History → ℕ → Option UserId
+holder edition owner [] w = None
+holder edition owner (a ∷ h) w =
+    or_else (given edition owner a h w (holder edition owner h w)) (kept edition owner a h w (holder edition owner h w))

@@ -3,15 +3,15 @@ use Rattle.std.specs.Prelude.{◌≡◌, ℕ, Bool, true, false, ◌==◌, ◌&&
 use Rattle.std.specs.Option.{option_map_or}
 use Rattle.acl.specs.Same.{same_user}
 use Rattle.acl.specs.History.{History, is_open, open_count, may}
-use Rattle.acl_slots.specs.Slots.{slot_of, SlotsStandFor}
+use Rattle.acl.specs.Slots.{slot_of, SlotsStandFor}
 use Rattle.acl.specs.Table.{Table, lets}
+use Rattle.acl.specs.declared.edition.Edition.{Edition}
 use Rattle.acl.specs.declared.user_id.UserId.{UserId}
 use Rattle.acl.specs.declared.act.LockMode.{LockMode}
-use Rattle.acl.specs.declared.act.LockMode.TheVariants.{Off, Auto, On}
-use Rattle.acl.specs.declared.bits.Bit.TheVariants.{Read, Write, Execute}
-use Rattle.acl.specs.declared.act.Object.TheVariants.{Window, Command}
+use Rattle.acl.specs.declared.bits.Bit.TheVariants.{Write}
+use Rattle.acl.specs.declared.act.Object.TheVariants.{Window}
 use Rattle.acl.specs.declared.act.Act.{Act}
-use Rattle.acl.specs.declared.act.Act.TheVariants.{Known, Gone, Set, Grouped, Masked, Preset, Opened, Closed, Attached, Parted, Entered, Left, Mode, Default}
+use Rattle.acl.specs.declared.act.Act.TheVariants.{Gone, Set}
 use Rattle.writelock.specs.declared.lock.Lock.{Lock}
 use Rattle.writelock.specs.declared.locks.Locks.{Locks}
 use Rattle.writelock.specs.Holding.{is_auto, is_off, is_on, default_of, mode_of, holder}
@@ -24,21 +24,21 @@ abbrev pub lock_in : Locks → ℕ → Option Lock
 lock_in t w = lock_at t.windows.serials t.locks w
 
 -- the lock of an open window, by the definitions
-abbrev pub lock_of : UserId → History → ℕ → Option Lock
-lock_of owner h w = if is_open h w then Some (record { mode = mode_of h w; holder = holder owner h w }) else None
+abbrev pub lock_of : Edition → UserId → History → ℕ → Option Lock
+lock_of edition owner h w = if is_open h w then Some (record { mode = mode_of h w; holder = holder edition owner h w }) else None
 
 -- these locks are what the definitions give, holders may write, and no window that isn't open is held
-pub record AreLocks (default : LockMode) (locks : ℕ → Option Lock) (owner : UserId) (h : History) : Type 0 where
+pub record AreLocks (default : LockMode) (locks : ℕ → Option Lock) (edition : Edition) (owner : UserId) (h : History) : Type 0 where
   pub default_is : default ≡ default_of h
-  pub locks_are : (w : ℕ) → locks w ≡ lock_of owner h w
-  pub able : (w : ℕ) (u : UserId) → holder owner h w ≡ Some u → may owner h u Write (Window w) ≡ true
-  pub unheld : (w : ℕ) → is_open h w ≡ false → holder owner h w ≡ None
+  pub locks_are : (w : ℕ) → locks w ≡ lock_of edition owner h w
+  pub able : (w : ℕ) (u : UserId) → holder edition owner h w ≡ Some u → may edition owner h u Write (Window w) ≡ true
+  pub unheld : (w : ℕ) → is_open h w ≡ false → holder edition owner h w ≡ None
 
--- the locks are what the definitions give of the history of this owner's session
-pub record LocksStandFor (t : Locks) (owner : UserId) (h : History) : Type 0 where
+-- the locks are what the definitions give of the history of this owner's session, of this edition
+pub record LocksStandFor (t : Locks) (edition : Edition) (owner : UserId) (h : History) : Type 0 where
   pub slots : SlotsStandFor t.windows.serials (is_open h) (open_count h)
   pub all : length t.locks ≡ 40
-  pub are : AreLocks t.default (lock_in t) owner h
+  pub are : AreLocks t.default (lock_in t) edition owner h
 
 -- whether an act of a list command by itself frees what u holds on w
 abbrev pub frees : Act → UserId → ℕ → Bool

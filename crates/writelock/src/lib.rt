@@ -1,8 +1,10 @@
 //! The write locks of a session's windows.
 #![tactic(auto)]
 
+mod laws;
 mod lock;
 mod locks;
 
+pub use laws::{holders_may_write, locks_attached};
 pub use lock::{Lock, LockDenial};
 pub use locks::Locks;

@@ -1,8 +1,7 @@
 use crate::lock::{
     Lock, LockDenial, after_act, entered_by, left_by, lock_by, opened_by, without_holder,
 };
-use acl::{Act, Follower, Lists, LockMode, UserId};
-use acl_slots::Slots;
+use acl::{Act, Follower, Lists, LockMode, Slots, UserId};
 
 /// A lock that nobody holds.
 const FREE: Lock = Lock {
@@ -23,9 +22,9 @@ impl Locks {
     ghost use Rattle.std.specs.Option.{option_map, option_map_or};
     ghost use Rattle.acl.specs.Same.{same_user};
     ghost use Rattle.acl.specs.History.{History, is_known, is_open, open_count, may};
-    ghost use Rattle.acl.specs.Commands.{IsAllowed};
-    ghost use Rattle.acl.specs.Table.{StandsFor};
+    ghost use Rattle.acl.specs.Deeds.{Follows};
     ghost use Rattle.acl.specs.Lists.{table_of};
+    ghost use Rattle.acl.specs.declared.edition.Edition.{Edition};
     ghost use Rattle.acl.specs.declared.act.Act.TheVariants.{Opened, Closed, Parted, Entered, Left, Mode, Default};
     ghost use Rattle.acl.specs.declared.bits.Bit.TheVariants.{Write};
     ghost use Rattle.acl.specs.declared.act.Object.TheVariants.{Window};
@@ -34,7 +33,7 @@ impl Locks {
 
     /// No window is open, and new ones are not locked.
     pub fn new() -> Locks
-        ensures { (owner : UserId) → LocksStandFor result owner [] }
+        ensures { (edition : Edition) (owner : UserId) → LocksStandFor result edition owner [] }
     {
         Locks {
             windows: Slots::new(),
@@ -55,7 +54,8 @@ impl Locks {
 
     /// Changes the lock of an open window.
     fn put(&mut self, window: u32, lock: Lock)
-        ensures locks { (q : ℕ) → lock_in self.new q ≡ (if nat_eq window q then option_map (λ _. lock) (lock_in self.old q) else lock_in self.old q) }
+        ensures locks { (q : ℕ) → lock_in self.new q ≡ (if nat_eq window q
+            then option_map (λ _. lock) (lock_in self.old q) else lock_in self.old q) }
         ensures windows { self.new.windows ≡ self.old.windows }
         ensures default { self.new.default ≡ self.old.default }
         ensures all { length self.new.locks ≡ length self.old.locks }
@@ -67,7 +67,9 @@ impl Locks {
 
     /// Who holds the lock of a window.
     pub fn holder(&self, window: u32) -> Option<UserId>
-        ensures { (owner : UserId) (h : History) → LocksStandFor self.now owner h → result ≡ holder owner h window }
+        ensures { (edition : Edition) (owner : UserId) (h : History) →
+            LocksStandFor self.now edition owner h →
+            result ≡ holder edition owner h window }
     {
         match self.lock_of(window) {
             Some(lock) => lock.holder,
@@ -77,7 +79,9 @@ impl Locks {
 
     /// The mode of an open window.
     pub fn mode(&self, window: u32) -> Option<LockMode>
-        ensures { (owner : UserId) (h : History) → LocksStandFor self.now owner h → result ≡ (if is_open h window then Some (mode_of h window) else None) }
+        ensures { (edition : Edition) (owner : UserId) (h : History) →
+            LocksStandFor self.now edition owner h →
+            result ≡ (if is_open h window then Some (mode_of h window) else None) }
     {
         match self.lock_of(window) {
             Some(lock) => Some(lock.mode),
@@ -87,8 +91,13 @@ impl Locks {
 
     /// Whether no other user holds the lock of a window, or else who does.
     pub fn may_type(&self, user: UserId, window: u32) -> Result<(), LockDenial>
-        ensures free { (owner : UserId) (h : History) → LocksStandFor self.now owner h → is_ok result ≡ stops_nobody_but user (holder owner h window) }
-        ensures denial { IfErr result (λ d. (d.window ≡ window) × ((owner : UserId) (h : History) → LocksStandFor self.now owner h → holder owner h window ≡ Some d.holder)) }
+        ensures free { (edition : Edition) (owner : UserId) (h : History) →
+            LocksStandFor self.now edition owner h →
+            is_ok result ≡ stops_nobody_but user (holder edition owner h window) }
+        ensures denial { IfErr result (λ d. (d.window ≡ window) ×
+            ((edition : Edition) (owner : UserId) (h : History) →
+            LocksStandFor self.now edition owner h →
+            holder edition owner h window ≡ Some d.holder)) }
     {
         match self.holder(window) {
             Some(holder) => if holder == user {
@@ -102,14 +111,19 @@ impl Locks {
 
     /// `defwritelock`: sets the mode of windows that are opened later.
     pub fn set_default(&mut self, mode: LockMode)
-        ensures { (owner : UserId) (h : History) → LocksStandFor self.old owner h → LocksStandFor self.new owner (Default mode ∷ h) }
+        ensures { (edition : Edition) (owner : UserId) (h : History) →
+            LocksStandFor self.old edition owner h →
+            LocksStandFor self.new edition owner (Default mode ∷ h) }
     {
         self.default = mode;
     }
 
     /// A user opened a window, whose serial number is new. At most 39 others are open.
     pub fn opened(&mut self, by: UserId, window: u32)
-        ensures { (owner : UserId) (h : History) → LocksStandFor self.old owner h → is_open h window ≡ false → open_count h < 40 → LocksStandFor self.new owner (Opened by window ∷ h) }
+        ensures { (edition : Edition) (owner : UserId) (h : History) →
+            LocksStandFor self.old edition owner h →
+            is_open h window ≡ false → open_count h < 40 →
+            LocksStandFor self.new edition owner (Opened by window ∷ h) }
     {
         if let Some(slot) = self.windows.free_slot() {
             self.locks[slot] = opened_by(by, self.default);
@@ -119,14 +133,19 @@ impl Locks {
 
     /// A window was closed.
     pub fn closed(&mut self, window: u32)
-        ensures { (owner : UserId) (h : History) → LocksStandFor self.old owner h → LocksStandFor self.new owner (Closed window ∷ h) }
+        ensures { (edition : Edition) (owner : UserId) (h : History) →
+            LocksStandFor self.old edition owner h →
+            LocksStandFor self.new edition owner (Closed window ∷ h) }
     {
         self.windows.close(window);
     }
 
     /// A user entered an open window; `may_write` tells truly whether he may write there.
     pub fn entered(&mut self, user: UserId, window: u32, may_write: bool)
-        ensures { (owner : UserId) (h : History) → LocksStandFor self.old owner h → is_open h window ≡ true → may_write ≡ may owner h user Write (Window window) → LocksStandFor self.new owner (Entered user window ∷ h) }
+        ensures { (edition : Edition) (owner : UserId) (h : History) →
+            LocksStandFor self.old edition owner h →
+            is_open h window ≡ true → may_write ≡ may edition owner h user Write (Window window) →
+            LocksStandFor self.new edition owner (Entered user window ∷ h) }
     {
         if let Some(lock) = self.lock_of(window) {
             self.put(window, entered_by(lock, user, may_write));
@@ -135,7 +154,9 @@ impl Locks {
 
     /// A user left a window: no focused region of his shows it any more.
     pub fn left(&mut self, user: UserId, window: u32)
-        ensures { (owner : UserId) (h : History) → LocksStandFor self.old owner h → LocksStandFor self.new owner (Left user window ∷ h) }
+        ensures { (edition : Edition) (owner : UserId) (h : History) →
+            LocksStandFor self.old edition owner h →
+            LocksStandFor self.new edition owner (Left user window ∷ h) }
     {
         if let Some(lock) = self.lock_of(window) {
             self.put(window, left_by(lock, user));
@@ -144,23 +165,32 @@ impl Locks {
 
     /// A client went; `last` is the user whose last one it was, if it was one's last.
     pub fn parted(&mut self, last: Option<UserId>)
-        ensures { (owner : UserId) (h : History) (client : ℕ) → LocksStandFor self.old owner h → ((u : UserId) → loses_last h client u ≡ option_map_or (same_user u) last false) → LocksStandFor self.new owner (Parted client ∷ h) }
+        ensures { (edition : Edition) (owner : UserId) (h : History) (client : ℕ) →
+            LocksStandFor self.old edition owner h →
+            ((u : UserId) → loses_last h client u ≡ option_map_or (same_user u) last false) →
+            LocksStandFor self.new edition owner (Parted client ∷ h) }
     {
         for i in 0..self.locks.len() {
             self.locks[i] = without_holder(self.locks[i], last);
         }
     }
 
-    /// `writelock`: sets the mode of an open window. The lock is the user's, who may write there, or in mode off nobody's.
+    /// `writelock`: sets the mode of an open window. The lock is the user's, who may write there, or in
+    /// mode off nobody's.
     pub fn set_mode(&mut self, by: UserId, window: u32, mode: LockMode)
-        ensures { (owner : UserId) (h : History) → LocksStandFor self.old owner h → is_open h window ≡ true → (is_off mode ≡ false → may owner h by Write (Window window) ≡ true) → LocksStandFor self.new owner (Mode by window mode ∷ h) }
+        ensures { (edition : Edition) (owner : UserId) (h : History) →
+            LocksStandFor self.old edition owner h →
+            is_open h window ≡ true →
+            (is_off mode ≡ false → may edition owner h by Write (Window window) ≡ true) →
+            LocksStandFor self.new edition owner (Mode by window mode ∷ h) }
     {
         self.put(window, lock_by(by, mode));
     }
 
     /// Frees the locks that an act of a list command releases, with the lists after it.
     pub fn withdraw(&mut self, lists: &Lists, act: Act)
-        ensures { (owner : UserId) (h : History) → LocksStandFor self.old owner h → IsAllowed owner h act → StandsFor (table_of lists.now) owner (act ∷ h) → LocksStandFor self.new owner (act ∷ h) }
+        ensures { Follows (LocksStandFor self.old) (LocksStandFor self.new)
+            (table_of lists.now) act }
     {
         for i in 0..self.locks.len() {
             self.locks[i] = after_act(lists, act, self.windows.serial_at(i), self.locks[i]);
@@ -172,7 +202,7 @@ impl Locks {
 impl Follower for Locks {
     ghost use Rattle.writelock.specs.LockTable.{LocksStandFor};
 
-    ghost follows = { λ locks owner h. LocksStandFor locks owner h };
+    ghost follows = { λ locks edition owner h. LocksStandFor locks edition owner h };
 
     fn follow(&mut self, lists: &Lists, act: Act) {
         self.withdraw(lists, act);

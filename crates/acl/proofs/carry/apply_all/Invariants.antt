@@ -1,8 +1,9 @@
 use Rattle.std.proofs.Common.{◌≡◌, ◌≤◌, drop, count_by}
 use Rattle.indexmap.specs.IndexMap.{spare}
+use Rattle.acl.specs.declared.edition.Edition.{Edition}
 use Rattle.acl.specs.declared.user_id.UserId.{UserId}
 use Rattle.acl.specs.History.{History, followed_by}
-use Rattle.acl.specs.Commands.{AllAllowed, makes_known, sets_mask}
+use Rattle.acl.specs.Commands.{AllMayFollow, makes_known, sets_mask}
 use Rattle.acl.specs.Table.{StandsFor}
 use Rattle.acl.specs.Lists.{table_of}
 use Rattle.acl.proofs.carry.apply_all.Given as goal
@@ -10,9 +11,10 @@ use Rattle.acl.proofs.carry.apply_all.Given as goal
 -- the history so far, and what is left to follow
 abbrev pub invariant-loop-act : goal.invariant-loop-act
 invariant-loop-act g l = record {
-  stands : (owner : UserId) (h : History) → StandsFor (table_of l.fn.lists) owner h → AllAllowed owner h l.acts
-      → (past : History) × StandsFor (table_of l.lists) owner past × AllAllowed owner past (drop l.act-index l.acts) × (followed_by past (drop l.act-index l.acts) ≡ followed_by h l.acts)
-      × (g.F.Follower.follows l.fn.follower owner h → g.F.Follower.follows l.follower owner past);
+  stands : (edition : Edition) (owner : UserId) (h : History) → StandsFor (table_of l.fn.lists) edition owner h → AllMayFollow edition owner h l.acts
+      → (past : History) × StandsFor (table_of l.lists) edition owner past × AllMayFollow edition owner past (drop l.act-index l.acts)
+      × (followed_by past (drop l.act-index l.acts) ≡ followed_by h l.acts)
+      × (g.F.Follower.follows l.fn.follower edition owner h → g.F.Follower.follows l.follower edition owner past);
   rows : count_by makes_known (drop l.act-index l.acts) ≤ spare l.lists.rows;
   masks : count_by sets_mask (drop l.act-index l.acts) ≤ spare l.lists.masks;
 }

@@ -1,4 +1,4 @@
-use Rattle.std.proofs.Common.{◌≡◌, ◌∙◌, ap, sym, ◌||◌}
+use Rattle.std.proofs.Common.{◌∙◌, ap, sym, ◌||◌}
 use Rattle.std.specs.List.{list_any}
 use Rattle.acl.specs.Commands.{names_user}
 use Rattle.acl.specs.Table.{users_in}

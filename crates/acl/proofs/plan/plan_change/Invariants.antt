@@ -1,5 +1,5 @@
-use Rattle.std.proofs.Common.{◌≡◌, ◌++◌, take, drop, length}
-use Rattle.acl.specs.Commands.{Keeps, change_acts, change_fault, with_names}
+use Rattle.std.proofs.Common.{◌≡◌, ◌++◌, take, drop}
+use Rattle.acl.specs.Commands.{Keeps, change_acts, with_names}
 use Rattle.acl.specs.Table.{users_in}
 use Rattle.acl.specs.Lists.{table_of}
 use Rattle.acl.proofs.plan.plan_change.Given as goal
@@ -9,8 +9,5 @@ abbrev pub invariant-loop-i : goal.invariant-loop-i
 invariant-loop-i l = record {
   left : l.acts.items ++ change_acts (with_names (users_in (table_of l.lists)) (take l.i l.names)) (drop l.i l.names) l.changes l.objects
       ≡ l.fn.acts.items ++ change_acts (users_in (table_of l.lists)) l.names l.changes l.objects;
-  fault : change_fault (table_of l.lists).owner (with_names (users_in (table_of l.lists)) (take l.i l.names)) (drop l.i l.names)
-      ≡ change_fault (table_of l.lists).owner (users_in (table_of l.lists)) l.names;
-  count : l.count ≡ length (with_names (users_in (table_of l.lists)) (take l.i l.names));
   kept : Keeps l.fn.acts.items l.acts.items;
 }

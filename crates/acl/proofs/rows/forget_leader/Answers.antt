@@ -1,4 +1,4 @@
-use Rattle.std.proofs.Common.{◌≡◌, ◌∙◌, ap, sym, arith, length}
+use Rattle.std.proofs.Common.{◌∙◌, ap, arith, length}
 use Rattle.acl.specs.declared.rows.Row.{Row}
 use Rattle.acl.specs.Table.{without_leader}
 use Rattle.acl_slots.proofs.InPlace.{mapped_below-all, length-mapped_below}
@@ -10,7 +10,7 @@ pair_mut-row-requires c = omega (arith, c.len-i-end.ensures.len, ap length c.loo
 
 pub loop-i-preserved : goal.loop-i-preserved
 loop-i-preserved c = record {
-  done = set_value_at-more (λ e. without_leader c.args.gone e.1) c.loop-i.i c.args.rows.now.entries c.loop-i.rows.entries _ _ _ c.loop-i.invariant.done c.pair_mut-row.ensures.value (ap (λ leader. let row : Row = record c.pair_mut-row.result.1.now { leader = leader } in row) c.remaining_leader-row.ensures);
+  done = set_value_at-more (λ e. without_leader c.args.gone e.1) c.loop-i.i c.args.rows.now.entries c.loop-i.rows.entries _ _ _ c.loop-i.invariant.done c.pair_mut-row.ensures.value (ap (λ leaders. let row : Row = record c.pair_mut-row.result.1.now { leaders = leaders } in row) c.without-row.ensures);
   room = c.loop-i.invariant.room;
 }
 

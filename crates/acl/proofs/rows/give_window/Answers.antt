@@ -1,8 +1,8 @@
-use Rattle.std.proofs.Common.{◌≡◌, ◌∙◌, ◌<◌, ℕ, slice_get, Some, ap, sym, subst, arith, length, below_more}
+use Rattle.std.proofs.Common.{◌≡◌, ◌∙◌, slice_get, Some, ap, sym, subst, arith, length, below_more}
 use Rattle.acl.specs.declared.user_id.UserId.{UserId}
 use Rattle.acl.specs.declared.rows.Row.{Row}
 use Rattle.acl.specs.Same.{same_user}
-use Rattle.acl.specs.Table.{opening_bits, with_window, without_leader}
+use Rattle.acl.specs.Table.{opening_bits, with_window}
 use Rattle.acl_slots.proofs.InPlace.{mapped_below-all, length-mapped_below}
 use Rattle.acl.proofs.InPlace.{set_value_at-more, revalued, slice_get-mapped_below, slice_get-within, looked_up}
 use Rattle.acl.proofs.rows.give_window.Goals as goal

@@ -1,19 +1,19 @@
-use Rattle.std.proofs.Common.{◌≡◌, ◌∙◌, sym, subst, ap, rules, ◌++◌}
+use Rattle.std.proofs.Common.{◌∙◌, sym, subst, ap, rules, ◌++◌}
 use Rattle.std.proofs.lemmas.Result.{IfOk-at_ok}
-use Rattle.acl.specs.Table.{StandsFor, IsDone}
+use Rattle.acl.specs.Table.{StandsFor}
 use Rattle.acl.specs.History.{users_of}
 use Rattle.acl.specs.Commands.{change_acts}
-use Rattle.acl.proofs.AllowedLemmas.{allowed-change_acts, known-among, on_ok_all, is_done}
+use Rattle.acl.proofs.FollowingLemmas.{allowed-change_acts, known-among, on_ok_all, is_done}
 use Rattle.acl.proofs.acl.Acl.change.Goals as goal
 
 pub returns-clause-done : goal.returns-clause-done
 returns-clause-done g c =
     let e = c.conclude.ensures in
     on_ok_all c.conclude.result e.acts e.stands e.follower e.ok
-    (λ same stands follower planned owner h s all.
-    let t = subst (λ t. StandsFor t owner h) (sym c.self.view_is) s in
-    let acts = ap (λ us. change_acts us c.args.names.now c.args.changes.now c.args.objects.now) t.users in
+    (λ same stands follower planned edition owner h s all.
+    let t = subst (λ t. StandsFor t edition owner h) (sym c.self.view_is) s in
     let given = IfOk-at_ok _ planned c.plan_change-planned.ensures.ok in
+    let acts = ap (λ us. change_acts us c.args.names.now c.args.changes.now c.args.objects.now) t.users in
     is_done _ _ c.len-start.result c.args.acts.now.items _ _ _ (g.F.Follower.follows c.args.follower.now) (g.F.Follower.follows c.conclude.new.follower)
-    (search rules) (given ∙ ap (λ xs. c.args.acts.now.items ++ xs) acts) same stands follower owner h t
-    (allowed-change_acts owner h (users_of owner h) c.args.names.now c.args.changes.now c.args.objects.now (known-among _ owner h t) all))
+    (search rules) (given ∙ ap (λ xs. c.args.acts.now.items ++ xs) acts) same stands follower edition owner h t
+    (allowed-change_acts edition owner h (users_of owner h) c.args.names.now c.args.changes.now c.args.objects.now (known-among _ edition owner h t) all))

@@ -1,6 +1,5 @@
-use Rattle.std.proofs.Common.{◌∙◌, ap, subst, sym, ◌∷◌}
+use Rattle.std.proofs.Common.{subst, sym, ◌∷◌}
 use Rattle.acl.specs.declared.act.Act.TheVariants.{Closed}
-use Rattle.acl_slots.specs.Slots.{slot_of}
 use Rattle.acl.specs.Table.{StandsFor, Table}
 use Rattle.acl.specs.History.{is_open, open_count}
 use Rattle.acl.specs.Lists.{table_of}
@@ -12,6 +11,6 @@ pub returns : goal.returns
 returns c =
     let t = table_of c.args.self.now in
     let w = c.args.window in
-    λ owner h s.
-    subst (λ ws. StandsFor (let u : Table = record t { windows = ws } in u) owner (Closed w ∷ h)) (sym c.close.ensures)
-    (StandsFor-Closed t owner h s _ w (slot_of-closed t.windows w) (slots-closed t.windows (is_open h) (open_count h) s.slots w))
+    λ edition owner h s.
+    subst (λ ws. StandsFor (let u : Table = record t { windows = ws } in u) edition owner (Closed w ∷ h)) (sym c.close.ensures)
+    (StandsFor-Closed t edition owner h s _ w (slot_of-closed t.windows w) (slots-closed t.windows (is_open h) (open_count h) s.slots w))

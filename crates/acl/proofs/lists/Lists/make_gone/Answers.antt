@@ -1,4 +1,4 @@
-use Rattle.std.proofs.Common.{◌≡◌, ◌∙◌, ap, sym, subst, Option, None, Bool, true, false, if◌then◌else◌, refl}
+use Rattle.std.proofs.Common.{◌≡◌, ◌∙◌, ap, Option, None, Bool, true, false, if◌then◌else◌, refl}
 use Rattle.std.specs.Option.{option_map}
 use Rattle.std.specs.Map.{lookup, keys_of}
 use Rattle.indexmap.proofs.CallerLemmas.{keys-shift_remove_entry}
@@ -18,7 +18,7 @@ pub returns-clause-stands : goal.returns-clause-stands
 returns-clause-stands c =
     let t = table_of c.args.self.now in
     let u = c.args.user in
-    λ owner h s other. StandsFor-Gone t owner h s u c.forget_leader.new.rows.entries c.forget_masks.new.masks.entries
+    λ edition owner h s other. StandsFor-Gone t edition owner h s u c.forget_leader.new.rows.entries c.forget_masks.new.masks.entries
     (ap keys_of c.forget_leader.ensures.forgotten ∙ keys_of-revalued (λ _ row. without_leader u row) c.shift_remove.new.self.entries
     ∙ ap keys_of c.shift_remove.ensures.entries ∙ keys-shift_remove_entry (same_user u) t.rows ∙ remove_key-user u (users_in t))
     (λ q. ap (lookup (same_user q)) c.forget_leader.ensures.forgotten ∙ lookup-revalued (λ _ row. without_leader u row) q c.shift_remove.new.self.entries

@@ -1,4 +1,4 @@
-use Rattle.std.proofs.Common.{◌≡◌, ◌∙◌, ap, sym, subst, refl, Option, None, Some, is_some, false, arith, if◌then◌else◌, true≢false}
+use Rattle.std.proofs.Common.{◌≡◌, ◌∙◌, ap, refl, Option, None, Some, is_some, false, if◌then◌else◌, true≢false}
 use Rattle.std.specs.Map.{lookup, keys_of}
 use Rattle.indexmap.proofs.CallerLemmas.{insert_entry-new}
 use Rattle.acl.specs.declared.rows.Row.{Row}
@@ -17,9 +17,9 @@ pub returns-clause-stands : goal.returns-clause-stands
 returns-clause-stands c =
     let t = table_of c.args.self.now in
     let u = c.args.user in
-    λ owner h s new.
+    λ edition owner h s new.
     let absent : row_of t u ≡ None = none (row_of t u) (s.known u ∙ new) in
-    StandsFor-Known t owner h s u c.insert.new.self.entries c.forget_masks.new.masks.entries (new_row t.command_preset t.window_preset)
+    StandsFor-Known t edition owner h s u c.insert.new.self.entries c.forget_masks.new.masks.entries (new_row t.command_preset t.window_preset)
     (let ins = rw c.unwrap.ensures at c.insert.ensures.entries in
     ap keys_of (ins ∙ insert_entry-new same_user c.args.self.now.rows u _ absent) ∙ keys_of-push t.rows u _)
     (λ q. let up = rw c.unwrap.ensures at c.insert.ensures.updates in up.0 q ∙ ap (λ r. if same_user u q then Some r else row_of t q) c.new-row.ensures)

@@ -1,10 +1,9 @@
 use Rattle.std.proofs.Common.{◌≡◌, ◌∙◌, ◌∷◌, ap, sym, subst, refl, arith, Option, None, Some, is_some, false, true≢false, ℕ, ◌<◌, length}
 use Rattle.std.specs.Map.{lookup, keys_of}
-use Rattle.acl.specs.declared.rows.Row.{Row}
 use Rattle.acl.specs.declared.act.Act.TheVariants.{Opened}
 use Rattle.acl.specs.Same.{same_user}
-use Rattle.acl_slots.specs.Slots.{slot_of, SlotsStandFor}
-use Rattle.acl.specs.Table.{with_window, opening_bits, row_of, StandsFor, Table}
+use Rattle.acl_slots.specs.Slots.{slot_of}
+use Rattle.acl.specs.Table.{with_window, opening_bits, StandsFor, Table}
 use Rattle.acl.specs.History.{is_open, open_count}
 use Rattle.acl.specs.Lists.{table_of}
 use Rattle.acl.proofs.RowLemmas.{lookup-revalued, keys_of-revalued}
@@ -23,9 +22,9 @@ returns-in-Some c =
     let free = sym c.in-Some.ensures.slot in
     let w = c.args.window in
     let below : slot < length t.windows = (found _ slot t.windows free).0 in
-    λ owner h s known fresh few.
-    subst (λ ws. StandsFor (let u : Table = record t { rows = c.give_window.new.rows.entries; windows = ws } in u) owner (Opened c.args.by w ∷ h)) (sym c.put.ensures)
-    (StandsFor-Opened t owner h s _ c.give_window.new.rows.entries c.args.by w slot
+    λ edition owner h s known fresh few.
+    subst (λ ws. StandsFor (let u : Table = record t { rows = c.give_window.new.rows.entries; windows = ws } in u) edition owner (Opened c.args.by w ∷ h)) (sym c.put.ensures)
+    (StandsFor-Opened t edition owner h s _ c.give_window.new.rows.entries c.args.by w slot
     (λ v. slot_of-opened t.windows w v slot below (free_slot-empty t.windows slot free) (none (slot_of t.windows w) (s.slots.shown w ∙ fresh)))
     (slots-opened t.windows (is_open h) (open_count h) s.slots w slot free fresh)
     (ap keys_of c.give_window.ensures.given ∙ keys_of-revalued (λ k row. with_window slot (opening_bits t.masks c.args.by k) row) t.rows)
@@ -37,4 +36,4 @@ returns-in-Some c =
 pub returns-in_default : goal.returns-in_default
 returns-in_default c =
     let t = table_of c.args.self.now in
-    λ owner h s known fresh few. slots-free t.windows (is_open h) (open_count h) s.slots few (sym c.in_default.ensures.slot)
+    λ edition owner h s known fresh few. slots-free t.windows (is_open h) (open_count h) s.slots few (sym c.in_default.ensures.slot)

@@ -1,8 +1,8 @@
-use Rattle.std.proofs.Common.{◌≡◌, ◌∷◌, ap, sym, subst}
+use Rattle.std.proofs.Common.{◌∷◌, sym, subst}
 use Rattle.acl.specs.declared.act.Act.TheVariants.{Preset}
 use Rattle.acl.specs.declared.act.PresetKind.TheVariants as preset
 use Rattle.acl.specs.declared.bits.Bits.{Bits}
-use Rattle.acl.specs.Table.{Table, StandsFor}
+use Rattle.acl.specs.Table.{StandsFor}
 use Rattle.acl.specs.Lists.{table_of}
 use Rattle.acl.proofs.StandsForLemmas.{StandsFor-Preset-windows, StandsFor-Preset-commands}
 use Rattle.acl.proofs.lists.Lists.set_preset.Goals as goal
@@ -10,15 +10,15 @@ use Rattle.acl.proofs.lists.Lists.set_preset.Goals as goal
 pub returns-in-Windows-clause-stands : goal.returns-in-Windows-clause-stands
 returns-in-Windows-clause-stands c =
     let t = table_of c.args.self.now in
-    λ owner h s.
-    subst (λ k. StandsFor (record t { window_preset = c.with_bit-self.result }) owner (Preset k c.args.bit c.args.value ∷ h)) (sym c.in-Windows.is)
-    (subst (λ (x : Bits). StandsFor (record t { window_preset = x }) owner (Preset preset.Windows c.args.bit c.args.value ∷ h)) (sym c.with_bit-self.ensures)
-    (StandsFor-Preset-windows t owner h s c.args.bit c.args.value))
+    λ edition owner h s follows.
+    subst (λ k. StandsFor (record t { window_preset = c.with_bit-self.result }) edition owner (Preset k c.args.bit c.args.value ∷ h)) (sym c.in-Windows.is)
+    (subst (λ (x : Bits). StandsFor (record t { window_preset = x }) edition owner (Preset preset.Windows c.args.bit c.args.value ∷ h)) (sym c.with_bit-self.ensures)
+    (StandsFor-Preset-windows t edition owner h s c.args.bit c.args.value))
 
 pub returns-in-Commands-clause-stands : goal.returns-in-Commands-clause-stands
 returns-in-Commands-clause-stands c =
     let t = table_of c.args.self.now in
-    λ owner h s.
-    subst (λ k. StandsFor (record t { command_preset = c.with_bit-self-in-Commands.result }) owner (Preset k c.args.bit c.args.value ∷ h)) (sym c.in-Commands.is)
-    (subst (λ (x : Bits). StandsFor (record t { command_preset = x }) owner (Preset preset.Commands c.args.bit c.args.value ∷ h)) (sym c.with_bit-self-in-Commands.ensures)
-    (StandsFor-Preset-commands t owner h s c.args.bit c.args.value))
+    λ edition owner h s follows.
+    subst (λ k. StandsFor (record t { command_preset = c.with_bit-self-in-Commands.result }) edition owner (Preset k c.args.bit c.args.value ∷ h)) (sym c.in-Commands.is)
+    (subst (λ (x : Bits). StandsFor (record t { command_preset = x }) edition owner (Preset preset.Commands c.args.bit c.args.value ∷ h)) (sym c.with_bit-self-in-Commands.ensures)
+    (StandsFor-Preset-commands t edition owner h s c.args.bit c.args.value))

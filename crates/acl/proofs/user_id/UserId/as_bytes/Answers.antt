@@ -1,4 +1,4 @@
-use Rattle.std.proofs.Common.{◌≡◌, ◌∙◌, ap, arith, take}
+use Rattle.std.proofs.Common.{◌∙◌, ap, arith, take}
 use Rattle.acl.proofs.WordLemmas.{before_first_zero}
 use Rattle.acl.proofs.user_id.UserId.as_bytes.Goals as goal
 

@@ -1,4 +1,4 @@
-use Rattle.std.proofs.Common.{◌≡◌, ◌∙◌, ◌-◌, ap, sym, refl, arith, Some, None, true, Bool, Option, if◌then◌else◌, replicate, ◌++◌, length}
+use Rattle.std.proofs.Common.{◌≡◌, ◌∙◌, ◌-◌, ap, sym, refl, arith, Some, None, true, Option, if◌then◌else◌, replicate, ◌++◌, length}
 use Rattle.acl.specs.declared.user_id.UserId.{UserId}
 use Rattle.acl.specs.Names.{is_name, before_zero}
 use Rattle.acl.proofs.WordLemmas.{put-more, name_of-named, few_bytes, filled_in}

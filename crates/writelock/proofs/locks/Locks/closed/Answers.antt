@@ -1,8 +1,8 @@
-use Rattle.std.proofs.Common.{◌≡◌, ◌∙◌, ap, sym, subst, ◌∷◌}
+use Rattle.std.proofs.Common.{◌∙◌, ap, sym, subst, ◌∷◌}
 use Rattle.acl.specs.declared.act.Act.TheVariants.{Closed}
 use Rattle.acl.specs.History.{is_open, open_count}
-use Rattle.acl_slots.specs.Slots.{SlotsStandFor}
-use Rattle.acl_slots.proofs.SlotLemmas.{slots-closed}
+use Rattle.acl.specs.Slots.{SlotsStandFor}
+use Rattle.acl.proofs.OpenSlots.{slots-closed}
 use Rattle.writelock.specs.LockTable.{lock_at}
 use Rattle.writelock.proofs.LockLemmas.{AreLocks-Closed}
 use Rattle.writelock.proofs.SlotViews.{lock_at-closed}
@@ -12,8 +12,8 @@ pub returns : goal.returns
 returns c =
     let w = c.args.window in
     let old = c.args.self.now in
-    λ owner h s. record {
+    λ edition owner h s. record {
       slots = subst (λ ws. SlotsStandFor ws (is_open (Closed w ∷ h)) (open_count (Closed w ∷ h))) (sym c.close.ensures) (slots-closed old.windows.serials (is_open h) (open_count h) s.slots w);
       all = s.all;
-      are = AreLocks-Closed _ _ _ owner h s.are w (λ q. ap (λ ws. lock_at ws old.locks q) c.close.ensures ∙ lock_at-closed old.windows.serials old.locks w q);
+      are = AreLocks-Closed _ _ _ edition owner h s.are w (λ q. ap (λ ws. lock_at ws old.locks q) c.close.ensures ∙ lock_at-closed old.windows.serials old.locks w q);
     }

@@ -1,12 +1,11 @@
-use Rattle.std.proofs.Common.{◌≡◌, ◌∙◌, ◌∷◌, ℕ, ap, sym, subst, Option, Some, None, Bool, true, false, if◌then◌else◌, nat_eq}
+use Rattle.std.proofs.Common.{◌∙◌, ◌∷◌, ap, sym, subst, if◌then◌else◌, nat_eq}
 use Rattle.std.specs.Option.{option_map}
-use borrow.Author.Tests.{eqb-true}
 use Rattle.acl.specs.declared.act.Act.TheVariants.{Left}
-use Rattle.acl_slots.specs.declared.slots.Slots.{Slots}
+use Rattle.acl.specs.Slots.{Slots}
 use Rattle.acl.specs.History.{is_open, open_count}
-use Rattle.acl_slots.specs.Slots.{SlotsStandFor}
+use Rattle.acl.specs.Slots.{SlotsStandFor}
 use Rattle.writelock.specs.declared.lock.Lock.{Lock}
-use Rattle.writelock.specs.LockTable.{AreLocks, lock_in, left_by, entered_by}
+use Rattle.writelock.specs.LockTable.{AreLocks, lock_in, left_by}
 use Rattle.writelock.proofs.LockLemmas.{AreLocks-Left}
 use Rattle.writelock.proofs.SlotViews.{changed_at, unchanged_at}
 use Rattle.writelock.proofs.locks.Locks.left.Goals as goal
@@ -15,12 +14,12 @@ pub returns-in-Some : goal.returns-in-Some
 returns-in-Some c =
     let w = c.args.window in
     let old = c.args.self.now in
-    λ owner h s.
+    λ edition owner h s.
     record {
       slots = subst (λ (ws : Slots). SlotsStandFor ws.serials (is_open h) (open_count h)) (sym c.put.ensures.windows) s.slots;
       all = c.put.ensures.all ∙ s.all;
-      are = subst (λ d. AreLocks d (lock_in c.put.new.self) owner (Left c.args.user w ∷ h)) (sym c.put.ensures.default)
-          (AreLocks-Left old.default (lock_in old) (lock_in c.put.new.self) owner h s.are c.args.user w
+      are = subst (λ d. AreLocks d (lock_in c.put.new.self) edition owner (Left c.args.user w ∷ h)) (sym c.put.ensures.default)
+          (AreLocks-Left old.default (lock_in old) (lock_in c.put.new.self) edition owner h s.are c.args.user w
           (λ q. c.put.ensures.locks q ∙ ap (λ l. if nat_eq w q then option_map {T = Lock} (λ _. l) (lock_in old q) else lock_in old q) c.left_by.ensures
           ∙ changed_at (left_by c.args.user) (lock_in old) w c.in-Some.lock (sym c.in-Some.ensures) q));
     }
@@ -29,8 +28,8 @@ pub returns-in_default : goal.returns-in_default
 returns-in_default c =
     let w = c.args.window in
     let old = c.args.self.now in
-    λ owner h s. record {
+    λ edition owner h s. record {
       slots = s.slots;
       all = s.all;
-      are = AreLocks-Left old.default (lock_in old) (lock_in old) owner h s.are c.args.user w (unchanged_at (left_by c.args.user) (lock_in old) w (sym c.in_default.ensures));
+      are = AreLocks-Left old.default (lock_in old) (lock_in old) edition owner h s.are c.args.user w (unchanged_at (left_by c.args.user) (lock_in old) w (sym c.in_default.ensures));
     }

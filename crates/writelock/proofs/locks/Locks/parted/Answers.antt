@@ -1,8 +1,8 @@
-use Rattle.std.proofs.Common.{◌≡◌, ◌∙◌, ◌∷◌, ℕ, ap, sym, subst, arith, None}
+use Rattle.std.proofs.Common.{◌∙◌, ◌∷◌, ap, sym, subst, arith}
 use Rattle.acl.specs.declared.act.Act.TheVariants.{Parted}
-use Rattle.acl_slots.specs.declared.slots.Slots.{Slots}
+use Rattle.acl.specs.Slots.{Slots}
 use Rattle.acl.specs.History.{is_open, open_count}
-use Rattle.acl_slots.specs.Slots.{SlotsStandFor}
+use Rattle.acl.specs.Slots.{SlotsStandFor}
 use Rattle.writelock.specs.LockTable.{AreLocks, lock_in, lock_at, without_holder}
 use Rattle.writelock.proofs.LockLemmas.{AreLocks-Parted}
 use Rattle.writelock.proofs.SlotViews.{changed_below-more, changed_below-all, lock_at-changed}
@@ -22,11 +22,11 @@ returns c =
     let new = c.loop-i.self in
     let last = c.args.last in
     let inv = c.loop-i.invariant in
-    λ owner h client s told. record {
+    λ edition owner h client s told. record {
       slots = subst (λ (ws : Slots). SlotsStandFor ws.serials (is_open h) (open_count h)) (sym inv.windows) s.slots;
       all = inv.done.same_length ∙ s.all;
-      are = subst (λ d. AreLocks d (lock_in new) owner (Parted client ∷ h)) (sym inv.default)
-          (AreLocks-Parted old.default (lock_in old) (lock_in new) owner h s.are last client told
+      are = subst (λ d. AreLocks d (lock_in new) edition owner (Parted client ∷ h)) (sym inv.default)
+          (AreLocks-Parted old.default (lock_in old) (lock_in new) edition owner h s.are last client told
           (λ q. ap (λ (ws : Slots). lock_at ws.serials new.locks q) inv.windows
           ∙ lock_at-changed (λ _. without_holder last) old.windows.serials old.locks new.locks
           (changed_below-all (λ _. without_holder last) old.windows.serials c.loop-i.i old.locks new.locks inv.done (omega arith)) q));

@@ -1,4 +1,4 @@
-use Rattle.std.proofs.Common.{◌≡◌, sym, arith}
+use Rattle.std.proofs.Common.{sym, arith}
 use Rattle.writelock.proofs.SlotViews.{lock_at-put}
 use Rattle.writelock.proofs.locks.Locks.put.Goals as goal
 

@@ -1,25 +1,23 @@
-use Rattle.std.proofs.Common.{◌≡◌, ◌∙◌, ◌∷◌, ℕ, ap, sym, subst, Option, Some, None, Bool, true, false, if◌then◌else◌, nat_eq}
+use Rattle.std.proofs.Common.{◌∙◌, ◌∷◌, ap, sym, subst, if◌then◌else◌, nat_eq}
 use Rattle.std.specs.Option.{option_map}
-use borrow.Author.Tests.{eqb-true}
 use Rattle.acl.specs.declared.act.Act.TheVariants.{Mode}
-use Rattle.acl_slots.specs.declared.slots.Slots.{Slots}
+use Rattle.acl.specs.Slots.{Slots}
 use Rattle.acl.specs.History.{is_open, open_count}
-use Rattle.acl_slots.specs.Slots.{SlotsStandFor}
+use Rattle.acl.specs.Slots.{SlotsStandFor}
 use Rattle.writelock.specs.declared.lock.Lock.{Lock}
-use Rattle.writelock.specs.LockTable.{AreLocks, lock_in, left_by, entered_by}
+use Rattle.writelock.specs.LockTable.{AreLocks, lock_in}
 use Rattle.writelock.proofs.LockLemmas.{AreLocks-Mode}
-use Rattle.writelock.proofs.SlotViews.{changed_at, unchanged_at}
 use Rattle.writelock.proofs.locks.Locks.set_mode.Goals as goal
 
 pub returns : goal.returns
 returns c =
     let w = c.args.window in
     let old = c.args.self.now in
-    λ owner h s open_now right.
+    λ edition owner h s open_now right.
     record {
       slots = subst (λ (ws : Slots). SlotsStandFor ws.serials (is_open h) (open_count h)) (sym c.put.ensures.windows) s.slots;
       all = c.put.ensures.all ∙ s.all;
-      are = subst (λ d. AreLocks d (lock_in c.put.new.self) owner (Mode c.args.by w c.args.mode ∷ h)) (sym c.put.ensures.default)
-          (AreLocks-Mode old.default (lock_in old) (lock_in c.put.new.self) owner h s.are c.args.by w c.args.mode open_now
+      are = subst (λ d. AreLocks d (lock_in c.put.new.self) edition owner (Mode c.args.by w c.args.mode ∷ h)) (sym c.put.ensures.default)
+          (AreLocks-Mode old.default (lock_in old) (lock_in c.put.new.self) edition owner h s.are c.args.by w c.args.mode open_now
           (λ q. c.put.ensures.locks q ∙ ap (λ l. if nat_eq w q then option_map {T = Lock} (λ _. l) (lock_in old q) else lock_in old q) c.lock_by.ensures) right);
     }

@@ -1,9 +1,8 @@
-use Rattle.std.proofs.Common.{◌≡◌, ◌∙◌, ◌∷◌, ℕ, ap, sym, subst, arith, None, Some, slice_index_or, Option}
-use Rattle.std.specs.Option.{option_map}
-use Rattle.acl_slots.specs.declared.slots.Slots.{Slots}
+use Rattle.std.proofs.Common.{◌∙◌, ◌∷◌, ap, sym, subst, arith, None, slice_index_or}
+use Rattle.acl.specs.Slots.{Slots}
 use Rattle.acl.specs.Lists.{table_of}
 use Rattle.acl.specs.History.{is_open, open_count}
-use Rattle.acl_slots.specs.Slots.{SlotsStandFor}
+use Rattle.acl.specs.Slots.{SlotsStandFor}
 use Rattle.writelock.specs.LockTable.{AreLocks, lock_in, lock_at, after_act}
 use Rattle.writelock.proofs.LockLemmas.{AreLocks-rights, slots-rights}
 use Rattle.writelock.proofs.SlotViews.{changed_below-next, changed_below-all, lock_at-changed}
@@ -26,11 +25,11 @@ returns c =
     let table = table_of c.args.lists.now in
     let act = c.args.act in
     let inv = c.loop-i.invariant in
-    λ owner h s allowed sa. record {
-      slots = subst (λ (ws : Slots). SlotsStandFor ws.serials (is_open (act ∷ h)) (open_count (act ∷ h))) (sym inv.windows) (slots-rights owner act h old.windows.serials allowed s.slots);
+    λ edition owner h s allowed sa. record {
+      slots = subst (λ (ws : Slots). SlotsStandFor ws.serials (is_open (act ∷ h)) (open_count (act ∷ h))) (sym inv.windows) (slots-rights edition owner act h old.windows.serials allowed s.slots);
       all = inv.done.same_length ∙ s.all;
-      are = subst (λ d. AreLocks d (lock_in new) owner (act ∷ h)) (sym inv.default)
-          (AreLocks-rights table owner h act allowed sa old.default (lock_in old) (lock_in new) s.are
+      are = subst (λ d. AreLocks d (lock_in new) edition owner (act ∷ h)) (sym inv.default)
+          (AreLocks-rights table edition owner h act allowed sa old.default (lock_in old) (lock_in new) s.are
           (λ q. ap (λ (ws : Slots). lock_at ws.serials new.locks q) inv.windows
           ∙ lock_at-changed (after_act table act) old.windows.serials old.locks new.locks
           (changed_below-all (after_act table act) old.windows.serials c.loop-i.i old.locks new.locks inv.done (omega arith)) q));

@@ -1,0 +1,7 @@
+use Rattle.std.proofs.Common.{◌≡◌, ◌≤◌, take, length}
+use Rattle.acl.specs.Table.{remaining_leaders}
+use Rattle.acl.proofs.leaders.Leaders.without.Given as goal
+
+-- those so far who aren't gone
+abbrev pub invariant-loop-leader : goal.invariant-loop-leader
+invariant-loop-leader l = (l.left ≡ remaining_leaders l.gone (take l.leader-index l.fn.self)) × (length l.left ≤ l.leader-index)

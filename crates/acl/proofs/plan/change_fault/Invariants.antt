@@ -1,0 +1,13 @@
+use Rattle.std.proofs.Common.{◌≡◌, take, drop, length}
+use Rattle.acl.specs.Commands.{change_fault, with_names}
+use Rattle.acl.specs.Table.{users_in}
+use Rattle.acl.specs.Lists.{table_of}
+use Rattle.acl.proofs.plan.change_fault.Given as goal
+
+-- the fault is one of the names that are left
+abbrev pub invariant-loop-i : goal.invariant-loop-i
+invariant-loop-i l = record {
+  fault : change_fault (table_of l.lists).owner (with_names (users_in (table_of l.lists)) (take l.i l.names)) (drop l.i l.names)
+      ≡ change_fault (table_of l.lists).owner (users_in (table_of l.lists)) l.names;
+  count : l.count ≡ length (with_names (users_in (table_of l.lists)) (take l.i l.names));
+}

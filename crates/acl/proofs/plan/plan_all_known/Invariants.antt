@@ -1,0 +1,13 @@
+use Rattle.std.proofs.Common.{◌≡◌, ◌++◌, take, drop}
+use Rattle.acl.specs.Commands.{Keeps, known_acts, with_names}
+use Rattle.acl.specs.Table.{users_in}
+use Rattle.acl.specs.Lists.{table_of}
+use Rattle.acl.proofs.plan.plan_all_known.Given as goal
+
+-- what is done, and what is left
+abbrev pub invariant-loop-i : goal.invariant-loop-i
+invariant-loop-i l = record {
+  left : l.acts.items ++ known_acts (with_names (users_in (table_of l.lists)) (take l.i l.names)) (drop l.i l.names)
+      ≡ l.fn.acts.items ++ known_acts (users_in (table_of l.lists)) l.names;
+  kept : Keeps l.fn.acts.items l.acts.items;
+}

@@ -1,0 +1,40 @@
+//! Laws of the definitions, for the crates above. Each function here does nothing; its contract says
+//! what holds.
+
+ghost use Rattle.std.specs.Prelude.{◌≡◌, ◌∷◌, ◌++◌, List, true};
+ghost use Rattle.std.specs.List.{AllByRecursion};
+ghost use Rattle.acl.specs.Same.{same_user};
+ghost use Rattle.acl.specs.History.{History, followed_by, is_known, users_of, among};
+ghost use Rattle.acl.specs.Commands.{IsAside};
+ghost use Rattle.acl.specs.Table.{Table, StandsFor};
+ghost use Rattle.acl.specs.declared.act.Act.{Act};
+ghost use Rattle.acl.specs.declared.edition.Edition.{Edition};
+ghost use Rattle.acl.specs.declared.user_id.UserId.{UserId};
+
+/// Acts of clients and locks leave all rights as they are.
+pub fn acts_aside()
+    ensures one { (t : Table) (edition : Edition) (owner : UserId) (h : History) (act : Act) →
+        IsAside act → StandsFor t edition owner h → StandsFor t edition owner (act ∷ h) }
+    ensures all { (t : Table) (edition : Edition) (owner : UserId) (h : History) (acts : List Act) →
+        AllByRecursion IsAside acts → StandsFor t edition owner h →
+        StandsFor t edition owner (followed_by h acts) }
+{}
+
+/// Acts behind acts follow the history that those before leave.
+pub fn acts_in_order()
+    ensures { (h : History) (before after : List Act) →
+        followed_by h (before ++ after) ≡ followed_by (followed_by h before) after }
+{}
+
+/// The known users are those whom the list of users has, where a table stands for the history.
+pub fn users_listed()
+    ensures { (t : Table) (edition : Edition) (owner : UserId) (h : History) (u : UserId) →
+        StandsFor t edition owner h → is_known owner h u ≡ among (users_of owner h) u }
+{}
+
+/// Names that the test finds the same are equal.
+pub fn names_equal()
+    ensures equal { (u v : UserId) → same_user u v ≡ true → u ≡ v }
+    ensures reflexive { (u : UserId) → same_user u u ≡ true }
+    ensures symmetric { (u v : UserId) → same_user u v ≡ same_user v u }
+{}
