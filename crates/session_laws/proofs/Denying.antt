@@ -30,7 +30,7 @@ use Rattle.session_model.specs.Denials.{number_of, denied_on, entry_denial, lock
 use Rattle.session_model.specs.Denying.{NamesTruly, IsEntryMissing, IsLockHeld, object_named, numbered}
 use Rattle.session_model.specs.Lines.{Caller}
 use Rattle.session_model.specs.Needs.{needs}
-use Rattle.session_model.specs.Rights.{may_in, has_in, leaders_in, holder_in, carried}
+use Rattle.session_model.specs.Rights.{may_in, has_in, leaders_in, holder_in}
 use Rattle.session_model.specs.Tables.{Tables, Window, row_of, window_at}
 
 -- ---- the first check that fails
@@ -88,7 +88,7 @@ missing t asks user bit o asked named not =
       user = user;
       bit = bit;
       on = denied_on t o;
-      leaders = carried (leaders_in t user);
+      leaders = leaders_in t user;
     } in
     match_some (IsEntryMissing t asks d) (object_named t (denied_on t o)) o named
     (record {

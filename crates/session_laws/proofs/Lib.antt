@@ -14,3 +14,4 @@ pub mod Granting
 pub mod Refusing
 pub mod Telling
 pub mod Promising
+pub mod Moving
