@@ -11,7 +11,7 @@ use Rattle.session_model.specs.declared.refusal.Refusal.{Refusal}
 use Rattle.session_model.specs.declared.refusal.Refusal.TheVariants.{EntryDenied, LockDenied}
 use Rattle.session_model.specs.declared.refusal.Refusal.TheVariants.{NoWindow}
 use Rattle.session_model.specs.Tables.{Window, Tables, window_at}
-use Rattle.session_model.specs.Rights.{leaders_in, carried}
+use Rattle.session_model.specs.Rights.{leaders_in}
 
 -- a window's number
 abbrev pub number_of : Tables → ℕ → ℕ
@@ -28,7 +28,7 @@ entry_denial t user bit object = EntryDenied (record {
   user = user;
   bit = bit;
   on = denied_on t object;
-  leaders = carried (leaders_in t user);
+  leaders = leaders_in t user;
 })
 
 -- the user who holds the lock

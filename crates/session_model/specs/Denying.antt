@@ -25,7 +25,7 @@ use Rattle.session_model.specs.declared.refusal.Refusal.{Refusal}
 use Rattle.session_model.specs.declared.refusal.Refusal.TheVariants.{EntryDenied, LockDenied}
 use Rattle.session_model.specs.Trace.{Happening, Keys, Open, Reply, Entry}
 use Rattle.session_model.specs.Tables.{Window, Client, Tables, window_at}
-use Rattle.session_model.specs.Rights.{may_in, has_in, leaders_in, holder_in, carried}
+use Rattle.session_model.specs.Rights.{may_in, has_in, leaders_in, holder_in}
 use Rattle.session_model.specs.Texts.{text_of, windows_text, clients_text, group_text}
 use Rattle.session_model.specs.Given.{Given, commands_of, has_x, Typed, keys_typed}
 use Rattle.session_model.specs.Promises.{SomeOf}
@@ -75,7 +75,7 @@ pub record IsEntryMissing
   pub may_not : may_in t d.user d.bit o ≡ false
   pub entry : has_in t d.user d.bit o ≡ false
   pub entries : AllByRecursion (λ leader. has_in t leader d.bit o ≡ false) (leaders_in t d.user)
-  pub leaders : d.leaders ≡ carried (leaders_in t d.user)
+  pub leaders : d.leaders ≡ leaders_in t d.user
 
 -- a user asks for w on the window, and the other user who is named holds its lock
 pub record IsLockHeld

@@ -145,13 +145,17 @@ attaches t c =
     acting (record t { clients = t.clients ++ c ∷ []; next_client = t.next_client + 1 })
     (act.Attached c.serial c.user ∷ entering c.user (focused c))
 
+-- there are fewer than 40 windows, and a number is free
+abbrev pub has_place : List Window → Bool
+has_place windows = nat_lt (length windows) 40 && is_some (free_number windows)
+
 abbrev pub open_checks : Tables → UserId → ℕ → ℕ → ℕ → List ℕ → List Check
 open_checks t user rows columns keep title =
     must (is_known t user) UnknownUser
     ∷ right user Execute (object.Command Screen)
     ∷ must (is_let_in t user) NotMultiuser
     ∷ must (is_window_size rows columns keep) BadSize
-    ∷ must (is_some (free_number t.windows) && nat_lt t.next_window (2 ^ 32)) (Windows Full)
+    ∷ must (has_place t.windows && nat_lt t.next_window (2 ^ 32)) (Windows Full)
     ∷ must (is_title title) (Windows BadTitle)
     ∷ []
 

@@ -1,4 +1,3 @@
-pub mod Edition
 pub mod Trace
 pub mod Tables
 pub mod Rights

@@ -1,24 +1,20 @@
--- Who may do what in a session: the rules of its lists and locks, at its owner, its edition of
--- groups and the acts of all its steps.
-use Rattle.std.specs.Prelude.{ℕ, ◌-◌, Bool, List, [], ◌∷◌, ◌++◌, Option, Some, None}
-use Rattle.std.specs.Prelude.{map, take, length, replicate, option_to_list}
-use Rattle.std.specs.List.{flat_map}
+-- Who may do what in a session: the rules of its lists and locks, at its owner, its edition of groups
+-- and the acts of all its steps.
+use Rattle.std.specs.Prelude.{ℕ, Bool, List, Option}
 use Rattle.acl.specs.declared.user_id.UserId.{UserId}
 use Rattle.acl.specs.declared.bits.Bit.{Bit}
+use Rattle.acl.specs.declared.act.Act.{Act}
 use Rattle.acl.specs.declared.act.Object.{Object}
 use Rattle.acl.specs.declared.entries.NewLeader.{NewLeader}
 use Rattle.acl.specs.declared.faults.AclFault.{AclFault}
 use Rattle.acl.specs.History.{may, has, leaders_of}
-use Rattle.acl.specs.declared.act.Act.{Act}
-use Rattle.acl.specs.Commands.{added, change_acts, with_names, group_fault}
+use Rattle.acl.specs.Commands.{add_acts, group_fault}
 use Rattle.writelock.specs.Holding.{holder}
-use Rattle.session_model.specs.declared.leaders.Leaders.{Leaders}
 use Rattle.session_model.specs.Tables.{Tables, known_users}
 
--- a user has a bit on an object: he is the owner, or an entry of his own or of a leader of his
--- gives it
+-- a user has a bit on an object: he is the owner, or an entry of his own or of a leader of his gives it
 abbrev pub may_in : Tables → UserId → Bit → Object → Bool
-may_in t user bit object = may t.owner t.acts user bit object
+may_in t user bit object = may t.edition t.owner t.acts user bit object
 
 -- a user's own entry
 abbrev pub has_in : Tables → UserId → Bit → Object → Bool
@@ -26,27 +22,17 @@ has_in t user bit object = has t.owner t.acts user bit object
 
 -- a user's leaders, in the order in which he followed them
 abbrev pub leaders_in : Tables → UserId → List UserId
-leaders_in t user = leaders_of t.acts user
+leaders_in t user = leaders_of t.edition t.acts user
 
 -- who holds a window's write lock
 abbrev pub holder_in : Tables → ℕ → Option UserId
-holder_in t window = holder t.owner t.acts window
+holder_in t window = holder t.edition t.owner t.acts window
 
 -- the acts of an acladd: every new name becomes known, and then each gets +rwx
 abbrev pub add_acts_in : Tables → List (Option UserId) → List Object → List Act
-add_acts_in t names objects =
-    change_acts (known_users t) names [] []
-    ++ change_acts (with_names (known_users t) names) names added objects
+add_acts_in t names objects = add_acts (known_users t) names objects
 
 -- why an aclgrp is refused
 abbrev pub group_fault_in : Tables → Option UserId → NewLeader → Option AclFault
-group_fault_in t name leader = group_fault t.owner (known_users t) name leader
-
--- leaders as a denial carries them, and as a list
-abbrev pub carried : List UserId → Leaders
-carried users = record {
-  names = take 8 (map Some users ++ replicate (8 - length users) None);
-}
-
-abbrev pub leaders_listed : Leaders → List UserId
-leaders_listed leaders = flat_map option_to_list leaders.names
+group_fault_in t name leader =
+    group_fault t.edition t.owner (known_users t) (leaders_in t) name leader

@@ -11,7 +11,7 @@ use Rattle.regions.specs.Layouts.{Arrangement}
 use Rattle.terminal_model.specs.Shows.{View}
 use Rattle.terminal_model.specs.Writing.{Writing}
 use Rattle.session_model.specs.declared.message.Message.{Message}
-use Rattle.session_model.specs.Edition.{Edition}
+use Rattle.acl.specs.declared.edition.Edition.{Edition}
 
 -- A window: its serial, its number, its title, the size that it was opened with, how many lines it
 -- keeps above its page, and all that was written to it.

@@ -20,7 +20,7 @@ use Rattle.session_model.specs.declared.refusal.WindowsFault.TheVariants as faul
 use Rattle.session_model.specs.declared.refusal.Refusal.{Refusal}
 use Rattle.session_model.specs.declared.refusal.Refusal.TheVariants as refusal
 use Rattle.session_model.specs.Tables.{Window, Client, Tables, window_at, focused, is_window}
-use Rattle.session_model.specs.Rights.{may_in, leaders_listed}
+use Rattle.session_model.specs.Rights.{may_in}
 
 -- ---- refusals
 
@@ -46,7 +46,7 @@ abbrev pub entry_text : EntryDenial → List ℕ
 entry_text d =
     codes "denied: " ++ (letter d.bit ++ (codes " on " ++ (denied_text d.on
     ++ (codes ": entry " ++ (missing_text d.user d.bit
-    ++ flat_map (leader_text d.bit) (leaders_listed d.leaders))))))
+    ++ flat_map (leader_text d.bit) d.leaders)))))
 
 -- `denied: window 2 locked by eve`
 abbrev pub lock_text : LockDenial → List ℕ

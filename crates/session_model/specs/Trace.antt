@@ -8,7 +8,7 @@ use Rattle.session_model.specs.declared.event.Effect.{Effect}
 use Rattle.session_model.specs.declared.event.Done.{Done}
 use Rattle.session_model.specs.declared.refusal.Refusal.{Refusal}
 use Rattle.session_model.specs.declared.verdict.Verdict.{Verdict}
-use Rattle.session_model.specs.Edition.{Edition}
+use Rattle.acl.specs.declared.edition.Edition.{Edition}
 
 -- an event, without the places that lent its bytes and texts
 pub data Happening : Type 0 where

@@ -6,7 +6,6 @@
 mod bytes;
 mod check;
 mod event;
-mod leaders;
 mod message;
 mod needs;
 mod refusal;
@@ -15,7 +14,6 @@ mod verdict;
 pub use bytes::Bytes;
 pub use check::Check;
 pub use event::{Done, Effect, Event, Ran, Reason, Reply};
-pub use leaders::Leaders;
 pub use message::Message;
 pub use needs::Needs;
 pub use refusal::{Denied, EntryDenied, LockDenied, Refusal, WindowsFault};

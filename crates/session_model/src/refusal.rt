@@ -3,8 +3,7 @@
 ghost use Rattle.std.specs.Prelude.{◌≡◌};
 ghost use Rattle.session_model.specs.declared.refusal.Refusal.TheVariants.{NoMemory};
 
-use crate::leaders::Leaders;
-use acl::{AclFault, Bit, CommandName, UserId};
+use acl::{AclFault, Bit, CommandName, Leaders, UserId};
 use command_lang::ParseFault;
 use regions::RegionFault;
 use std::alloc::{AllocError, AllocFailed};

@@ -1,0 +1,174 @@
+-- What an event asks for, and why it is refused.
+use Rattle.std.proofs.Common.{◌≡◌, ℕ, Bool, true, false, List, [], ◌∷◌, Option, Some, None, Ok, Err, Result, refl, ap, sym, ◌∙◌, subst, inl, inr}
+use Rattle.std.specs.Prelude.{if◌then◌else◌, ◌==◌, take}
+use Rattle.std.specs.Option.{option_map, option_map_or, option_and_then}
+use Rattle.acl.specs.declared.user_id.UserId.{UserId}
+use Rattle.acl.specs.declared.bits.Bit.{Bit}
+use Rattle.acl.specs.declared.bits.Bit.TheVariants.{Write, Execute}
+use Rattle.acl.specs.declared.act.Object.{Object}
+use Rattle.acl.specs.declared.act.Object.TheVariants as object
+use Rattle.acl.specs.declared.command_name.CommandName.TheVariants.{Screen}
+use Rattle.command_lang.specs.command.Command.{Command as Order}
+use Rattle.command_lang.specs.Names.{name_of}
+use Rattle.command_lang.specs.fault.ParseFault.{ParseFault}
+use Rattle.session_model.specs.declared.event.Reason.TheVariants as reason
+use Rattle.session_model.specs.declared.refusal.Refusal.{Refusal}
+use Rattle.session_model.specs.declared.refusal.Refusal.TheVariants.{NoWindow, UnknownUser, BadSize}
+use Rattle.session_model.specs.declared.check.Check.TheVariants.{Must as must}
+use Rattle.session_model.specs.declared.verdict.Verdict.{Verdict}
+use Rattle.session_model.specs.Trace.{Happening, Attach, Detach, Keys, Command, Resize, Open, Output, Closed, Draw, Reply}
+use Rattle.session_model.specs.Tables.{Tables, Window, Client, row_of, window_at, client_at, with_client, focused, focused_window, is_known}
+use Rattle.session_model.specs.Naming.{with_number}
+use Rattle.session_model.specs.Lines.{Caller, caller_of, line_caller, read_line}
+use Rattle.session_model.specs.Checks.{checks, first_fault, verdicts, typing_checks}
+use Rattle.session_model.specs.Deeds.{Answer, Deed, changing, parts, closes}
+use Rattle.session_model.specs.Commands.{does, ruling}
+use Rattle.session_model.specs.Keying.{taken, step_items, command_item}
+use Rattle.session_model.specs.Events.{line_ruling, answered, commanded, outcome, keys_outcome, refused, finished, done, where_passed, Outcome}
+use Rattle.session_model.specs.Events.{attach_checks, open_checks, is_client_size, resized, reply_of, attaches, new_client, opens, new_window, outputs}
+use Rattle.session_model.specs.Given.{commands_of, keys_typed, typed_by_client, with_order, order_in, ok_of}
+use Rattle.session_model.specs.Promises.{SomeOf}
+use Rattle.session_model.specs.Denying.{NamesTruly, Asks, AsksFor, TypesOn, IsWindow}
+use Rattle.session_laws.proofs.Lists.{row_serial, itself}
+use Rattle.session_laws.proofs.Doing.{giving, own}
+use Rattle.session_laws.proofs.Denying.{OnFault, MatchAnswer, on_fault, ruled_answer, missing, checks_each, typing_each, plain_names, IsAsked, IsAskedOfRow, IsListed}
+
+-- ---- windows that are there
+
+row_listed : (t : Tables) (s : ℕ) (w : Window) → window_at t s ≡ Some w → IsListed t w.serial
+row_listed t s w is = (w, ap (window_at t) (row_serial (λ (x : Window). x.serial) t.windows s w is) ∙ is)
+
+numbered_row : (ws : List Window) (n : ℕ) (w : Window) → with_number ws n ≡ Some w → (v : Window) × (row_of (λ (x : Window). x.serial) ws w.serial ≡ Some v)
+numbered_row [] n w is = absurd (cc (is))
+numbered_row (r ∷ ws) n w is = on (r.number == n) is (numbered_row ws n w) where
+  self : (m : ℕ) → (if m == m then Some r else row_of (λ (x : Window). x.serial) ws m) ≡ Some r
+  self m = ap (λ (b : Bool). if b then Some r else row_of (λ (x : Window). x.serial) ws m) (itself m)
+
+  either : (b : Bool) → (v : Window) × (row_of (λ (x : Window). x.serial) ws w.serial ≡ Some v) → (v : Window) × ((if b then Some r else row_of (λ (x : Window). x.serial) ws w.serial) ≡ Some v)
+  either true found = (r, refl)
+  either false found = found
+
+  on : (b : Bool) → (if b then Some r else with_number ws n) ≡ Some w → (with_number ws n ≡ Some w → (v : Window) × (row_of (λ (x : Window). x.serial) ws w.serial ≡ Some v)) → (v : Window) × (row_of (λ (x : Window). x.serial) (r ∷ ws) w.serial ≡ Some v)
+  on true is more = let e : r ≡ w = cc (is) in subst (λ (x : Window). (v : Window) × (row_of (λ (y : Window). y.serial) (r ∷ ws) x.serial ≡ Some v)) e (r, self r.serial)
+  on false is more = either (r.serial == w.serial) (more is)
+
+pub line_listed : (t : Tables) (number : Option ℕ) (w : Window) → option_and_then (with_number t.windows) number ≡ Some w → IsListed t w.serial
+line_listed t None w is = absurd (cc (is))
+line_listed t (Some n) w is = numbered_row t.windows n w is
+
+pub focus_listed : (t : Tables) (o : Option ℕ) (w : Window) → option_and_then (window_at t) o ≡ Some w → IsListed t w.serial
+focus_listed t None w is = absurd (cc (is))
+focus_listed t (Some s) w is = row_listed t s w is
+
+-- ---- what is asked
+
+asked_window : (t : Tables) (asks : UserId → Bit → Object → Type 0) (user : UserId) (client : Option ℕ) (c : Order) (o : Option Window)
+    → ((bit : Bit) (x : Object) → AsksFor user bit x (giving (record { user = user; client = client; window = o }) c) → asks user bit x)
+    → ((w : Window) → o ≡ Some w → IsListed t w.serial) → IsAsked t asks user (option_map (λ (w : Window). w.serial) o)
+asked_window t asks user client c None into listed = tt
+asked_window t asks user client c (Some w) into listed = ((λ bit. into bit (object.Window w.serial) (refl, inr refl)), listed w refl)
+
+command_names : (t : Tables) (asks : UserId → Bit → Object → Type 0) (k : Caller) (c : Order)
+    → ((bit : Bit) (x : Object) → AsksFor k.user bit x (giving k c) → asks k.user bit x)
+    → ((w : Window) → k.window ≡ Some w → IsListed t w.serial) → OnFault (NamesTruly t asks) (first_fault t (checks t k c))
+command_names t asks k c into listed =
+    on_fault t (NamesTruly t asks) (checks t k c)
+    (checks_each t asks k c (into Execute (object.Command (name_of c)) (refl, inl (refl, refl))) (asked_window t asks k.user k.client c k.window into listed))
+
+-- by a line
+pub line_names : (t : Tables) (user : UserId) (number : Option ℕ) (bytes : List ℕ) (c : Order) → commands_of t (Command user number bytes) ≡ giving (line_caller t user number) c ∷ []
+    → OnFault (NamesTruly t (Asks t (Command user number bytes))) (first_fault t (checks t (line_caller t user number) c))
+line_names t user number bytes c is =
+    command_names t (Asks t (Command user number bytes)) (line_caller t user number) c
+    (λ bit x asks. inl (subst (λ gs. SomeOf (AsksFor user bit x) gs) (sym is) (inl asks))) (line_listed t number)
+
+pub line_given : (t : Tables) (user : UserId) (number : Option ℕ) (bytes : List ℕ) (b : Bool) (r : Result Order ParseFault) → is_known t user ≡ b → read_line bytes ≡ r
+    → commands_of t (Command user number bytes) ≡ (if b then with_order (line_caller t user number) (ok_of r) else [])
+line_given t user number bytes b r known read =
+    ap (λ x. if x then with_order (line_caller t user number) (ok_of (read_line bytes)) else []) known
+    ∙ ap (λ x. if b then with_order (line_caller t user number) (ok_of x) else []) read
+
+-- by keys
+pub keys_given : (t : Tables) (client : ℕ) (bytes : List ℕ) (c : Client) → client_at t client ≡ Some c
+    → commands_of t (Keys client bytes) ≡ with_order (caller_of t c) (order_in (command_item (step_items c bytes)))
+keys_given t client bytes c is =
+    ap (λ o. option_map_or (λ c. with_order (caller_of t c) (order_in (command_item (step_items c bytes)))) o []) is
+
+typed_given : (t : Tables) (client : ℕ) (bytes : List ℕ) (c : Client) → client_at t client ≡ Some c
+    → keys_typed t (Keys client bytes) ≡ typed_by_client t c bytes ∷ []
+typed_given t client bytes c is = ap (λ o. option_map_or (λ c. typed_by_client t c bytes ∷ []) o []) is
+
+row_asked : (t : Tables) (client : ℕ) (bytes : List ℕ) (c : Client) → client_at t client ≡ Some c → (o : Option Window) → focused_window t c ≡ o
+    → IsAskedOfRow t (Asks t (Keys client bytes)) c.user o
+row_asked t client bytes c is None at = tt
+row_asked t client bytes c is (Some v) at = (
+  inr (subst (λ ts. SomeOf (TypesOn c.user Write (object.Window v.serial)) ts) (sym (typed_given t client bytes c is)) (inl (refl, refl, subst (λ x. IsWindow x (object.Window v.serial)) (sym at) refl))),
+  focus_listed t (focused c) v at,
+)
+
+pub typing_names : (t : Tables) (client : ℕ) (bytes : List ℕ) (c : Client) → client_at t client ≡ Some c
+    → OnFault (NamesTruly t (Asks t (Keys client bytes))) (first_fault t (typing_checks c.user (focused_window t c)))
+typing_names t client bytes c is =
+    on_fault t (NamesTruly t (Asks t (Keys client bytes))) (typing_checks c.user (focused_window t c))
+    (typing_each t (Asks t (Keys client bytes)) c.user (focused_window t c) (row_asked t client bytes c is (focused_window t c) refl))
+
+pub order_names : (t : Tables) (client : ℕ) (bytes : List ℕ) (c : Client) (order : Order) → commands_of t (Keys client bytes) ≡ giving (caller_of t c) order ∷ []
+    → OnFault (NamesTruly t (Asks t (Keys client bytes))) (first_fault t (checks t (caller_of t c) order))
+order_names t client bytes c order given =
+    command_names t (Asks t (Keys client bytes)) (caller_of t c) order
+    (λ bit x asks. inl (subst (λ gs. SomeOf (AsksFor c.user bit x) gs) (sym given) (inl asks))) (focus_listed t (focused c))
+
+-- ---- replies
+
+abbrev pub ReplyIs : (Refusal → Type 0) → Reply → Type 0
+ReplyIs P (Err r) = P r
+ReplyIs P (Ok d) = Unit {0}
+
+passed_reply : (P : Refusal → Type 0) (t : Tables) (vs : List Verdict) (o : Option Refusal) (d : Deed) (taken made number : ℕ) → OnFault P o
+    → ReplyIs P (elim o as (λ _. Outcome) [ Some r ↦ refused t vs r | None ↦ finished t vs (reply_of taken made number None) d ]).reply
+passed_reply P t vs (Some r) d taken made number fails = fails
+passed_reply P t vs None d taken made number fails = tt
+
+answered_reply : (P : Refusal → Type 0) (t : Tables) (vs : List Verdict) (a : Answer) → MatchAnswer P (λ d. Unit {0}) a → ReplyIs P (answered t vs a).reply
+answered_reply P t vs (Ok d) is = tt
+answered_reply P t vs (Err r) is = is
+
+command_reply : (t : Tables) (user : UserId) (number : Option ℕ) (bytes : List ℕ) (b : Bool) (r : Result Order ParseFault) → is_known t user ≡ b → read_line bytes ≡ r
+    → ReplyIs (NamesTruly t (Asks t (Command user number bytes))) (if b then commanded t (line_ruling t (line_caller t user number) r) else refused t [] UnknownUser).reply
+command_reply t user number bytes false r known read = tt
+command_reply t user number bytes true (Err f) known read = tt
+command_reply t user number bytes true (Ok c) known read =
+    let k : Caller = line_caller t user number in
+    let P : Refusal → Type 0 = NamesTruly t (Asks t (Command user number bytes)) in
+    answered_reply P t (verdicts t (checks t k c)) (ruling t k c).answer (ruled_answer P (λ d. Unit {0}) (first_fault t (checks t k c)) (does t k c)
+    (line_names t user number bytes c (line_given t user number bytes true (Ok c) known read)) (plain_names t (Asks t (Command user number bytes))) (λ none. own t k c))
+
+abbrev row_reply : {X : Type 0} → Tables → Happening → (X → Outcome) → Option X → Type 0
+row_reply t event f o = ReplyIs (NamesTruly t (Asks t event)) (elim o as (λ _. Outcome) [ None ↦ refused t [] NoWindow | Some x ↦ f x ]).reply
+
+found_reply : {X : Type 0} (t : Tables) (event : Happening) (f : X → Outcome) (o : Option X) → ((x : X) → ReplyIs (NamesTruly t (Asks t event)) (f x).reply) → row_reply t event f o
+found_reply t event f None on = tt
+found_reply t event f (Some x) on = on x
+
+pub replies : (t : Tables) (event : Happening) → ReplyIs (NamesTruly t (Asks t event)) (outcome t event).reply
+replies t (Attach user rows columns) =
+    let P : Refusal → Type 0 = NamesTruly t (Asks t (Attach user rows columns)) in
+    passed_reply P t (verdicts t (attach_checks t user rows columns)) (first_fault t (attach_checks t user rows columns)) (attaches t (new_client t user rows columns)) 0 t.next_client 0
+    (on_fault t P (attach_checks t user rows columns) ((λ is. tt), ((λ is. tt), ((λ is. tt), ((λ is. tt), tt)))))
+replies t (Detach client) = found_reply t (Detach client) (λ c. finished t [] done (parts (λ d. d.serial == client) reason.Detached t)) (client_at t client) (λ c. tt)
+replies t (Keys client bytes) = found_reply t (Keys client bytes) (λ c. keys_outcome t c (take (taken c.keys bytes) bytes)) (client_at t client) (λ c. tt)
+replies t (Command user number bytes) = command_reply t user number bytes (is_known t user) (read_line bytes) refl refl
+replies t (Resize client rows columns) =
+    let P : Refusal → Type 0 = NamesTruly t (Asks t (Resize client rows columns)) in
+    found_reply t (Resize client rows columns) (λ c. where_passed t (must (is_client_size rows columns) BadSize ∷ []) done (changing (with_client t (resized rows columns c)))) (client_at t client)
+    (λ c. passed_reply P t (verdicts t (must (is_client_size rows columns) BadSize ∷ [])) (first_fault t (must (is_client_size rows columns) BadSize ∷ [])) (changing (with_client t (resized rows columns c))) 0 0 0
+    (on_fault t P (must (is_client_size rows columns) BadSize ∷ []) ((λ is. tt), tt)))
+replies t (Open user rows columns keep title) =
+    let v : Window = new_window t rows columns keep title in
+    let asks : UserId → Bit → Object → Type 0 = Asks t (Open user rows columns keep title) in
+    passed_reply (NamesTruly t asks) t (verdicts t (open_checks t user rows columns keep title)) (first_fault t (open_checks t user rows columns keep title)) (opens t user v) 0 v.serial v.number
+    (on_fault t (NamesTruly t asks) (open_checks t user rows columns keep title)
+    ((λ is. tt), (missing t asks user Execute (object.Command Screen) (refl, refl, refl) refl, ((λ is. tt), ((λ is. tt), ((λ is. tt), ((λ is. tt), tt)))))))
+replies t (Output window bytes) = found_reply t (Output window bytes) (λ v. finished t [] done (outputs t v bytes)) (window_at t window) (λ v. tt)
+replies t (Closed window) = found_reply t (Closed window) (λ v. finished t [] done (closes (λ x. x.serial == window) reason.Detached t)) (window_at t window) (λ v. tt)
+replies t (Draw client) = found_reply t (Draw client) (λ c. finished t [] done (changing t)) (client_at t client) (λ c. tt)

@@ -1,0 +1,17 @@
+pub mod Lists
+pub mod Quiet
+pub mod Leaving
+pub mod Inputs
+pub mod Reaching
+pub mod Doing
+pub mod Denying
+pub mod Passing
+pub mod Unread
+pub mod Asking
+pub mod Outcomes
+pub mod Saying
+pub mod Granting
+pub mod Refusing
+pub mod Telling
+pub mod Promising
+pub mod Moving

@@ -1,0 +1,31 @@
+-- Every step of every run keeps the promise.
+use Rattle.std.proofs.Common.{List, [], ◌∷◌}
+use Rattle.session_model.specs.Trace.{Entry, Trace}
+use Rattle.session_model.specs.Tables.{Tables, fresh}
+use Rattle.session_model.specs.Run.{IsStep, IsRun, IsRunFrom, tables_from}
+use Rattle.session_model.specs.Keeps.{KeepsPromise, KeepsPromises, KeepsPromisesFrom}
+use Rattle.session_laws.proofs.Reaching.{reach}
+use Rattle.session_laws.proofs.Telling.{told}
+use Rattle.session_laws.proofs.Granting.{commands}
+use Rattle.session_laws.proofs.Refusing.{refusals, draws}
+use Rattle.session_laws.proofs.Saying.{denials, frames, no_other}
+
+pub step_keeps : (t : Tables) (e : Entry) → IsStep t e → KeepsPromise t e
+step_keeps t e step = record {
+  step = step;
+  typed_bytes = reach t e.event e.effects step.effects;
+  told = told t e.reply e.acts e.verdicts e.effects e.event step;
+  commands = commands t e.event e.reply e.acts e.verdicts e.effects step;
+  refusals = refusals t e step;
+  draws = draws t e step;
+  frames = frames t e step;
+  denials = denials t e step;
+  no_other_effect = no_other t e step;
+}
+
+from_start : (start : Tables) (entries : List Entry) → IsRunFrom start entries → KeepsPromisesFrom start entries
+from_start start [] run = tt
+from_start start (e ∷ past) run = (from_start start past run.0, step_keeps (tables_from start past) e run.1)
+
+pub run_keeps : (h : Trace) → IsRun h → KeepsPromises h
+run_keeps h run = from_start (fresh h.edition h.owner) h.entries run

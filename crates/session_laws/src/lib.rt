@@ -1,0 +1,17 @@
+//! What holds of every step and of every run of a session, by its definitions alone. Each function here is a
+//! law: it does nothing, and its contract says what holds.
+#![tactic(auto)]
+
+ghost use Rattle.session_laws.specs.Laws.{StepsKeepPromise, RunsKeepPromise};
+
+/// Each step, whatever the tables, keeps the promise: typed bytes reach windows exactly by rights and locks, and
+/// else it is told why; commands act exactly where x is granted; draws show the granted view by frames; denials name
+/// their entries and holders; what is refused changes nothing; and there is no other effect.
+pub fn steps_keep_promise()
+    ensures { StepsKeepPromise }
+{}
+
+/// So does each step of every run.
+pub fn runs_keep_promise()
+    ensures { RunsKeepPromise }
+{}
