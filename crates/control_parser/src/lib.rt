@@ -7,6 +7,7 @@ mod laws;
 mod params;
 mod parser;
 mod plain;
+mod sequence;
 mod spelling;
 mod state;
 
@@ -19,6 +20,7 @@ pub use laws::{
 pub use params::Params;
 pub use parser::Parser;
 pub use plain::plain_run;
+pub use sequence::{Sequence, sequence_behind};
 pub use spelling::spell;
 pub use std::alloc::AllocError as NoMemory;
 

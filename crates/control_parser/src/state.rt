@@ -81,7 +81,8 @@ fn ends_string(c: u32) -> bool
 }
 
 impl Text {
-    fn empty() -> Text
+    /// The text of a control sequence that has just begun.
+    pub fn empty() -> Text
         ensures { result ≡ no_text }
     {
         Text {
@@ -105,8 +106,8 @@ impl Text {
         }
     }
 
-    // Takes one character more; false where the text is ignored from here on.
-    fn grow(&mut self, c: u8) -> bool
+    /// Takes one character more; false where the text is ignored from here on.
+    pub fn grow(&mut self, c: u8) -> bool
         ensures grown { IsTrue result → text_grown self.old c ≡ Some self.new }
         ensures ignored { result ≡ false → text_grown self.old c ≡ None }
     {

@@ -1,9 +1,9 @@
 //! A screen.
 
-ghost use Rattle.std.specs.Prelude.{◌≡◌, ◌<◌, ◌≤◌, ◌↔◌, true, Err, IfOk, OnOk, OnErr, length, map, option_copied, slice_get};
+ghost use Rattle.std.specs.Prelude.{◌≡◌, ◌<◌, ◌≤◌, ◌↔◌, true, Err, IfOk, OnOk, OnErr, [], length, map, option_copied, slice_get};
 ghost use Rattle.std.specs.List.{list_all};
 ghost use Rattle.charsets.specs.Units.{is_plain};
-ghost use Rattle.control_parser.specs.declared.func.Func.TheVariants.{Print};
+ghost use Rattle.control_parser.specs.declared.func.Func.TheVariants.{Control, Csi, Esc, Print};
 ghost use Rattle.cells.specs.Page.{IsGridSize, line_at};
 ghost use Rattle.cells.specs.Line.{cell_at};
 ghost use Rattle.terminal_model.specs.Screen.{IsSound, starting};
@@ -13,12 +13,12 @@ ghost use Rattle.vt_screen.specs.Effects.{effects};
 ghost use Rattle.vt_screen.specs.Sizes.{IsScreenSize};
 
 use cells::{Cell, GridFault};
-use charsets::Coding;
-use control_parser::Func;
+use charsets::{Coding, Unit};
+use control_parser::{Func, Sequence};
 use std::alloc::Global;
 use std::marker::Model;
-use terminal_model::{MAX_KEEP, Modes, Report};
-use vt_screen_actions::acts_of;
+use terminal_model::{Action, MAX_KEEP, Modes, Report};
+use vt_screen_actions::{acts_of, control_action, plain_escape_action, sequence_acts};
 use vt_screen_rows::Display;
 
 /// The screen of a VT220: its page with all that control functions change, and its scrollback. Lines and columns count
@@ -69,6 +69,45 @@ impl Screen {
         ensures { self.new ≡ effects self.old (map (λ code. Print code) codes.now) }
     {
         self.display.print_run(codes);
+    }
+
+    /// Prints a character from 20 to 7E or from A0 on, as `apply` of it; nothing is answered.
+    pub fn print(&mut self, character: char)
+        ensures effect { self.new ≡ effect self.old (Print character) }
+        ensures silent { report self.old (Print character) ≡ [] }
+    {
+        self.display
+            .perform_silently(Some(Action::Print(Unit::Code(character))));
+    }
+
+    /// Does a C0 control, as `apply` of it; nothing is answered.
+    pub fn control(&mut self, control: u8)
+        ensures effect { self.new ≡ effect self.old (Control control) }
+        ensures silent { report self.old (Control control) ≡ [] }
+    {
+        self.display.perform_silently(control_action(control));
+    }
+
+    /// Does the escape sequence that has no intermediate and this final byte, as `apply` of it; nothing is answered.
+    pub fn escape(&mut self, last: u8)
+        ensures effect { self.new ≡ effect self.old (Esc [] last) }
+        ensures silent { report self.old (Esc [] last) ≡ [] }
+    {
+        self.display.perform_silently(plain_escape_action(last));
+    }
+
+    /// Does a control sequence, as `apply` of it, and gives what is answered.
+    pub fn sequence(&mut self, sequence: &Sequence) -> Report
+        ensures effect { self.new ≡ effect self.old (Csi sequence.now.mark sequence.now.params sequence.now.intermediates sequence.now.last) }
+        ensures report { result ≡ report self.old (Csi sequence.now.mark sequence.now.params sequence.now.intermediates sequence.now.last) }
+        ensures few { length result ≤ 12 }
+    {
+        self.display.perform(sequence_acts(
+            sequence.mark,
+            sequence.params.as_slice(),
+            sequence.intermediates.as_slice(),
+            sequence.last,
+        ))
     }
 
     /// Takes another size. It keeps the upper left part, of the kept lines too; the cursor and the saved place go to the

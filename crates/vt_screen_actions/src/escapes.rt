@@ -3,6 +3,7 @@
 ghost use Rattle.std.specs.Prelude.{◌≡◌, IfSome};
 ghost use Rattle.terminal_model.specs.Functions.{alone, control_action, designated_set, designation, escape_action, escape_actions, intermediate_action};
 ghost use Rattle.vt_screen_actions.specs.Counted.{IsCounted};
+ghost use Rattle.vt_screen_actions.specs.Silent.{IsSilent};
 
 use charsets::{CharacterSet, Coding, Place, Shift};
 use terminal_model::Action;
@@ -11,6 +12,7 @@ use terminal_model::Action;
 pub fn control_action(control: u8) -> Option<Action>
     ensures value { result ≡ control_action control }
     ensures counted { IfSome result IsCounted }
+    ensures silent { IfSome result IsSilent }
 {
     match control {
         0x08 => Some(Action::Backspace),
@@ -35,10 +37,11 @@ pub fn escape_action(intermediates: &[u8], last: u8) -> Option<Action>
     }
 }
 
-/// ESC and a final byte (ECMA-48, 8.3; VT220 Programmer Reference Manual, chapter 4).
-fn plain_escape_action(last: u8) -> Option<Action>
+/// The action of ESC and a final byte (ECMA-48, 8.3; VT220 Programmer Reference Manual, chapter 4); None where it is ignored.
+pub fn plain_escape_action(last: u8) -> Option<Action>
     ensures value { result ≡ escape_action last }
     ensures counted { IfSome result IsCounted }
+    ensures silent { IfSome result IsSilent }
 {
     match last {
         b'7' => Some(Action::Save),

@@ -1,16 +1,17 @@
 //! All the actions of a control function.
 
-ghost use Rattle.std.specs.Prelude.{◌≡◌, ◌≤◌, [], length};
-ghost use Rattle.terminal_model.specs.Functions.{each};
+ghost use Rattle.std.specs.Prelude.{◌≡◌, ◌≤◌, [], length, IfSome};
+ghost use Rattle.terminal_model.specs.Functions.{alone, each};
 ghost use Rattle.terminal_model.specs.Reports.{all_answered};
 ghost use Rattle.terminal_model.specs.Table.{all_acted};
 ghost use Rattle.vt_screen_actions.specs.Acting.{actions_in};
-ghost use Rattle.vt_screen_actions.specs.Counted.{AreCounted};
+ghost use Rattle.vt_screen_actions.specs.Counted.{AreCounted, IsCounted};
 ghost use Rattle.vt_screen_actions.specs.Meanings.{meaning};
+ghost use Rattle.vt_screen_actions.specs.Silent.{IsSilent};
 ghost use Rattle.vt_screen_rows.specs.Displays.{IsFit, screen_of};
 
 use crate::display::Display;
-use terminal_model::Report;
+use terminal_model::{Action, Report};
 use vt_screen_actions::{Acts, Setting};
 
 impl Display {
@@ -30,6 +31,20 @@ impl Display {
                 self.set_each(setting, values);
                 Report::none()
             }
+        }
+    }
+
+    /// Does the action of a control function that has at most one, and is answered by nothing.
+    pub fn perform_silently(&mut self, action: Option<Action>)
+        requires fit { IsFit self.old }
+        requires counted { IfSome action IsCounted }
+        requires silent { IfSome action IsSilent }
+        ensures screen { screen_of self.new ≡ all_acted (screen_of self.old) (alone action) }
+        ensures fit { IsFit self.new }
+        ensures silent { all_answered (screen_of self.old) (alone action) ≡ [] }
+    {
+        if let Some(action) = action {
+            self.change(action);
         }
     }
 

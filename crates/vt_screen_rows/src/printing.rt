@@ -1,13 +1,13 @@
 //! Print.
 
 ghost use Rattle.std.specs.Prelude.{◌≡◌, ◌<◌, ◌+◌, Some};
-ghost use Rattle.unicode_width.specs.Width.{char_width};
-ghost use Rattle.terminal_model.specs.Table.{acted, columns_of, drawn, drawn_as, marked_at, placed_narrow, placed_wide, printed, printed_as, wide_or_none, widely, wrapped};
+ghost use Rattle.cells.specs.Glyph.{glyph_columns};
+ghost use Rattle.terminal_model.specs.Table.{acted, drawn_as, marked_at, placed_narrow, placed_wide, printed, printed_as, wide_or_none, widely, wrapped};
 ghost use Rattle.terminal_model.specs.declared.action.Action.TheVariants.{Print};
 ghost use Rattle.vt_screen_rows.specs.Displays.{IsFit, screen_of};
 
 use crate::display::Display;
-use cells::{Cell, glyph_width};
+use cells::Cell;
 use charsets::Unit;
 use unicode_width::UnicodeWidthChar;
 use vt_screen_state::{advance, following, lacks_room, needs_line, separate};
@@ -28,12 +28,14 @@ impl Display {
     }
 
     /// Prints a character by its width.
+    #[tactic(auto, unfolding(terminal_model::specs::Table::columns_of, terminal_model::specs::Table::drawn))]
     fn print_character(&mut self, character: char)
         requires { IsFit self.old }
         ensures screen { screen_of self.new ≡ printed (Some character) (screen_of self.old) }
         ensures width { self.new.ring.columns ≡ self.old.ring.columns }
     {
-        self.print_as(columns_of(character), drawn(character));
+        let width = character.width();
+        self.print_as(columns_in(width), drawn_as(width, character));
     }
 
     /// Prints a character in so many columns: none for a mark.
@@ -121,22 +123,18 @@ impl Display {
     }
 }
 
-/// The columns that a character takes.
-#[tactic(auto, unfolding(terminal_model::specs::Table::columns_of))]
-fn columns_of(character: char) -> u8
-    ensures { result ≡ columns_of character }
+/// The columns that a character of a width takes.
+fn columns_in(width: Option<usize>) -> u8
+    ensures { result ≡ glyph_columns width }
 {
-    glyph_width(character)
+    match width {
+        Some(2) => 2,
+        Some(0) | None => 0,
+        Some(_) => 1,
+    }
 }
 
-/// What is drawn of a character: U+FFFD where its width is 3.
-#[tactic(auto, unfolding(terminal_model::specs::Table::drawn))]
-fn drawn(character: char) -> char
-    ensures { result ≡ drawn character }
-{
-    drawn_as(character.width(), character)
-}
-
+/// What is drawn of a character of a width: U+FFFD where that is 3.
 fn drawn_as(width: Option<usize>, character: char) -> char
     ensures { result ≡ drawn_as width character }
 {
