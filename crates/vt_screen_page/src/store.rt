@@ -7,7 +7,7 @@ ghost use Rattle.cells.specs.Page.{line_at, page_from};
 ghost use Rattle.cells.specs.Moves.{scrolled_up, scrolled_down, erased_lines};
 ghost use Rattle.scrollback.specs.Kept.{taken_in, Continues};
 ghost use Rattle.cells.specs.Resizing.{line_resized, page_resized};
-ghost use Rattle.vt_screen_page.specs.Store.{IsStore, IsTurned, AreCleared, lines_in_order};
+ghost use Rattle.vt_screen_page.specs.Store.{IsStore, IsTurned, AreCleared, lines_in_order, turned};
 
 use cells::{Cell, Line, Shape};
 use scrollback::Ring;
@@ -53,6 +53,7 @@ pub fn scroll_up(stored: &mut [Line], places: &mut [usize], top: usize, bottom: 
     ensures turned { IsTurned top bottom count places.old places.new }
     ensures store { IsStore stored.new places.new }
     ensures page { lines_in_order stored.new places.new ≡ page_from (scrolled_up top bottom count) (lines_in_order stored.old places.old) }
+    ensures places { places.new ≡ turned top bottom count places.old }
 {
     clear_lines(stored, &places[top..top + count]);
     turn(places, top, bottom, count);
@@ -73,6 +74,7 @@ pub fn scroll_down(
     ensures turned { IsTurned top bottom (bottom + 1 - top - count) places.old places.new }
     ensures store { IsStore stored.new places.new }
     ensures page { lines_in_order stored.new places.new ≡ page_from (scrolled_down top bottom count) (lines_in_order stored.old places.old) }
+    ensures places { places.new ≡ turned top bottom (bottom + 1 - top - count) places.old }
 {
     let kept = bottom + 1 - top - count;
     clear_lines(stored, &places[top + kept..bottom + 1]);
@@ -88,6 +90,7 @@ pub fn scroll_into(stored: &mut [Line], places: &mut [usize], ring: &mut Ring, b
     ensures turned { IsTurned 0 bottom 1 places.old places.new }
     ensures store { IsStore stored.new places.new }
     ensures page { lines_in_order stored.new places.new ≡ page_from (scrolled_up 0 bottom 1) (lines_in_order stored.old places.old) }
+    ensures places { places.new ≡ turned 0 bottom 1 places.old }
     ensures kept { ring.new ≡ taken_in ring.old (line_at (lines_in_order stored.old places.old) 0) }
     ensures stands { Continues ring.old ring.new (line_at (lines_in_order stored.old places.old) 0) }
 {

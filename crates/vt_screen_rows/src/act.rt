@@ -4,6 +4,7 @@ ghost use Rattle.std.specs.Prelude.{◌≡◌, ◌≤◌, length};
 ghost use Rattle.terminal_model.specs.Table.{acted};
 ghost use Rattle.terminal_model.specs.Reports.{answer};
 ghost use Rattle.vt_screen_rows.specs.Displays.{IsFit, screen_of};
+ghost use Rattle.vt_screen_rows.specs.Places.{acted_places};
 ghost use Rattle.vt_screen_actions.specs.Counted.{IsCounted};
 
 use crate::display::Display;
@@ -21,6 +22,7 @@ impl Display {
         requires counted { IsCounted action }
         ensures screen { screen_of self.new ≡ acted (screen_of self.old) action }
         ensures fit { IsFit self.new }
+        ensures places { self.new.page.places ≡ acted_places self.old.state action self.old.page.places }
         ensures report { result ≡ answer self.old.state action }
         ensures few { length result ≤ 12 }
     {
@@ -35,6 +37,7 @@ impl Display {
         requires counted { IsCounted action }
         ensures screen { screen_of self.new ≡ acted (screen_of self.old) action }
         ensures fit { IsFit self.new }
+        ensures places { self.new.page.places ≡ acted_places self.old.state action self.old.page.places }
     {
         self.dispatch(action);
     }
@@ -44,6 +47,7 @@ impl Display {
         requires counted { IsCounted action }
         ensures screen { screen_of self.new ≡ acted (screen_of self.old) action }
         ensures width { self.new.ring.columns ≡ self.old.ring.columns }
+        ensures places { self.new.page.places ≡ acted_places self.old.state action self.old.page.places }
     {
         match action {
             Action::Print(unit) => self.print(unit),

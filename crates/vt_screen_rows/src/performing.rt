@@ -9,6 +9,7 @@ ghost use Rattle.vt_screen_actions.specs.Counted.{AreCounted, IsCounted};
 ghost use Rattle.vt_screen_actions.specs.Meanings.{meaning};
 ghost use Rattle.vt_screen_actions.specs.Silent.{IsSilent};
 ghost use Rattle.vt_screen_rows.specs.Displays.{IsFit, screen_of};
+ghost use Rattle.vt_screen_rows.specs.Places.{all_acted_places};
 
 use crate::display::Display;
 use terminal_model::{Action, Report};
@@ -21,6 +22,7 @@ impl Display {
         requires counted { AreCounted acts }
         ensures screen { screen_of self.new ≡ all_acted (screen_of self.old) (actions_in acts.entry) }
         ensures fit { IsFit self.new }
+        ensures places { self.new.page.places ≡ all_acted_places (screen_of self.old) (actions_in acts.entry) self.old.page.places }
         ensures report { result ≡ all_answered (screen_of self.old) (actions_in acts.entry) }
         ensures few { length result ≤ 12 }
     {
@@ -41,6 +43,7 @@ impl Display {
         requires silent { IfSome action IsSilent }
         ensures screen { screen_of self.new ≡ all_acted (screen_of self.old) (alone action) }
         ensures fit { IsFit self.new }
+        ensures places { self.new.page.places ≡ all_acted_places (screen_of self.old) (alone action) self.old.page.places }
         ensures silent { all_answered (screen_of self.old) (alone action) ≡ [] }
     {
         if let Some(action) = action {
@@ -53,6 +56,7 @@ impl Display {
         requires { IsFit self.old }
         ensures screen { screen_of self.new ≡ all_acted (screen_of self.old) (each (meaning setting) values.now) }
         ensures fit { IsFit self.new }
+        ensures places { self.new.page.places ≡ all_acted_places (screen_of self.old) (each (meaning setting) values.now) self.old.page.places }
         ensures silent { all_answered (screen_of self.old) (each (meaning setting) values.now) ≡ [] }
     {
         for value in values {

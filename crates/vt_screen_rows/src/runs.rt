@@ -54,6 +54,7 @@ impl Display {
         requires room { self.old.state.column + length codes.now ≤ self.old.state.columns }
         ensures screen { screen_of self.new ≡ run_placed codes.now (screen_of self.old) }
         ensures width { self.new.ring.columns ≡ self.old.ring.columns }
+        ensures places { self.new.page.places ≡ self.old.page.places }
     {
         self.page.put_run(
             self.state.line,

@@ -6,7 +6,7 @@ use Rattle.cells.specs.Moves.{scrolled_up}
 use Rattle.vt_screen_page.specs.Store.{lines_in_order}
 use Rattle.vt_screen_page.proofs.Stored.{line_at-lines_in_order}
 use Rattle.vt_screen_page.proofs.Clearing.{first_blanked, others_stay}
-use Rattle.vt_screen_page.proofs.Turning.{scrolled_up_is, turned_store}
+use Rattle.vt_screen_page.proofs.Turning.{turned_is, scrolled_up_is, turned_store}
 use Rattle.vt_screen_page.proofs.store.scroll_into.Goals as goal
 
 pub returns-clause-page : goal.returns-clause-page
@@ -27,3 +27,6 @@ returns-clause-store c =
     turned_store c.args.stored.now (set c.args.stored.now (get_or c.args.places.now 0 0) c.clear.new.self) c.args.places.now c.turn.new.places 0 c.args.bottom c.requires.store (omega arith) c.requires.inside
     (length-set c.args.stored.now (get_or c.args.places.now 0 0) c.clear.new.self)
     1 (omega arith) c.turn.ensures (scrolled_up 0 c.args.bottom 1) (returns-clause-page c)
+
+pub returns-clause-places : goal.returns-clause-places
+returns-clause-places c = turned_is 0 c.args.bottom 1 c.args.places.now c.turn.new.places (omega (arith, c.requires)) (omega (arith, c.requires)) (omega (arith, c.requires)) c.turn.ensures
