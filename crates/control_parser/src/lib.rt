@@ -20,6 +20,6 @@ pub use laws::{
 pub use params::Params;
 pub use parser::Parser;
 pub use plain::plain_run;
-pub use sequence::{Sequence, sequence_behind};
+pub use sequence::Sequence;
 pub use spelling::spell;
 pub use std::alloc::AllocError as NoMemory;

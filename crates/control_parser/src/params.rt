@@ -68,6 +68,14 @@ impl Params {
         }
     }
 
+    /// Becomes one parameter, absent.
+    pub(crate) fn clear(&mut self)
+        ensures { self.new ≡ 0 ∷ [] }
+    {
+        self.values = [0; PARAMS];
+        self.count = 1;
+    }
+
     /// How many there are.
     pub fn len(&self) -> usize
         ensures { result ≡ length self.now }

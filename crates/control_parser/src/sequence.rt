@@ -1,52 +1,72 @@
 //! Control sequences that stand whole in a list of bytes.
 
-ghost use Rattle.std.specs.Prelude.{◌≡◌, ◌≤◌, ◌<◌, [], ◌∷◌, IfSome, length, take};
+ghost use Rattle.std.specs.Prelude.{◌≡◌, ◌≤◌, ◌<◌, [], ◌∷◌, length, take};
 ghost use Rattle.charsets.specs.declared.unit.Coding.TheVariants.{Utf8};
 ghost use Rattle.control_parser.specs.declared.func.Func.TheVariants.{Csi};
 ghost use Rattle.control_parser.specs.Spelling.{ReadsAs};
 
-use crate::intermediates::Intermediates;
-use crate::params::Params;
 use crate::state::Text;
+use std::marker::Model;
 
-/// A control sequence that ends within some bytes.
-#[derive(Clone, Copy, Debug)]
+/// The place of a control sequence that is read at once. It is used for one after another, so that none is copied.
+#[derive(Debug, Drop)]
 pub struct Sequence {
-    /// One of `<`, `=`, `>`, `?` before the parameters.
-    pub mark: Option<u8>,
-    pub params: Params,
-    pub intermediates: Intermediates,
-    /// The final byte, 40 to 7E.
-    pub last: u8,
-    /// How many bytes it has behind its CSI.
-    pub len: usize,
+    text: Text,
+    /// The final byte.
+    last: u8,
 }
 
-/// The control sequence that goes on with these bytes behind its CSI, as `ESC [`. None where it doesn't end within them, is
-/// ignored, or has a control inside.
-pub fn sequence_behind(bytes: &[u8]) -> Option<Sequence>
-    ensures reads { IfSome result (λ s. ReadsAs Utf8 (0x1B ∷ 0x5B ∷ take s.len bytes.now) (Csi s.mark s.params s.intermediates s.last ∷ [])) }
-    ensures few { IfSome result (λ s. s.len ≤ length bytes.now) }
-{
-    let mut text = Text::empty();
-    for (at, &c) in bytes.iter().enumerate() {
-        match c {
-            b' '..=b'?' => {
-                if !text.grow(c) {
-                    return None;
-                }
-            }
-            b'@'..=b'~' => {
-                return Some(Sequence {
-                    mark: text.mark,
-                    params: text.params,
-                    intermediates: text.intermediates,
-                    last: c,
-                    len: at + 1,
-                });
-            }
-            _ => return None,
+impl Model for Sequence {
+    ghost use Rattle.control_parser.specs.declared.func.Func.{Func};
+    ghost use Rattle.control_parser.specs.declared.func.Func.TheVariants.{Csi};
+
+    ghost Value = { Func };
+
+    ghost view = { λ s. Csi s.text.mark s.text.params s.text.intermediates s.last };
+}
+
+impl Sequence {
+    /// Some control sequence.
+    pub fn new() -> Sequence {
+        Sequence {
+            text: Text::empty(),
+            last: b'm',
         }
     }
-    None
+
+    /// Its mark, its parameters, its intermediates and its final byte.
+    pub fn parts(&self) -> (Option<u8>, &[u16], &[u8], u8)
+        ensures { self.now ≡ Csi result.0 result.1.now result.2.now result.3 }
+    {
+        (
+            self.text.mark,
+            self.text.params.as_slice(),
+            self.text.intermediates.as_slice(),
+            self.last,
+        )
+    }
+
+    /// Reads the control sequence that goes on with these bytes behind its CSI, and gives how many of them it has. It gives
+    /// 0 where the sequence doesn't end within them, is ignored, or has a control inside.
+    pub fn read(&mut self, bytes: &[u8]) -> usize
+        ensures reads { 0 < result → ReadsAs Utf8 (0x1B ∷ 0x5B ∷ take result bytes.now) (self.new ∷ []) }
+        ensures few { result ≤ length bytes.now }
+    {
+        self.text.clear();
+        for (at, &c) in bytes.iter().enumerate() {
+            match c {
+                b' '..=b'?' => {
+                    if !self.text.grow(c) {
+                        return 0;
+                    }
+                }
+                b'@'..=b'~' => {
+                    self.last = c;
+                    return at + 1;
+                }
+                _ => return 0,
+            }
+        }
+        0
+    }
 }

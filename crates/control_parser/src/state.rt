@@ -94,6 +94,17 @@ impl Text {
         }
     }
 
+    /// Becomes the text of a control sequence that has just begun.
+    pub fn clear(&mut self)
+        ensures { self.new ≡ no_text }
+    {
+        self.begun = false;
+        self.mark = None;
+        self.params.clear();
+        self.over = false;
+        self.intermediates.clear();
+    }
+
     // The control sequence with this final.
     fn ended(&self, last: u8) -> Func
         ensures { result ≡ Func.Csi self.now.mark self.now.params self.now.intermediates last }

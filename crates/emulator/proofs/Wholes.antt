@@ -22,20 +22,20 @@ use Rattle.emulator.specs.Standing.{Parts, StandsFor, HasRead, HasTaken, IsBetwe
 use Rattle.emulator.proofs.Feeding.{nothing-has-read}
 use Rattle.emulator.proofs.RunLemmas.{ready-is}
 
--- a function that leaves the coding as it is
-abbrev pub KeepsCoding : Func → Type 0
-KeepsCoding f = (x : Screen) → (effect x f).state.coding ≡ x.state.coding
+-- the function leaves the coding as it is
+abbrev pub KeepsCoding : Screen → Func → Type 0
+KeepsCoding x f = (effect x f).state.coding ≡ x.state.coding
 
-stays-one : (c : Coding) (x : Screen) (f : Func) → x.state.coding ≡ c → KeepsCoding f → Stays c x (f ∷ [])
+stays-one : (c : Coding) (x : Screen) (f : Func) → x.state.coding ≡ c → KeepsCoding x f → Stays c x (f ∷ [])
 stays-one c x f h k = record { coding = λ before after e. stays-at before after e }
   where
     stays-at : (before after : List Func) → f ∷ [] ≡ before ++ after → (effects x before).state.coding ≡ c
     stays-at [] after e = h
-    stays-at (g ∷ []) after e = let same : g ≡ f = cc in rw same (k x ∙ h)
+    stays-at (g ∷ []) after e = let same : g ≡ f = cc in rw same (k ∙ h)
     stays-at (g ∷ g' ∷ more) after e = absurd (cc)
 
 -- bytes that are read as one function
-reads-whole : (x : Screen) (bytes : List ℕ) (f : Func) → x.state.coding ≡ Utf8 → KeepsCoding f → ReadsAs Utf8 bytes (f ∷ [])
+reads-whole : (x : Screen) (bytes : List ℕ) (f : Func) → x.state.coding ≡ Utf8 → KeepsCoding x f → ReadsAs Utf8 bytes (f ∷ [])
     → reads (ready x) bytes ≡ outcome x (f ∷ []) [] nothing
 reads-whole x bytes f h k w =
     let given : functions (units Utf8 bytes).0 ≡ (f ∷ [], nothing) = w.1 in
@@ -43,10 +43,11 @@ reads-whole x bytes f h k w =
     reads-is bytes x Utf8 [] nothing (begun Utf8) nothing-opened stays ∙ rw (given, w.0) refl
 
 pub whole-has-read : (old new : Parts) (t : Terminal) (bytes before answered : List ℕ) (f : Func) → IsBetween old → old.decoding.coding ≡ Utf8
-    → KeepsCoding f → ReadsAs Utf8 bytes (f ∷ [])
+    → KeepsCoding old.screen f → ReadsAs Utf8 bytes (f ∷ [])
     → new.screen ≡ effect old.screen f → new.decoding ≡ old.decoding → new.parsing ≡ old.parsing → answered ≡ before ++ report old.screen f
     → StandsFor old t → HasRead t bytes before new answered
-whole-has-read old new t bytes before answered f b utf8 keeps w s d p a h =
+whole-has-read old new t bytes before answered f b utf8 kept_coding w s d p a h =
+    let keeps : KeepsCoding t.screen f = subst (λ (x : Screen). KeepsCoding x f) h.screen kept_coding in
     let e : t ≡ ready t.screen = ready-is old t h b.whole b.idle in
     let coding : t.screen.state.coding ≡ Utf8 = sym (ap (λ (v : Decoding). v.coding) h.decoding) ∙ utf8 in
     let r : reads t bytes ≡ outcome t.screen (f ∷ []) [] nothing = ap (λ (u : Terminal). reads u bytes) e ∙ reads-whole t.screen bytes f coding keeps w in
@@ -58,7 +59,7 @@ whole-has-read old new t bytes before answered f b utf8 keeps w s d p a h =
             decoding =
                 d ∙ h.decoding
                 ∙ ap (λ (u : List ℕ). record { coding = t.screen.state.coding; rest = u }) (ap (λ (u : Terminal). u.rest) e)
-                ∙ ap (λ (c : Coding). record { coding = c; rest = [] }) (sym (keeps t.screen));
+                ∙ ap (λ (c : Coding). record { coding = c; rest = [] }) (sym keeps);
             parsing = p ∙ h.parsing ∙ ap (λ (u : Terminal). kept u.unended) e;
           });
       reports =
@@ -69,7 +70,7 @@ whole-has-read old new t bytes before answered f b utf8 keeps w s d p a h =
 
 -- the same, where it is answered by nothing
 pub quiet-has-read : (old new : Parts) (t : Terminal) (bytes before : List ℕ) (f : Func) → IsBetween old → old.decoding.coding ≡ Utf8
-    → KeepsCoding f → ReadsAs Utf8 bytes (f ∷ [])
+    → KeepsCoding old.screen f → ReadsAs Utf8 bytes (f ∷ [])
     → new.screen ≡ effect old.screen f → new.decoding ≡ old.decoding → new.parsing ≡ old.parsing → report old.screen f ≡ []
     → StandsFor old t → HasRead t bytes before new before
 quiet-has-read old new t bytes before f b utf8 keeps w s d p a h =

@@ -16,7 +16,7 @@ ghost use Rattle.emulator.specs.Pages.{moved_back};
 use crate::shown::Shown;
 use cells::GridFault;
 use charsets::{Coding, Decoder, Unit, Units, first_character};
-use control_parser::{Parser, plain_run, sequence_behind};
+use control_parser::{Parser, Sequence, plain_run};
 use std::alloc::{AllocError, Global};
 use std::marker::Model;
 use terminal_model::{Modes, REPORT_BYTES, Report};
@@ -42,6 +42,8 @@ pub struct Emulator {
     decoder: Decoder,
     parser: Parser,
     screen: Screen,
+    /// Where a control sequence is read that comes whole.
+    sequence: Sequence,
 }
 
 impl Model for Emulator {
@@ -65,6 +67,7 @@ impl Emulator {
             decoder: Decoder::new(),
             parser: Parser::new(),
             screen,
+            sequence: Sequence::new(),
         })
     }
 
@@ -205,14 +208,13 @@ impl Emulator {
         ensures answers { vec_len out.new ≤ vec_len out.old + 24 * result }
         ensures capacity { vec_capacity out.old ≤ vec_capacity out.new }
     {
-        match sequence_behind(&bytes[2..]) {
-            Some(sequence) => {
-                let report = self.screen.sequence(&sequence);
-                append(&report, out);
-                sequence.len + 2
-            }
-            None => 0,
+        let count = self.sequence.read(&bytes[2..]);
+        if count == 0 {
+            return 0;
         }
+        let report = self.screen.sequence(&self.sequence);
+        append(&report, out);
+        count + 2
     }
 
     /// The same of a character from U+00A0 on.

@@ -3,7 +3,7 @@
 ghost use Rattle.std.specs.Prelude.{◌≡◌, ◌<◌, ◌≤◌, ◌↔◌, true, Err, IfOk, OnOk, OnErr, [], length, map, option_copied, slice_get};
 ghost use Rattle.std.specs.List.{list_all};
 ghost use Rattle.charsets.specs.Units.{is_plain};
-ghost use Rattle.control_parser.specs.declared.func.Func.TheVariants.{Control, Csi, Esc, Print};
+ghost use Rattle.control_parser.specs.declared.func.Func.TheVariants.{Control, Esc, Print};
 ghost use Rattle.cells.specs.Page.{IsGridSize, line_at};
 ghost use Rattle.cells.specs.Line.{cell_at};
 ghost use Rattle.terminal_model.specs.Screen.{IsSound, starting};
@@ -98,16 +98,14 @@ impl Screen {
 
     /// Does a control sequence, as `apply` of it, and gives what is answered.
     pub fn sequence(&mut self, sequence: &Sequence) -> Report
-        ensures effect { self.new ≡ effect self.old (Csi sequence.now.mark sequence.now.params sequence.now.intermediates sequence.now.last) }
-        ensures report { result ≡ report self.old (Csi sequence.now.mark sequence.now.params sequence.now.intermediates sequence.now.last) }
+        ensures effect { self.new ≡ effect self.old sequence.now }
+        ensures report { result ≡ report self.old sequence.now }
+        ensures coding { self.new.state.coding ≡ self.old.state.coding }
         ensures few { length result ≤ 12 }
     {
-        self.display.perform(sequence_acts(
-            sequence.mark,
-            sequence.params.as_slice(),
-            sequence.intermediates.as_slice(),
-            sequence.last,
-        ))
+        let (mark, params, intermediates, last) = sequence.parts();
+        self.display
+            .perform(sequence_acts(mark, params, intermediates, last))
     }
 
     /// Takes another size. It keeps the upper left part, of the kept lines too; the cursor and the saved place go to the

@@ -9,6 +9,7 @@ use charsets::{CharacterSet, Coding, Place, Shift};
 use terminal_model::Action;
 
 /// The action of a C0 control (ECMA-48, 8.3; VT220 Programmer Reference Manual, chapter 2); None where it is ignored.
+#[inline(always)]
 pub fn control_action(control: u8) -> Option<Action>
     ensures value { result ≡ control_action control }
     ensures counted { IfSome result IsCounted }
@@ -38,6 +39,7 @@ pub fn escape_action(intermediates: &[u8], last: u8) -> Option<Action>
 }
 
 /// The action of ESC and a final byte (ECMA-48, 8.3; VT220 Programmer Reference Manual, chapter 4); None where it is ignored.
+#[inline(always)]
 pub fn plain_escape_action(last: u8) -> Option<Action>
     ensures value { result ≡ escape_action last }
     ensures counted { IfSome result IsCounted }

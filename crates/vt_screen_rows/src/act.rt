@@ -17,6 +17,7 @@ use vt_screen_state::{
 
 impl Display {
     /// Does one action, and gives what is answered.
+    #[inline(always)]
     pub fn act(&mut self, action: Action) -> Report
         requires fit { IsFit self.old }
         requires counted { IsCounted action }
@@ -32,6 +33,7 @@ impl Display {
     }
 
     /// Does one action: one row of the screen table.
+    #[inline(always)]
     pub fn change(&mut self, action: Action)
         requires fit { IsFit self.old }
         requires counted { IsCounted action }
@@ -42,6 +44,7 @@ impl Display {
         self.dispatch(action);
     }
 
+    #[inline(always)]
     fn dispatch(&mut self, action: Action)
         requires fit { IsFit self.old }
         requires counted { IsCounted action }

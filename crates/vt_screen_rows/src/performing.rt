@@ -17,6 +17,7 @@ use vt_screen_actions::{Acts, Setting};
 
 impl Display {
     /// Does the actions of a control function, in turn, and gives what is answered.
+    #[inline(always)]
     pub fn perform(&mut self, acts: Acts<'_>) -> Report
         requires fit { IsFit self.old }
         requires counted { AreCounted acts }
@@ -37,6 +38,7 @@ impl Display {
     }
 
     /// Does the action of a control function that has at most one, and is answered by nothing.
+    #[inline(always)]
     pub fn perform_silently(&mut self, action: Option<Action>)
         requires fit { IsFit self.old }
         requires counted { IfSome action IsCounted }

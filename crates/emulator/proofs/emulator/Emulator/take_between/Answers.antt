@@ -44,7 +44,7 @@ returns-in-0-to-31-clause-taken c = λ t h.
     let utf8 : c.args.self.now.decoding.coding ≡ Utf8 = search rules in
     let e = front-one c.args.bytes.now b c.requires.some refl in
     let reads : ReadsAs Utf8 (take 1 c.args.bytes.now) (f ∷ []) = subst (λ (v : List ℕ). ReadsAs Utf8 v (f ∷ [])) (sym e) (spelled_reads f control) in
-    quiet-has-read c.args.self.now _ t _ c.args.out.now.items f c.requires.idle utf8 (λ x. effect-coding x f refl) reads
+    quiet-has-read c.args.self.now _ t _ c.args.out.now.items f c.requires.idle utf8 (effect-coding c.args.self.now.screen f refl) reads
     (c.control.ensures.effect ∙ ap (λ (v : Parts). effect v.screen f) c.self.view_is)
     (ap (λ (v : Parts). v.decoding) c.self.view_is) (ap (λ (v : Parts). v.parsing) c.self.view_is)
     (ap (λ (v : Parts). report v.screen f) (sym c.self.view_is) ∙ c.control.ensures.silent) h

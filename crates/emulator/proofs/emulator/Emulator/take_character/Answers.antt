@@ -13,7 +13,7 @@ pub returns-in-Some-clause-taken : goal.returns-in-Some-clause-taken
 returns-in-Some-clause-taken c = λ said t h.
     let f = Print c.in-Some.character in
     let graphic : is_graphic c.in-Some.character ≡ true = grind (arith, nat_tests, c.in-Some.ensures.graphic) in
-    quiet-has-read c.args.self.now _ t _ said f c.requires.idle c.requires.coding (λ x. effect-coding x f refl)
+    quiet-has-read c.args.self.now _ t _ said f c.requires.idle c.requires.coding (effect-coding c.args.self.now.screen f refl)
     (character-reads _ c.in-Some.character c.in-Some.ensures.reads graphic)
     (c.print.ensures.effect ∙ ap (λ (e : Parts). effect e.screen f) c.self.view_is)
     (ap (λ (e : Parts). e.decoding) c.self.view_is) (ap (λ (e : Parts). e.parsing) c.self.view_is)

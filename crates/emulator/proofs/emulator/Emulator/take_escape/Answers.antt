@@ -19,7 +19,7 @@ returns-in_default-clause-taken c = λ t h.
     let f = Esc [] last in
     let e = front-two c.args.bytes.now 0x1B last (omega arith) c.requires.begins refl in
     let reads : ReadsAs Utf8 (take 2 c.args.bytes.now) (f ∷ []) = subst (λ (v : List ℕ). ReadsAs Utf8 v (f ∷ [])) (sym e) (spelled_reads f (c.if-ends_escape.ensures refl)) in
-    quiet-has-read c.args.self.now _ t _ c.args.out.now.items f c.requires.idle c.requires.coding (λ x. effect-coding x f refl) reads
+    quiet-has-read c.args.self.now _ t _ c.args.out.now.items f c.requires.idle c.requires.coding (effect-coding c.args.self.now.screen f refl) reads
     (c.escape.ensures.effect ∙ ap (λ (v : Parts). effect v.screen f) c.self.view_is)
     (ap (λ (v : Parts). v.decoding) c.self.view_is) (ap (λ (v : Parts). v.parsing) c.self.view_is)
     (ap (λ (v : Parts). report v.screen f) (sym c.self.view_is) ∙ c.escape.ensures.silent) h
