@@ -10,6 +10,7 @@ mod leaders;
 mod message;
 mod needs;
 mod refusal;
+mod text;
 mod verdict;
 
 pub use bytes::Bytes;
@@ -19,4 +20,5 @@ pub use leaders::Leaders;
 pub use message::Message;
 pub use needs::Needs;
 pub use refusal::{Denied, EntryDenied, LockDenied, Refusal, WindowsFault};
+pub use text::push_decimal;
 pub use verdict::Verdict;
