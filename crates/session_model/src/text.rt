@@ -3,13 +3,11 @@
 ghost use Rattle.std.specs.Prelude.{◌≡◌, ◌++◌, decimal, OnOk, OnErr};
 ghost use Rattle.std.specs.List.{flat_map};
 ghost use Rattle.acl.specs.Names.{name_of};
-ghost use Rattle.session_model.specs.Rights.{leaders_listed};
 ghost use Rattle.session_model.specs.Texts.{letter, denied_text, missing_text, leader_text};
 ghost use Rattle.session_model.specs.Texts.{entry_text, lock_text, windows_number, text_of};
 
-use crate::leaders::Leaders;
 use crate::refusal::{Denied, EntryDenied, LockDenied, Refusal, WindowsFault};
-use acl::{Bit, UserId};
+use acl::{Bit, Leaders, UserId};
 use command_lang::name_text;
 use itoa::Buffer;
 use std::alloc::AllocError;
@@ -71,13 +69,11 @@ fn push_missing(user: UserId, bit: Bit, out: &mut Vec<u8>) -> Result<(), AllocEr
 /// Appends the entries of leaders, which lack the bit too.
 fn push_leaders(leaders: &Leaders, bit: Bit, out: &mut Vec<u8>) -> Result<(), AllocError>
     ensures { OnOk result (out.new.items
-        ≡ out.old.items ++ flat_map (leader_text bit) (leaders_listed leaders.now)) }
+        ≡ out.old.items ++ flat_map (leader_text bit) leaders.now) }
 {
-    for name in &leaders.names {
-        if let Some(leader) = name {
-            out.extend_from_slice(b"; leader ")?;
-            push_missing(*leader, bit, out)?;
-        }
+    for leader in leaders.as_slice() {
+        out.extend_from_slice(b"; leader ")?;
+        push_missing(*leader, bit, out)?;
     }
     Ok(())
 }
