@@ -67,7 +67,7 @@ no-fault (f ∷ fs) h = absurd (true≢false (ap is_some h))
 
 means-some : (end : ℕ) (ws : List Word) → first_of (line_faults end ws) ≡ None → is_some (line_command ws) ≡ true
 means-some end [] h = absurd (true≢false (ap is_some h))
-means-some end (w ∷ ws) h = by w.whole (command_named w.text) h
+means-some end (w ∷ ws) h = by w.is_closed (command_named w.text) h
   where
     by : (b : Bool) (o : Option CommandName) → first_of (cond b (named_faults o w.place end ws) (at w.place faults.BadQuote ∷ [])) ≡ None
         → is_some (option_and_then (λ n. command_of n (texts_of ws)) o) ≡ true

@@ -1,6 +1,7 @@
 -- The first fault of a line has the least place.
 use Rattle.std.proofs.Common.{◌≡◌, ℕ, ◌+◌, ◌-◌, ◌≤◌, Bool, true, false, cond, List, [], ◌∷◌, ◌++◌, length, sym, ap, ◌∙◌, subst, arith, Option, Some, None, option_to_list, unwrap_or, true≢false}
 use Rattle.std.specs.Prelude.{nat_lt}
+use Rattle.std.specs.List.{AllByRecursion}
 use Rattle.std.specs.Option.{is_some}
 use Rattle.std.specs.Str.{chars}
 use Rattle.std.proofs.lemmas.Str.{encodes-chars, IsUtf8-from_is_utf8}
@@ -63,11 +64,11 @@ sorted-words r i p end [] h = by (nat_lt i (least r))
     by true = (h, tt)
     by false = tt
 sorted-words r i p end (w ∷ ws) h =
-    joined p w.place (cond w.whole (judged (kind_at r i) w.text) (Some faults.BadQuote)) (words_faults r (i + 1) end ws) h.0 (sorted-words r (i + 1) w.place end ws h.1)
+    joined p w.place (cond w.is_closed (judged (kind_at r i) w.text) (Some faults.BadQuote)) (words_faults r (i + 1) end ws) h.0 (sorted-words r (i + 1) w.place end ws h.1)
 
 sorted-line : (end : ℕ) (ws : List Word) → Rising 0 end ws → Sorted 0 (line_faults end ws)
 sorted-line end [] h = (h, tt)
-sorted-line end (w ∷ ws) h = by w.whole (command_named w.text)
+sorted-line end (w ∷ ws) h = by w.is_closed (command_named w.text)
   where
     by : (b : Bool) (o : Option CommandName) → Sorted 0 (cond b (named_faults o w.place end ws) (at w.place faults.BadQuote ∷ []))
     by true None = (h.0, tt)
@@ -79,18 +80,21 @@ sorted-faults line ws h =
     sorted-line (length line) ws (rising-cut (chars line) ws (length line) h.cut (ap length (encodes-chars line (IsUtf8-from_is_utf8 line h.text))))
 
 -- none before the first
+abbrev AllFrom : ℕ → List ParseFault → Type 0
+AllFrom place fs = AllByRecursion (λ g. place ≤ g.place) fs
+
 same-place : (f g : ParseFault) → Some g ≡ Some f → g.place ≡ f.place
 same-place f g h = ap (λ o. (unwrap_or o g).place) h
 
-none-before : (p : ℕ) (fs : List ParseFault) → Sorted p fs → NoneBefore p fs
+none-before : (p : ℕ) (fs : List ParseFault) → Sorted p fs → AllFrom p fs
 none-before p [] s = tt
 none-before p (f ∷ fs) s = (s.0, none-before p fs (later p f.place fs s.0 s.1))
 
-first-least : (p : ℕ) (fs : List ParseFault) (f : ParseFault) → Sorted p fs → first_of fs ≡ Some f → NoneBefore f.place fs
+first-least : (p : ℕ) (fs : List ParseFault) (f : ParseFault) → Sorted p fs → first_of fs ≡ Some f → AllFrom f.place fs
 first-least p [] f s h = absurd (true≢false (sym (ap is_some h)))
 first-least p (g ∷ fs) f s h = let e = same-place f g h in none-before f.place (g ∷ fs) (omega (arith, e), s.1)
 
-pub least_place : (line : List ℕ) (f : ParseFault) → Refuses line f → (ws : List Word) → HasWords line ws → NoneBefore f.place (line_faults (length line) ws)
+pub least_place : (line : List ℕ) (f : ParseFault) → Refuses line f → NoneBefore line f
 least_place line f (Refuses.long l) ws h = absurd (let s = h.short in omega (arith, l, s))
 least_place line f (Refuses.no_text l e) ws h = absurd (true≢false (sym h.text ∙ e))
 least_place line f (Refuses.fault {ws = vs} k e) ws h =

@@ -38,7 +38,7 @@ record Named (ws : List Word) (c : Command) : Type 0 where
 
 named : (end : ℕ) (ws : List Word) (c : Command) → line_faults end ws ≡ [] → line_command ws ≡ Some c → Named ws c
 named end [] c h m = absurd (some-fault (at end faults.MissingWord) [] h)
-named end (w ∷ ws) c h m = by w.whole (command_named w.text) h m
+named end (w ∷ ws) c h m = by w.is_closed (command_named w.text) h m
   where
     by : (b : Bool) (o : Option CommandName) → cond b (named_faults o w.place end ws) (at w.place faults.BadQuote ∷ []) ≡ [] → option_and_then (λ n. command_of n (texts_of ws)) o ≡ Some c → Named (w ∷ ws) c
     by true None k e = absurd (some-fault (at w.place faults.UnknownCommand) [] k)
@@ -50,7 +50,7 @@ unfolding command_named
 name-found name.Acladd = refl
 name-found _ = refl
 
-line-fine : (end : ℕ) (n : CommandName) (w : Word) (ws : List Word) → w.whole ≡ true → w.text ≡ name_text n → words_faults (takes n) 0 end ws ≡ [] → line_faults end (w ∷ ws) ≡ []
+line-fine : (end : ℕ) (n : CommandName) (w : Word) (ws : List Word) → w.is_closed ≡ true → w.text ≡ name_text n → words_faults (takes n) 0 end ws ≡ [] → line_faults end (w ∷ ws) ≡ []
 line-fine end n w ws h t f =
     ap (λ b. cond b (named_faults (command_named w.text) w.place end ws) (at w.place faults.BadQuote ∷ [])) h
     ∙ ap (λ o. named_faults o w.place end ws) (ap command_named t ∙ name-found n) ∙ f

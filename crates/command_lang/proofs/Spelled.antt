@@ -85,7 +85,7 @@ word-visible t u = by (needs_no_quotes t) refl
     by false h = quote-visible
 
 abbrev at-word : ℕ → List ℕ → Word
-at-word place text = record { place = place; text = encode_utf8_all text; whole = true }
+at-word place text = record { place = place; text = encode_utf8_all text; is_closed = true }
 
 -- a word, and the words behind it
 pub one-word : (end : ℕ) (cs rest text : List ℕ) (ws : List Word) → Visible cs → Parts (cs ++ rest) text (Some rest) → Line end rest ws
@@ -138,7 +138,7 @@ pub record LineSpells (cs : List ℕ) (n : CommandName) (ts : List (List ℕ)) :
   pub first : Word
   pub behind : List Word
   pub cut : IsCut cs (first ∷ behind)
-  pub whole : first.whole ≡ true
+  pub whole : first.is_closed ≡ true
   pub name : first.text ≡ name_text n
   pub spelled : Spells behind ts
 

@@ -31,9 +31,9 @@ pub data Refuses : List ℕ → ParseFault → Type 0 where
   no_text : {line : List ℕ} → length line ≤ 1024 → is_utf8 line ≡ false → Refuses line (at 0 faults.BadWord)
   fault : {line : List ℕ} {ws : List Word} {f : ParseFault} → HasWords line ws → first_of (line_faults (length line) ws) ≡ Some f → Refuses line f
 
--- no fault is at a place before this one
-abbrev pub NoneBefore : ℕ → List ParseFault → Type 0
-NoneBefore place fs = AllByRecursion (λ f. place ≤ f.place) fs
+-- no fault of the line's words is at a place before this one's
+abbrev pub NoneBefore : List ℕ → ParseFault → Type 0
+NoneBefore line f = (ws : List Word) → HasWords line ws → AllByRecursion (λ g. f.place ≤ g.place) (line_faults (length line) ws)
 
 -- The same, computed.
 abbrev pub faults_of : List ℕ → List ParseFault

@@ -41,7 +41,7 @@ split None fs h = (refl, h)
 split (Some f) fs h = absurd (true≢false (ap is_some h))
 
 fitting : (k : Kind) (w : Word) → word_fault (Some k) w ≡ None → kind_fault k w.text ≡ None
-fitting k w h = by w.whole (kind_fault k w.text) h
+fitting k w h = by w.is_closed (kind_fault k w.text) h
   where
     by : (b : Bool) (o : Option FaultKind) → at_place w.place (cond b o (Some faults.BadQuote)) ≡ None → o ≡ None
     by true None h = refl
@@ -49,7 +49,7 @@ fitting k w h = by w.whole (kind_fault k w.text) h
     by false o h = absurd (true≢false (ap is_some h))
 
 extra : (w : Word) → word_fault None w ≡ None → ⊥
-extra w h = by w.whole h
+extra w h = by w.is_closed h
   where
     by : (b : Bool) → at_place w.place (cond b (Some faults.ExtraWord) (Some faults.BadQuote)) ≡ None → ⊥
     by true h = true≢false (ap is_some h)
@@ -108,22 +108,10 @@ numbered : (f : ℕ → Command) (limit : ℕ) (text : List ℕ) → unless (is_
 numbered f limit text h = ap (λ b. is_some (option_map f (cond b (Some (number_after 0 text)) None))) (passes (is_number limit text) faults.BadNumber h)
 
 bare_is : (n : CommandName) → Fits (takes n) [] → is_some (bare n) ≡ true
-bare_is name.Acladd h = absurd h
-bare_is name.Aclchg h = absurd h
-bare_is name.Acldel h = absurd h
-bare_is name.Aclgrp h = absurd h
-bare_is name.Aclumask h = absurd h
-bare_is name.Writelock h = absurd h
-bare_is name.Defwritelock h = absurd h
-bare_is name.Multiuser h = absurd h
-bare_is name.Wall h = absurd h
 bare_is name.Detach h = refl
-bare_is name.Select h = absurd h
 bare_is name.Next h = refl
 bare_is name.Prev h = refl
 bare_is name.Other h = refl
-bare_is name.Title h = absurd h
-bare_is name.Number h = absurd h
 bare_is name.Kill h = refl
 bare_is name.Screen h = refl
 bare_is name.Split h = refl
@@ -131,18 +119,15 @@ bare_is name.Focus h = refl
 bare_is name.Remove h = refl
 bare_is name.Only h = refl
 bare_is name.Fit h = refl
-bare_is name.Scrollview h = absurd h
 bare_is name.Clear h = refl
 bare_is name.Reset h = refl
-bare_is name.Encoding h = absurd h
-bare_is name.Stuff h = absurd h
 bare_is name.Windows h = refl
 bare_is name.Displays h = refl
 bare_is name.Quit h = refl
+bare_is _ h = absurd h
 
 one_is : (n : CommandName) (t : List ℕ) → Fits (takes n) (t ∷ []) → is_some (with_word n t) ≡ true
 one_is name.Acladd t h = refl
-one_is name.Aclchg t h = absurd h
 one_is name.Acldel t h = refl
 one_is name.Aclgrp t h = refl
 one_is name.Aclumask t h = refl
@@ -150,28 +135,14 @@ one_is name.Writelock t h = mapped _ _ faults.BadWord h
 one_is name.Defwritelock t h = mapped _ _ faults.BadWord h
 one_is name.Multiuser t h = mapped _ _ faults.BadWord h
 one_is name.Wall t h = refl
-one_is name.Detach t h = absurd h
 one_is name.Select t h = refl
-one_is name.Next t h = absurd h
-one_is name.Prev t h = absurd h
-one_is name.Other t h = absurd h
 one_is name.Title t h = refl
 one_is name.Number t h = numbered _ 39 t h
-one_is name.Kill t h = absurd h
-one_is name.Screen t h = absurd h
 one_is name.Split t h = ap (λ b. is_some (cond {A = Option Command} b (Some (command.Split true)) None)) (passes (is_vertical t) faults.BadWord h)
-one_is name.Focus t h = absurd h
-one_is name.Remove t h = absurd h
-one_is name.Only t h = absurd h
-one_is name.Fit t h = absurd h
 one_is name.Scrollview t h = numbered _ 2000 t h
-one_is name.Clear t h = absurd h
-one_is name.Reset t h = absurd h
 one_is name.Encoding t h = mapped _ _ faults.BadWord h
 one_is name.Stuff t h = refl
-one_is name.Windows t h = absurd h
-one_is name.Displays t h = absurd h
-one_is name.Quit t h = absurd h
+one_is _ t h = absurd h
 
 several_is : (n : CommandName) (t u : List ℕ) (ts : List (List ℕ)) → Fits (takes n) (t ∷ u ∷ ts) → is_some (with_words n (t ∷ u ∷ ts)) ≡ true
 several_is name.Aclumask t u ts h = refl
@@ -191,9 +162,9 @@ means_one n (t ∷ u ∷ ts) h = several_is n t u ts h
 -- Words that fit have no fault.
 abbrev pub AllWhole : List Word → Type 0
 AllWhole [] = Unit {0}
-AllWhole (w ∷ ws) = (w.whole ≡ true) × AllWhole ws
+AllWhole (w ∷ ws) = (w.is_closed ≡ true) × AllWhole ws
 
-fine : (k : Kind) (w : Word) → w.whole ≡ true → kind_fault k w.text ≡ None → word_fault (Some k) w ≡ None
+fine : (k : Kind) (w : Word) → w.is_closed ≡ true → kind_fault k w.text ≡ None → word_fault (Some k) w ≡ None
 fine k w e f = ap (λ b. at_place w.place (cond b (kind_fault k w.text) (Some faults.BadQuote))) e ∙ ap (at_place w.place) f
 
 word-fine : (r : Words) (i end : ℕ) (w : Word) (ws : List Word) → word_fault (kind_at r i) w ≡ None → words_faults r (i + 1) end ws ≡ [] → words_faults r i end (w ∷ ws) ≡ []

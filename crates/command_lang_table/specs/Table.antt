@@ -26,8 +26,8 @@ abbrev pub kind_at : Words → ℕ → Option Kind
 kind_at Nothing i = None
 kind_at (One a) i = if i == 0 then Some a else None
 kind_at (Perhaps a) i = if i == 0 then Some a else None
-kind_at (OneOrTwo a b) i = if i == 0 then Some a else (if i == 1 then Some b else None)
-kind_at (Three a b c) i = if i == 0 then Some a else (if i == 1 then Some b else (if i == 2 then Some c else None))
+kind_at (OneOrTwo a b) i = if i == 0 then Some a else if i == 1 then Some b else None
+kind_at (Three a b c) i = if i == 0 then Some a else if i == 1 then Some b else if i == 2 then Some c else None
 kind_at (Several a) i = Some a
 
 -- why a text isn't what a word has to be
@@ -56,7 +56,7 @@ judged (Some k) text = kind_fault k text
 
 -- the fault of a word; a bad quote goes first
 abbrev pub word_fault : Option Kind → Word → Option ParseFault
-word_fault k w = at_place w.place (if w.whole then judged k w.text else Some faults.BadQuote)
+word_fault k w = at_place w.place (if w.is_closed then judged k w.text else Some faults.BadQuote)
 
 -- The faults of a command's words from number i on, in a line of that length, by rising place.
 unfoldable pub words_faults : Words → ℕ → ℕ → List Word → List ParseFault

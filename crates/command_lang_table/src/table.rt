@@ -81,7 +81,7 @@ fn judge(kind: Kind, text: &str) -> Option<FaultKind>
 fn word_fault(kind: Option<Kind>, word: &Word) -> Option<ParseFault>
     ensures { result ≡ word_fault kind word.now }
 {
-    let fault = if !word.whole {
+    let fault = if !word.is_closed {
         Some(FaultKind::BadQuote)
     } else if let Some(kind) = kind {
         judge(kind, word.text.as_str())
@@ -121,7 +121,7 @@ pub fn words_fault(taken: Words, words: &[Word], end: usize) -> Option<ParseFaul
 pub fn first_name(word: &Word) -> Result<CommandName, ParseFault>
     ensures { result ≡ name_in word.now }
 {
-    if !word.whole {
+    if !word.is_closed {
         return Err(ParseFault {
             kind: FaultKind::BadQuote,
             place: word.place,

@@ -53,7 +53,7 @@ cut-blank cs words left c a l g e =
 
 -- the word that is put
 abbrev pub word : ℕ → List ℕ → Bool → Word
-word place text whole = record { place = place; text = text; whole = whole }
+word place text closed = record { place = place; text = text; is_closed = closed }
 
 -- what is left begins with a word
 record Begins (left old new : List ℕ) (end : Option (List ℕ)) : Type 0 where
@@ -76,13 +76,13 @@ begins left old new end c l g n o r =
 
 pub cut-word : (cs : List ℕ) (words : List Word) (left : List ℕ) (c : ℕ) → IsCutTo cs words left → 1 ≤ length left → c ≡ get_or left 0 c → c ≢ 0x20
     → (old new : List ℕ) (end : Option (List ℕ)) → old ≡ [] → Reads Parts left old new end
-    → (rest : List ℕ) → end ≡ Some rest → (place : ℕ) → place ≡ size cs - size left → (text : List ℕ) → text ≡ new → (whole : Bool) → whole ≡ true
-    → (next : List Word) → next ≡ words ++ word place text whole ∷ [] → IsCutTo cs next rest
-cut-word cs words left c a l g n old new end o r rest k place p text t whole w next e =
+    → (rest : List ℕ) → end ≡ Some rest → (place : ℕ) → place ≡ size cs - size left → (text : List ℕ) → text ≡ new → (closed : Bool) → closed ≡ true
+    → (next : List Word) → next ≡ words ++ word place text closed ∷ [] → IsCutTo cs next rest
+cut-word cs words left c a l g n old new end o r rest k place p text t closed w next e =
     let b = begins left old new end c l g n o r in
     let d = subst (Reads Parts (b.first ∷ b.others) [] new) k b.read in
     let back = word-behind b.first b.others d.text (Some rest) b.visible d.read in
-    let same : word place text whole ≡ word (size cs - size (b.first ∷ b.others)) (encode_utf8_all d.text) true =
+    let same : word place text closed ≡ word (size cs - size (b.first ∷ b.others)) (encode_utf8_all d.text) true =
     λ j. word ((p ∙ ap (λ x. size cs - size x) b.is) j) ((t ∙ d.put) j) (w j) in
     record {
       goes_on = λ ws m. subst (λ x. Line (size cs) cs (x ++ ws)) (sym (e ∙ ap (λ x. words ++ x ∷ []) same))
@@ -102,12 +102,12 @@ cut-less left c l g n old new end o r rest k =
 
 pub cut-broken : (cs : List ℕ) (words : List Word) (left : List ℕ) (c : ℕ) → IsCutTo cs words left → 1 ≤ length left → c ≡ get_or left 0 c → c ≢ 0x20
     → (old new : List ℕ) (end : Option (List ℕ)) → old ≡ [] → Reads Parts left old new end
-    → end ≡ None → (place : ℕ) → place ≡ size cs - size left → (text : List ℕ) → text ≡ new → (whole : Bool) → whole ≡ false
-    → (next : List Word) → next ≡ words ++ word place text whole ∷ [] → IsCut cs next
-cut-broken cs words left c a l g n old new end o r k place p text t whole w next e =
+    → end ≡ None → (place : ℕ) → place ≡ size cs - size left → (text : List ℕ) → text ≡ new → (closed : Bool) → closed ≡ false
+    → (next : List Word) → next ≡ words ++ word place text closed ∷ [] → IsCut cs next
+cut-broken cs words left c a l g n old new end o r k place p text t closed w next e =
     let b = begins left old new end c l g n o r in
     let d = subst (Reads Parts (b.first ∷ b.others) [] new) k b.read in
-    let same : word place text whole ≡ word (size cs - size (b.first ∷ b.others)) (encode_utf8_all d.text) false =
+    let same : word place text closed ≡ word (size cs - size (b.first ∷ b.others)) (encode_utf8_all d.text) false =
     λ j. word ((p ∙ ap (λ x. size cs - size x) b.is) j) ((t ∙ d.put) j) (w j) in
     subst (Line (size cs) cs) (sym (e ∙ ap (λ x. words ++ x ∷ []) same))
     (a.goes_on (word (size cs - size (b.first ∷ b.others)) (encode_utf8_all d.text) false ∷ [])

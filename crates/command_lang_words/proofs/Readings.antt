@@ -4,8 +4,8 @@ use Rattle.std.specs.Prelude.{◌==◌}
 use Rattle.std.specs.Option.{is_some}
 use Rattle.std.proofs.lemmas.Bool.Decides.{nat_tests}
 use Rattle.command_lang_words.specs.declared.word.Word.{Word}
-use Rattle.command_lang_words.specs.Grammar.{octal_front, Escaped, Character, Single, Double, Part, Parts, Line, IsCut, size}
-use Rattle.command_lang_words.specs.Lines.{Read, and_then, escaped, character, single, double, part, parts, word_at, and_words, line, words}
+use Rattle.command_lang_words.specs.Grammar.{octal_front, Escaped, Character, Single, Double, Part, Parts, Line, IsCut, size, word_at}
+use Rattle.command_lang_words.specs.Lines.{Read, and_then, escaped, character, single, double, part, parts, and_words, line, words}
 use Rattle.command_lang_words.proofs.Suffixes.{shorter, character-behind, part-behind, word-behind}
 
 pub other : (x y : ℕ) → x ≢ y → (x == y) ≡ false
@@ -90,7 +90,7 @@ line-is end (Line.word {c = c} {cs = cs} {text = text} {rest = rest} h f d) (suc
     let s = shorter 1 (c ∷ cs) rest (word-behind c cs text (Some rest) h f) in
     ap (λ b. elim b as (λ _. List Word) [ true ↦ line end n cs | false ↦ and_words (end - size (c ∷ cs)) (parts (suc n) (c ∷ cs)) (λ r. line end n r) ]) (other c 0x20 h)
     ∙ ap (λ r. and_words (end - size (c ∷ cs)) r (λ r. line end n r)) (parts-is f (suc n) l)
-    ∙ ap (λ ws. word_at (end - size (c ∷ cs)) (text, Some rest) ∷ ws) (line-is end d n (omega (arith, l, s)))
+    ∙ ap (λ ws. word_at (end - size (c ∷ cs)) text true ∷ ws) (line-is end d n (omega (arith, l, s)))
 line-is end (Line.broken h f) zero l = absurd (omega (arith, l))
 line-is end (Line.broken {c = c} {cs = cs} h f) (suc n) l =
     ap (λ b. elim b as (λ _. List Word) [ true ↦ line end n cs | false ↦ and_words (end - size (c ∷ cs)) (parts (suc n) (c ∷ cs)) (λ r. line end n r) ]) (other c 0x20 h)

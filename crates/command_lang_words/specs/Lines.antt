@@ -1,9 +1,8 @@
 -- The words of a line, computed: `IsCut` of the grammar holds of these alone. The first number of a function bounds how
 -- many characters it reads; each gives the text and what follows it, as the relation of its name does.
 use Rattle.std.specs.Prelude.{ℕ, zero, suc, ◌-◌, true, false, ◌==◌, List, [], ◌∷◌, ◌++◌, length, drop, Option, Some, None}
-use Rattle.std.specs.Str.{encode_utf8_all}
 use Rattle.command_lang_words.specs.declared.word.Word.{Word}
-use Rattle.command_lang_words.specs.Grammar.{octal_front, size}
+use Rattle.command_lang_words.specs.Grammar.{octal_front, size, word_at}
 
 abbrev pub Read : Type 0
 Read = List ℕ × Option (List ℕ)
@@ -36,12 +35,9 @@ parts zero cs = ([], Some [])
 parts (suc n) [] = ([], Some [])
 parts (suc n) (c ∷ cs) = elim (c == 0x20) [ true ↦ ([], Some (c ∷ cs)) | false ↦ and_then (part n c cs) (λ rest. parts n rest) ]
 
-abbrev pub word_at : ℕ → Read → Word
-word_at place r = record { place = place; text = encode_utf8_all r.0; whole = elim r.1 [ Some rest ↦ true | None ↦ false ] }
-
 -- a word, and the words behind it
 abbrev pub and_words : ℕ → Read → (List ℕ → List Word) → List Word
-and_words place r next = elim r.1 [ Some rest ↦ word_at place r ∷ next rest | None ↦ word_at place r ∷ [] ]
+and_words place r next = elim r.1 [ Some rest ↦ word_at place r.0 true ∷ next rest | None ↦ word_at place r.0 false ∷ [] ]
 
 unfoldable pub line : ℕ → ℕ → List ℕ → List Word
 line end zero cs = []

@@ -39,7 +39,7 @@ fn words_of(alloc: Global, cs: &[char]) -> Result<Vec<Word>, AllocError>
             words.push(Word {
                 place,
                 text: Text::new(text),
-                whole: behind.is_some(),
+                is_closed: behind.is_some(),
             })?;
             let Some(rest) = behind else {
                 return Ok(words);

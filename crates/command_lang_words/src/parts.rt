@@ -4,7 +4,7 @@ ghost use Rattle.std.specs.Prelude.{◌≡◌, ◌∷◌, IfOk, ℕ, List};
 ghost use Rattle.std.specs.Option.{option_map};
 ghost use Rattle.std.specs.String.{string_bytes};
 ghost use Rattle.command_lang_words.specs.Grammar.{is_octal, octal_front, Escaped, Character, Single, Double, Part, Parts};
-ghost use Rattle.command_lang_words.specs.Reading.{Reads};
+ghost use Rattle.command_lang_words.specs.Reading.{Puts};
 
 use std::alloc::AllocError;
 
@@ -31,7 +31,7 @@ fn octal_front(cs: &[char]) -> Option<char>
 
 /// Appends what stands behind a backslash: three octal digits, or another character.
 fn put_escaped<'a>(after: &'a [char], out: &mut String) -> Result<Option<&'a [char]>, AllocError>
-    ensures { IfOk result (λ r. Reads Escaped after.now (string_bytes out.old) (string_bytes out.new) (option_map (λ l. l.now) r)) }
+    ensures { Puts Escaped after.now (string_bytes out.old) (string_bytes out.new) result }
 {
     if let Some(c) = octal_front(after) {
         out.push(c)?;
@@ -52,7 +52,7 @@ fn put_character<'a>(
     after: &'a [char],
     out: &mut String,
 ) -> Result<Option<&'a [char]>, AllocError>
-    ensures { IfOk result (λ r. Reads Character (c ∷ after.now) (string_bytes out.old) (string_bytes out.new) (option_map (λ l. l.now) r)) }
+    ensures { Puts Character (c ∷ after.now) (string_bytes out.old) (string_bytes out.new) result }
 {
     if c == '\\' {
         put_escaped(after, out)
@@ -64,7 +64,7 @@ fn put_character<'a>(
 
 /// Appends what stands behind `'`.
 fn put_single<'a>(mut left: &'a [char], out: &mut String) -> Result<Option<&'a [char]>, AllocError>
-    ensures { IfOk result (λ r. Reads Single left.entry.now (string_bytes out.old) (string_bytes out.new) (option_map (λ l. l.now) r)) }
+    ensures { Puts Single left.entry.now (string_bytes out.old) (string_bytes out.new) result }
 {
     while let [c, rest @ ..] = left {
         if *c == '\'' {
@@ -78,7 +78,7 @@ fn put_single<'a>(mut left: &'a [char], out: &mut String) -> Result<Option<&'a [
 
 /// Appends what stands behind `"`.
 fn put_double<'a>(mut left: &'a [char], out: &mut String) -> Result<Option<&'a [char]>, AllocError>
-    ensures { IfOk result (λ r. Reads Double left.entry.now (string_bytes out.old) (string_bytes out.new) (option_map (λ l. l.now) r)) }
+    ensures { Puts Double left.entry.now (string_bytes out.old) (string_bytes out.new) result }
 {
     while let [c, rest @ ..] = left {
         if *c == '"' {
@@ -98,7 +98,7 @@ fn put_part<'a>(
     after: &'a [char],
     out: &mut String,
 ) -> Result<Option<&'a [char]>, AllocError>
-    ensures { IfOk result (λ r. Reads Part (c ∷ after.now) (string_bytes out.old) (string_bytes out.new) (option_map (λ l. l.now) r)) }
+    ensures { Puts Part (c ∷ after.now) (string_bytes out.old) (string_bytes out.new) result }
 {
     if c == '\'' {
         put_single(after, out)
@@ -114,7 +114,7 @@ pub fn put_parts<'a>(
     mut left: &'a [char],
     out: &mut String,
 ) -> Result<Option<&'a [char]>, AllocError>
-    ensures { IfOk result (λ r. Reads Parts left.entry.now (string_bytes out.old) (string_bytes out.new) (option_map (λ l. l.now) r)) }
+    ensures { Puts Parts left.entry.now (string_bytes out.old) (string_bytes out.new) result }
 {
     while let [c, rest @ ..] = left {
         if *c == ' ' {
