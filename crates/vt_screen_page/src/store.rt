@@ -12,6 +12,7 @@ ghost use Rattle.vt_screen_page.specs.Store.{IsStore, IsTurned, AreCleared, line
 use cells::{Cell, Line, Shape};
 use scrollback::Ring;
 use std::alloc::{AllocError, Global};
+use std::mem;
 
 /// Lets the places from `top` to `bottom` go round, so that the first `count` of them come last.
 pub fn turn(places: &mut [usize], top: usize, bottom: usize, count: usize)
@@ -79,8 +80,15 @@ pub fn scroll_down(
     turn(places, top, bottom, kept);
 }
 
-/// Scrolls the lines of the page from the first one to `bottom` up by one, the first one into a ring.
-pub fn scroll_into(stored: &mut [Line], places: &mut [usize], ring: &mut Ring, bottom: usize)
+/// Scrolls the lines of the page from the first one to `bottom` up by one, the first one into a ring, which
+/// hands a line back that becomes the blank one.
+pub fn scroll_into(
+    alloc: Global,
+    stored: &mut [Line],
+    places: &mut [usize],
+    ring: &mut Ring,
+    bottom: usize,
+)
     requires store { IsStore stored.old places.old }
     requires inside { bottom < length places.old }
     requires width { ring.old.columns ≡ length (line_at (lines_in_order stored.old places.old) 0) }
@@ -90,9 +98,11 @@ pub fn scroll_into(stored: &mut [Line], places: &mut [usize], ring: &mut Ring, b
     ensures kept { ring.new ≡ taken_in ring.old (line_at (lines_in_order stored.old places.old) 0) }
     ensures stands { Continues ring.old ring.new (line_at (lines_in_order stored.old places.old) 0) }
 {
-    let line = &mut stored[places[0]];
-    ring.swap_in(line);
-    line.clear();
+    let place = places[0];
+    let line = mem::replace(&mut stored[place], Line::empty(alloc));
+    let mut blank = ring.take_in(line);
+    blank.clear();
+    stored[place] = blank;
     turn(places, 0, bottom, 1);
 }
 
