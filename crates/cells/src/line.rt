@@ -51,6 +51,15 @@ impl Line {
         Ok(Line { cells })
     }
 
+    /// A line of no cell. No memory is taken.
+    pub fn empty(alloc: Global) -> Line
+        ensures { result ≡ [] }
+    {
+        Line {
+            cells: Vec::new(alloc),
+        }
+    }
+
     /// The number of its cells.
     pub fn width(&self) -> usize
         ensures { result ≡ length self.now }

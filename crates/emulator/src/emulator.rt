@@ -51,7 +51,7 @@ impl Model for Emulator {
 
     ghost Value = { Parts };
 
-    ghost view = { λ e. record { screen = e.screen; decoding = e.decoder; parsing = e.parser } };
+    ghost view = { λ e. record { screen = e.screen.screen; decoding = e.decoder; parsing = e.parser } };
 }
 
 impl Emulator {

@@ -37,13 +37,6 @@ fn blank_run(cells: &[Cell], from: usize) -> usize
     end - from
 }
 
-fn nth(cells: &[Cell], column: usize) -> Cell
-    requires { column < length cells.now }
-    ensures { result ≡ cell_at cells.now column }
-{
-    cells[column]
-}
-
 /// Draws a line at a column where it differs, up to the column that it returns: the differing columns end
 /// at `end`.
 fn draw_piece(
@@ -78,7 +71,7 @@ fn draw_piece(
         pen.erase_cells(line, column as u16, erased as u16, out)?;
         return Ok(column + erased);
     }
-    let cell = nth(after, column);
+    let cell = after[column];
     pen.put_cell(line, column as u16, cell, out)?;
     Ok(column + columns_of(cell) as usize)
 }

@@ -12,10 +12,10 @@ use Rattle.cells.proofs.Pages.{page_from-is, line_from-whole, line_from-blank, I
 use Rattle.vt_screen_page.specs.Store.{lines_in_order, ArePlaces, IsStore, IsTurned, turned_from, turned}
 use Rattle.vt_screen_page.proofs.Stored.{length-lines_in_order, line_at-lines_in_order, IsStore-is}
 
-le-leb' : (a b : ℕ) → a ≤ b → leb a b ≡ true
+pub le-leb' : (a b : ℕ) → a ≤ b → leb a b ≡ true
 le-leb' a b h = grind (arith, nat_tests)
 
-lt-leb' : (a b : ℕ) → b < a → leb a b ≡ false
+pub lt-leb' : (a b : ℕ) → b < a → leb a b ≡ false
 lt-leb' a b h = grind (arith, nat_tests)
 
 -- where a place comes from

@@ -12,6 +12,7 @@ ghost use Rattle.vt_screen_page.specs.Store.{IsStore, IsTurned, AreCleared, line
 use cells::{Cell, Line, Shape};
 use scrollback::Ring;
 use std::alloc::{AllocError, Global};
+use std::mem;
 
 /// Lets the places from `top` to `bottom` go round, so that the first `count` of them come last.
 pub fn turn(places: &mut [usize], top: usize, bottom: usize, count: usize)
@@ -44,13 +45,12 @@ pub fn erase_lines(stored: &mut [Line], places: &[usize], first: usize, end: usi
     clear_lines(stored, &places[first..end]);
 }
 
-/// Scrolls the lines of the page from `top` to `bottom` up by `count`, by their places.
+/// Scrolls the lines of the page from `top` to `bottom` up by `count`.
 pub fn scroll_up(stored: &mut [Line], places: &mut [usize], top: usize, bottom: usize, count: usize)
     requires store { IsStore stored.old places.old }
     requires order { top ≤ bottom }
     requires inside { bottom < length places.old }
     requires room { count ≤ bottom + 1 - top }
-    ensures turned { IsTurned top bottom count places.old places.new }
     ensures store { IsStore stored.new places.new }
     ensures page { lines_in_order stored.new places.new ≡ page_from (scrolled_up top bottom count) (lines_in_order stored.old places.old) }
     ensures places { places.new ≡ turned top bottom count places.old }
@@ -59,7 +59,7 @@ pub fn scroll_up(stored: &mut [Line], places: &mut [usize], top: usize, bottom: 
     turn(places, top, bottom, count);
 }
 
-/// Scrolls the lines of the page from `top` to `bottom` down by `count`, by their places.
+/// Scrolls the lines of the page from `top` to `bottom` down by `count`.
 pub fn scroll_down(
     stored: &mut [Line],
     places: &mut [usize],
@@ -71,7 +71,6 @@ pub fn scroll_down(
     requires order { top ≤ bottom }
     requires inside { bottom < length places.old }
     requires room { count ≤ bottom + 1 - top }
-    ensures turned { IsTurned top bottom (bottom + 1 - top - count) places.old places.new }
     ensures store { IsStore stored.new places.new }
     ensures page { lines_in_order stored.new places.new ≡ page_from (scrolled_down top bottom count) (lines_in_order stored.old places.old) }
     ensures places { places.new ≡ turned top bottom (bottom + 1 - top - count) places.old }
@@ -81,22 +80,29 @@ pub fn scroll_down(
     turn(places, top, bottom, kept);
 }
 
-/// Scrolls the lines of the page from the first one to `bottom` up by one, by their places, the first one
-/// into a ring.
-pub fn scroll_into(stored: &mut [Line], places: &mut [usize], ring: &mut Ring, bottom: usize)
+/// Scrolls the lines of the page from the first one to `bottom` up by one, the first one into a ring, which
+/// hands a line back that becomes the blank one.
+pub fn scroll_into(
+    alloc: Global,
+    stored: &mut [Line],
+    places: &mut [usize],
+    ring: &mut Ring,
+    bottom: usize,
+)
     requires store { IsStore stored.old places.old }
     requires inside { bottom < length places.old }
     requires width { ring.old.columns ≡ length (line_at (lines_in_order stored.old places.old) 0) }
-    ensures turned { IsTurned 0 bottom 1 places.old places.new }
     ensures store { IsStore stored.new places.new }
     ensures page { lines_in_order stored.new places.new ≡ page_from (scrolled_up 0 bottom 1) (lines_in_order stored.old places.old) }
     ensures places { places.new ≡ turned 0 bottom 1 places.old }
     ensures kept { ring.new ≡ taken_in ring.old (line_at (lines_in_order stored.old places.old) 0) }
     ensures stands { Continues ring.old ring.new (line_at (lines_in_order stored.old places.old) 0) }
 {
-    let line = &mut stored[places[0]];
-    ring.swap_in(line);
-    line.clear();
+    let place = places[0];
+    let line = mem::replace(&mut stored[place], Line::empty(alloc));
+    let mut blank = ring.take_in(line);
+    blank.clear();
+    stored[place] = blank;
     turn(places, 0, bottom, 1);
 }
 
