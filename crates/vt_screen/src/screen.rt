@@ -1,6 +1,6 @@
 //! A screen.
 
-ghost use Rattle.std.specs.Prelude.{◌≡◌, ◌<◌, ◌≤◌, ◌↔◌, true, Err, IfOk, OnOk, OnErr, [], length, map, option_copied, slice_get};
+ghost use Rattle.std.specs.Prelude.{◌≡◌, ◌<◌, ◌≤◌, ◌↔◌, true, Err, IfOk, OnOk, OnErr, [], false, IsTrue, length, map, option_copied, slice_get};
 ghost use Rattle.std.specs.List.{list_all};
 ghost use Rattle.charsets.specs.Units.{is_plain};
 ghost use Rattle.control_parser.specs.declared.func.Func.TheVariants.{Control, Esc, Print};
@@ -96,16 +96,17 @@ impl Screen {
         self.display.perform_silently(plain_escape_action(last));
     }
 
-    /// Does a control sequence, as `apply` of it, and gives what is answered.
-    pub fn sequence(&mut self, sequence: &Sequence) -> Report
-        ensures effect { self.new ≡ effect self.old sequence.now }
-        ensures report { result ≡ report self.old sequence.now }
-        ensures coding { self.new.state.coding ≡ self.old.state.coding }
-        ensures few { length result ≤ 12 }
+    /// Does a control sequence that isn't answered, as `apply` of it. It gives false where it is answered, and has done nothing
+    /// then.
+    pub fn sequence(&mut self, sequence: &Sequence) -> bool
+        ensures effect { IsTrue result → self.new ≡ effect self.old sequence.now }
+        ensures silent { IsTrue result → report self.old sequence.now ≡ [] }
+        ensures coding { IsTrue result → self.new.state.coding ≡ self.old.state.coding }
+        ensures undone { result ≡ false → self.new ≡ self.old }
     {
         let (mark, params, intermediates, last) = sequence.parts();
         self.display
-            .perform(sequence_acts(mark, params, intermediates, last))
+            .perform_unanswered(sequence_acts(mark, params, intermediates, last))
     }
 
     /// Takes another size. It keeps the upper left part, of the kept lines too; the cursor and the saved place go to the
