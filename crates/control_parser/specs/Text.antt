@@ -71,6 +71,17 @@ is_well_formed text = list_all is_intermediate (intermediates_of text) && nat_le
 abbrev pub params_of : List ℕ → List ℕ
 params_of text = take 16 (values (numbers_of text))
 
+-- the last of some values, and some values with another last one
+abbrev pub last_value : List ℕ → ℕ
+last_value [] = 0
+last_value (n ∷ []) = n
+last_value (n ∷ m ∷ ns) = last_value (m ∷ ns)
+
+abbrev pub with_last : List ℕ → ℕ → List ℕ
+with_last [] value = []
+with_last (n ∷ []) value = value ∷ []
+with_last (n ∷ m ∷ ns) value = n ∷ with_last (m ∷ ns) value
+
 -- one digit more of a value, and of the last of some values
 abbrev pub longer : ℕ → ℕ → ℕ
 longer n digit = min 9999 (n * 10 + digit)

@@ -4,6 +4,7 @@ ghost use Rattle.std.specs.Prelude.{◌≡◌, ◌≤◌, ◌<◌, [], ◌∷◌
 ghost use Rattle.charsets.specs.declared.unit.Coding.TheVariants.{Utf8};
 ghost use Rattle.control_parser.specs.declared.func.Func.TheVariants.{Csi};
 ghost use Rattle.control_parser.specs.Spelling.{ReadsAs};
+ghost use Rattle.control_parser.specs.Text.{longer};
 
 use crate::state::Text;
 use std::marker::Model;
@@ -53,14 +54,25 @@ impl Sequence {
         ensures few { result ≤ length bytes.now }
     {
         self.text.clear();
+        // The last parameter so far, which is written down where it ends.
+        let mut value = 0;
+        let mut takes_digits = true;
         for (at, &c) in bytes.iter().enumerate() {
             match c {
+                b'0'..=b'9' if takes_digits => {
+                    self.text.begun = true;
+                    value = longer(value, c - b'0');
+                }
                 b' '..=b'?' => {
+                    self.text.params.set_last(value);
                     if !self.text.grow(c) {
                         return 0;
                     }
+                    value = self.text.params.last();
+                    takes_digits = self.text.takes_digits();
                 }
                 b'@'..=b'~' => {
+                    self.text.params.set_last(value);
                     self.last = c;
                     return at + 1;
                 }
@@ -69,4 +81,13 @@ impl Sequence {
         }
         0
     }
+}
+
+/// A value with one digit more.
+fn longer(value: u16, digit: u8) -> u16
+    requires { digit < 10 }
+    ensures { result ≡ longer value digit }
+{
+    let longer = value as u32 * 10 + digit as u32;
+    longer.min(9999) as u16
 }

@@ -2,7 +2,7 @@
 
 ghost use Rattle.std.specs.Prelude.{◌≡◌, ◌==◌, ◌∷◌, [], true, false, Some, None, length, IsTrue};
 ghost use Rattle.control_parser.specs.Text.{is_intermediate};
-ghost use Rattle.control_parser.specs.Steps.{no_text, text_grown, begun_step, broken_step, escape_step, control_step, breaks_string, is_final_from, step_of, alone_of};
+ghost use Rattle.control_parser.specs.Steps.{TakesDigits, no_text, text_grown, begun_step, broken_step, escape_step, control_step, breaks_string, is_final_from, step_of, alone_of};
 ghost use Rattle.control_parser.specs.Grammar.{code, is_control, is_c1, is_sequence_text};
 
 use crate::func::Func;
@@ -103,6 +103,13 @@ impl Text {
         self.params.clear();
         self.over = false;
         self.intermediates.clear();
+    }
+
+    /// Whether a digit counts for the last parameter.
+    pub fn takes_digits(&self) -> bool
+        ensures { IsTrue result → TakesDigits self.now }
+    {
+        !self.over && self.intermediates.is_empty()
     }
 
     // The control sequence with this final.

@@ -102,8 +102,8 @@ impl Emulator {
         Ok(())
     }
 
-    /// Reads what stands whole at the front of some bytes, or the first one of them, and appends what is answered. It gives
-    /// how many it has read. Where memory is refused, it has read none.
+    /// Reads all that stands whole at the front of some bytes, or the first one of them, and appends what is answered. It
+    /// gives how many it has read. Where memory is refused, it has read none.
     fn feed_some(&mut self, bytes: &[u8], out: &mut Vec<u8>) -> Result<usize, AllocError>
         requires { 0 < length bytes.now }
         ensures ok { IfOk result (λ count. (t : Terminal) → StandsFor self.old t → HasRead t (take count bytes.now) out.old.items self.new out.new.items) }
@@ -116,7 +116,7 @@ impl Emulator {
         ensures room { vec_len out.old + 24 ≤ vec_capacity out.old → IsOk result }
     {
         out.reserve(REPORT_BYTES)?;
-        let count = self.take_whole(bytes, out);
+        let count = self.take_wholes(bytes);
         if count > 0 {
             return Ok(count);
         }
@@ -125,33 +125,45 @@ impl Emulator {
         Ok(1)
     }
 
-    /// Reads what stands whole at the front of some bytes, and appends what is answered. It gives how many bytes that are: 0
-    /// where something has begun, or where nothing of the kind stands there.
-    fn take_whole(&mut self, bytes: &[u8], out: &mut Vec<u8>) -> usize
-        requires some { 0 < length bytes.now }
-        requires room { vec_len out.old + 24 ≤ vec_capacity out.old }
-        ensures taken { HasTaken self.old bytes.now result out.old.items self.new out.new.items }
+    /// Where nothing has begun, reads all that stands whole at the front of some bytes and isn't answered. It gives how many
+    /// bytes that are: 0 where something has begun, or nothing of the kind stands there.
+    fn take_wholes(&mut self, bytes: &[u8]) -> usize
+        ensures taken { (said : List ℕ) → HasTaken self.old bytes.now result said self.new said }
         ensures few { result ≤ length bytes.now }
-        ensures answers { vec_len out.new ≤ vec_len out.old + 24 * result }
-        ensures capacity { vec_capacity out.old ≤ vec_capacity out.new }
     {
         if self.decoder.is_idle() && self.parser.is_idle() {
-            self.take_between(bytes, out)
+            self.take_on(bytes)
         } else {
             0
         }
     }
 
-    /// The same where nothing has begun: a run of bytes 20 to 7E, and in UTF-8 a control, an escape sequence without
-    /// intermediates, a control sequence, a character from U+00A0 on.
-    fn take_between(&mut self, bytes: &[u8], out: &mut Vec<u8>) -> usize
+    /// The same where nothing has begun.
+    fn take_on(&mut self, bytes: &[u8]) -> usize
+        requires { IsBetween self.old }
+        ensures taken { (said : List ℕ) → HasTaken self.old bytes.now result said self.new said }
+        ensures few { result ≤ length bytes.now }
+    {
+        let mut taken = 0;
+        while taken < bytes.len() {
+            let count = self.take_whole(&bytes[taken..]);
+            if count == 0 {
+                return taken;
+            }
+            taken += count;
+        }
+        taken
+    }
+
+    /// Reads the first that stands whole: a run of bytes 20 to 7E, and in UTF-8 a control, an escape sequence without
+    /// intermediates, a control sequence that isn't answered, a character from U+00A0 on.
+    fn take_whole(&mut self, bytes: &[u8]) -> usize
         requires some { 0 < length bytes.now }
         requires idle { IsBetween self.old }
-        requires room { vec_len out.old + 24 ≤ vec_capacity out.old }
-        ensures taken { HasTaken self.old bytes.now result out.old.items self.new out.new.items }
+        ensures taken { (said : List ℕ) → HasTaken self.old bytes.now result said self.new said }
         ensures few { result ≤ length bytes.now }
-        ensures answers { vec_len out.new ≤ vec_len out.old + 24 * result }
-        ensures capacity { vec_capacity out.old ≤ vec_capacity out.new }
+        ensures decoding { self.new.decoding ≡ self.old.decoding }
+        ensures parsing { self.new.parsing ≡ self.old.parsing }
     {
         let first = bytes[0];
         if 0x1F < first && first < 0x7F {
@@ -163,7 +175,7 @@ impl Emulator {
             return 0;
         }
         match first {
-            ESC => self.take_escape(bytes, out),
+            ESC => self.take_escape(bytes),
             CAN | SUB => 0,
             ..0x20 => {
                 self.screen.control(first);
@@ -174,21 +186,20 @@ impl Emulator {
     }
 
     /// The same of what begins with ESC.
-    fn take_escape(&mut self, bytes: &[u8], out: &mut Vec<u8>) -> usize
+    fn take_escape(&mut self, bytes: &[u8]) -> usize
         requires begins { take 1 bytes.now ≡ 0x1B ∷ [] }
         requires idle { IsBetween self.old }
         requires coding { self.old.decoding.coding ≡ Utf8 }
-        requires room { vec_len out.old + 24 ≤ vec_capacity out.old }
-        ensures taken { HasTaken self.old bytes.now result out.old.items self.new out.new.items }
+        ensures taken { (said : List ℕ) → HasTaken self.old bytes.now result said self.new said }
         ensures few { result ≤ length bytes.now }
-        ensures answers { vec_len out.new ≤ vec_len out.old + 24 * result }
-        ensures capacity { vec_capacity out.old ≤ vec_capacity out.new }
+        ensures decoding { self.new.decoding ≡ self.old.decoding }
+        ensures parsing { self.new.parsing ≡ self.old.parsing }
     {
         if bytes.len() < 2 {
             return 0;
         }
         match bytes[1] {
-            b'[' => self.take_sequence(bytes, out),
+            b'[' => self.take_sequence(bytes),
             last if ends_escape(last) => {
                 self.screen.escape(last);
                 2
@@ -198,22 +209,22 @@ impl Emulator {
     }
 
     /// The same of what begins with CSI.
-    fn take_sequence(&mut self, bytes: &[u8], out: &mut Vec<u8>) -> usize
+    fn take_sequence(&mut self, bytes: &[u8]) -> usize
         requires begins { take 2 bytes.now ≡ 0x1B ∷ 0x5B ∷ [] }
         requires idle { IsBetween self.old }
         requires coding { self.old.decoding.coding ≡ Utf8 }
-        requires room { vec_len out.old + 24 ≤ vec_capacity out.old }
-        ensures taken { HasTaken self.old bytes.now result out.old.items self.new out.new.items }
+        ensures taken { (said : List ℕ) → HasTaken self.old bytes.now result said self.new said }
         ensures few { result ≤ length bytes.now }
-        ensures answers { vec_len out.new ≤ vec_len out.old + 24 * result }
-        ensures capacity { vec_capacity out.old ≤ vec_capacity out.new }
+        ensures decoding { self.new.decoding ≡ self.old.decoding }
+        ensures parsing { self.new.parsing ≡ self.old.parsing }
     {
         let count = self.sequence.read(&bytes[2..]);
         if count == 0 {
             return 0;
         }
-        let report = self.screen.sequence(&self.sequence);
-        append(&report, out);
+        if !self.screen.sequence(&self.sequence) {
+            return 0;
+        }
         count + 2
     }
 
@@ -223,6 +234,8 @@ impl Emulator {
         requires coding { self.old.decoding.coding ≡ Utf8 }
         ensures taken { (said : List ℕ) → HasTaken self.old bytes.now result said self.new said }
         ensures few { result ≤ length bytes.now }
+        ensures decoding { self.new.decoding ≡ self.old.decoding }
+        ensures parsing { self.new.parsing ≡ self.old.parsing }
     {
         match first_character(bytes) {
             Some((character, count)) => {

@@ -1,6 +1,6 @@
 //! A screen.
 
-ghost use Rattle.std.specs.Prelude.{◌≡◌, ℕ, ◌<◌, ◌≤◌, ◌↔◌, true, Err, IfOk, OnOk, OnErr, [], length, map, option_copied, slice_get, slice_index};
+ghost use Rattle.std.specs.Prelude.{◌≡◌, ℕ, ◌<◌, ◌≤◌, ◌↔◌, true, Err, IfOk, OnOk, OnErr, [], false, IsTrue, length, map, option_copied, slice_get, slice_index};
 ghost use Rattle.std.specs.List.{list_all, range_with_len};
 ghost use Rattle.charsets.specs.Units.{is_plain};
 ghost use Rattle.control_parser.specs.declared.func.Func.TheVariants.{Control, Esc, Print};
@@ -102,17 +102,18 @@ impl Screen {
         self.display.perform_silently(plain_escape_action(last));
     }
 
-    /// Does a control sequence, as `apply` of it, and gives what is answered.
-    pub fn sequence(&mut self, sequence: &Sequence) -> Report
-        ensures effect { self.new.screen ≡ effect self.old.screen sequence.now }
-        ensures places { self.new.places ≡ effect_places self.old.screen sequence.now self.old.places }
-        ensures report { result ≡ report self.old.screen sequence.now }
-        ensures coding { self.new.screen.state.coding ≡ self.old.screen.state.coding }
-        ensures few { length result ≤ 12 }
+    /// Does a control sequence that isn't answered, as `apply` of it. It gives false where it is answered, and has done nothing
+    /// then.
+    pub fn sequence(&mut self, sequence: &Sequence) -> bool
+        ensures effect { IsTrue result → self.new.screen ≡ effect self.old.screen sequence.now }
+        ensures places { IsTrue result → self.new.places ≡ effect_places self.old.screen sequence.now self.old.places }
+        ensures silent { IsTrue result → report self.old.screen sequence.now ≡ [] }
+        ensures coding { IsTrue result → self.new.screen.state.coding ≡ self.old.screen.state.coding }
+        ensures undone { result ≡ false → self.new ≡ self.old }
     {
         let (mark, params, intermediates, last) = sequence.parts();
         self.display
-            .perform(sequence_acts(mark, params, intermediates, last))
+            .perform_unanswered(sequence_acts(mark, params, intermediates, last))
     }
 
     /// Takes another size. It keeps the upper left part, of the kept lines too; the cursor and the saved place go to the

@@ -1,6 +1,6 @@
 //! All the actions of a control function.
 
-ghost use Rattle.std.specs.Prelude.{◌≡◌, ◌≤◌, [], length, IfSome};
+ghost use Rattle.std.specs.Prelude.{◌≡◌, ◌≤◌, [], false, length, IfSome, IsTrue};
 ghost use Rattle.terminal_model.specs.Functions.{alone, each};
 ghost use Rattle.terminal_model.specs.Reports.{all_answered};
 ghost use Rattle.terminal_model.specs.Table.{all_acted};
@@ -53,6 +53,35 @@ impl Display {
         }
     }
 
+    /// Does the actions of a control function that isn't answered, in turn. It gives false where it is answered, and has done
+    /// nothing then.
+    #[inline(always)]
+    pub fn perform_unanswered(&mut self, acts: Acts<'_>) -> bool
+        requires fit { IsFit self.old }
+        requires counted { AreCounted acts }
+        ensures screen { IsTrue result → screen_of self.new ≡ all_acted (screen_of self.old) (actions_in acts.entry) }
+        ensures silent { IsTrue result → all_answered (screen_of self.old) (actions_in acts.entry) ≡ [] }
+        ensures places { IsTrue result → self.new.page.places ≡ all_acted_places (screen_of self.old) (actions_in acts.entry) self.old.page.places }
+        ensures undone { result ≡ false → screen_of self.new ≡ screen_of self.old }
+        ensures unturned { result ≡ false → self.new.page.places ≡ self.old.page.places }
+        ensures fit { IsFit self.new }
+    {
+        match acts {
+            Acts::Nothing => true,
+            Acts::One(action) => {
+                if is_answered(&action) {
+                    return false;
+                }
+                self.change(action);
+                true
+            }
+            Acts::Each(setting, values) => {
+                self.set_each(setting, values);
+                true
+            }
+        }
+    }
+
     /// Does the action of each value that is named, in turn; nothing is answered.
     fn set_each(&mut self, setting: Setting, values: &[u16])
         requires { IsFit self.old }
@@ -66,5 +95,20 @@ impl Display {
                 self.change(action);
             }
         }
+    }
+}
+
+/// Whether something is answered to an action: to DSR and DA.
+#[inline(always)]
+fn is_answered(action: &Action) -> bool
+    ensures { result ≡ false → IsSilent action.now }
+{
+    match action {
+        Action::ReportStatus
+        | Action::ReportPlace
+        | Action::ReportPrinter
+        | Action::ReportAttributes
+        | Action::ReportSecondaryAttributes => true,
+        _ => false,
     }
 }

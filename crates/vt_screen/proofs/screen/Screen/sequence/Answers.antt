@@ -5,13 +5,14 @@ use Rattle.terminal_model.specs.Screen.{Screen}
 use Rattle.terminal_model.specs.Table.{all_acted}
 use Rattle.terminal_model.proofs.Codings.{effect-coding}
 use Rattle.vt_screen_rows.specs.Displays.{screen_of}
+use Rattle.vt_screen.specs.Stored.{Stored}
 use Rattle.vt_screen.proofs.screen.Screen.sequence.Goals as goal
 
 pub returns-clause-coding : goal.returns-clause-coding
-returns-clause-coding c =
+returns-clause-coding c = λ done.
     let x : Screen = screen_of c.self.inside.display in
     let p = c.parts-mark.result in
-    ap (λ (y : Screen). y.state.coding) c.perform.ensures.screen
+    ap (λ (y : Screen). y.state.coding) (c.perform_unanswered.ensures.screen done)
     ∙ ap (λ (actions : List Action). (all_acted x actions).state.coding) c.sequence_acts.ensures.value
     ∙ effect-coding x (Csi p.0 p.1.now p.2.now p.3) refl
-    ∙ ap (λ (y : Screen). y.state.coding) c.self.view_is
+    ∙ ap (λ (y : Stored). y.screen.state.coding) c.self.view_is
