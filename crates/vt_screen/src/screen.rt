@@ -10,7 +10,7 @@ ghost use Rattle.terminal_model.specs.Screen.{IsSound, starting};
 ghost use Rattle.terminal_model.specs.Table.{effect, resized};
 ghost use Rattle.terminal_model.specs.Reports.{report};
 ghost use Rattle.vt_screen.specs.Effects.{effects};
-ghost use Rattle.vt_screen.specs.Stored.{effect_places};
+ghost use Rattle.vt_screen.specs.Stored.{effect_places, effects_places};
 ghost use Rattle.vt_screen.specs.Sizes.{IsScreenSize};
 
 use cells::{Cell, GridFault};
@@ -69,7 +69,8 @@ impl Screen {
     /// Prints characters 20 to 7E, one after another: `codes` has their code points. It takes no memory.
     pub fn print_run(&mut self, codes: &[u8])
         requires { list_all is_plain codes.now ≡ true }
-        ensures { self.new.screen ≡ effects self.old.screen (map (λ code. Print code) codes.now) }
+        ensures effect { self.new.screen ≡ effects self.old.screen (map (λ code. Print code) codes.now) }
+        ensures places { self.new.places ≡ effects_places self.old.screen (map (λ code. Print code) codes.now) self.old.places }
     {
         self.display.print_run(codes);
     }

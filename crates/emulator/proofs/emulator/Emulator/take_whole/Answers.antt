@@ -24,7 +24,7 @@ pub returns-then-first-lt127-clause-taken : goal.returns-then-first-lt127-clause
 returns-then-first-lt127-clause-taken c = λ said t h.
     run-has-read c.args.self.now _ t (take c.plain_run-run.result c.args.bytes.now) said h c.requires.idle.whole c.requires.idle.idle
     (subst (λ (n : ℕ). list_all is_plain (take n c.args.bytes.now) ≡ true) (sym c.plain_run-run.ensures) (prefix-plain is_plain c.args.bytes.now))
-    (c.print_run.ensures ∙ ap (λ (e : Parts). effects e.screen (map (λ b. Print b) (take c.plain_run-run.result c.args.bytes.now))) c.self.view_is)
+    (c.print_run.ensures.effect ∙ ap (λ (e : Parts). effects e.screen (map (λ b. Print b) (take c.plain_run-run.result c.args.bytes.now))) c.self.view_is)
     (ap (λ (e : Parts). e.decoding) c.self.view_is) (ap (λ (e : Parts). e.parsing) c.self.view_is)
 
 pub returns-then-ne-clause-taken : goal.returns-then-ne-clause-taken
