@@ -1,5 +1,5 @@
-use Rattle.session_rows.proofs.rights_of_users.Goals as goal
-use Rattle.session_rows.proofs.EntriesComputed as computed
+use Rattle.worked_rows.proofs.rights_of_users.Goals as goal
+use Rattle.worked_rows.proofs.EntriesComputed as computed
 
 pub returns-clause-denied : goal.returns-clause-denied
 returns-clause-denied c = computed.denied

@@ -4,7 +4,7 @@ use Rattle.std.specs.Fmt.{digits}
 use Rattle.keys.specs.Grammar.{items_behind, piece}
 use Rattle.command_lang.specs.Names.{command_named}
 use Rattle.session_model.specs.Deeds.{unless, refused_if, given}
-use Rattle.session_rows.specs.Locking as rows
+use Rattle.worked_rows.specs.Locking as rows
 
 pub stops : rows.Stops
 unfolding digits items_behind piece command_named unless refused_if given

@@ -1,75 +1,71 @@
--- Rights of several users. By computing.
+-- Windows and clients. By computing.
 use Rattle.std.proofs.Common.{refl}
 use Rattle.std.specs.Fmt.{digits}
 use Rattle.keys.specs.Grammar.{items_behind, piece}
 use Rattle.command_lang.specs.Names.{command_named}
 use Rattle.session_model.specs.Deeds.{unless, refused_if, given}
-use Rattle.session_rows.specs.Entries as rows
+use Rattle.worked_rows.specs.Opening as rows
 
-pub denied : rows.Denied
+pub no_more : rows.NoMore
 unfolding digits items_behind piece command_named unless refused_if given
-denied = refl
+no_more = (refl, refl)
 
-pub once : rows.Once
+pub kill : rows.Kill
 unfolding digits items_behind piece command_named unless refused_if given
-once = refl
+kill = refl
 
-pub by_leader : rows.ByLeader
+pub none_in_focus : rows.NoneInFocus
 unfolding digits items_behind piece command_named unless refused_if given
-by_leader = refl
+none_in_focus = refl
 
-pub leader_denied : rows.LeaderDenied
+pub new_serial : rows.NewSerial
 unfolding digits items_behind piece command_named unless refused_if given
-leader_denied = refl
+new_serial = (refl, refl)
 
-pub second_leader : rows.SecondLeader
+pub number_taken : rows.NumberTaken
 unfolding digits items_behind piece command_named unless refused_if given
-second_leader = refl
+number_taken = refl
 
-pub two_denied : rows.TwoDenied
+pub no_client : rows.NoClient
 unfolding digits items_behind piece command_named unless refused_if given
-two_denied = refl
+no_client = refl
 
-pub first_edition : rows.FirstEdition
+pub window_list : rows.WindowList
 unfolding digits items_behind piece command_named unless refused_if given
-first_edition = refl
+window_list = refl
 
-pub no_leader : rows.NoLeader
+pub client_list : rows.ClientList
 unfolding digits items_behind piece command_named unless refused_if given
-no_leader = refl
+client_list = refl
 
-pub leaders : rows.Leaders
+pub keys_in_steps : rows.KeysInSteps
 unfolding digits items_behind piece command_named unless refused_if given
-leaders = refl
+keys_in_steps = (refl, refl)
 
-pub leader_removed : rows.LeaderRemoved
+pub keys_cut : rows.KeysCut
 unfolding digits items_behind piece command_named unless refused_if given
-leader_removed = refl
+keys_cut = (refl, refl)
 
-pub removed : rows.Removed
+pub single_user : rows.SingleUser
 unfolding digits items_behind piece command_named unless refused_if given
-removed = refl
+single_user = refl
 
-pub owner_kept : rows.OwnerKept
+pub not_let_in : rows.NotLetIn
 unfolding digits items_behind piece command_named unless refused_if given
-owner_kept = (refl, refl, refl)
+not_let_in = refl
 
-pub all_or_nothing : rows.AllOrNothing
+pub unknown : rows.Unknown
 unfolding digits items_behind piece command_named unless refused_if given
-all_or_nothing = (refl, refl, refl)
+unknown = refl
 
-pub no_kill : rows.NoKill
+pub too_small : rows.TooSmall
 unfolding digits items_behind piece command_named unless refused_if given
-no_kill = (refl, refl)
+too_small = refl
 
-pub no_kill_there : rows.NoKillThere
+pub wall : rows.Wall
 unfolding digits items_behind piece command_named unless refused_if given
-no_kill_there = refl
+wall = refl
 
-pub later_window : rows.LaterWindow
+pub stuff : rows.Stuff
 unfolding digits items_behind piece command_named unless refused_if given
-later_window = (refl, refl, refl)
-
-pub later_name : rows.LaterName
-unfolding digits items_behind piece command_named unless refused_if given
-later_name = refl
+stuff = refl

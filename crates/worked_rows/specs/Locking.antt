@@ -10,8 +10,8 @@ use Rattle.session_model.specs.Trace.{Keys, Detach}
 use Rattle.session_model.specs.Tables.{Tables}
 use Rattle.session_model.specs.Rights.{holder_in}
 use Rattle.session_model.specs.Events.{outcome}
-use Rattle.session_rows.specs.Setup.{own, eve, several, ordered, after, typed, changes, takes}
-use Rattle.session_rows.specs.Setup.{gives, follows, then_comes, with_opened, why}
+use Rattle.worked_rows.specs.Setup.{own, eve, several, ordered, after, typed, changes, takes}
+use Rattle.worked_rows.specs.Setup.{gives, follows, then_comes, with_opened, why}
 use Rattle.std.specs.Prelude.{◌++◌}
 
 -- eve: writelock auto, on window 2; and writelock on

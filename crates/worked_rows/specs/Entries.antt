@@ -16,8 +16,8 @@ use Rattle.session_model.specs.Events.{Outcome}
 use Rattle.command_lang.specs.command.Command.{Command as Order}
 use Rattle.session_model.specs.Tables.{Tables}
 use Rattle.session_model.specs.Rights.{may_in}
-use Rattle.session_rows.specs.Setup.{user, own, bob, several, ordered, after, typed, changes, takes}
-use Rattle.session_rows.specs.Setup.{gives, follows, then_comes, with_opened, why, listed}
+use Rattle.worked_rows.specs.Setup.{user, own, bob, several, ordered, after, typed, changes, takes}
+use Rattle.worked_rows.specs.Setup.{gives, follows, then_comes, with_opened, why, listed}
 
 -- aclchg bob -w 2
 abbrev pub without_w : Tables

@@ -1,5 +1,5 @@
-use Rattle.session_rows.proofs.locks_of_windows.Goals as goal
-use Rattle.session_rows.proofs.LockingComputed as computed
+use Rattle.worked_rows.proofs.locks_of_windows.Goals as goal
+use Rattle.worked_rows.proofs.LockingComputed as computed
 
 pub returns-clause-stops : goal.returns-clause-stops
 returns-clause-stops c = computed.stops

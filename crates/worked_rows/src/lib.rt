@@ -2,9 +2,9 @@
 //! locks and open windows. Each function here does nothing; its contract has the rows.
 #![tactic(auto)]
 
-ghost use Rattle.session_rows.specs.Entries as entries;
-ghost use Rattle.session_rows.specs.Locking as locking;
-ghost use Rattle.session_rows.specs.Opening as opening;
+ghost use Rattle.worked_rows.specs.Entries as entries;
+ghost use Rattle.worked_rows.specs.Locking as locking;
+ghost use Rattle.worked_rows.specs.Opening as opening;
 
 /// Who may type and command: entries, leaders in both editions, masks and presets.
 pub fn rights_of_users()

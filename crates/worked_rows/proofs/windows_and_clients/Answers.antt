@@ -1,5 +1,5 @@
-use Rattle.session_rows.proofs.windows_and_clients.Goals as goal
-use Rattle.session_rows.proofs.OpeningComputed as computed
+use Rattle.worked_rows.proofs.windows_and_clients.Goals as goal
+use Rattle.worked_rows.proofs.OpeningComputed as computed
 
 pub returns-clause-no_more : goal.returns-clause-no_more
 returns-clause-no_more c = computed.no_more

@@ -13,8 +13,8 @@ use Rattle.session_model.specs.declared.refusal.WindowsFault.TheVariants as faul
 use Rattle.session_model.specs.Trace.{Keys, Attach, Open, Resize}
 use Rattle.session_model.specs.Tables.{Tables}
 use Rattle.session_model.specs.Events.{outcome, new_window}
-use Rattle.session_rows.specs.Setup.{user, own, bob, window, several, ordered, after, typed}
-use Rattle.session_rows.specs.Setup.{then_comes, why, listed}
+use Rattle.worked_rows.specs.Setup.{user, own, bob, window, several, ordered, after, typed}
+use Rattle.worked_rows.specs.Setup.{then_comes, why, listed}
 
 -- 40 windows
 abbrev pub full : Tables

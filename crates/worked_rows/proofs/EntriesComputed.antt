@@ -1,71 +1,75 @@
--- Windows and clients. By computing.
+-- Rights of several users. By computing.
 use Rattle.std.proofs.Common.{refl}
 use Rattle.std.specs.Fmt.{digits}
 use Rattle.keys.specs.Grammar.{items_behind, piece}
 use Rattle.command_lang.specs.Names.{command_named}
 use Rattle.session_model.specs.Deeds.{unless, refused_if, given}
-use Rattle.session_rows.specs.Opening as rows
+use Rattle.worked_rows.specs.Entries as rows
 
-pub no_more : rows.NoMore
+pub denied : rows.Denied
 unfolding digits items_behind piece command_named unless refused_if given
-no_more = (refl, refl)
+denied = refl
 
-pub kill : rows.Kill
+pub once : rows.Once
 unfolding digits items_behind piece command_named unless refused_if given
-kill = refl
+once = refl
 
-pub none_in_focus : rows.NoneInFocus
+pub by_leader : rows.ByLeader
 unfolding digits items_behind piece command_named unless refused_if given
-none_in_focus = refl
+by_leader = refl
 
-pub new_serial : rows.NewSerial
+pub leader_denied : rows.LeaderDenied
 unfolding digits items_behind piece command_named unless refused_if given
-new_serial = (refl, refl)
+leader_denied = refl
 
-pub number_taken : rows.NumberTaken
+pub second_leader : rows.SecondLeader
 unfolding digits items_behind piece command_named unless refused_if given
-number_taken = refl
+second_leader = refl
 
-pub no_client : rows.NoClient
+pub two_denied : rows.TwoDenied
 unfolding digits items_behind piece command_named unless refused_if given
-no_client = refl
+two_denied = refl
 
-pub window_list : rows.WindowList
+pub first_edition : rows.FirstEdition
 unfolding digits items_behind piece command_named unless refused_if given
-window_list = refl
+first_edition = refl
 
-pub client_list : rows.ClientList
+pub no_leader : rows.NoLeader
 unfolding digits items_behind piece command_named unless refused_if given
-client_list = refl
+no_leader = refl
 
-pub keys_in_steps : rows.KeysInSteps
+pub leaders : rows.Leaders
 unfolding digits items_behind piece command_named unless refused_if given
-keys_in_steps = (refl, refl)
+leaders = refl
 
-pub keys_cut : rows.KeysCut
+pub leader_removed : rows.LeaderRemoved
 unfolding digits items_behind piece command_named unless refused_if given
-keys_cut = (refl, refl)
+leader_removed = refl
 
-pub single_user : rows.SingleUser
+pub removed : rows.Removed
 unfolding digits items_behind piece command_named unless refused_if given
-single_user = refl
+removed = refl
 
-pub not_let_in : rows.NotLetIn
+pub owner_kept : rows.OwnerKept
 unfolding digits items_behind piece command_named unless refused_if given
-not_let_in = refl
+owner_kept = (refl, refl, refl)
 
-pub unknown : rows.Unknown
+pub all_or_nothing : rows.AllOrNothing
 unfolding digits items_behind piece command_named unless refused_if given
-unknown = refl
+all_or_nothing = (refl, refl, refl)
 
-pub too_small : rows.TooSmall
+pub no_kill : rows.NoKill
 unfolding digits items_behind piece command_named unless refused_if given
-too_small = refl
+no_kill = (refl, refl)
 
-pub wall : rows.Wall
+pub no_kill_there : rows.NoKillThere
 unfolding digits items_behind piece command_named unless refused_if given
-wall = refl
+no_kill_there = refl
 
-pub stuff : rows.Stuff
+pub later_window : rows.LaterWindow
 unfolding digits items_behind piece command_named unless refused_if given
-stuff = refl
+later_window = (refl, refl, refl)
+
+pub later_name : rows.LaterName
+unfolding digits items_behind piece command_named unless refused_if given
+later_name = refl
