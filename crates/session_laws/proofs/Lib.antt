@@ -14,4 +14,9 @@ pub mod Granting
 pub mod Refusing
 pub mod Telling
 pub mod Promising
+pub mod Numbers
 pub mod Moving
+pub mod Rows
+pub mod Lasting
+pub mod Settling
+pub mod Sounding

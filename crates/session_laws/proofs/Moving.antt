@@ -19,6 +19,10 @@ use Rattle.acl.specs.History.{among}
 use Rattle.acl.specs.Names.{named_by}
 use Rattle.acl.specs.Commands.{change_fault, change_acts, name_acts, user_acts, sets, sets_on, with_name, add_acts, known_acts, new_acts, names_sets, name_sets, added, group_acts, chosen_leader, mask_acts, scope_acts}
 use Rattle.session_model.specs.Tables.{Tables, Window, Client, row_of, with_row, window_at, with_window, with_client}
+use Rattle.session_model.specs.Deeds.{Deed, Answer, acting, listing}
+use Rattle.session_model.specs.Sound.{NumbersDiffer}
+use Rattle.session_laws.proofs.Lists.{filter_all}
+use Rattle.session_laws.proofs.Numbers.{serial_of, Differ}
 
 -- ---- acts that say nothing of which windows and clients there are
 
@@ -32,7 +36,7 @@ is_aside _ = true
 abbrev pub AllAside : List Act → Type 0
 AllAside acts = AllByRecursion (λ a. is_aside a ≡ true) acts
 
-aside_append : (a b : List Act) → AllAside a → AllAside b → AllAside (a ++ b)
+pub aside_append : (a b : List Act) → AllAside a → AllAside b → AllAside (a ++ b)
 aside_append [] b p q = q
 aside_append (x ∷ a) b p q = (p.0, aside_append a b p.1 q)
 
@@ -91,3 +95,84 @@ scope_aside by (scope.User (Some u)) bit value = (refl, tt)
 pub mask_aside : (by : UserId) (entries : List MaskEntry) → AllAside (mask_acts by entries)
 mask_aside by [] = tt
 mask_aside by (e ∷ entries) = aside_append (scope_acts by e.scope e.bit e.value) (mask_acts by entries) (scope_aside by e.scope e.bit e.value) (mask_aside by entries)
+
+-- ---- what a command moves
+
+abbrev pub id_of : Client → ℕ × UserId
+id_of c = (c.serial, c.user)
+
+-- the clients that are attached, with their users, and the windows that are open, by their serials
+abbrev pub ids : Tables → List (ℕ × UserId)
+ids t = map id_of t.clients
+
+abbrev pub serials : Tables → List ℕ
+serials t = map serial_of t.windows
+
+abbrev pub closed : List ℕ → List Act
+closed ns = map (λ n. act.Closed n) ns
+
+abbrev pub parted : List (ℕ × UserId) → List Act
+parted ps = map (λ (p : ℕ × UserId). act.Parted p.0) ps
+
+-- Some windows are closed and some clients part, in order; the others stay, and what else is done says nothing of them.
+pub record Moves (t : Tables) (u : Tables) (acts : List Act) (effects : ℕ) : Type 0 where
+  pub closing : ℕ → Bool
+  pub parting : ℕ × UserId → Bool
+  pub others : List Act
+  pub aside : AllAside others
+  pub acts_are : acts ≡ closed (filter closing (serials t)) ++ (parted (filter parting (ids t)) ++ others)
+  pub windows : serials u ≡ filter (λ n. not (closing n)) (serials t)
+  pub clients : ids u ≡ filter (λ p. not (parting p)) (ids t)
+  pub next_window : u.next_window ≡ t.next_window
+  pub next_client : u.next_client ≡ t.next_client
+  pub few : effects ≤ length t.windows + length t.clients + 1
+  pub numbers : Differ t.windows → NumbersDiffer t.windows → NumbersDiffer u.windows
+
+abbrev pub DeedMoves : Tables → Deed → Type 0
+DeedMoves t d = Moves t d.tables d.acts (length d.effects)
+
+pub filter_map : {A B : Type 0} (f : A → B) (p : B → Bool) (xs : List A) → map f (filter (λ x. p (f x)) xs) ≡ filter p (map f xs)
+filter_map f p [] = refl
+filter_map f p (x ∷ xs) = on (p (f x)) (filter_map f p xs) where
+  on : (b : Bool) → map f (filter (λ x. p (f x)) xs) ≡ filter p (map f xs)
+      → map f (if b then x ∷ filter (λ x. p (f x)) xs else filter (λ x. p (f x)) xs) ≡ (if b then f x ∷ filter p (map f xs) else filter p (map f xs))
+  on true same = ap (λ ys. f x ∷ ys) same
+  on false same = same
+
+pub filter_none : {A : Type 0} (xs : List A) → filter (λ x. false) xs ≡ []
+filter_none [] = refl
+filter_none (x ∷ xs) = filter_none xs
+
+-- nobody goes
+pub stays : (t u : Tables) (acts : List Act) (effects : ℕ) → AllAside acts → serials u ≡ serials t → ids u ≡ ids t
+    → u.next_window ≡ t.next_window → u.next_client ≡ t.next_client → effects ≤ length t.windows + length t.clients + 1
+    → (Differ t.windows → NumbersDiffer t.windows → NumbersDiffer u.windows) → Moves t u acts effects
+stays t u acts effects aside windows clients next_window next_client few numbers = record {
+  closing = λ n. false;
+  parting = λ p. false;
+  others = acts;
+  aside = aside;
+  acts_are = sym (ap (λ ns. closed ns ++ (parted (filter (λ p. false) (ids t)) ++ acts)) (filter_none (serials t)) ∙ ap (λ ps. parted ps ++ acts) (filter_none (ids t)));
+  windows = windows ∙ sym (filter_all (serials t));
+  clients = clients ∙ sym (filter_all (ids t));
+  next_window = next_window;
+  next_client = next_client;
+  few = few;
+  numbers = numbers;
+}
+
+-- only acts aside
+pub acts_only : (t : Tables) (acts : List Act) → AllAside acts → DeedMoves t (acting t acts)
+acts_only t acts aside = stays t t acts 0 aside refl refl refl refl (omega arith) (λ differ numbers. numbers)
+
+pub lists_only : (t : Tables) (bytes : List ℕ) → DeedMoves t (listing t bytes)
+lists_only t bytes = stays t t [] 0 tt refl refl refl refl (omega arith) (λ differ numbers. numbers)
+
+-- a client's row
+pub map_with_row : {A B : Type 0} (f : A → B) (s : A → ℕ) (rows : List A) (n : ℕ) (x : A) → ((r : A) → row_of s rows n ≡ Some r → f x ≡ f r) → map f (with_row s rows n x) ≡ map f rows
+map_with_row f s [] n x same = refl
+map_with_row {A = A} f s (r ∷ rows) n x same = on (s r == n) same (map_with_row f s rows n x) where
+  on : (b : Bool) → ((q : A) → (if b then Some r else row_of s rows n) ≡ Some q → f x ≡ f q) → (((q : A) → row_of s rows n ≡ Some q → f x ≡ f q) → map f (with_row s rows n x) ≡ map f rows)
+      → map f (if b then x ∷ rows else r ∷ with_row s rows n x) ≡ map f (r ∷ rows)
+  on true same later = ap (λ y. y ∷ map f rows) (same r refl)
+  on false same later = ap (λ ys. f r ∷ ys) (later same)

@@ -1,8 +1,9 @@
 -- What holds of every step and of every run of a session.
 use Rattle.session_model.specs.Trace.{Entry, Trace}
 use Rattle.session_model.specs.Tables.{Tables}
-use Rattle.session_model.specs.Run.{IsStep, IsRun}
+use Rattle.session_model.specs.Run.{IsStep, IsRun, after, tables_of}
 use Rattle.session_model.specs.Keeps.{KeepsPromise, KeepsPromises}
+use Rattle.session_model.specs.Sound.{AreSound}
 
 -- what is a step keeps the promise
 abbrev pub StepsKeepPromise : Type 0
@@ -11,3 +12,10 @@ StepsKeepPromise = (t : Tables) (e : Entry) → IsStep t e → KeepsPromise t e
 -- and so does each step of a run
 abbrev pub RunsKeepPromise : Type 0
 RunsKeepPromise = (h : Trace) → IsRun h → KeepsPromises h
+
+-- serials rise and are never given again, numbers differ, and there are no more windows and clients than may be
+abbrev pub TablesStaySound : Type 0
+TablesStaySound = (t : Tables) (e : Entry) → AreSound t → AreSound (after t e)
+
+abbrev pub RunsAreSound : Type 0
+RunsAreSound = (h : Trace) → AreSound (tables_of h)

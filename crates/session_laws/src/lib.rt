@@ -2,7 +2,7 @@
 //! law: it does nothing, and its contract says what holds.
 #![tactic(auto)]
 
-ghost use Rattle.session_laws.specs.Laws.{StepsKeepPromise, RunsKeepPromise};
+ghost use Rattle.session_laws.specs.Laws.{StepsKeepPromise, RunsKeepPromise, TablesStaySound, RunsAreSound};
 
 /// Each step, whatever the tables, keeps the promise: typed bytes reach windows exactly by rights and locks, and
 /// else it is told why; commands act exactly where x is granted; draws show the granted view by frames; denials name
@@ -14,4 +14,11 @@ pub fn steps_keep_promise()
 /// So does each step of every run.
 pub fn runs_keep_promise()
     ensures { RunsKeepPromise }
+{}
+
+/// Windows and clients stay in the order of their serials, which were all given and are never given again; numbers of
+/// windows differ; there are at most 40 windows and 64 clients.
+pub fn tables_stay_sound()
+    ensures step { TablesStaySound }
+    ensures run { RunsAreSound }
 {}

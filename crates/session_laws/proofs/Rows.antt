@@ -1,0 +1,275 @@
+-- What each command moves: one row a command.
+use Rattle.std.proofs.Common.{◌≡◌, ℕ, ◌+◌, ◌-◌, ◌<◌, ◌≤◌, Bool, true, false, not, List, [], ◌∷◌, ◌++◌, Option, Some, None, Ok, Err, refl, ap, sym, ◌∙◌, subst, map, filter, length, arith, suc}
+use Rattle.std.specs.Prelude.{if◌then◌else◌, ◌==◌, codes}
+use Rattle.std.specs.List.{AllByRecursion}
+use Rattle.std.specs.Option.{option_and_then, option_map_or}
+use Rattle.acl.specs.declared.user_id.UserId.{UserId}
+use Rattle.acl.specs.declared.act.Act.{Act}
+use Rattle.acl.specs.declared.act.Act.TheVariants as act
+use Rattle.acl.specs.declared.act.Object.{Object}
+use Rattle.acl.specs.declared.faults.AclFault.{AclFault}
+use Rattle.acl.specs.Same.{same_user}
+use Rattle.acl.specs.Names.{named_by, name_of}
+use Rattle.acl.specs.Commands.{change_fault}
+use Rattle.command_lang.specs.command.Command.{Command as Order}
+use Rattle.command_lang.specs.command.Command.TheVariants as command
+use Rattle.regions.specs.Layouts.{Arrangement}
+use Rattle.terminal_model.specs.Writing as written
+use Rattle.session_model.specs.declared.event.Effect.{Effect}
+use Rattle.session_model.specs.declared.event.Effect.TheVariants.{Input, Say, Size, GoneWindow, GoneClient}
+use Rattle.session_model.specs.declared.event.Reason.{Reason}
+use Rattle.session_model.specs.declared.event.Reason.TheVariants.{Detached, Killed, Removed, SingleUser, Quit}
+use Rattle.session_model.specs.declared.message.Message.TheVariants.{Text}
+use Rattle.session_model.specs.declared.refusal.Refusal.{Refusal}
+use Rattle.session_model.specs.declared.refusal.Refusal.TheVariants.{Acl, Windows, NoWindow}
+use Rattle.session_model.specs.declared.refusal.WindowsFault.TheVariants.{NoSuchWindow}
+use Rattle.session_model.specs.Tables.{Tables, Window, Client, row_of, window_at, client_at, with_window, with_client, with_layout, focused, known_users}
+use Rattle.session_model.specs.Naming.{names_of, with_number, window_named, window_after, window_before}
+use Rattle.session_model.specs.Lines.{Caller}
+use Rattle.session_model.specs.Deeds as deeds
+use Rattle.session_model.specs.Deeds.{Deed, Answer, given, unless, refused_if, changing, acting, listing, removes, is_of, parts, closes, both, without_window, without_windows}
+use Rattle.session_model.specs.Deeds.{selects, enters, arranges, entering, former_of, input_of, hearing, tells}
+use Rattle.session_model.specs.Commands.{does, caller_client, on_client, is_taken, coding_of, mask_entries}
+use Rattle.session_model.specs.Sound.{NumbersDiffer}
+use Rattle.session_laws.proofs.Inputs.{append_nil}
+use Rattle.session_laws.proofs.Lists.{equal, filter_all, row_serial}
+use Rattle.session_laws.proofs.Numbers.{serial_of, Differ, IsFree, with_numbers, fewer_numbers, own_number}
+use Rattle.session_laws.proofs.Doing.{Either, by_given, by_unless, by_refused, by_fault, by_shown}
+use Rattle.session_laws.proofs.Unread.{row_at}
+use Rattle.session_laws.proofs.Moving.{AllAside, Moves, DeedMoves, id_of, ids, serials, closed, parted, filter_map, stays, acts_only, lists_only, map_with_row, filter_none, change_aside, add_aside, group_aside, mask_aside}
+
+pub length_map : {A B : Type 0} (f : A → B) (xs : List A) → length (map f xs) ≡ length xs
+length_map f [] = refl
+length_map f (x ∷ xs) = ap suc (length_map f xs)
+
+pub length_filter : {A : Type 0} (p : A → Bool) (xs : List A) → length (filter p xs) ≤ length xs
+length_filter p [] = omega arith
+length_filter p (x ∷ xs) = on (p x) (length_filter p xs) where
+  on : (b : Bool) → length (filter p xs) ≤ length xs → length (if b then x ∷ filter p xs else filter p xs) ≤ length (x ∷ xs)
+  on true le = omega (arith, le)
+  on false le = omega (arith, le)
+
+length_gone : {A B : Type 0} (f : A → B) (p : A → Bool) (xs : List A) → length (map f (filter p xs)) ≤ length xs
+length_gone f p xs = let same : length (map f (filter p xs)) ≡ length (filter p xs) = length_map f (filter p xs) in let le : length (filter p xs) ≤ length xs = length_filter p xs in omega (arith, same, le)
+
+map_map : {A B : Type 0} (f : A → B) (g : A → A) (xs : List A) → ((x : A) → f (g x) ≡ f x) → map f (map g xs) ≡ map f xs
+map_map f g [] same = refl
+map_map f g (x ∷ xs) same = ap (λ y. y ∷ map f (map g xs)) (same x) ∙ ap (λ ys. f x ∷ ys) (map_map f g xs same)
+
+pub length_append : {A : Type 0} (xs ys : List A) → length (xs ++ ys) ≡ length xs + length ys
+length_append [] ys = omega arith
+length_append (x ∷ xs) ys = let e : length (xs ++ ys) ≡ length xs + length ys = length_append xs ys in omega (arith, e)
+
+-- ---- pages
+
+caller_row : (t : Tables) (o : Option ℕ) (c : Client) → option_and_then (client_at t) o ≡ Some c → client_at t c.serial ≡ Some c
+caller_row t None c is = absurd (cc (is))
+caller_row t (Some n) c is = row_at t n c is
+
+pub client_ids : (t : Tables) (c d : Client) → client_at t c.serial ≡ Some c → id_of d ≡ id_of c → map id_of (with_client t d).clients ≡ map id_of t.clients
+client_ids t c d at same =
+    let serial : d.serial ≡ c.serial = ap (λ p. p.0) same in
+    map_with_row id_of (λ (x : Client). x.serial) t.clients d.serial d
+    (λ r is. same ∙ ap id_of (let e : Some c ≡ Some r = sym at ∙ ap (client_at t) (sym serial) ∙ is in let f : c ≡ r = cc (e) in f))
+
+entering_aside : (user : UserId) (o : Option ℕ) → AllAside (entering user o)
+entering_aside user None = tt
+entering_aside user (Some w) = (refl, tt)
+
+page_moves : (t : Tables) (c d : Client) (acts : List Act) → client_at t c.serial ≡ Some c → id_of d ≡ id_of c → AllAside acts → DeedMoves t (acting (with_client t d) acts)
+page_moves t c d acts at same aside = stays t (with_client t d) acts 0 aside refl (client_ids t c d at same) refl refl (omega arith) (λ differ numbers. numbers)
+
+arranged : (t : Tables) (k : Caller) (c : Client) (l : Arrangement) → caller_client t k ≡ Some c → DeedMoves t (arranges t c l)
+arranged t k c l is = page_moves t c (with_layout l c) [] (caller_row t k.client c is) refl tt
+
+entered : (t : Tables) (k : Caller) (c : Client) (l : Arrangement) → caller_client t k ≡ Some c → DeedMoves t (enters t c l)
+entered t k c l is = page_moves t c (with_layout l c) (entering c.user (focused (with_layout l c))) (caller_row t k.client c is) refl (entering_aside c.user (focused (with_layout l c)))
+
+shown : (t : Tables) (k : Caller) (o : Client → Option Window) (r : Refusal) → Rattle.session_laws.proofs.Doing.is_plain r ≡ true → Either (DeedMoves t) (on_client t k (λ c. given (o c) r (λ w. Ok (selects t c w))))
+shown t k o r is = by_shown (DeedMoves t) t k o r is (λ c w at there. entered t k c _ at)
+
+-- ---- windows
+
+pub window_serials : (t : Tables) (v : Window) → map serial_of (with_window t v).windows ≡ map serial_of t.windows
+window_serials t v = map_with_row serial_of serial_of t.windows v.serial v (λ r is. sym (row_serial serial_of t.windows v.serial r is))
+
+window_moves : (t : Tables) (v : Window) (effects : List Effect) → length effects ≤ 1 → (NumbersDiffer t.windows → IsFree t.windows v.serial v.number)
+    → DeedMoves t (record (changing (with_window t v)) { effects = effects })
+window_moves t v effects few free =
+    stays t (with_window t v) [] (length effects) tt (window_serials t v) refl refl refl (omega (arith, few))
+    (λ differ numbers. with_numbers v.serial v refl t.windows differ numbers (free numbers))
+
+-- a window that keeps its number
+pub same_window : (t : Tables) (w v : Window) (effects : List Effect) → length effects ≤ 1 → window_at t w.serial ≡ Some w → v.serial ≡ w.serial → v.number ≡ w.number
+    → DeedMoves t (record (changing (with_window t v)) { effects = effects })
+same_window t w v effects few at serial number =
+    window_moves t v effects few (λ numbers x is. own_number t.windows w at numbers x (ap (with_number t.windows) (sym number) ∙ is) ∙ sym serial)
+
+other_free : (t : Tables) (w : Window) (n : ℕ) → is_taken t w n ≡ false → IsFree t.windows w.serial n
+other_free t w n free v is = on (v.serial == w.serial) refl (sym (ap (λ o. option_map_or (λ (x : Window). not (x.serial == w.serial)) o false) is) ∙ free) where
+  on : (b : Bool) → (v.serial == w.serial) ≡ b → not b ≡ false → v.serial ≡ w.serial
+  on true at is = equal v.serial w.serial at
+  on false at is = absurd (cc (is))
+
+-- ---- who goes
+
+abbrev gone_by : (ℕ × UserId → Bool) → Client → Bool
+gone_by goes c = goes (id_of c)
+
+parted_acts : (p : Client → Bool) (cs : List Client) → map (λ (c : Client). act.Parted c.serial) (filter p cs) ≡ parted (map id_of (filter p cs))
+parted_acts p cs = sym (by_ids (filter p cs)) where
+  by_ids : (cs : List Client) → parted (map id_of cs) ≡ map (λ (c : Client). act.Parted c.serial) cs
+  by_ids [] = refl
+  by_ids (c ∷ cs) = ap (λ acts. act.Parted c.serial ∷ acts) (by_ids cs)
+
+closed_acts : (p : Window → Bool) (ws : List Window) → map (λ (w : Window). act.Closed w.serial) (filter p ws) ≡ closed (map serial_of (filter p ws))
+closed_acts p ws = sym (by_serials (filter p ws)) where
+  by_serials : (ws : List Window) → closed (map serial_of ws) ≡ map (λ (w : Window). act.Closed w.serial) ws
+  by_serials [] = refl
+  by_serials (w ∷ ws) = ap (λ acts. act.Closed w.serial ∷ acts) (by_serials ws)
+
+pub parts_moves : (t : Tables) (goes : ℕ × UserId → Bool) (why : Reason) (more : List Act) → AllAside more
+    → let d : Deed = parts (gone_by goes) why t in DeedMoves t (record d { acts = d.acts ++ more })
+parts_moves t goes why more aside = record {
+  closing = λ n. false;
+  parting = goes;
+  others = more;
+  aside = aside;
+  acts_are = ap (λ acts. acts ++ more) (parted_acts (gone_by goes) t.clients ∙ ap parted (filter_map id_of goes t.clients))
+      ∙ sym (ap (λ ns. closed ns ++ (parted (filter goes (ids t)) ++ more)) (filter_none (serials t)));
+  windows = sym (filter_all (serials t));
+  clients = filter_map id_of (λ p. not (goes p)) t.clients;
+  next_window = refl;
+  next_client = refl;
+  few = let le : length (map (λ (c : Client). GoneClient c.serial why) (filter (gone_by goes) t.clients)) ≤ length t.clients = length_gone _ (gone_by goes) t.clients in omega (arith, le);
+  numbers = λ differ numbers. numbers;
+}
+
+pub only_parts : (t : Tables) (goes : ℕ × UserId → Bool) (why : Reason) → DeedMoves t (parts (gone_by goes) why t)
+only_parts t goes why = subst (λ acts. DeedMoves t (record (parts (gone_by goes) why t) { acts = acts })) (append_nil (parts (gone_by goes) why t).acts) (parts_moves t goes why [] tt)
+
+without_ids : (ws : List Window) (cs : List Client) → map id_of (without_windows ws cs) ≡ map id_of cs
+without_ids [] cs = refl
+without_ids (w ∷ ws) cs = without_ids ws (map (without_window w.serial) cs) ∙ map_map id_of (without_window w.serial) cs (λ c. refl)
+
+pub closes_moves : (t : Tables) (goes : ℕ → Bool) (why : Reason) → DeedMoves t (closes (λ w. goes w.serial) why t)
+closes_moves t goes why = record {
+  closing = goes;
+  parting = λ p. false;
+  others = [];
+  aside = tt;
+  acts_are = closed_acts (λ w. goes w.serial) t.windows ∙ ap closed (filter_map serial_of goes t.windows)
+      ∙ sym (ap (λ ps. closed (filter goes (serials t)) ++ (parted ps ++ [])) (filter_none (ids t)) ∙ append_nil (closed (filter goes (serials t))));
+  windows = filter_map serial_of (λ n. not (goes n)) t.windows;
+  clients = without_ids (filter (λ (w : Window). goes w.serial) t.windows) t.clients ∙ sym (filter_all (ids t));
+  next_window = refl;
+  next_client = refl;
+  few = let le : length (map (λ (w : Window). GoneWindow w.serial why) (filter (λ (w : Window). goes w.serial) t.windows)) ≤ length t.windows = length_gone _ (λ (w : Window). goes w.serial) t.windows in omega (arith, le);
+  numbers = λ differ numbers. fewer_numbers (λ w. not (goes w.serial)) t.windows numbers;
+}
+
+removal_moves : (t : Tables) (o : Option UserId) → DeedMoves t (removes o t)
+removal_moves t None = stays t t [] 0 tt refl refl refl refl (omega arith) (λ differ numbers. numbers)
+removal_moves t (Some u) = parts_moves t (λ p. same_user p.1 u) Removed (act.Gone u ∷ []) (refl, tt)
+
+pub length_ids : (xs ys : List Client) → map id_of xs ≡ map id_of ys → length xs ≡ length ys
+length_ids xs ys same = sym (length_map id_of xs) ∙ ap length same ∙ length_map id_of ys
+
+quit_moves : (t : Tables) → DeedMoves t (both (closes (λ w. true) Quit t) (parts (λ c. true) Quit))
+quit_moves t =
+    let cs : List Client = without_windows (filter (λ (w : Window). true) t.windows) t.clients in
+    let same_ids : map id_of cs ≡ ids t = without_ids (filter (λ (w : Window). true) t.windows) t.clients in
+    let ws : List Effect = map (λ (w : Window). GoneWindow w.serial Quit) (filter (λ (w : Window). true) t.windows) in
+    let gone : List Effect = map (λ (c : Client). GoneClient c.serial Quit) (filter (λ (c : Client). true) cs) in record {
+      closing = λ n. true;
+      parting = λ p. true;
+      others = [];
+      aside = tt;
+      acts_are = ap (λ acts. acts ++ map (λ (c : Client). act.Parted c.serial) (filter (λ (c : Client). true) cs)) (closed_acts (λ w. true) t.windows ∙ ap closed (filter_map serial_of (λ n. true) t.windows))
+          ∙ ap (λ acts. closed (filter (λ n. true) (serials t)) ++ acts)
+          (parted_acts (λ c. true) cs ∙ ap parted (filter_map id_of (λ p. true) cs ∙ ap (filter (λ p. true)) same_ids) ∙ sym (append_nil (parted (filter (λ p. true) (ids t)))));
+      windows = filter_map serial_of (λ n. not true) t.windows;
+      clients = filter_map id_of (λ p. not true) cs ∙ ap (filter (λ p. not true)) same_ids;
+      next_window = refl;
+      next_client = refl;
+      few =
+          let one : length ws ≤ length t.windows = length_gone _ (λ (w : Window). true) t.windows in
+          let two : length gone ≤ length cs = length_gone _ (λ (c : Client). true) cs in
+          let same : length cs ≡ length t.clients = length_ids cs t.clients same_ids in
+          let sum : length (ws ++ gone) ≡ length ws + length gone = length_append ws gone in
+          omega (arith, one, two, same, sum);
+      numbers = λ differ numbers. fewer_numbers (λ w. not true) t.windows numbers;
+    }
+
+told_moves : (t : Tables) (bytes : List ℕ) → DeedMoves t (tells bytes t)
+told_moves t bytes =
+    stays t (tells bytes t).tables [] (length (tells bytes t).effects) tt refl (map_map id_of (hearing (Text bytes)) t.clients (λ c. refl)) refl refl
+    (let same : length (map (λ (c : Client). Say c.serial bytes) t.clients) ≡ length t.clients = length_map _ t.clients in omega (arith, same)) (λ differ numbers. numbers)
+
+-- ---- the rows
+
+fault_moves : (t : Tables) (f : Option AclFault) (objects : Option (List Object)) (acts : List Object → List Act) → ((all : List Object) → AllAside (acts all))
+    → Either (DeedMoves t) (elim f [ Some f ↦ Err (Acl f) | None ↦ given objects (Windows NoSuchWindow) (λ all. Ok (deeds.acting t (acts all))) ])
+fault_moves t f objects acts aside = by_fault (DeedMoves t) t f objects acts (λ all. acts_only t (acts all) (aside all))
+
+pub nothing_moves : (t : Tables) (effects : List Effect) → length effects ≤ 1 → DeedMoves t (record (changing t) { effects = effects })
+nothing_moves t effects few = stays t t [] (length effects) tt refl refl refl refl (omega (arith, few)) (λ differ numbers. numbers)
+
+pub input_few : (at : ℕ) (bytes : List ℕ) (b : Bool) → length (if b then [] else Input at bytes ∷ []) ≤ 1
+input_few at bytes true = omega arith
+input_few at bytes false = omega arith
+
+written_moves : (t : Tables) (w : Window) (what : written.Writing) → window_at t w.serial ≡ Some w → DeedMoves t (deeds.writes t w what)
+written_moves t w what at = same_window t w (record w { writing = w.writing ++ what ∷ [] }) [] (omega arith) at refl refl
+
+-- in single-user mode
+single_user : (t : Tables) → DeedMoves t (parts (λ c. not (is_of t.owner c)) SingleUser (record t { is_multiuser = false }))
+single_user t = let all = only_parts t (λ p. not (same_user p.1 t.owner)) SingleUser in record {
+  closing = all.closing;
+  parting = all.parting;
+  others = all.others;
+  aside = all.aside;
+  acts_are = all.acts_are;
+  windows = all.windows;
+  clients = all.clients;
+  next_window = refl;
+  next_client = refl;
+  few = all.few;
+  numbers = λ differ numbers. numbers;
+}
+
+pub moves : (t : Tables) (k : Caller) → ((w : Window) → k.window ≡ Some w → window_at t w.serial ≡ Some w) → (c : Order) → Either (DeedMoves t) (does t k c)
+moves t k row (command.Acladd names) = fault_moves t (change_fault t.owner (known_users t) (names_of t names)) _ _ (λ all. add_aside (known_users t) (names_of t names) all)
+moves t k row (command.Aclchg names bits list) = fault_moves t (change_fault t.owner (known_users t) (names_of t names)) _ _ (λ all. change_aside (known_users t) (names_of t names) bits all)
+moves t k row (command.Acldel word) = by_unless (DeedMoves t) _ _ _ (λ f. refl) (removal_moves t (named_by word))
+moves t k row (command.Aclgrp word None) = by_unless (DeedMoves t) _ _ _ (λ f. refl) (lists_only t [])
+moves t k row (command.Aclgrp word (Some leader)) = by_unless (DeedMoves t) _ _ _ (λ f. refl) (acts_only t _ (group_aside (named_by word) _))
+moves t k row (command.Aclumask masks) = by_unless (DeedMoves t) _ _ _ (λ f. refl) (acts_only t _ (mask_aside k.user (mask_entries t masks)))
+moves t k row (command.Multiuser true) = stays t (record t { is_multiuser = true }) [] 0 tt refl refl refl refl (omega arith) (λ differ numbers. numbers)
+moves t k row (command.Multiuser false) = single_user t
+moves t k row (command.Writelock mode) = by_given (DeedMoves t) k.window _ _ refl (λ w is. acts_only t _ (refl, tt))
+moves t k row (command.Defwritelock mode) = acts_only t _ (refl, tt)
+moves t k row (command.Wall bytes) = told_moves t _
+moves t k row command.Screen = lists_only t []
+moves t k row command.Windows = lists_only t []
+moves t k row command.Displays = lists_only t []
+moves t k row (command.Select word) = shown t k (λ c. window_named t.windows word) (Windows NoSuchWindow) refl
+moves t k row command.Next = shown t k (λ c. window_after t.windows k.window) NoWindow refl
+moves t k row command.Prev = shown t k (λ c. window_before t.windows k.window) NoWindow refl
+moves t k row command.Other = shown t k (λ c. option_and_then (window_at t) (former_of c)) NoWindow refl
+moves t k row (command.Split vertical) = by_given (DeedMoves t) (caller_client t k) _ _ refl (λ c is. by_unless (DeedMoves t) _ _ _ (λ f. refl) (arranged t k c _ is))
+moves t k row command.Focus = by_given (DeedMoves t) (caller_client t k) _ _ refl (λ c is. entered t k c _ is)
+moves t k row command.Remove = by_given (DeedMoves t) (caller_client t k) _ _ refl (λ c is. by_refused (DeedMoves t) _ _ _ refl (λ other. entered t k c _ is))
+moves t k row command.Only = by_given (DeedMoves t) (caller_client t k) _ _ refl (λ c is. arranged t k c _ is)
+moves t k row (command.Scrollview n) = by_given (DeedMoves t) (caller_client t k) _ _ refl (λ c is. arranged t k c _ is)
+moves t k row command.Fit = by_given (DeedMoves t) (caller_client t k) _ _ refl (λ c is. by_given (DeedMoves t) k.window _ _ refl (λ w at. by_given (DeedMoves t) _ _ _ refl (λ box there. by_refused (DeedMoves t) _ _ _ refl (λ other.
+    same_window t w (record w { writing = w.writing ++ written.Size (box.rows - 1) box.cols ∷ [] }) (Size w.serial (box.rows - 1) box.cols ∷ []) (omega arith) (row w at) refl refl))))
+moves t k row (command.Title bytes) = by_given (DeedMoves t) k.window _ _ refl (λ w at. by_refused (DeedMoves t) _ _ _ refl (λ other. same_window t w (record w { title = bytes }) [] (omega arith) (row w at) refl refl))
+moves t k row (command.Number n) = by_given (DeedMoves t) k.window _ _ refl (λ w at. by_refused (DeedMoves t) (is_taken t w n) _ _ refl (λ other. window_moves t (record w { number = n }) [] (omega arith) (λ numbers. other_free t w n other)))
+moves t k row command.Clear = by_given (DeedMoves t) k.window _ _ refl (λ w at. written_moves t w written.Clear (row w at))
+moves t k row command.Reset = by_given (DeedMoves t) k.window _ _ refl (λ w at. written_moves t w written.Reset (row w at))
+moves t k row (command.Encoding coding) = by_given (DeedMoves t) k.window _ _ refl (λ w at. written_moves t w (written.Encoding (coding_of coding)) (row w at))
+moves t k row (command.Stuff bytes) = by_given (DeedMoves t) k.window NoWindow _ refl (λ w at. nothing_moves t (input_of w.serial bytes) (input_few w.serial bytes (length bytes == 0)))
+moves t k row command.Detach = by_given (DeedMoves t) (caller_client t k) NoWindow (λ c. Ok (parts (λ (d : Client). d.serial == c.serial) Detached t)) refl (λ c is. only_parts t (λ p. p.0 == c.serial) Detached)
+moves t k row command.Kill = by_given (DeedMoves t) k.window NoWindow (λ (w : Window). Ok (closes (λ (v : Window). v.serial == w.serial) Killed t)) refl (λ w is. closes_moves t (λ n. n == w.serial) Killed)
+moves t k row command.Quit = quit_moves t
