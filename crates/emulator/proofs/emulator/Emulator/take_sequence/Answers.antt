@@ -4,6 +4,7 @@ use Rattle.control_parser.specs.declared.func.Func.{Func}
 use Rattle.control_parser.specs.Spelling.{ReadsAs}
 use Rattle.terminal_model.specs.Screen.{Screen}
 use Rattle.terminal_model.specs.Table.{effect}
+use Rattle.vt_screen.specs.Stored.{Stored}
 use Rattle.terminal_model.specs.Reports.{report}
 use Rattle.emulator.specs.Standing.{Parts, HasTaken}
 use Rattle.emulator.proofs.Wholes.{KeepsCoding, quiet-has-read, front-more, rest-lent, nothing-taken}
@@ -31,5 +32,5 @@ returns-then-count-eq0-clause-taken c = λ said.
 pub returns-then-not-sequence-clause-taken : goal.returns-then-not-sequence-clause-taken
 returns-then-not-sequence-clause-taken c = λ said.
     subst (λ (e : Parts). HasTaken c.args.self.now c.args.bytes.now 0 said e said)
-    (sym (ap (λ (x : Screen). record { screen = x; decoding = c.self.inside.decoder; parsing = c.self.inside.parser }) (c.if-not-sequence.ensures.undone refl) ∙ c.self.view_is))
+    (sym (ap (λ (x : Stored). record { screen = x.screen; decoding = c.self.inside.decoder; parsing = c.self.inside.parser }) (c.if-not-sequence.ensures.undone refl) ∙ c.self.view_is))
     (nothing-taken c.args.self.now c.args.bytes.now said)
