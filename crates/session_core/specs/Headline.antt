@@ -14,10 +14,11 @@ use Rattle.session_core.specs.declared.refusal.Refusal.{Refusal}
 use Rattle.session_core.specs.declared.refusal.Refusal.TheVariants.{NoWindow, NoMemory}
 use Rattle.session_core.specs.Refusals.{text_of}
 use Rattle.session_core.specs.Keys.{typed_behind}
-use Rattle.session_core.specs.Trace.{Happening, Keys, Output, Draw, Reply, Entry, History, Attached, with_step, happening, attached_at, keys_of, delivered, inputs, may_type}
+use Rattle.session_core.specs.Trace.{Happening, Keys, Output, Draw, Reply, Entry, History, Attached, with_step, start, happening, attached_at, keys_of, delivered, inputs, may_type}
 use Rattle.session_core.specs.Terminals.{terminal_at, reports_of}
 use Rattle.session_core.specs.Granted.{granted_view}
 use Rattle.session_core.specs.Framed.{IsFrame}
+use Rattle.session_core.specs.Steps.{IsStep}
 use Rattle.session_core.specs.Stands.{StandsFor}
 
 -- ---- steps of a call
@@ -85,6 +86,11 @@ pub record AreSteps (call : Call) (steps : List Entry) : Type 0 where
 -- history with them
 abbrev pub SomeRun : Session → Call → Session → (History → List Entry → Type 0) → Type 0
 SomeRun old call new P = (h : History) → StandsFor h old → (steps : List Entry) × AreSteps call steps × StandsFor (with_steps h steps) new × P h steps
+
+-- a new session of this owner took the steps of the call, each a step of the run, and stands for them
+abbrev pub IsRunOf : UserId → Call → Session → Type 0
+IsRunOf owner call new =
+    (steps : List Entry) × AreSteps call steps × StandsFor (with_steps (start owner) steps) new × AllSteps IsStep (start owner) steps
 
 abbrev pub SomeSteps : Session → Call → Session → Type 0
 SomeSteps old call new = SomeRun old call new (λ h steps. Unit {0})

@@ -1,6 +1,6 @@
 //! The session.
 
-ghost use Rattle.std.specs.Prelude.{◌≡◌, ◌≤◌, ◌<◌, ◌++◌, ◌∷◌, [], List, ℕ, Ok, Err, Some, None, false, true, length, map, IfOk, IfSome, OnOk, OnErr, vec_len, vec_capacity};
+ghost use Rattle.std.specs.Prelude.{◌≡◌, ◌≤◌, ◌<◌, ◌++◌, ◌∷◌, [], List, ℕ, Ok, Err, Some, None, false, true, length, map, IfOk, IfErr, IfSome, OnOk, OnErr, vec_len, vec_capacity};
 ghost use Rattle.session_core.specs.declared.refusal.Refusal.TheVariants.{NoMemory, NoWindow as NoSuch};
 ghost use Rattle.session_core.specs.Trace.{Happening, Attach, Open, Keys, Output, Draw, happening, History, start, Entry, clients_of, attached_at};
 ghost use Rattle.session_core.specs.Keys.{HasRead, typed};
@@ -12,7 +12,7 @@ ghost use Rattle.regions.specs.Shapes.{Shape};
 ghost use Rattle.view.specs.View.{HasSize};
 ghost use Rattle.view.specs.Drawable.{IsDrawable};
 ghost use Rattle.view.specs.Granted.{AreParts, AreDrawable, part_of, view_of};
-ghost use Rattle.session_core.specs.Headline.{SomeRun, SomeSteps, AreSteps, AllSteps, run_call, take_call, left_of, TypedBytesReach, DrawShows, DeliversFrames, NoOtherEffect, IsViewOf};
+ghost use Rattle.session_core.specs.Headline.{SomeRun, SomeSteps, IsRunOf, AreSteps, AllSteps, run_call, take_call, left_of, TypedBytesReach, DrawShows, DeliversFrames, NoOtherEffect, IsViewOf};
 ghost use Rattle.session_core.specs.Least.{least_from};
 
 use crate::bytes::Bytes;
@@ -78,7 +78,8 @@ fn is_window_size(rows: u16, cols: u16, keep: u16) -> bool
 impl Session {
     /// A session that has taken no event.
     pub fn new(alloc: Global, owner: UserId) -> Result<Session, Refusal>
-        ensures { IfOk result (λ s. StandsFor (start owner) s) }
+        ensures ok { IfOk result (λ s. StandsFor (start owner) s) }
+        ensures err { IfErr result (λ r. r ≡ NoMemory) }
     {
         Ok(Session {
             alloc,
@@ -169,6 +170,9 @@ impl Session {
         effects: &mut Vec<Effect>,
         replies: &mut Vec<Reply>,
     ) -> Result<(Session, Ran), Refusal>
+        // The run of a new session, and what it stands for then; refused for want of memory alone.
+        ensures run { IfOk result (λ after. IsRunOf owner (run_call events.now effects.old.items effects.new.items replies.old.items replies.new.items after.1) after.0) }
+        ensures err { IfErr result (λ r. r ≡ NoMemory) }
         ensures typed_bytes { IfOk result (λ after. (steps : List Entry) × AreSteps (run_call events.now effects.old.items effects.new.items replies.old.items replies.new.items after.1) steps × AllSteps TypedBytesReach (start owner) steps) }
         ensures draws { IfOk result (λ after. (steps : List Entry) × AreSteps (run_call events.now effects.old.items effects.new.items replies.old.items replies.new.items after.1) steps × AllSteps DrawShows (start owner) steps) }
         ensures frames { IfOk result (λ after. (steps : List Entry) × AreSteps (run_call events.now effects.old.items effects.new.items replies.old.items replies.new.items after.1) steps × AllSteps DeliversFrames (start owner) steps) }
