@@ -143,8 +143,8 @@ impl Acl {
     ) -> Result<(), AclFault>
         ensures answer { Refuses self.old
             (λ _ owner h. change_fault owner (users_of owner h) names.now) result }
-        ensures done { OnOk result (DoesOn objects.now self.old self.new acts.old.items acts.new.items
-            (F.follows follower.old) (F.follows follower.new)
+        ensures done { OnOk result (DoesOn objects.now self.old self.new
+            acts.old.items acts.new.items (F.follows follower.old) (F.follows follower.new)
             (λ owner h. change_acts (users_of owner h) names.now changes.now objects.now)) }
         ensures room { OnOk result (vec_len acts.new + room ≤ vec_capacity acts.new) }
         ensures err { OnErr result ((self.new ≡ self.old) × (acts.new.items ≡ acts.old.items)
@@ -167,8 +167,8 @@ impl Acl {
     ) -> Result<(), AclFault>
         ensures answer { Refuses self.old
             (λ _ owner h. change_fault owner (users_of owner h) names.now) result }
-        ensures done { OnOk result (DoesOn objects.now self.old self.new acts.old.items acts.new.items
-            (F.follows follower.old) (F.follows follower.new)
+        ensures done { OnOk result (DoesOn objects.now self.old self.new
+            acts.old.items acts.new.items (F.follows follower.old) (F.follows follower.new)
             (λ owner h. add_acts (users_of owner h) names.now objects.now)) }
         ensures room { OnOk result (vec_len acts.new + room ≤ vec_capacity acts.new) }
         ensures err { OnErr result ((self.new ≡ self.old) × (acts.new.items ≡ acts.old.items)

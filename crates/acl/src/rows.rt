@@ -99,8 +99,9 @@ pub fn opening_bits(masks: &Masks, by: UserId, user: UserId) -> Bits
 /// Gives each user what he gets on the window that `by` opens in the slot.
 pub fn give_window(rows: &mut Rows, masks: &Masks, by: UserId, slot: usize)
     requires { slot < 40 }
-    ensures given { rows.new.entries
-        ≡ map (λ e. (e.0, with_window slot (opening_bits masks.now.entries by e.0) e.1)) rows.old.entries }
+    ensures given { rows.new.entries ≡ map
+        (λ e. (e.0, with_window slot (opening_bits masks.now.entries by e.0) e.1))
+        rows.old.entries }
     ensures wide { (user : UserId) (row : Row) →
         lookup (same_user user) rows.old.entries ≡ Some row → length row.windows ≡ 40 }
 {
