@@ -1,10 +1,10 @@
 -- A character that stands whole at the front of some bytes.
-use Rattle.std.proofs.Common.{◌≡◌, ◌<◌, ◌≤◌, ℕ, true, false, List, [], ◌∷◌, map, refl, ap, ◌∙◌, arith}
+use Rattle.std.proofs.Common.{◌≡◌, ◌<◌, ◌≤◌, ℕ, true, false, List, [], ◌∷◌, map, refl, ap, arith}
 use Rattle.std.specs.Prelude.{nat_lt}
 use Rattle.std.proofs.lemmas.Bool.Decides.{nat_tests}
 use Rattle.charsets.specs.declared.unit.Coding.TheVariants.{Utf8}
 use Rattle.charsets.specs.declared.unit.Unit.TheVariants.{Code}
-use Rattle.charsets.specs.Utf8.{whole, is_lead, follows, continues, code_of_2, code_of_3, piece, cut, codes}
+use Rattle.charsets.specs.Utf8.{whole, is_lead, follows, continues, code_of_2, code_of_3, piece, cut}
 use Rattle.charsets.specs.Units.{units}
 use Rattle.charsets.proofs.Encoded.{by_piece}
 

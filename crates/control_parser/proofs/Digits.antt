@@ -1,5 +1,5 @@
 -- Digits that come one by one.
-use Rattle.std.proofs.Common.{◌≡◌, refl, sym, ℕ, zero, suc, ◌-◌, ◌<◌, ◌≤◌, List, [], ◌∷◌, length, take, set, get_or, ap, ◌∙◌, arith}
+use Rattle.std.proofs.Common.{◌≡◌, refl, ℕ, zero, suc, ◌-◌, ◌<◌, ◌≤◌, List, [], ◌∷◌, length, take, set, get_or, ap, ◌∙◌, arith}
 use Rattle.control_parser.specs.Text.{last_value, with_last, longer, digit_added}
 
 -- the last of the first n + 1 values changes

@@ -1,5 +1,5 @@
 -- What stands whole in a list of bytes, and is taken at once.
-use Rattle.std.proofs.Common.{◌≡◌, ℕ, zero, suc, ◌+◌, ◌-◌, ◌<◌, ◌≤◌, List, [], ◌∷◌, ◌++◌, length, take, drop, get_or, refl, sym, ap, ◌∙◌, subst, append-nil, true, arith}
+use Rattle.std.proofs.Common.{◌≡◌, ℕ, suc, ◌+◌, ◌-◌, ◌<◌, List, [], ◌∷◌, ◌++◌, length, take, drop, get_or, refl, sym, ap, ◌∙◌, subst, append-nil, true, arith}
 use Rattle.std.proofs.lemmas.List.{take_all, length-drop}
 use Rattle.charsets.specs.declared.unit.Coding.{Coding}
 use Rattle.charsets.specs.declared.unit.Coding.TheVariants.{Utf8}
@@ -7,8 +7,8 @@ use Rattle.charsets.specs.declared.unit.Unit.TheVariants as codes
 use Rattle.charsets.specs.Units.{Decoding, units}
 use Rattle.control_parser.specs.declared.func.Func.{Func}
 use Rattle.control_parser.specs.declared.func.Func.TheVariants.{Print}
-use Rattle.control_parser.specs.Grammar.{Rest, is_graphic, nothing, functions}
-use Rattle.control_parser.specs.Kept.{kept, IsIdle}
+use Rattle.control_parser.specs.Grammar.{is_graphic, nothing, functions}
+use Rattle.control_parser.specs.Kept.{kept}
 use Rattle.control_parser.specs.Spelling.{ReadsAs}
 use Rattle.control_parser.proofs.Pieces.{functions-graphic}
 use Rattle.terminal_model.specs.Screen.{Screen}

@@ -9,6 +9,7 @@ ghost use Rattle.cells.specs.Line.{cell_at};
 ghost use Rattle.terminal_model.specs.Screen.{IsSound, starting};
 ghost use Rattle.terminal_model.specs.Table.{effect, resized};
 ghost use Rattle.terminal_model.specs.Reports.{report};
+ghost use Rattle.vt_screen_rows.specs.Runs.{PrintsAscii};
 ghost use Rattle.vt_screen.specs.Effects.{effects};
 ghost use Rattle.vt_screen.specs.Stored.{effect_places, effects_places};
 ghost use Rattle.vt_screen.specs.Sizes.{IsScreenSize};
@@ -20,7 +21,7 @@ use std::alloc::Global;
 use std::marker::Model;
 use terminal_model::{Action, MAX_KEEP, Modes, Report};
 use vt_screen_actions::{acts_of, control_action, plain_escape_action, sequence_acts};
-use vt_screen_rows::Display;
+use vt_screen_rows::{Display, prints_ascii};
 
 /// The screen of a VT220: its page with all that control functions change, and its scrollback. Lines and columns count
 /// from 0. Only `new` and changes of size take memory.
@@ -64,6 +65,13 @@ impl Screen {
         ensures few { length result ≤ 12 }
     {
         self.display.perform(acts_of(func))
+    }
+
+    /// Whether characters 20 to 7E are printed as themselves: GL is ASCII, and no single shift waits.
+    pub fn prints_ascii(&self) -> bool
+        ensures { IsTrue result ↔ PrintsAscii self.now.state }
+    {
+        prints_ascii(&self.display.state)
     }
 
     /// Prints characters 20 to 7E, one after another: `codes` has their code points. It takes no memory.

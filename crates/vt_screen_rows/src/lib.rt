@@ -13,3 +13,4 @@ mod runs;
 mod sizing;
 
 pub use display::Display;
+pub use runs::prints_ascii;

@@ -19,6 +19,7 @@ const REPLACEMENT: char = '\u{FFFD}';
 
 impl Display {
     /// Prints a graphic unit, through the sets; a single shift is spent.
+    #[inline(always)]
     pub fn print(&mut self, unit: Unit)
         requires { IsFit self.old }
         ensures screen { screen_of self.new ≡ acted (screen_of self.old) (Print unit) }

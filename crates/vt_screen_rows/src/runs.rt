@@ -7,7 +7,7 @@ ghost use Rattle.charsets.specs.Units.{is_plain};
 ghost use Rattle.terminal_model.specs.Table.{all_acted};
 ghost use Rattle.vt_screen_rows.specs.Displays.{IsFit, screen_of};
 ghost use Rattle.vt_screen_rows.specs.Places.{all_acted_places};
-ghost use Rattle.vt_screen_rows.specs.Runs.{TakesRuns, prints, run_placed};
+ghost use Rattle.vt_screen_rows.specs.Runs.{PrintsAscii, TakesRuns, prints, run_placed};
 
 use crate::display::Display;
 use charsets::{CharacterSet, Place, Shifts, Unit};
@@ -69,6 +69,14 @@ impl Display {
         self.state.column += codes.len() - 1;
         advance(&mut self.state, 1);
     }
+}
+
+/// Whether 20 to 7E stand for themselves: GL is ASCII, and no single shift waits.
+pub fn prints_ascii(state: &State) -> bool
+    ensures { IsTrue result ↔ PrintsAscii state.now }
+{
+    let is_ascii = matches!(set_in_use(&state.shifts), CharacterSet::Ascii);
+    is_ascii && state.shifts.single.is_none()
 }
 
 /// Whether 20 to 7E stand for themselves, and each takes the place of an old cell.

@@ -1,135 +1,35 @@
 //! `vtcat --rows N --cols N [--keep N]`: shows the page that a VT220 has when it has read standard input.
 #![tactic(auto)]
 
-use cells::{Cell, GridFault, Marks, Shape};
-use clap::{Arg, ArgMatches, Command};
-use emulator::{Emulator, Shown};
-use std::alloc::Global;
-use std::io::{BufWriter, Read, Write};
+use std::io::Write;
 use std::process::ExitCode;
 use std::{env, io};
+use vtcat_core::cat;
 
-/// How many bytes are read at once.
-const CHUNK: usize = 65_536;
-
-fn number_word<'a>(alloc: Global, name: &'a str, help: &'a str) -> Arg<'a> {
-    Arg::new(alloc, name)
-        .long(name)
-        .value_parser(clap::value_parser!(u16))
-        .help(help)
-}
-
-fn matches<'a>(alloc: Global, words: &'a [String]) -> Result<ArgMatches<'a>, clap::Error> {
-    Command::new(alloc, "vtcat")
-        .about("Shows the page that a VT220 has when it has read standard input")
-        .arg(number_word(alloc, "rows", "The lines of the page, 2 to 200").required(true))?
-        .arg(number_word(alloc, "cols", "The columns of the page, 2 to 300").required(true))?
-        .arg(number_word(
-            alloc,
-            "keep",
-            "How many lines that scroll off the page are kept",
-        )
-        .default_value("0"))?
-        .try_get_matches_from(words)
-}
-
-fn number(found: &ArgMatches, name: &str) -> usize {
-    found.get_one::<u16>(name).map_or(0, usize::from)
-}
-
-fn fault(text: &'static str) -> io::Error {
-    io::Error::new(io::ErrorKind::Other, text)
-}
-
-/// Reads all bytes; what is answered goes nowhere.
-fn read_all<R: Read + Drop>(
-    alloc: Global,
-    mut reader: R,
-    emulator: &mut Emulator,
-) -> io::Result<()> {
-    let mut buffer = vec![in alloc; 0; CHUNK]?;
-    let mut reports = Vec::new(alloc);
-    for _ in 0..u64::MAX {
-        let count = reader.read(buffer.as_mut_slice())?;
-        if count == 0 {
-            return Ok(());
-        }
-        if emulator.feed_all(&buffer[..count], &mut reports).is_err() {
-            return Err(fault("out of memory"));
-        }
-        reports.clear();
-    }
-    Ok(())
-}
-
-fn write_cell<W: Write>(cell: &Cell, writer: &mut W) -> io::Result<()> {
-    if let Shape::Right = cell.shape {
-        return Ok(());
-    }
-    write!(writer, "{}", cell.character)?;
-    match cell.marks {
-        Marks::Bare => Ok(()),
-        Marks::One(mark) => write!(writer, "{mark}"),
-        Marks::Two(first, second) => write!(writer, "{first}{second}"),
-    }
-}
-
-fn write_page<W: Write>(page: Shown<'_>, writer: &mut W) -> io::Result<()> {
-    for line in 0..page.rows() {
-        writer.write_all(b"|")?;
-        for cell in page.line(line) {
-            write_cell(cell, writer)?;
-        }
-        writer.write_all(b"|\n")?;
-    }
-    Ok(())
-}
-
-fn show<R: Read + Drop, W: Write + Drop>(
-    alloc: Global,
-    found: &ArgMatches,
-    reader: R,
-    writer: W,
-) -> io::Result<()> {
-    let rows = number(found, "rows");
-    let cols = number(found, "cols");
-    let made = Emulator::new(alloc, rows, cols, number(found, "keep"));
-    let mut emulator = match made {
-        Ok(emulator) => emulator,
-        Err(GridFault::BadSize) => return Err(fault("bad size")),
-        Err(GridFault::NoMemory) => return Err(fault("out of memory")),
-    };
-    read_all(alloc, reader, &mut emulator)?;
-    let mut writer = BufWriter::new(alloc, writer)?;
-    write_page(emulator.page(0), &mut writer)?;
-    let (line, column) = emulator.cursor();
-    let line = line.saturating_add(1);
-    let column = column.saturating_add(1);
-    writeln!(writer, "cursor {line} {column}")?;
-    writer.flush()
-}
-
-fn main(rt: HostRuntime) -> io::Result<ExitCode> {
+/// The words of the command line, the program's name first.
+fn words(rt: &HostRuntime) -> io::Result<Vec<String>> {
     let mut words = Vec::new(rt.alloc());
-    for word in env::args(&rt)? {
+    words.push(String::from_str(rt.alloc(), "vtcat")?)?;
+    for word in env::args(rt)?.skip(1) {
         words.push(word)?;
     }
-    let found = match matches(rt.alloc(), words.as_slice()) {
-        Ok(found) => found,
-        Err(error) if error.use_stderr() => {
-            eprint!(rt; "{error}")?;
-            return Ok(ExitCode::from(2));
-        }
+    Ok(words)
+}
+
+fn main(rt: HostRuntime) -> ExitCode {
+    let words = match words(&rt) {
+        Ok(words) => words,
         Err(error) => {
-            print!(rt; "{error}")?;
-            return Ok(ExitCode::SUCCESS);
+            let _ = writeln!(rt.stderr(), "vtcat: {error}");
+            return ExitCode::FAILURE;
         }
     };
-    match show(rt.alloc(), &found, rt.reader(), io::writer(&rt)) {
-        Ok(()) => Ok(ExitCode::SUCCESS),
-        Err(error) => {
-            eprintln!(rt; "vtcat: {error}")?;
-            Ok(ExitCode::from(1))
-        }
-    }
+    let status = cat(
+        rt.alloc(),
+        words.as_slice(),
+        rt.reader(),
+        &mut io::writer(&rt),
+        &mut rt.stderr(),
+    );
+    ExitCode::from(status)
 }

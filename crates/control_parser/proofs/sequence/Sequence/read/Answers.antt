@@ -1,4 +1,4 @@
-use Rattle.std.proofs.Common.{◌≡◌, ◌+◌, ◌<◌, ◌∷◌, [], List, ℕ, take, subst, true, Some, slice_index_or, arith, ap, sym, refl, ◌∙◌}
+use Rattle.std.proofs.Common.{◌≡◌, ◌+◌, ◌∷◌, [], List, ℕ, take, subst, true, Some, slice_index_or, arith, ap, sym, refl, ◌∙◌}
 use Rattle.std.proofs.lemmas.Bool.Decides.{nat_tests}
 use Rattle.charsets.specs.declared.unit.Coding.TheVariants.{Utf8}
 use Rattle.control_parser.specs.declared.func.Func.TheVariants.{Csi}

@@ -1,4 +1,4 @@
-use Rattle.std.proofs.Common.{◌≡◌, ◌++◌, ap, ◌∙◌, subst, arith, take, List, ℕ}
+use Rattle.std.proofs.Common.{◌≡◌, subst, arith, take, List, ℕ}
 use Rattle.terminal_model.specs.Reading.{reads}
 use Rattle.emulator.specs.Standing.{HasRead}
 use Rattle.emulator.proofs.Feeding.{has-read-more}

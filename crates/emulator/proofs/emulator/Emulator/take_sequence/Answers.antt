@@ -1,4 +1,4 @@
-use Rattle.std.proofs.Common.{◌≡◌, ◌+◌, ◌<◌, ◌++◌, ◌∷◌, [], refl, sym, ap, ◌∙◌, subst, List, ℕ, take, drop, length, arith}
+use Rattle.std.proofs.Common.{◌+◌, ◌<◌, ◌∷◌, [], refl, sym, ap, ◌∙◌, subst, List, ℕ, take, arith}
 use Rattle.charsets.specs.declared.unit.Coding.TheVariants.{Utf8}
 use Rattle.control_parser.specs.declared.func.Func.{Func}
 use Rattle.control_parser.specs.Spelling.{ReadsAs}

@@ -1,7 +1,6 @@
-use Rattle.std.proofs.Common.{rules, ◌≡◌, ◌<◌, ◌∷◌, [], true, List, ℕ, map, take, get_or, refl, sym, ap, ◌∙◌, subst, arith}
+use Rattle.std.proofs.Common.{rules, ◌≡◌, ◌∷◌, [], true, List, ℕ, map, take, get_or, refl, sym, ap, ◌∙◌, subst, arith}
 use Rattle.std.specs.List.{list_all}
 use Rattle.std.proofs.lemmas.Bool.Decides.{nat_tests}
-use Rattle.std.proofs.lemmas.List.Sums.{prefix_len-le-length}
 use Rattle.charsets.specs.Units.{is_plain}
 use Rattle.charsets.specs.declared.unit.Coding.TheVariants.{Utf8}
 use Rattle.control_parser.specs.declared.func.Func.TheVariants.{Print, Control}

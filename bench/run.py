@@ -1,0 +1,104 @@
+"""Prints how fast vtcat is beside libvterm and Rust's vt100, all in one run: MB/s of processor time, and ratios."""
+
+import argparse
+import resource
+import shutil
+import subprocess
+import sys
+import tempfile
+from pathlib import Path
+
+sys.dont_write_bytecode = True
+
+import inputs  # noqa: E402
+
+HERE = Path(__file__).resolve().parent
+VTCAT = HERE.parent / "crates" / "vtcat"
+REGISTRY = Path("/usr/share/cargo/registry")
+SIZE = ["24", "80"]
+
+
+def run(words, **how):
+    return subprocess.run([str(word) for word in words], check=True, **how)
+
+
+def build_vtcat():
+    """Proves and builds vtcat; the toolchain leaves the program in the crate's folder."""
+    run([shutil.which("rt") or "rt", "run", "--", "--rows", "2", "--cols", "2"], cwd=VTCAT,
+        stdin=subprocess.DEVNULL, stdout=subprocess.DEVNULL)
+    return VTCAT / "out" / "vtcat"
+
+
+def build_libvterm(folder):
+    """None where Debian's libvterm-dev isn't there."""
+    program = folder / "vterm"
+    try:
+        run(["cc", "-O2", "-o", program, HERE / "vterm.c", "-lvterm"])
+    except (OSError, subprocess.CalledProcessError):
+        return None
+    return program
+
+
+def build_vt100(folder):
+    """None where cargo or Debian's librust-vt100-dev isn't there."""
+    crate = folder / "vt100"
+    shutil.copytree(HERE / "vt100", crate, dirs_exist_ok=True)
+    (crate / ".cargo").mkdir(exist_ok=True)
+    (crate / ".cargo" / "config.toml").write_text(
+        '[source.crates-io]\nreplace-with = "debian"\n'
+        f'[source.debian]\ndirectory = "{REGISTRY}"\n')
+    try:
+        run(["cargo", "build", "--release", "--offline", "--quiet"], cwd=crate)
+    except (OSError, subprocess.CalledProcessError):
+        return None
+    return crate / "target" / "release" / "vt100-driver"
+
+
+def seconds(words, file):
+    """The processor time that a program takes on a file."""
+    with open(file, "rb") as stdin:
+        before = resource.getrusage(resource.RUSAGE_CHILDREN)
+        run(words, stdin=stdin, stdout=subprocess.DEVNULL)
+        after = resource.getrusage(resource.RUSAGE_CHILDREN)
+    return after.ru_utime + after.ru_stime - before.ru_utime - before.ru_stime
+
+
+def speed(words, file, times):
+    return file.stat().st_size / 1e6 / min(seconds(words, file) for _ in range(times))
+
+
+def line(name, cells):
+    print(f"{name:12}" + "".join(f"{cell:>11}" for cell in cells), flush=True)
+
+
+def main():
+    reader = argparse.ArgumentParser(description=__doc__)
+    reader.add_argument("--times", type=int, default=5, help="the best of so many runs counts")
+    reader.add_argument("--folder", type=Path, help="for inputs and drivers; else a new one, deleted at the end")
+    reader.add_argument("--vtcat", type=Path, help="a vtcat that is built already")
+    words = reader.parse_args()
+    with tempfile.TemporaryDirectory() as temporary:
+        folder = words.folder or Path(temporary)
+        folder.mkdir(parents=True, exist_ok=True)
+        files = inputs.make(folder)
+        vtcat = words.vtcat or build_vtcat()
+        programs = {"vtcat": [vtcat, "--rows", SIZE[0], "--cols", SIZE[1]]}
+        others = {"libvterm": build_libvterm(folder), "vt100": build_vt100(folder)}
+        for name, program in others.items():
+            if program is None:
+                print(f"{name}: its driver could not be built (see README.md)", file=sys.stderr)
+            else:
+                programs[name] = [program, *SIZE]
+        line("MB/s", files)
+        table = {}
+        for name, program in programs.items():
+            table[name] = [speed(program, file, words.times) for file in files.values()]
+            line(name, [f"{value:.1f}" for value in table[name]])
+        rivals = [speeds for name, speeds in table.items() if name != "vtcat"]
+        if rivals:
+            best = [max(column) for column in zip(*rivals)]
+            line("vtcat : best", [f"{own / other:.2f}" for own, other in zip(table["vtcat"], best)])
+
+
+if __name__ == "__main__":
+    main()
