@@ -1,0 +1,19 @@
+use Rattle.std.proofs.Common.{refl}
+use Rattle.terminal_model.specs.Writing.{Encoding}
+use Rattle.windows.specs.declared.window.Window.{Window}
+use Rattle.windows.specs.Standing.{written, written_to}
+use Rattle.windows.proofs.Answering.{lent, not_lent, put_back, row_changed, row_missing}
+use Rattle.windows.proofs.windows.Windows.encode.Goals as goal
+
+pub returns-in_default-clause-answer : goal.returns-in_default-clause-answer
+returns-in_default-clause-answer c =
+    row_missing (Unit {0}) c.args.self.now c.args.self.now c.args.serial (written (Encoding c.args.coding)) (
+    not_lent c.get_mut.result c.self.inside.rows c.args.self.now c.args.serial c.in_default.is c.get_mut.ensures.value c.self.view_is)
+
+pub returns-clause-answer : goal.returns-clause-answer
+returns-clause-answer c =
+    let made : Window = c.encode.new.self in
+    let at = lent c.get_mut.result c.in-Some.window c.self.inside.rows c.args.self.now c.args.serial c.in-Some.is c.get_mut.ensures.value c.self.view_is in
+    let put = put_back c.get_mut.result c.in-Some.window c.self.inside.rows c.args.self.now (c.get_mut.follows.lender made) c.args.serial made c.in-Some.is (c.get_mut.follows.holds made) c.self.view_is in
+    row_changed c.args.self.now (c.get_mut.follows.lender made) c.args.serial (written (Encoding c.args.coding)) c.in-Some.window.now made at (tt {0}) put
+    (λ m st. (written_to (Encoding c.args.coding) m, refl, c.encode.ensures m st))

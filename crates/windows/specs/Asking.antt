@@ -1,0 +1,29 @@
+-- What is asked of a table of windows.
+use Rattle.std.specs.Prelude.{ℕ, ◌≡◌, ◌++◌, List, Option, Some}
+use Rattle.std.specs.Option.{option_map}
+use Rattle.terminal_model.specs.Reading.{reads}
+use Rattle.session_model.specs.Tables as model
+use Rattle.session_model.specs.Tables.{row_of}
+use Rattle.session_model.specs.Naming.{window_after, window_before}
+use Rattle.session_model.specs.Terminals.{terminal_of}
+use Rattle.session_rows.specs.Matched.{BothOrNone}
+use Rattle.windows.specs.declared.window.Window.{Window}
+use Rattle.windows.specs.Standing.{WindowStands, StandFor, serial}
+
+-- the number of a row
+abbrev pub number : model.Window → ℕ
+number w = w.number
+
+-- the window behind the one of this number, and the one before it
+abbrev pub FindsAfter : Option ℕ → List Window → Option Window → Type 0
+FindsAfter from ws found = (rows : List model.Window) (w : Option model.Window) → StandFor rows ws →
+    option_map number w ≡ from → BothOrNone WindowStands (window_after rows w) found
+
+abbrev pub FindsBefore : Option ℕ → List Window → Option Window → Type 0
+FindsBefore from ws found = (rows : List model.Window) (w : Option model.Window) → StandFor rows ws →
+    option_map number w ≡ from → BothOrNone WindowStands (window_before rows w) found
+
+-- what the terminal of a window answers to these bytes stands behind what was there
+abbrev pub AnswersReports : ℕ → List ℕ → List Window → List ℕ → List ℕ → Type 0
+AnswersReports s bytes old before after = (rows : List model.Window) (w : model.Window) → StandFor rows old →
+    row_of serial rows s ≡ Some w → after ≡ before ++ (reads (terminal_of w) bytes).reports

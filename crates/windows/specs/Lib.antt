@@ -1,0 +1,4 @@
+pub mod Among
+pub mod Asking
+pub mod Standing
+pub mod Writing
