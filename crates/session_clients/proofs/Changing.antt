@@ -15,10 +15,10 @@ use Rattle.session_clients.specs.Stands.{ClientStands, AreClients, Changes, Chan
 serials : (m : model.Client) (c : Client) → ClientStands m c → c.serial ≡ m.serial
 serials m c st = st.serial_is
 
-abbrev model_serial : model.Client → ℕ
+abbrev pub model_serial : model.Client → ℕ
 model_serial m = m.serial
 
-abbrev serial_of : Client → ℕ
+abbrev pub serial_of : Client → ℕ
 serial_of c = c.serial
 
 -- the row is there
@@ -132,3 +132,22 @@ all_over f g old inside lent items i keeps is same past count made =
     ∙ (ap (map g) (take_all i lent past) ∙ ap (map g) (same ∙ is)))) in
     all_changed f g old (over inside items) keeps
     (over_same inside items (count ∙ ap length same) ∙ whole)
+
+-- the row that is lent, and what stands in its place
+pub lent_at : (old inside : List Client) (serial : ℕ) (r : Option (MutBor Client))
+    (b : MutBor Client) (lender : Client → List Client) (d : Client) → inside ≡ old
+    → option_copied_mut r ≡ row_of serial_of inside serial
+    → ((w : Client) → OnSome r (lender w ≡ with_row serial_of inside serial w)) → r ≡ Some b
+    → (row_of serial_of old serial ≡ Some b.now) × (lender d ≡ with_row serial_of old serial d)
+lent_at old inside serial r b lender d same at holds is =
+    let both = some_at r b (row_of serial_of inside serial) _ is at (holds d) in (
+      ap (λ cs. row_of serial_of cs serial) (sym same) ∙ both.0,
+      both.1 ∙ ap (λ cs. with_row serial_of cs serial d) same,
+    )
+
+pub none_lent : (old inside : List Client) (serial : ℕ) (r : Option (MutBor Client))
+    → inside ≡ old → option_copied_mut r ≡ row_of serial_of inside serial → r ≡ None
+    → row_of serial_of old serial ≡ None
+none_lent old inside serial r same at is =
+    ap (λ cs. row_of serial_of cs serial) (sym same)
+    ∙ none_at r (row_of serial_of inside serial) is at

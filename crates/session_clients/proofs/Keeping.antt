@@ -1,5 +1,5 @@
 -- Rows that still stand for those of the model once both have changed alike.
-use Rattle.std.proofs.Common.{◌≡◌, ℕ, ◌<◌, ◌≤◌, ◌-◌, Bool, true, false, refl, sym, subst, ◌∙◌, ap, Option, Some, None, [], map, arith, List}
+use Rattle.std.proofs.Common.{◌≡◌, ℕ, ◌<◌, ◌≤◌, ◌-◌, Bool, true, false, refl, sym, subst, ◌∙◌, ap, Option, Some, None, [], map, arith}
 use Rattle.std.specs.Prelude.{◌&&◌, nat_lt, nat_le}
 use Rattle.std.proofs.lemmas.Bool.{leb-true}
 use Rattle.std.proofs.lemmas.Bool.Decides.{nat_tests}
@@ -7,12 +7,12 @@ use Rattle.std.specs.Prelude.{if◌then◌else◌}
 use Rattle.regions.specs.Layouts.{Arrangement, kept_alone, emptied}
 use Rattle.regions.specs.Shapes.{region}
 use Rattle.regions.specs.Pages.{has_room}
-use Rattle.terminal_model.specs.Reading.{Terminal, reads}
+use Rattle.terminal_model.specs.Reading.{Terminal, Read, nothing_read, reads}
 use Rattle.session_model.specs.declared.message.Message.{Message}
 use Rattle.session_model.specs.declared.message.Message.TheVariants.{Silence}
 use Rattle.session_model.specs.Tables as model
 use Rattle.session_model.specs.Tables.{with_layout, focused, last_after, former_after}
-use Rattle.terminal_model.specs.Shows.{View, IsOfSize}
+use Rattle.terminal_model.specs.Shows.{IsOfSize}
 use Rattle.redraw.specs.Shadow.{Knowledge}
 use Rattle.keys.specs.Kept as keys
 use Rattle.regions.specs.Layouts.{one_region, split_fault, remove_focused}
@@ -140,19 +140,16 @@ room_for_one rows columns sized =
 
 -- ---- a new client
 
-reads_nothing : (t : Terminal) → (reads t []).terminal ≡ t
+pub reads_none : (t : Terminal) → reads t [] ≡ nothing_read t
 unfolding reads
-reads_nothing t = refl
-
-reports_nothing : (t : Terminal) → (reads t []).reports ≡ []
-unfolding reads
-reports_nothing t = refl
+reads_none t = refl
 
 -- nothing was drawn yet
 pub undrawn : (rows columns : ℕ) → IsScreen rows columns None []
 undrawn rows columns = record {
-  agrees = λ t is. subst (λ u. IsOfSize rows columns u) (sym (reads_nothing t)) is;
-  quiet = λ t is. reports_nothing t;
+  agrees = λ t is.
+      subst (λ (r : Read). IsOfSize rows columns r.terminal) (sym (reads_none t)) is;
+  quiet = λ t is. ap (λ (r : Read). r.reports) (reads_none t);
   can_be_shown = tt;
   delivers = refl;
 }

@@ -1,2 +1,6 @@
 pub mod Changing
 pub mod Keeping
+pub mod Typing
+pub mod Frames
+pub mod Drawing
+pub mod Exchanging

@@ -1,19 +1,24 @@
 //! A client.
 
-ghost use Rattle.std.specs.Prelude.{ℕ, ◌≡◌, ◌↔◌, ◌<◌, true, None, IfOk, OnOk, OnErr, IfErr, IsOk, length};
+ghost use Rattle.std.specs.Prelude.{ℕ, ◌≡◌, ◌↔◌, ◌<◌, true, false, None, IfOk, OnOk, OnErr, IfErr, IsOk, length};
 ghost use Rattle.std.specs.Prelude.{slice_set, slice_get, unwrap_or, if◌then◌else◌};
 ghost use Rattle.regions.specs.Layouts.{empty, split_focused, remove_focused, next_focus};
 ghost use Rattle.regions.specs.Layouts.{kept_alone, split_fault};
 ghost use Rattle.regions.specs.Pages.{has_room};
+ghost use Rattle.session_model.specs.Tables as model;
+ghost use Rattle.session_model.specs.Framed.{NeedsDraw};
 ghost use Rattle.session_model.specs.Events.{is_client_size};
+ghost use Rattle.view.specs.View.{HasSize};
 
 use acl::UserId;
 use keys::KeyReader;
-use redraw::Shadow;
+use redraw::{Shadow, needs_draw};
 use regions::{Layout, RegionFault, Shown, Way};
 use session_model::Message;
 use session_rows::Serial;
 use std::alloc::{AllocError, Global};
+use std::mem;
+use view::View;
 
 /// A user's terminal.
 #[derive(Drop)]
@@ -44,6 +49,7 @@ impl Serial for Client {
 impl Client {
     ghost use Rattle.session_clients.specs.Moves.{attached, seen, moved_to, without, fitted};
     ghost use Rattle.session_clients.specs.Stands.{ClientStands, IsFaultOf, IsRemoval};
+    ghost use Rattle.session_clients.specs.Draws.{ShowsAlready};
 
     /// A new client, whose one region shows this window.
     pub(crate) fn new(
@@ -174,5 +180,26 @@ impl Client {
     {
         self.layout.resized(rows, cols);
         self.shadow = Shadow::unknown(rows, cols);
+    }
+
+    /// Takes a reader and a message, and hands back those that it had.
+    pub(crate) fn exchange(&mut self, keys: &mut KeyReader, message: &mut Message)
+        ensures row { self.new ≡ record self.old { keys = keys.old; message = message.old } }
+        ensures keys { keys.new ≡ self.old.keys }
+        ensures message { message.new ≡ self.old.message }
+    {
+        mem::swap(&mut self.keys, keys);
+        mem::swap(&mut self.message, message);
+    }
+
+    /// Whether its terminal isn't known to show the view, of its size.
+    pub fn needs_draw(&self, view: &View) -> bool
+        requires { HasSize self.now.shadow.rows self.now.shadow.columns view.now }
+        ensures needed { result ≡ true → (m : model.Client) → ClientStands m self.now
+            → NeedsDraw m.drawn view.now }
+        ensures shown { result ≡ false → (m : model.Client) → ClientStands m self.now
+            → ShowsAlready m view.now }
+    {
+        needs_draw(&self.shadow, view)
     }
 }

@@ -10,15 +10,20 @@ ghost use Rattle.session_model.specs.declared.message.Message.TheVariants as wha
 ghost use Rattle.session_model.specs.Tables.{row_of, with_row, with_layout};
 ghost use Rattle.session_model.specs.Deeds.{hearing, showing, shown_in_focus, is_of};
 ghost use Rattle.session_model.specs.Deeds.{without_window};
-ghost use Rattle.session_model.specs.Events.{resized, is_client_size};
+ghost use Rattle.session_model.specs.Events.{resized, reading, is_client_size};
+ghost use Rattle.view.specs.View.{HasSize};
+ghost use Rattle.view.specs.Drawable.{IsDrawable};
 
 use crate::client::Client;
 use acl::UserId;
+use keys::KeyReader;
+use redraw::frame;
 use regions::{RegionFault, Shown, Way};
 use session_model::{Bytes, Message};
 use session_rows::Rows;
 use std::alloc::{AllocError, Global};
 use std::marker::Model;
+use view::View;
 
 /// The attached clients, by rising serials.
 #[derive(Drop)]
@@ -42,6 +47,8 @@ impl Model for Clients {
 impl Clients {
     ghost use Rattle.session_clients.specs.declared.client.Client.{Client};
     ghost use Rattle.session_clients.specs.Moves.{attached};
+    ghost use Rattle.session_clients.specs.Exchanges.{Exchanged, HasReadMore, PutsBack};
+    ghost use Rattle.session_clients.specs.Draws.{Draws};
     ghost use Rattle.session_clients.specs.Stands.{Attaches, Keeps, Changes, ChangesAll, Finds};
     ghost use Rattle.session_clients.specs.Stands.{IsFaultOf, IsRemoval};
 
@@ -208,6 +215,42 @@ impl Clients {
             return;
         };
         client.resize(rows, cols);
+    }
+
+    /// Puts a reader and a message into a client's row, and hands back those that stood there: done
+    /// twice, it changes nothing.
+    pub fn exchange(&mut self, serial: u32, keys: &mut KeyReader, message: &mut Message)
+        ensures read { (bytes : List ℕ) → message.old ≡ what.Silence
+            → HasReadMore serial self.old keys.old bytes
+            → Changes (reading bytes) serial self.old self.new }
+        ensures row { (c : Client) → row_of (λ (c : Client). c.serial) self.old serial ≡ Some c
+            → Exchanged serial c self.old keys.old message.old self.new keys.new message.new }
+        ensures back { PutsBack serial self.old keys.old message.old self.new }
+    {
+        let Some(client) = self.rows.get_mut(serial) else {
+            return;
+        };
+        client.exchange(keys, message);
+    }
+
+    /// Draws a view for a client, of its size: appends its frame.
+    pub fn draw(
+        &mut self,
+        alloc: Global,
+        serial: u32,
+        view: &View,
+        out: &mut Vec<u8>,
+    ) -> Result<(), AllocError>
+        requires { (c : Client) → row_of (λ (c : Client). c.serial) self.old serial ≡ Some c
+            → HasSize c.shadow.rows c.shadow.columns view.now }
+        ensures ok { OnOk result (IsDrawable view.now
+            → Draws serial view.now out.old.items out.new.items self.old self.new) }
+        ensures err { OnErr result ((self.new ≡ self.old) × (out.new.items ≡ out.old.items)) }
+    {
+        let Some(client) = self.rows.get_mut(serial) else {
+            return Ok(());
+        };
+        frame(alloc, &mut client.shadow, view, out)
     }
 
     /// Empties the regions of all clients that show a window.

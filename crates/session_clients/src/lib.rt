@@ -3,6 +3,8 @@
 
 mod client;
 mod clients;
+mod reading;
 
 pub use client::Client;
-pub use clients::Clients;
+pub use clients::{Clients, messages_of};
+pub use reading::{Reading, read_keys};

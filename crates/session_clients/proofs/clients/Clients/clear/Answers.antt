@@ -1,9 +1,6 @@
-use Rattle.std.proofs.Common.{ap, not, true, false, refl, rules}
+use Rattle.std.proofs.Common.{not, true, false, refl, rules}
 use Rattle.std.proofs.lemmas.Fn.{filter_same}
-use Rattle.acl.specs.declared.user_id.UserId.{UserId}
-use Rattle.acl.specs.Same.{same_user}
 use Rattle.session_model.specs.Tables as model
-use Rattle.session_model.specs.Deeds.{is_of}
 use Rattle.session_clients.specs.declared.client.Client.{Client}
 use Rattle.session_clients.proofs.Changing.{kept}
 use Rattle.session_clients.proofs.clients.Clients.clear.Goals as goal

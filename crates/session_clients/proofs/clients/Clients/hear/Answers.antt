@@ -1,6 +1,5 @@
 use Rattle.session_model.specs.Deeds.{hearing}
 use Rattle.session_clients.proofs.Keeping.{keeps_heard}
-use Rattle.session_model.specs.Tables as model
 use Rattle.session_clients.proofs.Changing.{changed_row, no_row}
 use Rattle.session_clients.proofs.clients.Clients.hear.Goals as goal
 

@@ -1,4 +1,4 @@
-use Rattle.std.proofs.Common.{ap, not, true, false, refl, rules}
+use Rattle.std.proofs.Common.{ap, not, rules}
 use Rattle.std.proofs.lemmas.Fn.{filter_same}
 use Rattle.acl.specs.declared.user_id.UserId.{UserId}
 use Rattle.acl.specs.Same.{same_user}

@@ -1,5 +1,4 @@
-use Rattle.std.proofs.Common.{◌∙◌, ap, sym, subst, List, length}
-use Rattle.regions.specs.declared.shown.Shown.{Shown}
+use Rattle.std.proofs.Common.{◌∙◌, ap, subst}
 use Rattle.regions.specs.Layouts.{Arrangement, remove_focused}
 use Rattle.session_model.specs.Tables as model
 use Rattle.session_model.specs.Tables.{with_layout}

@@ -1,4 +1,4 @@
-use Rattle.std.proofs.Common.{◌∙◌, ap, sym, subst}
+use Rattle.std.proofs.Common.{◌∙◌, ap, subst}
 use Rattle.regions.specs.Layouts.{split_focused, split_fault}
 use Rattle.session_model.specs.Tables as model
 use Rattle.session_model.specs.Tables.{with_layout}
