@@ -4,3 +4,4 @@ pub mod Typing
 pub mod Frames
 pub mod Drawing
 pub mod Exchanging
+pub mod Telling

@@ -10,7 +10,8 @@ pub record Exchanged (serial : ℕ) (c : Client) (old : List Client) (keys : Kee
     (message : Message) (new : List Client) (keys_then : Keeping) (message_then : Message) : Type 0
   where
     pub row : new
-        ≡ with_row (λ (d : Client). d.serial) old serial (record c { keys = keys; message = message })
+        ≡ with_row (λ (d : Client). d.serial) old serial
+        (record c { keys = keys; message = message })
     pub keys_are : keys_then ≡ c.keys
     pub message_is : message_then ≡ c.message
 

@@ -5,6 +5,8 @@ use Rattle.regions.specs.declared.shown.Shown.{Shown}
 use Rattle.acl.specs.declared.user_id.UserId.{UserId}
 use Rattle.regions.specs.Layouts.{Arrangement, one_region, emptied, kept_alone}
 use Rattle.regions.specs.Pages.{has_room}
+use Rattle.session_model.specs.declared.event.Effect.{Effect}
+use Rattle.session_model.specs.declared.event.Effect.TheVariants.{Say}
 use Rattle.session_model.specs.declared.message.Message.TheVariants.{Silence, Text}
 use Rattle.session_model.specs.Tables as model
 use Rattle.session_model.specs.Tables.{last_after, former_after, seeing, focused}
@@ -17,7 +19,10 @@ in_focus c = option_and_then (λ (s : Shown). s.window) (slice_get c.layout.show
 -- it is noted
 abbrev pub seen : Client → Client
 seen c =
-    record c { last = last_after (in_focus c) c.last; former = former_after (in_focus c) c.last c.former }
+    record c {
+      last = last_after (in_focus c) c.last;
+      former = former_after (in_focus c) c.last c.former;
+    }
 
 -- the page is so now
 abbrev pub moved_to : Arrangement → Client → Client
@@ -52,6 +57,10 @@ attached serial user rows columns window =
       former = None;
       message = Silence;
     } in seeing (focused c) c
+
+-- what is said to a client
+abbrev pub said : List ℕ → Client → Effect
+said text c = Say c.serial text
 
 -- a client that is told a text
 abbrev pub heard : List ℕ → Client → Client

@@ -72,7 +72,8 @@ pub record Attaches (m : model.Client) (old new : List Client) : Type 0 where
 
 -- all rows change
 abbrev pub ChangesAll : (model.Client → model.Client) → List Client → List Client → Type 0
-ChangesAll f old new = (rows : List model.Client) → AreClients rows old → AreClients (map f rows) new
+ChangesAll f old new =
+    (rows : List model.Client) → AreClients rows old → AreClients (map f rows) new
 
 -- a fact of the row of a serial
 abbrev pub Finds : ℕ → List Client → (model.Client → Type 0) → Type 0

@@ -1,6 +1,6 @@
 //! A client.
 
-ghost use Rattle.std.specs.Prelude.{ℕ, ◌≡◌, ◌↔◌, ◌<◌, true, false, None, IfOk, OnOk, OnErr, IfErr, IsOk, length};
+ghost use Rattle.std.specs.Prelude.{ℕ, ◌≡◌, true, false, IfOk, OnOk, OnErr};
 ghost use Rattle.std.specs.Prelude.{slice_set, slice_get, unwrap_or, if◌then◌else◌};
 ghost use Rattle.regions.specs.Layouts.{empty, split_focused, remove_focused, next_focus};
 ghost use Rattle.regions.specs.Layouts.{kept_alone, split_fault};
@@ -122,7 +122,8 @@ impl Client {
 
     /// Splits its focused region.
     pub(crate) fn split(&mut self, alloc: Global, way: Way) -> Result<(), RegionFault>
-        ensures ok { OnOk result (self.new ≡ moved_to (split_focused way self.old.layout) self.old) }
+        ensures ok { OnOk result
+            (self.new ≡ moved_to (split_focused way self.old.layout) self.old) }
         ensures room { OnOk result (has_room (split_focused way self.old.layout).shape
             self.old.shadow.rows self.old.shadow.columns ≡ true) }
         ensures err { OnErr result (self.new ≡ self.old) }
@@ -149,7 +150,8 @@ impl Client {
     /// Closes its focused region.
     pub(crate) fn remove_region(&mut self) -> Result<(), RegionFault>
         ensures ok { OnOk result (self.new ≡ moved_to (remove_focused self.old.layout) self.old) }
-        ensures room { OnOk result ((rows cols : ℕ) → has_room self.old.layout.shape rows cols ≡ true
+        ensures room { OnOk result ((rows cols : ℕ)
+            → has_room self.old.layout.shape rows cols ≡ true
             → has_room (remove_focused self.old.layout).shape rows cols ≡ true) }
         ensures err { OnErr result (self.new ≡ self.old) }
         ensures fault { IsRemoval result self.old.layout.shown }

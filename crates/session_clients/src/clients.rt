@@ -7,6 +7,8 @@ ghost use Rattle.regions.specs.Layouts.{split_focused, remove_focused, next_focu
 ghost use Rattle.regions.specs.Layouts.{split_fault};
 ghost use Rattle.session_model.specs.declared.message.Message.{Message as What};
 ghost use Rattle.session_model.specs.declared.message.Message.TheVariants as what;
+ghost use Rattle.session_model.specs.declared.event.Effect.TheVariants as effect;
+ghost use Rattle.session_model.specs.Tables as model;
 ghost use Rattle.session_model.specs.Tables.{row_of, with_row, with_layout};
 ghost use Rattle.session_model.specs.Deeds.{hearing, showing, shown_in_focus, is_of};
 ghost use Rattle.session_model.specs.Deeds.{without_window};
@@ -19,7 +21,7 @@ use acl::UserId;
 use keys::KeyReader;
 use redraw::frame;
 use regions::{RegionFault, Shown, Way};
-use session_model::{Bytes, Message};
+use session_model::{Bytes, Effect, Message};
 use session_rows::Rows;
 use std::alloc::{AllocError, Global};
 use std::marker::Model;
@@ -50,7 +52,7 @@ impl Clients {
     ghost use Rattle.session_clients.specs.Exchanges.{Exchanged, HasReadMore, PutsBack};
     ghost use Rattle.session_clients.specs.Draws.{Draws};
     ghost use Rattle.session_clients.specs.Stands.{Attaches, Keeps, Changes, ChangesAll, Finds};
-    ghost use Rattle.session_clients.specs.Stands.{IsFaultOf, IsRemoval};
+    ghost use Rattle.session_clients.specs.Stands.{AreClients, IsFaultOf, IsRemoval};
 
     /// No client.
     pub fn new(alloc: Global) -> Clients
@@ -92,7 +94,8 @@ impl Clients {
         window: Option<u32>,
     ) -> Result<(), AllocError>
         requires { is_client_size rows cols ≡ true }
-        ensures ok { OnOk result (Attaches (attached serial user rows cols window) self.old self.new) }
+        ensures ok { OnOk result
+            (Attaches (attached serial user rows cols window) self.old self.new) }
         ensures err { OnErr result (self.new ≡ self.old) }
     {
         let client = Client::new(alloc, serial, user, rows, cols, window)?;
@@ -253,6 +256,18 @@ impl Clients {
         frame(alloc, &mut client.shadow, view, out)
     }
 
+    /// What is said to each client.
+    pub fn says(&self, alloc: Global, text: &[u8]) -> Result<Vec<Effect>, AllocError>
+        ensures { IfOk result (λ made. (rows : List model.Client) → AreClients rows self.now
+            → made.items ≡ map (λ (m : model.Client). effect.Say m.serial text.now) rows) }
+    {
+        let mut made = Vec::new(alloc);
+        for client in self.rows.as_slice() {
+            made.push(Effect::Say(client.serial, Bytes::of(alloc, text)?))?;
+        }
+        Ok(made)
+    }
+
     /// Empties the regions of all clients that show a window.
     pub fn close_window(&mut self, serial: u32)
         ensures { ChangesAll (without_window serial) self.old self.new }
@@ -265,7 +280,8 @@ impl Clients {
     /// Gives each client a message; these were made before.
     pub fn hear_all(&mut self, messages: &mut Vec<Message>)
         requires { length messages.old.items ≡ length self.old }
-        ensures { (text : List ℕ) → messages.old.items ≡ replicate (length self.old) (what.Text text)
+        ensures { (text : List ℕ)
+            → messages.old.items ≡ replicate (length self.old) (what.Text text)
             → ChangesAll (hearing (what.Text text)) self.old self.new }
     {
         for client in self.rows.as_mut_slice() {

@@ -1,4 +1,5 @@
-//! The clients of a session: their keys, their pages, their messages, and what their terminals show.
+//! The clients of a session: their keys, their pages, their messages, and what their terminals
+//! show.
 #![tactic(auto)]
 
 mod client;

@@ -38,8 +38,8 @@ fn is_order(item: Option<KeyItem>) -> bool
     matches!(item, Some(KeyItem::Bound(_)) | Some(KeyItem::Line))
 }
 
-/// Reads keys up to the first one that completes a command or a line. At an `Err` the reader has read
-/// some of them.
+/// Reads keys up to the first one that completes a command or a line. At an `Err` the reader has
+/// read some of them.
 pub fn read_keys(alloc: Global, reader: &mut KeyReader, keys: &[u8]) -> Result<Reading, AllocError>
     ensures { IfOk result (λ reading. (past : List ℕ) → StandsFor reader.old past
         → HasRead past keys.now reading reader.new) }
