@@ -1,0 +1,209 @@
+-- Views that are drawn.
+use Rattle.std.proofs.Common.{◌≡◌, ℕ, List, [], ◌++◌, length, Option, Some, None, refl, ap, sym, ◌∙◌, subst, MutBor}
+use Rattle.std.specs.Option.{OnSome, option_copied_mut}
+use Rattle.std.proofs.lemmas.List.{append-nil}
+use Rattle.cells.specs.Page.{IsPage, IsGrid}
+use Rattle.terminal_model.specs.Screen.{Screen}
+use Rattle.terminal_model.specs.Reading.{Terminal, reads, joined}
+use Rattle.terminal_model.specs.Shows.{View, Shows, ShowsCursor, IsOfSize, ShowsFromAny}
+use Rattle.terminal_model.specs.Drawing.{Agrees}
+use Rattle.terminal_model.proofs.Readings.{reads-append}
+use Rattle.view.specs.View.{HasSize}
+use Rattle.view.specs.Drawable.{IsDrawable}
+use Rattle.redraw.specs.Shadow as redraw
+use Rattle.redraw.specs.Frames.{Redraws, CanBeShown}
+use Rattle.session_model.specs.Framed.{LooksLike, NeedsDraw, NeedsNoDraw, IsFrame}
+use Rattle.session_model.specs.Tables as model
+use Rattle.session_model.specs.Tables.{row_of, with_row}
+use Rattle.session_clients.specs.declared.client.Client.{Client}
+use Rattle.session_clients.specs.Stands.{ClientStands, IsScreen}
+use Rattle.session_clients.specs.Draws.{ShowsAlready, Draws}
+use Rattle.session_clients.proofs.Changing.{serial_of, lent_at, found, found_none, changed}
+use Rattle.session_clients.proofs.Frames.{frame_behind, then_delivered}
+
+-- ---- what is known
+
+alike : (a b : View) → redraw.LooksLike a b → LooksLike a b
+alike a b l = record { cells = l.cells; cursor = l.cursor; arrows = l.arrows; keypad = l.keypad }
+
+alike_back : (a b : View) → LooksLike a b → redraw.LooksLike a b
+alike_back a b l =
+    record { cells = l.cells; cursor = l.cursor; arrows = l.arrows; keypad = l.keypad }
+
+needs : (known : Option View) (v : View) → redraw.NeedsDraw known v → NeedsDraw known v
+needs None v needed = tt
+needs (Some k) v needed = λ l. needed (alike_back k v l)
+
+needs_not : (known : Option View) (v : View) → redraw.IsKnown known v → NeedsNoDraw known v
+needs_not None v known = absurd known
+needs_not (Some k) v known = alike k v known
+
+-- a screen that shows a view shows each that looks like it
+shows_alike : (a b : View) (x : Screen) → redraw.LooksLike a b
+    → IsPage x.state.rows x.state.columns b.page → Shows a x → Shows b x
+shows_alike a b x alike size s = record {
+  size = size;
+  cells = λ l c. s.cells l c ∙ alike.cells l c;
+  upright = s.upright;
+  cursor = subst (λ p. ShowsCursor p x) alike.cursor s.cursor;
+  arrows = s.arrows ∙ alike.arrows;
+  keypad = s.keypad ∙ alike.keypad;
+}
+
+-- a view's page on a screen of its size
+page_fits : (rows columns : ℕ) (v : View) (x : Screen) → IsGrid v.page → HasSize rows columns v
+    → x.state.rows ≡ rows → x.state.columns ≡ columns
+    → IsPage x.state.rows x.state.columns v.page
+page_fits rows columns v x grid size rows_are columns_are =
+    subst (λ r. IsPage r x.state.columns v.page) (size.rows_are ∙ sym rows_are)
+    (subst (λ c. IsPage (length v.page) c v.page) (size.columns_are ∙ sym columns_are)
+    grid.well_formed)
+
+shows_known : (rows columns : ℕ) (known : Option View) (v : View) (t : Terminal)
+    → redraw.IsKnown known v → IsGrid v.page → HasSize rows columns v
+    → Agrees rows columns known t → Shows v t.screen
+shows_known rows columns None v t alike grid size agrees = absurd alike
+shows_known rows columns (Some k) v t alike grid size agrees =
+    shows_alike k v t.screen alike
+    (page_fits rows columns v t.screen grid size agrees.0.rows_are agrees.0.columns_are)
+    agrees.1.shows
+
+size_of_row : (m : model.Client) (c : Client) (v : View) → ClientStands m c
+    → HasSize c.shadow.rows c.shadow.columns v → HasSize m.rows m.columns v
+size_of_row m c v st size = record {
+  rows_are = size.rows_are ∙ st.rows_are;
+  columns_are = size.columns_are ∙ st.columns_are;
+}
+
+pub needs_then : (m : model.Client) (c : Client) (v : View) → ClientStands m c
+    → redraw.NeedsDraw c.shadow.known v → NeedsDraw m.drawn v
+needs_then m c v st needed =
+    needs m.drawn v (subst (λ k. redraw.NeedsDraw k v) st.known_is needed)
+
+-- nothing has to be drawn
+pub shows_already : (m : model.Client) (c : Client) (v : View) → ClientStands m c
+    → HasSize c.shadow.rows c.shadow.columns v → redraw.IsKnown c.shadow.known v → IsGrid v.page
+    → ShowsAlready m v
+shows_already m c v st size known grid =
+    let known_then : redraw.IsKnown m.drawn v =
+    subst (λ k. redraw.IsKnown k v) st.known_is known in record {
+      needless = needs_not m.drawn v known_then;
+      shows = λ t is. record {
+        shows =
+            subst (λ bs. Shows v (reads t bs).terminal.screen) (sym (append-nil m.delivered))
+            (shows_known m.rows m.columns m.drawn v (reads t m.delivered).terminal known_then grid
+            (size_of_row m c v st size) (st.screen.agrees t is));
+        quiet =
+            ap (λ bs. (reads t bs).reports) (append-nil m.delivered) ∙ st.screen.quiet t is;
+      };
+    }
+
+-- ---- a frame
+
+module _ (m : model.Client) (c : Client) (v : View) (bytes : List ℕ) (st : ClientStands m c)
+    (drawable : IsDrawable v)
+    (redraws : Redraws c.shadow.rows c.shadow.columns c.shadow.known v bytes) where
+  redraws_then : Redraws m.rows m.columns m.drawn v bytes
+  redraws_then =
+      subst (λ k. Redraws m.rows m.columns k v bytes) st.known_is
+      (subst (λ r. Redraws r m.columns c.shadow.known v bytes) st.rows_are
+      (subst (λ n. Redraws c.shadow.rows n c.shadow.known v bytes) st.columns_are redraws))
+
+  whole : (t : Terminal)
+      → reads t (m.delivered ++ bytes)
+      ≡ joined (reads t m.delivered) (reads (reads t m.delivered).terminal bytes)
+  whole t = reads-append t m.delivered bytes
+
+  agrees_then : (t : Terminal) → IsOfSize m.rows m.columns t
+      → Agrees m.rows m.columns (Some v) (reads t (m.delivered ++ bytes)).terminal
+  agrees_then t is =
+      subst (λ r. Agrees m.rows m.columns (Some v) r.terminal) (sym (whole t))
+      (redraws_then.agrees (reads t m.delivered).terminal (st.screen.agrees t is))
+
+  quiet_then : (t : Terminal) → IsOfSize m.rows m.columns t
+      → (reads t (m.delivered ++ bytes)).reports ≡ []
+  quiet_then t is =
+      ap (λ r. r.reports) (whole t)
+      ∙ (ap (λ rs. rs ++ (reads (reads t m.delivered).terminal bytes).reports)
+      (st.screen.quiet t is)
+      ∙ redraws_then.quiet (reads t m.delivered).terminal (st.screen.agrees t is))
+
+  pub framed : IsFrame m.rows m.columns m.delivered v bytes
+  framed =
+      frame_behind m.rows m.columns m.drawn v m.delivered bytes st.screen.delivers
+      st.screen.agrees redraws_then
+
+  pub shows_then : ShowsFromAny (m.delivered ++ bytes) m.rows m.columns v
+  shows_then t is = record { shows = (agrees_then t is).1.shows; quiet = quiet_then t is }
+
+  screen_then : IsScreen m.rows m.columns (Some v) (m.delivered ++ bytes)
+  screen_then = record {
+    agrees = agrees_then;
+    quiet = quiet_then;
+    can_be_shown = λ line lt. (drawable.lines line lt).halves;
+    delivers =
+        then_delivered m.rows m.columns m.drawn v m.delivered bytes st.screen.delivers redraws_then;
+  }
+
+  -- the row knows what was drawn
+  pub keeps_drawn : (d : Client)
+      → d ≡ record c { shadow = record c.shadow { known = Some v } }
+      → ClientStands (record m { delivered = m.delivered ++ bytes; drawn = Some v }) d
+  keeps_drawn d is =
+      subst
+      (λ (x : Client).
+      ClientStands (record m { delivered = m.delivered ++ bytes; drawn = Some v }) x) (sym is)
+      (record {
+        serial_is = st.serial_is;
+        user_is = st.user_is;
+        rows_are = st.rows_are;
+        columns_are = st.columns_are;
+        sized = st.sized;
+        keys = st.keys;
+        layout_is = st.layout_is;
+        last_is = st.last_is;
+        former_is = st.former_is;
+        room = st.room;
+        message_is = st.message_is;
+        known_is = refl;
+        screen = screen_then;
+      })
+
+pub drawn_row : (old inside : List Client) (serial : ℕ) (r : Option (MutBor Client))
+    (b : MutBor Client) (lender : Client → List Client) (d : Client) (v : View)
+    (before after : List ℕ) → inside ≡ old
+    → option_copied_mut r ≡ row_of serial_of inside serial
+    → ((w : Client) → OnSome r (lender w ≡ with_row serial_of inside serial w)) → r ≡ Some b
+    → IsDrawable v → d ≡ record b.now { shadow = record b.now.shadow { known = Some v } }
+    → (CanBeShown b.now.shadow.known → IsDrawable v
+    → (bytes : List ℕ) × (after ≡ before ++ bytes)
+    × Redraws b.now.shadow.rows b.now.shadow.columns b.now.shadow.known v bytes)
+    → Draws serial v before after old (lender d)
+drawn_row old inside serial r b lender d v before after same at holds is drawable now drawn rows m st
+    there =
+    let here = lent_at old inside serial r b lender d same at holds is in
+    let stands : ClientStands m b.now =
+    found (λ n. ClientStands n b.now) old inside serial r b same at is (λ n s. s) rows m st
+    there in
+    let shown : CanBeShown b.now.shadow.known =
+    subst (λ k. CanBeShown k) (sym stands.known_is) stands.screen.can_be_shown in
+    let frame = drawn shown drawable in record {
+      bytes = frame.0;
+      appended = frame.1;
+      frame = framed m b.now v frame.0 stands drawable frame.2;
+      shows = shows_then m b.now v frame.0 stands drawable frame.2;
+      stands =
+          changed
+          (λ (n : model.Client).
+          record n { delivered = n.delivered ++ frame.0; drawn = Some v })
+          old (lender d) serial b.now d here.0 here.1
+          (λ n s. keeps_drawn n b.now v frame.0 s drawable frame.2 d now) rows m st there;
+    }
+
+pub drawn_none : (old inside : List Client) (serial : ℕ) (r : Option (MutBor Client)) (v : View)
+    (before after : List ℕ) (new : List Client) → inside ≡ old
+    → option_copied_mut r ≡ row_of serial_of inside serial → r ≡ None
+    → Draws serial v before after old new
+drawn_none old inside serial r v before after new same at is rows m st there =
+    absurd
+    (found_none (λ n. ⊥) old inside serial r same at is rows m st there)

@@ -1,0 +1,67 @@
+-- Clients whose pages change.
+use Rattle.std.specs.Prelude.{ℕ, List, [], Option, None, slice_get, map, if◌then◌else◌}
+use Rattle.std.specs.Option.{option_and_then}
+use Rattle.regions.specs.declared.shown.Shown.{Shown}
+use Rattle.acl.specs.declared.user_id.UserId.{UserId}
+use Rattle.regions.specs.Layouts.{Arrangement, one_region, emptied, kept_alone}
+use Rattle.regions.specs.Pages.{has_room}
+use Rattle.session_model.specs.declared.event.Effect.{Effect}
+use Rattle.session_model.specs.declared.event.Effect.TheVariants.{Say}
+use Rattle.session_model.specs.declared.message.Message.TheVariants.{Silence, Text}
+use Rattle.session_model.specs.Tables as model
+use Rattle.session_model.specs.Tables.{last_after, former_after, seeing, focused}
+use Rattle.session_clients.specs.declared.client.Client.{Client}
+
+-- the window in the focused region
+abbrev pub in_focus : Client → Option ℕ
+in_focus c = option_and_then (λ (s : Shown). s.window) (slice_get c.layout.shown c.layout.focus)
+
+-- it is noted
+abbrev pub seen : Client → Client
+seen c =
+    record c {
+      last = last_after (in_focus c) c.last;
+      former = former_after (in_focus c) c.last c.former;
+    }
+
+-- the page is so now
+abbrev pub moved_to : Arrangement → Client → Client
+moved_to l c = let d : Client = record c { layout = l } in seen d
+
+-- regions that showed this window are empty
+abbrev pub without : ℕ → Client → Client
+without serial c =
+    record c { layout = record c.layout { shown = map (emptied serial) c.layout.shown } }
+
+-- its terminal has this size and may show anything; where a region would be too small the focused
+-- one stays alone
+abbrev pub fitted : ℕ → ℕ → Client → Client
+fitted rows columns c = record c {
+  layout = if has_room c.layout.shape rows columns then c.layout else kept_alone c.layout;
+  shadow = record { rows = rows; columns = columns; known = None };
+}
+
+-- a new client whose one region shows this window, if there is one
+abbrev pub attached : ℕ → UserId → ℕ → ℕ → Option ℕ → model.Client
+attached serial user rows columns window =
+    let c : model.Client = record {
+      serial = serial;
+      user = user;
+      rows = rows;
+      columns = columns;
+      keys = [];
+      delivered = [];
+      drawn = None;
+      layout = one_region (record { window = window; back = 0 });
+      last = None;
+      former = None;
+      message = Silence;
+    } in seeing (focused c) c
+
+-- what is said to a client
+abbrev pub said : List ℕ → Client → Effect
+said text c = Say c.serial text
+
+-- a client that is told a text
+abbrev pub heard : List ℕ → Client → Client
+heard text c = record c { message = Text text }

@@ -1,0 +1,312 @@
+//! The clients of a session.
+
+ghost use Rattle.std.specs.Prelude.{◌≡◌, ◌++◌, ◌∷◌, ◌==◌, ◌<◌, ◌↔◌, ◌+◌, [], ℕ, List, Option};
+ghost use Rattle.std.specs.Prelude.{true, false, not, Some, None, length, map, filter, replicate};
+ghost use Rattle.std.specs.Prelude.{OnOk, OnErr, IfOk, IfErr, IsOk, option_copied, unwrap_or};
+ghost use Rattle.regions.specs.Layouts.{split_focused, remove_focused, next_focus, kept_alone};
+ghost use Rattle.regions.specs.Layouts.{split_fault};
+ghost use Rattle.session_model.specs.declared.message.Message.{Message as What};
+ghost use Rattle.session_model.specs.declared.message.Message.TheVariants as what;
+ghost use Rattle.session_model.specs.declared.event.Effect.TheVariants as effect;
+ghost use Rattle.session_model.specs.Tables as model;
+ghost use Rattle.session_model.specs.Tables.{row_of, with_row, with_layout};
+ghost use Rattle.session_model.specs.Deeds.{hearing, showing, shown_in_focus, is_of};
+ghost use Rattle.session_model.specs.Deeds.{without_window};
+ghost use Rattle.session_model.specs.Events.{resized, reading, is_client_size};
+ghost use Rattle.view.specs.View.{HasSize};
+ghost use Rattle.view.specs.Drawable.{IsDrawable};
+
+use crate::client::Client;
+use acl::UserId;
+use keys::KeyReader;
+use redraw::frame;
+use regions::{RegionFault, Shown, Way};
+use session_model::{Bytes, Effect, Message};
+use session_rows::Rows;
+use std::alloc::{AllocError, Global};
+use std::marker::Model;
+use view::View;
+
+/// The attached clients, by rising serials.
+#[derive(Drop)]
+pub struct Clients {
+    rows: Rows<Client>,
+}
+
+impl Model for Clients {
+    ghost use Rattle.std.specs.Prelude.{List};
+    ghost use Rattle.std.specs.Coded.{codes};
+    ghost use Rattle.regions.specs.Layouts.{arrangement_code};
+    ghost use Rattle.session_clients.specs.declared.client.Client.{Client};
+
+    ghost Value = { List Client };
+
+    ghost coded = { Prim.hlevel (codes, arrangement_code) };
+
+    ghost view = { λ c. c.rows };
+}
+
+impl Clients {
+    ghost use Rattle.session_clients.specs.declared.client.Client.{Client};
+    ghost use Rattle.session_clients.specs.Moves.{attached};
+    ghost use Rattle.session_clients.specs.Exchanges.{Exchanged, HasReadMore, PutsBack};
+    ghost use Rattle.session_clients.specs.Draws.{Draws};
+    ghost use Rattle.session_clients.specs.Stands.{Attaches, Keeps, Changes, ChangesAll, Finds};
+    ghost use Rattle.session_clients.specs.Stands.{AreClients, IsFaultOf, IsRemoval};
+
+    /// No client.
+    pub fn new(alloc: Global) -> Clients
+        ensures { result ≡ [] }
+    {
+        Clients {
+            rows: Rows::new(alloc),
+        }
+    }
+
+    pub fn len(&self) -> usize
+        ensures { result ≡ length self.now }
+    {
+        self.rows.len()
+    }
+
+    /// The clients, from the one that attached first.
+    pub fn as_slice(&self) -> &[Client]
+        ensures { result.now ≡ self.now }
+    {
+        self.rows.as_slice()
+    }
+
+    /// The client of a serial.
+    pub fn get(&self, serial: u32) -> Option<&Client>
+        ensures { option_copied result ≡ row_of (λ (c : Client). c.serial) self.now serial }
+    {
+        self.rows.get(serial)
+    }
+
+    /// Attaches a client whose one region shows this window.
+    pub fn attach(
+        &mut self,
+        alloc: Global,
+        serial: u32,
+        user: UserId,
+        rows: u16,
+        cols: u16,
+        window: Option<u32>,
+    ) -> Result<(), AllocError>
+        requires { is_client_size rows cols ≡ true }
+        ensures ok { OnOk result
+            (Attaches (attached serial user rows cols window) self.old self.new) }
+        ensures err { OnErr result (self.new ≡ self.old) }
+    {
+        let client = Client::new(alloc, serial, user, rows, cols, window)?;
+        self.rows.push(client)
+    }
+
+    /// Removes the client of a serial.
+    pub fn remove(&mut self, serial: u32)
+        ensures { Keeps (λ c. not (c.serial == serial)) self.old self.new }
+    {
+        self.rows.remove(serial);
+    }
+
+    /// Removes a user's clients.
+    pub fn remove_of(&mut self, user: UserId)
+        ensures { Keeps (λ c. not (is_of user c)) self.old self.new }
+    {
+        self.rows.retain(|client| !(client.user == user));
+    }
+
+    /// Removes all clients but a user's.
+    pub fn keep_of(&mut self, user: UserId)
+        ensures { Keeps (λ c. not (not (is_of user c))) self.old self.new }
+    {
+        self.rows.retain(|client| client.user == user);
+    }
+
+    /// Removes all clients.
+    pub fn clear(&mut self)
+        ensures { Keeps (λ c. not true) self.old self.new }
+    {
+        self.rows.retain(|_client| false);
+    }
+
+    /// A client's status line says this.
+    pub fn hear(&mut self, serial: u32, message: Message)
+        ensures { Changes (hearing message) serial self.old self.new }
+    {
+        let Some(client) = self.rows.get_mut(serial) else {
+            return;
+        };
+        client.hear(message);
+    }
+
+    /// A client's focused region shows this.
+    pub fn show(&mut self, serial: u32, shown: Shown)
+        ensures { Changes (λ m. with_layout (showing m shown) m) serial self.old self.new }
+    {
+        let Some(client) = self.rows.get_mut(serial) else {
+            return;
+        };
+        client.show(shown);
+    }
+
+    /// A client's focused region is scrolled back so far.
+    pub fn scroll_back(&mut self, serial: u32, back: u16)
+        ensures { Changes (λ m. with_layout
+            (showing m (record (shown_in_focus m) { back = back })) m) serial self.old self.new }
+    {
+        let Some(client) = self.rows.get_mut(serial) else {
+            return;
+        };
+        client.scroll_back(back);
+    }
+
+    /// Splits a client's focused region. The new region is the second half and is empty.
+    pub fn split(&mut self, alloc: Global, serial: u32, way: Way) -> Result<(), RegionFault>
+        ensures ok { OnOk result (Changes (λ m. with_layout (split_focused way m.layout) m) serial
+            self.old self.new) }
+        ensures err { OnErr result (self.new ≡ self.old) }
+        ensures fault { Finds serial self.old (λ m. IsFaultOf result
+            (split_fault way m.layout m.rows m.columns)) }
+    {
+        let Some(client) = self.rows.get_mut(serial) else {
+            return Ok(());
+        };
+        client.split(alloc, way)
+    }
+
+    /// Closes a client's focused region, unless it is the last.
+    pub fn remove_region(&mut self, serial: u32) -> Result<(), RegionFault>
+        ensures ok { OnOk result (Changes (λ m. with_layout (remove_focused m.layout) m) serial
+            self.old self.new) }
+        ensures err { OnErr result (self.new ≡ self.old) }
+        ensures fault { Finds serial self.old (λ m. IsRemoval result m.layout.shown) }
+    {
+        let Some(client) = self.rows.get_mut(serial) else {
+            return Ok(());
+        };
+        client.remove_region()
+    }
+
+    /// Gives the focus to a client's next region.
+    pub fn focus_next(&mut self, serial: u32)
+        ensures { Changes (λ m. with_layout (record m.layout { focus = next_focus m.layout }) m)
+            serial self.old self.new }
+    {
+        let Some(client) = self.rows.get_mut(serial) else {
+            return;
+        };
+        client.focus_next();
+    }
+
+    /// Keeps a client's focused region alone.
+    pub fn only(&mut self, serial: u32)
+        ensures { Changes (λ m. with_layout (kept_alone m.layout) m) serial self.old self.new }
+    {
+        let Some(client) = self.rows.get_mut(serial) else {
+            return;
+        };
+        client.only();
+    }
+
+    /// A client's terminal has another size now, and may show anything.
+    pub fn resize(&mut self, serial: u32, rows: u16, cols: u16)
+        requires { is_client_size rows cols ≡ true }
+        ensures { Changes (resized rows cols) serial self.old self.new }
+    {
+        let Some(client) = self.rows.get_mut(serial) else {
+            return;
+        };
+        client.resize(rows, cols);
+    }
+
+    /// Puts a reader and a message into a client's row, and hands back those that stood there: done
+    /// twice, it changes nothing.
+    pub fn exchange(&mut self, serial: u32, keys: &mut KeyReader, message: &mut Message)
+        ensures read { (bytes : List ℕ) → message.old ≡ what.Silence
+            → HasReadMore serial self.old keys.old bytes
+            → Changes (reading bytes) serial self.old self.new }
+        ensures row { (c : Client) → row_of (λ (c : Client). c.serial) self.old serial ≡ Some c
+            → Exchanged serial c self.old keys.old message.old self.new keys.new message.new }
+        ensures back { PutsBack serial self.old keys.old message.old self.new }
+    {
+        let Some(client) = self.rows.get_mut(serial) else {
+            return;
+        };
+        client.exchange(keys, message);
+    }
+
+    /// Draws a view for a client, of its size: appends its frame.
+    pub fn draw(
+        &mut self,
+        alloc: Global,
+        serial: u32,
+        view: &View,
+        out: &mut Vec<u8>,
+    ) -> Result<(), AllocError>
+        requires { (c : Client) → row_of (λ (c : Client). c.serial) self.old serial ≡ Some c
+            → HasSize c.shadow.rows c.shadow.columns view.now }
+        ensures ok { OnOk result (IsDrawable view.now
+            → Draws serial view.now out.old.items out.new.items self.old self.new) }
+        ensures err { OnErr result ((self.new ≡ self.old) × (out.new.items ≡ out.old.items)) }
+    {
+        let Some(client) = self.rows.get_mut(serial) else {
+            return Ok(());
+        };
+        frame(alloc, &mut client.shadow, view, out)
+    }
+
+    /// What is said to each client.
+    pub fn says(&self, alloc: Global, text: &[u8]) -> Result<Vec<Effect>, AllocError>
+        ensures { IfOk result (λ made. (rows : List model.Client) → AreClients rows self.now
+            → made.items ≡ map (λ (m : model.Client). effect.Say m.serial text.now) rows) }
+    {
+        let mut made = Vec::new(alloc);
+        for client in self.rows.as_slice() {
+            made.push(Effect::Say(client.serial, Bytes::of(alloc, text)?))?;
+        }
+        Ok(made)
+    }
+
+    /// Empties the regions of all clients that show a window.
+    pub fn close_window(&mut self, serial: u32)
+        ensures { ChangesAll (without_window serial) self.old self.new }
+    {
+        for client in self.rows.as_mut_slice() {
+            client.close_window(serial);
+        }
+    }
+
+    /// Gives each client a message; these were made before.
+    pub fn hear_all(&mut self, messages: &mut Vec<Message>)
+        requires { length messages.old.items ≡ length self.old }
+        ensures { (text : List ℕ)
+            → messages.old.items ≡ replicate (length self.old) (what.Text text)
+            → ChangesAll (hearing (what.Text text)) self.old self.new }
+    {
+        for client in self.rows.as_mut_slice() {
+            client.hear(next_message(messages));
+        }
+    }
+}
+
+/// The last of some messages, which are all the same.
+fn next_message(messages: &mut Vec<Message>) -> Message
+    requires { 0 < length messages.old.items }
+    ensures len { length messages.new.items + 1 ≡ length messages.old.items }
+    ensures same { (n : ℕ) (m : What) → messages.old.items ≡ replicate (n + 1) m
+        → (result ≡ m) × (messages.new.items ≡ replicate n m) }
+{
+    messages.pop().unwrap()
+}
+
+/// As many messages of a text.
+pub fn messages_of(alloc: Global, text: &[u8], count: usize) -> Result<Vec<Message>, AllocError>
+    ensures { IfOk result (λ made. made.items ≡ replicate count (what.Text text.now)) }
+{
+    let mut made = Vec::new(alloc);
+    for i in 0..count {
+        made.push(Message::Text(Bytes::of(alloc, text)?))?;
+    }
+    Ok(made)
+}
