@@ -20,3 +20,5 @@ pub mod Rows
 pub mod Lasting
 pub mod Settling
 pub mod Sounding
+pub mod Counting
+pub mod Once

@@ -196,7 +196,7 @@ pub line_row : (t : Tables) (number : Option ℕ) (w : Window) → Differ t.wind
 line_row t None w all is = absurd (cc (is))
 line_row t (Some n) w all is = number_row t.windows n w all is
 
-deed_moves : (t : Tables) (a : Answer) (d : Deed) → a ≡ Ok d → Either (DeedMoves t) a → DeedMoves t d
+pub deed_moves : (t : Tables) (a : Answer) (d : Deed) → a ≡ Ok d → Either (DeedMoves t) a → DeedMoves t d
 deed_moves t (Ok e) d is m = let same : e ≡ d = cc (is) in subst (DeedMoves t) same m
 deed_moves t (Err r) d is m = absurd (cc (is))
 

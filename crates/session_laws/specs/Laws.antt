@@ -1,4 +1,8 @@
 -- What holds of every step and of every run of a session.
+use Rattle.std.specs.Prelude.{◌≡◌, ◌≤◌, List, [], ◌∷◌, length}
+use Rattle.std.specs.List.{AllByRecursion}
+use Rattle.session_model.specs.declared.event.Effect.{Effect}
+use Rattle.session_model.specs.declared.event.Effect.TheVariants.{Say}
 use Rattle.session_model.specs.Trace.{Entry, Trace}
 use Rattle.session_model.specs.Tables.{Tables}
 use Rattle.session_model.specs.Run.{IsStep, IsRun, after, tables_of}
@@ -19,3 +23,20 @@ TablesStaySound = (t : Tables) (e : Entry) → AreSound t → AreSound (after t 
 
 abbrev pub RunsAreSound : Type 0
 RunsAreSound = (h : Trace) → AreSound (tables_of h)
+
+-- a step has at most 256 effects
+abbrev pub StepsAreFew : Type 0
+StepsAreFew = (t : Tables) (e : Entry) → AreSound t → IsStep t e → length e.effects ≤ 256
+
+-- what is said isn't said again
+abbrev pub IsSaidOnce : Effect → List Effect → Type 0
+IsSaidOnce (Say client said) later = AllByRecursion (λ f. f ≡ Say client said → ⊥) later
+IsSaidOnce f later = Unit {0}
+
+abbrev pub AreSaidOnce : List Effect → Type 0
+AreSaidOnce [] = Unit {0}
+AreSaidOnce (f ∷ effects) = IsSaidOnce f effects × AreSaidOnce effects
+
+-- no client is told the same twice in a step
+abbrev pub StepsSayOnce : Type 0
+StepsSayOnce = (t : Tables) (e : Entry) → AreSound t → IsStep t e → AreSaidOnce e.effects

@@ -3,6 +3,7 @@
 #![tactic(auto)]
 
 ghost use Rattle.session_laws.specs.Laws.{StepsKeepPromise, RunsKeepPromise, TablesStaySound, RunsAreSound};
+ghost use Rattle.session_laws.specs.Laws.{StepsAreFew, StepsSayOnce};
 
 /// Each step, whatever the tables, keeps the promise: typed bytes reach windows exactly by rights and locks, and
 /// else it is told why; commands act exactly where x is granted; draws show the granted view by frames; denials name
@@ -21,4 +22,14 @@ pub fn runs_keep_promise()
 pub fn tables_stay_sound()
     ensures step { TablesStaySound }
     ensures run { RunsAreSound }
+{}
+
+/// A step has at most 256 effects.
+pub fn steps_are_few()
+    ensures { StepsAreFew }
+{}
+
+/// No client is told the same twice in a step.
+pub fn steps_say_once()
+    ensures { StepsSayOnce }
 {}
