@@ -22,3 +22,5 @@ pub mod Settling
 pub mod Sounding
 pub mod Counting
 pub mod Once
+pub mod Agreeing
+pub mod Noting

@@ -30,7 +30,7 @@ use Rattle.session_laws.proofs.Settling.{moving}
 use Rattle.session_laws.proofs.Unread.{row_at}
 use Rattle.session_laws.proofs.Outcomes as outcomes
 
-map_append : {A B : Type 0} (f : A → B) (xs : List A) (x : A) → map f (xs ++ x ∷ []) ≡ map f xs ++ f x ∷ []
+pub map_append : {A B : Type 0} (f : A → B) (xs : List A) (x : A) → map f (xs ++ x ∷ []) ≡ map f xs ++ f x ∷ []
 map_append f [] x = refl
 map_append f (y ∷ xs) x = ap (λ ys. f y ∷ ys) (map_append f xs x)
 

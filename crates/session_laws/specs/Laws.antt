@@ -7,7 +7,8 @@ use Rattle.session_model.specs.Trace.{Entry, Trace}
 use Rattle.session_model.specs.Tables.{Tables}
 use Rattle.session_model.specs.Run.{IsStep, IsRun, after, tables_of}
 use Rattle.session_model.specs.Keeps.{KeepsPromise, KeepsPromises}
-use Rattle.session_model.specs.Sound.{AreSound}
+use Rattle.session_model.specs.Sound.{AreSound, ActsAgree}
+use Rattle.acl.specs.History.{followed_by}
 
 -- what is a step keeps the promise
 abbrev pub StepsKeepPromise : Type 0
@@ -40,3 +41,14 @@ AreSaidOnce (f ∷ effects) = IsSaidOnce f effects × AreSaidOnce effects
 -- no client is told the same twice in a step
 abbrev pub StepsSayOnce : Type 0
 StepsSayOnce = (t : Tables) (e : Entry) → AreSound t → IsStep t e → AreSaidOnce e.effects
+
+-- the acts of the tables are those of all entries
+abbrev pub ActsAreNoted : Type 0
+ActsAreNoted = (t : Tables) (e : Entry) → IsStep t e → (after t e).acts ≡ followed_by t.acts e.acts
+
+-- and they agree with the windows and clients of the tables
+abbrev pub ActsStayAgreed : Type 0
+ActsStayAgreed = (t : Tables) (e : Entry) → AreSound t → ActsAgree t → ActsAgree (after t e)
+
+abbrev pub RunsAgree : Type 0
+RunsAgree = (h : Trace) → ActsAgree (tables_of h)

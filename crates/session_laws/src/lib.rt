@@ -3,7 +3,7 @@
 #![tactic(auto)]
 
 ghost use Rattle.session_laws.specs.Laws.{StepsKeepPromise, RunsKeepPromise, TablesStaySound, RunsAreSound};
-ghost use Rattle.session_laws.specs.Laws.{StepsAreFew, StepsSayOnce};
+ghost use Rattle.session_laws.specs.Laws.{StepsAreFew, StepsSayOnce, ActsAreNoted, ActsStayAgreed, RunsAgree};
 
 /// Each step, whatever the tables, keeps the promise: typed bytes reach windows exactly by rights and locks, and
 /// else it is told why; commands act exactly where x is granted; draws show the granted view by frames; denials name
@@ -32,4 +32,12 @@ pub fn steps_are_few()
 /// No client is told the same twice in a step.
 pub fn steps_say_once()
     ensures { StepsSayOnce }
+{}
+
+/// The acts of the tables are those that the steps noted; by them the same windows are open and the same clients
+/// attached.
+pub fn acts_agree()
+    ensures noted { ActsAreNoted }
+    ensures step { ActsStayAgreed }
+    ensures run { RunsAgree }
 {}
