@@ -24,3 +24,5 @@ pub mod Counting
 pub mod Once
 pub mod Agreeing
 pub mod Noting
+pub mod Rowing
+pub mod Keeping

@@ -3,7 +3,8 @@
 #![tactic(auto)]
 
 ghost use Rattle.session_laws.specs.Laws.{StepsKeepPromise, RunsKeepPromise, TablesStaySound, RunsAreSound};
-ghost use Rattle.session_laws.specs.Laws.{StepsAreFew, StepsSayOnce, ActsAreNoted, ActsStayAgreed, RunsAgree};
+ghost use Rattle.session_laws.specs.Laws.{StepsAreFew, StepsSayOnce, CommandsDoTheirRows};
+ghost use Rattle.session_laws.specs.Laws.{ActsAreNoted, ActsStayAgreed, RunsAgree};
 
 /// Each step, whatever the tables, keeps the promise: typed bytes reach windows exactly by rights and locks, and
 /// else it is told why; commands act exactly where x is granted; draws show the granted view by frames; denials name
@@ -40,4 +41,9 @@ pub fn acts_agree()
     ensures noted { ActsAreNoted }
     ensures step { ActsStayAgreed }
     ensures run { RunsAgree }
+{}
+
+/// A Command event that isn't refused is granted, and its command did its row: its acts, effects, text and tables.
+pub fn commands_do_their_rows()
+    ensures { CommandsDoTheirRows }
 {}
