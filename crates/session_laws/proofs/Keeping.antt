@@ -41,7 +41,7 @@ Keeps before after = AllByRecursion (λ d. SomeOf (λ c. core c ≡ core d) befo
 pub keeps_same : (cs : List Client) → Keeps cs cs
 keeps_same cs = all_weaken (λ d. SomeOf (λ c. c ≡ d) cs) (λ d. SomeOf (λ c. core c ≡ core d) cs) cs (λ d some. some_weaken (λ c. c ≡ d) (λ c. core c ≡ core d) cs (λ c e. ap core e) some) (members cs)
 
-keeps_filter : (p : Client → Bool) (before after : List Client) → Keeps before after → Keeps before (filter p after)
+pub keeps_filter : (p : Client → Bool) (before after : List Client) → Keeps before after → Keeps before (filter p after)
 keeps_filter p before after all = all_filter (λ d. SomeOf (λ c. core c ≡ core d) before) p after all
 
 keeps_map : (f : Client → Client) (before after : List Client) → ((c : Client) → core (f c) ≡ core c) → Keeps before after → Keeps before (map f after)
@@ -62,13 +62,13 @@ keeps_client t n c x is same =
     keeps_row t.clients t.clients x.serial x
     (some_weaken (λ d. d ≡ c) (λ d. core d ≡ core x) t.clients (λ d e. ap core e ∙ sym same) (some_row (λ (d : Client). d.serial) t.clients n c is)) (keeps_same t.clients)
 
-keeps_then : (first : List Client) (cs ds : List Client) → Keeps first cs → Keeps cs ds → Keeps first ds
+pub keeps_then : (first : List Client) (cs ds : List Client) → Keeps first cs → Keeps cs ds → Keeps first ds
 keeps_then first cs ds one two = all_weaken (λ d. SomeOf (λ c. core c ≡ core d) cs) (λ d. SomeOf (λ c. core c ≡ core d) first) ds (λ d some. through cs one d some) two where
   through : (cs : List Client) → Keeps first cs → (d : Client) → SomeOf (λ c. core c ≡ core d) cs → SomeOf (λ c. core c ≡ core d) first
   through [] all d some = absurd some
   through (c ∷ cs) all d some = ⊎_elim (λ (here : core c ≡ core d). some_weaken (λ b. core b ≡ core c) (λ b. core b ≡ core d) first (λ b e. e ∙ here) all.0) (λ later. through cs all.1 d later) some
 
-without_keeps : (before : List Client) (ws : List Window) (cs : List Client) → Keeps before cs → Keeps before (without_windows ws cs)
+pub without_keeps : (before : List Client) (ws : List Window) (cs : List Client) → Keeps before cs → Keeps before (without_windows ws cs)
 without_keeps before [] cs all = all
 without_keeps before (w ∷ ws) cs all = without_keeps before ws (map (without_window w.serial) cs) (keeps_map (without_window w.serial) before cs (λ c. refl) all)
 

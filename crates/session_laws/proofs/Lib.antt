@@ -26,3 +26,5 @@ pub mod Agreeing
 pub mod Noting
 pub mod Rowing
 pub mod Keeping
+pub mod Past
+pub mod Remembering

@@ -53,7 +53,7 @@ say_done t g (command.Multiuser true) to said is = absurd is
 say_done t g (command.Multiuser false) to said is = absurd is
 say_done t g c to said is = absurd is
 
-never_delivers : (t : Tables) (g : Given) (c : Order) (to : ℕ) (bytes : List ℕ) → IsDoneBy t g c (Deliver to bytes) → ⊥
+pub never_delivers : (t : Tables) (g : Given) (c : Order) (to : ℕ) (bytes : List ℕ) → IsDoneBy t g c (Deliver to bytes) → ⊥
 never_delivers t g (command.Multiuser true) to bytes is = is
 never_delivers t g (command.Multiuser false) to bytes is = is
 never_delivers t g c to bytes is = is

@@ -84,7 +84,7 @@ still_moves t = stays t t [] 0 tt refl refl refl refl (omega arith) (λ differ n
 
 -- ---- messages
 
-told_same : (P : Tables → Type 0) (w : Tables) (client : ℕ) (m : Message) → P w → ((c : Client) → client_at w client ≡ Some c → P (with_client w (hearing m c))) → P (told w client m)
+pub told_same : (P : Tables → Type 0) (w : Tables) (client : ℕ) (m : Message) → P w → ((c : Client) → client_at w client ≡ Some c → P (with_client w (hearing m c))) → P (told w client m)
 told_same P w client m here changed = on (client_at w client) refl where
   on : (o : Option Client) → client_at w client ≡ o → P (elim o as (λ _. Tables) [ None ↦ w | Some c ↦ with_client w (hearing m c) ])
   on None is = here

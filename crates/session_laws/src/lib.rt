@@ -2,6 +2,7 @@
 //! law: it does nothing, and its contract says what holds.
 #![tactic(auto)]
 
+ghost use Rattle.session_laws.specs.Entries.{ClientsAreRemembered};
 ghost use Rattle.session_laws.specs.Laws.{StepsKeepPromise, RunsKeepPromise, TablesStaySound, RunsAreSound};
 ghost use Rattle.session_laws.specs.Laws.{StepsAreFew, StepsSayOnce, CommandsDoTheirRows};
 ghost use Rattle.session_laws.specs.Laws.{ActsAreNoted, ActsStayAgreed, RunsAgree};
@@ -46,4 +47,10 @@ pub fn acts_agree()
 /// A Command event that isn't refused is granted, and its command did its row: its acts, effects, text and tables.
 pub fn commands_do_their_rows()
     ensures { CommandsDoTheirRows }
+{}
+
+/// The keys of each client, and what was delivered to it since it attached or last changed its size, are those that
+/// the entries of the run say.
+pub fn clients_are_remembered()
+    ensures { ClientsAreRemembered }
 {}
