@@ -1,6 +1,6 @@
 -- The acts of all steps agree with the tables: which windows are open, how many, and who is attached.
-use Rattle.std.proofs.Common.{◌≡◌, ℕ, ◌+◌, ◌-◌, ◌<◌, ◌≤◌, Bool, true, false, not, List, [], ◌∷◌, ◌++◌, Option, Some, None, refl, ap, sym, ◌∙◌, subst, map, filter, length, reverse, arith, append_assoc}
-use Rattle.std.specs.Prelude.{if◌then◌else◌, ◌==◌, ◌&&◌, ◌||◌, is_some, unwrap_or}
+use Rattle.std.proofs.Common.{◌≡◌, ℕ, ◌+◌, ◌-◌, ◌<◌, Bool, true, false, not, List, [], ◌∷◌, ◌++◌, Some, None, refl, ap, sym, ◌∙◌, subst, map, filter, length, reverse, arith, append_assoc}
+use Rattle.std.specs.Prelude.{if◌then◌else◌, ◌==◌, ◌||◌, is_some, unwrap_or}
 use Rattle.std.specs.List.{AllByRecursion, list_any}
 use Rattle.std.proofs.lemmas.Bool.Decides.{nat_tests}
 use Rattle.std.proofs.lemmas.List.{reverse-append}
@@ -9,12 +9,12 @@ use Rattle.acl.specs.declared.act.Act.{Act}
 use Rattle.acl.specs.declared.act.Act.TheVariants as act
 use Rattle.acl.specs.History.{History, followed_by, is_open, open_count}
 use Rattle.writelock.specs.Holding.{clients_of}
-use Rattle.session_model.specs.Tables.{Tables, Window, window_at, row_of}
-use Rattle.session_model.specs.Sound.{Rises, AreSound, ActsAgree, client_serials}
-use Rattle.session_laws.proofs.Lists.{equal, itself, contradicts}
+use Rattle.session_model.specs.Tables.{Tables, Window, row_of}
+use Rattle.session_model.specs.Sound.{Rises, AreSound, ActsAgree}
+use Rattle.session_laws.proofs.Lists.{equal, itself}
 use Rattle.session_laws.proofs.Inputs.{append_nil}
 use Rattle.session_laws.proofs.Numbers.{serial_of}
-use Rattle.session_laws.proofs.Moving.{AllAside, is_aside, Moves, id_of, ids, serials, closed, parted}
+use Rattle.session_laws.proofs.Moving.{AllAside, is_aside, Moves, ids, serials, closed, parted}
 use Rattle.session_laws.proofs.Rows.{length_append, length_map}
 use Rattle.session_laws.proofs.Lasting.{client_firsts, firsts}
 

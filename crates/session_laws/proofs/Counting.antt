@@ -1,7 +1,6 @@
 -- How many effects a step has.
-use Rattle.std.proofs.Common.{◌≡◌, ℕ, ◌+◌, ◌≤◌, Bool, true, false, not, List, [], ◌∷◌, ◌++◌, Option, Some, None, Ok, Err, Result, refl, ap, sym, ◌∙◌, subst, map, filter, length, take, arith}
-use Rattle.std.specs.Prelude.{if◌then◌else◌, ◌==◌, MatchOption}
-use Rattle.acl.specs.declared.user_id.UserId.{UserId}
+use Rattle.std.proofs.Common.{◌≡◌, ℕ, ◌+◌, ◌≤◌, List, [], ◌∷◌, ◌++◌, Option, Some, None, Ok, Err, Result, refl, ap, sym, subst, length, take, arith}
+use Rattle.std.specs.Prelude.{◌==◌, MatchOption}
 use Rattle.command_lang.specs.command.Command.{Command as Order}
 use Rattle.command_lang.specs.fault.ParseFault.{ParseFault}
 use Rattle.keys.specs.Grammar.{Item, typed, bound, line}
@@ -25,11 +24,11 @@ use Rattle.session_model.specs.Events as events
 use Rattle.session_model.specs.Run.{IsStep, HasEffects, IsDraw, DrawsWhereNeeded}
 use Rattle.session_model.specs.Sound.{AreSound}
 use Rattle.session_laws.proofs.Doing.{Either}
-use Rattle.session_laws.proofs.Moving.{DeedMoves, ids}
+use Rattle.session_laws.proofs.Moving.{DeedMoves}
 use Rattle.session_laws.proofs.Rows.{moves, only_parts, closes_moves, input_few, length_append, length_filter, length_ids}
 use Rattle.session_laws.proofs.Lasting.{differ}
 use Rattle.session_laws.proofs.Settling.{focus_row, line_row, deed_moves, ids_same}
-use Rattle.session_laws.proofs.Unread.{SameClients, typing_clients}
+use Rattle.session_laws.proofs.Unread.{typing_clients}
 use Rattle.session_laws.proofs.Outcomes as outcomes
 
 -- a window or a client goes or is told each, and three more

@@ -1,5 +1,5 @@
 -- Commands leave the keys of clients, and what was delivered to them, as they are.
-use Rattle.std.proofs.Common.{◌≡◌, ℕ, Bool, true, false, not, List, [], ◌∷◌, ◌++◌, Option, Some, None, Ok, Err, Result, refl, ap, sym, ◌∙◌, subst, map, filter, inl, inr, ⊎_elim}
+use Rattle.std.proofs.Common.{◌≡◌, ℕ, Bool, true, false, not, List, [], ◌∷◌, Option, Some, None, Ok, Err, refl, ap, sym, ◌∙◌, map, filter, ⊎_elim}
 use Rattle.std.specs.Prelude.{if◌then◌else◌, ◌==◌}
 use Rattle.std.specs.List.{AllByRecursion}
 use Rattle.std.specs.Option.{option_and_then}
@@ -11,23 +11,20 @@ use Rattle.acl.specs.Names.{named_by}
 use Rattle.acl.specs.Commands.{change_fault}
 use Rattle.command_lang.specs.command.Command.{Command as Order}
 use Rattle.command_lang.specs.command.Command.TheVariants as command
-use Rattle.regions.specs.declared.shown.Shown.{Shown}
-use Rattle.regions.specs.Layouts.{Arrangement, one_region, empty}
-use Rattle.session_model.specs.declared.event.Reason.{Reason}
-use Rattle.session_model.specs.declared.event.Reason.TheVariants.{Detached, Killed, Quit}
-use Rattle.session_model.specs.declared.message.Message.{Message}
+use Rattle.regions.specs.Layouts.{one_region, empty}
+use Rattle.session_model.specs.declared.event.Reason.TheVariants.{Detached, Killed}
 use Rattle.session_model.specs.declared.message.Message.TheVariants as message
 use Rattle.session_model.specs.declared.refusal.Refusal.{Refusal}
 use Rattle.session_model.specs.declared.refusal.Refusal.TheVariants.{Windows, NoWindow}
 use Rattle.session_model.specs.declared.refusal.WindowsFault.TheVariants.{NoSuchWindow}
-use Rattle.session_model.specs.Tables.{Tables, Window, Client, row_of, with_row, window_at, client_at, with_client, known_users}
+use Rattle.session_model.specs.Tables.{Tables, Window, Client, with_row, window_at, client_at, with_client, known_users}
 use Rattle.session_model.specs.Naming.{names_of, window_named, window_after, window_before}
 use Rattle.session_model.specs.Lines.{Caller}
 use Rattle.session_model.specs.Deeds as deeds
 use Rattle.session_model.specs.Deeds.{Deed, Answer, given, removes, parts, closes, without_window, without_windows, selects, former_of, hearing}
 use Rattle.session_model.specs.Commands.{does, caller_client, on_client}
 use Rattle.session_model.specs.Promises.{SomeOf}
-use Rattle.session_laws.proofs.Lists.{all_of, all_weaken, all_map, all_filter, members, some_weaken, row_serial, some_row}
+use Rattle.session_laws.proofs.Lists.{all_weaken, all_map, all_filter, members, some_weaken, some_row}
 use Rattle.session_laws.proofs.Doing.{Either, is_plain, by_given, by_unless, by_refused, by_fault, by_shown}
 
 -- a client, but for its regions, the windows that it showed and its message

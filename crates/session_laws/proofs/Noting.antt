@@ -1,12 +1,9 @@
 -- After each event the acts of all steps agree with the tables.
-use Rattle.std.proofs.Common.{◌≡◌, ℕ, ◌+◌, ◌<◌, Bool, true, false, List, [], ◌∷◌, ◌++◌, Option, Some, None, refl, ap, sym, ◌∙◌, subst, map, length, reverse, take, arith}
+use Rattle.std.proofs.Common.{◌≡◌, ℕ, ◌+◌, Bool, true, false, List, [], ◌∷◌, ◌++◌, Option, Some, None, refl, ap, sym, ◌∙◌, subst, length, take, arith}
 use Rattle.std.specs.Prelude.{if◌then◌else◌, ◌==◌, ◌||◌, unwrap_or}
-use Rattle.std.specs.List.{AllByRecursion}
-use Rattle.std.proofs.lemmas.Bool.Decides.{nat_tests}
 use Rattle.std.proofs.lemmas.List.{reverse-append}
 use Rattle.acl.specs.declared.edition.Edition.{Edition}
 use Rattle.acl.specs.declared.user_id.UserId.{UserId}
-use Rattle.acl.specs.declared.act.Act.{Act}
 use Rattle.acl.specs.declared.act.Act.TheVariants as act
 use Rattle.acl.specs.History.{History, followed_by, is_open, open_count}
 use Rattle.session_model.specs.declared.event.Effect.{Effect}
@@ -22,9 +19,8 @@ use Rattle.session_model.specs.Lines.{line_caller, read_line}
 use Rattle.session_model.specs.Keying.{taken}
 use Rattle.session_model.specs.Deeds.{changing, parts, closes}
 use Rattle.session_model.specs.Events.{outcome, Outcome, left_acts, attach_checks, attaches, new_client, open_checks, opens, new_window, reply_of, finished, done, keys_outcome, where_passed, is_client_size, resized, outputs}
-use Rattle.session_model.specs.Granted.{granted_view}
 use Rattle.session_model.specs.Run.{after, drawn, drawn_on, tables_from}
-use Rattle.session_model.specs.Sound.{Rises, AreSound, ActsAgree}
+use Rattle.session_model.specs.Sound.{AreSound, ActsAgree}
 use Rattle.session_laws.proofs.Numbers.{serial_of}
 use Rattle.session_laws.proofs.Moving.{AllAside, aside_append, id_of, ids, serials}
 use Rattle.session_laws.proofs.Rows.{length_append}

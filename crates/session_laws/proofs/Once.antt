@@ -1,6 +1,6 @@
 -- No client is told the same twice in a step.
 use Rattle.std.proofs.Common.{◌≡◌, ℕ, ◌<◌, Bool, true, false, not, List, [], ◌∷◌, ◌++◌, Option, Some, None, Ok, Err, Result, refl, ap, sym, ◌∙◌, subst, map, filter, length, take, arith, ⊎_elim}
-use Rattle.std.specs.Prelude.{if◌then◌else◌, ◌==◌, ◌&&◌, ◌||◌, MatchOption, codes}
+use Rattle.std.specs.Prelude.{if◌then◌else◌, ◌==◌, ◌||◌, MatchOption, codes}
 use Rattle.std.specs.List.{AllByRecursion, list_any}
 use Rattle.std.specs.Str.{bytes_eq}
 use Rattle.std.proofs.lemmas.Slice.Eq.{bytes_eq-Decides}
@@ -12,7 +12,7 @@ use Rattle.command_lang.specs.fault.ParseFault.{ParseFault}
 use Rattle.keys.specs.Grammar.{Item, typed, bound, line}
 use Rattle.terminal_model.specs.Reading.{reads}
 use Rattle.session_model.specs.declared.event.Effect.{Effect}
-use Rattle.session_model.specs.declared.event.Effect.TheVariants.{Input, Deliver, Say, Size, GoneWindow, GoneClient}
+use Rattle.session_model.specs.declared.event.Effect.TheVariants.{Input, Deliver, Say, GoneWindow, GoneClient}
 use Rattle.session_model.specs.declared.event.Reason.TheVariants as reason
 use Rattle.session_model.specs.declared.check.Check.TheVariants.{Must as must}
 use Rattle.session_model.specs.declared.message.Message.{Message}
@@ -35,10 +35,9 @@ use Rattle.session_laws.specs.Laws.{IsSaidOnce, AreSaidOnce}
 use Rattle.session_laws.proofs.Inputs.{is_say}
 use Rattle.session_laws.proofs.Lists.{all_of, all_weaken, all_append, all_filter, all_passed, members, both_true, itself, contradicts}
 use Rattle.session_laws.proofs.Doing.{Either, HasDone, done_by, giving}
-use Rattle.session_laws.proofs.Moving.{ids}
 use Rattle.session_laws.proofs.Lasting.{client_firsts, firsts}
 use Rattle.session_laws.proofs.Settling.{ids_same}
-use Rattle.session_laws.proofs.Unread.{SameClients, typing_clients}
+use Rattle.session_laws.proofs.Unread.{typing_clients}
 use Rattle.session_laws.proofs.Outcomes as outcomes
 
 -- ---- lists

@@ -1,9 +1,8 @@
 -- The rows of clients after a step: keys and deliveries of the step stand behind those before it.
-use Rattle.std.proofs.Common.{◌≡◌, ℕ, ◌+◌, ◌<◌, ◌≤◌, Bool, true, false, not, List, [], ◌∷◌, ◌++◌, Option, Some, None, Ok, Err, Result, refl, ap, sym, ◌∙◌, subst, map, filter, take, length, inl, inr, ⊎_elim, arith}
-use Rattle.std.specs.Prelude.{if◌then◌else◌, ◌==◌, MatchOption}
+use Rattle.std.proofs.Common.{◌≡◌, ℕ, ◌<◌, Bool, true, false, List, [], ◌∷◌, ◌++◌, Option, Some, None, Ok, Err, Result, refl, ap, sym, ◌∙◌, subst, inl, inr, ⊎_elim, arith}
+use Rattle.std.specs.Prelude.{if◌then◌else◌, ◌==◌}
 use Rattle.std.specs.List.{AllByRecursion}
 use Rattle.std.proofs.lemmas.Bool.Decides.{nat_tests}
-use Rattle.acl.specs.declared.user_id.UserId.{UserId}
 use Rattle.command_lang.specs.command.Command.{Command as Order}
 use Rattle.command_lang.specs.fault.ParseFault.{ParseFault}
 use Rattle.keys.specs.Grammar.{Item, typed, bound, line}
@@ -11,11 +10,11 @@ use Rattle.session_model.specs.declared.event.Effect.{Effect}
 use Rattle.session_model.specs.declared.event.Effect.TheVariants.{Input, Deliver, Say, Size, GoneWindow, GoneClient}
 use Rattle.session_model.specs.declared.message.Message.{Message}
 use Rattle.session_model.specs.declared.refusal.Refusal.{Refusal}
-use Rattle.session_model.specs.Trace.{Happening, Attach, Detach, Keys, Command, Resize, Open, Output, Closed, Draw, Reply}
-use Rattle.session_model.specs.Tables.{Tables, Window, Client, row_of, with_row, client_at, with_client}
-use Rattle.session_model.specs.Lines.{Caller, caller_of, read_line}
+use Rattle.session_model.specs.Trace.{Happening, Detach, Keys, Command, Closed, Draw, Reply}
+use Rattle.session_model.specs.Tables.{Tables, Client, row_of, with_row}
+use Rattle.session_model.specs.Lines.{caller_of, read_line}
 use Rattle.session_model.specs.Checks.{checks, first_fault}
-use Rattle.session_model.specs.Deeds.{Deed, Answer, hearing}
+use Rattle.session_model.specs.Deeds.{Answer, hearing}
 use Rattle.session_model.specs.Commands.{does}
 use Rattle.session_model.specs.Events.{types, ordered, keyed, with_listed, message_of, told}
 use Rattle.session_model.specs.Events as events
@@ -25,7 +24,7 @@ use Rattle.session_model.specs.Promises.{SomeOf, IsEffectOf, IsDoneByRight}
 use Rattle.session_model.specs.Sound.{Rises, client_serials}
 use Rattle.session_laws.specs.Entries.{keys_read, is_resize, delivered_by}
 use Rattle.session_laws.proofs.Inputs.{append_nil}
-use Rattle.session_laws.proofs.Lists.{all_weaken, some_weaken, equal, itself}
+use Rattle.session_laws.proofs.Lists.{all_weaken, some_weaken, equal}
 use Rattle.session_laws.proofs.Doing.{Either}
 use Rattle.session_laws.proofs.Saying.{never_delivers}
 use Rattle.session_laws.proofs.Settling.{told_same}

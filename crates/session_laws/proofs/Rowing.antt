@@ -1,28 +1,24 @@
 -- A command of a line that isn't refused did its row.
-use Rattle.std.proofs.Common.{◌≡◌, ℕ, Bool, true, false, List, [], ◌∷◌, ◌++◌, Option, Some, None, Ok, Err, Result, refl, ap, sym, ◌∙◌, subst, inl}
+use Rattle.std.proofs.Common.{◌≡◌, ℕ, true, List, [], ◌++◌, Option, Ok, Err, refl, ap, sym, ◌∙◌, subst, inl}
 use Rattle.std.specs.Prelude.{if◌then◌else◌}
 use Rattle.acl.specs.declared.user_id.UserId.{UserId}
 use Rattle.acl.specs.declared.act.Act.{Act}
 use Rattle.acl.specs.History.{followed_by}
-use Rattle.command_lang.specs.command.Command.{Command as Order}
-use Rattle.command_lang.specs.fault.ParseFault.{ParseFault}
 use Rattle.session_model.specs.declared.event.Effect.{Effect}
 use Rattle.session_model.specs.declared.event.Done.{Done}
 use Rattle.session_model.specs.declared.verdict.Verdict.{Verdict}
-use Rattle.session_model.specs.declared.refusal.Refusal.{Refusal}
 use Rattle.session_model.specs.Trace.{Happening, Command, Reply, Entry}
 use Rattle.session_model.specs.Tables.{Tables, is_known}
 use Rattle.session_model.specs.Lines.{Caller, line_caller, read_line}
-use Rattle.session_model.specs.Checks.{checks, first_fault, verdicts}
+use Rattle.session_model.specs.Checks.{checks, verdicts}
 use Rattle.session_model.specs.Deeds.{Deed}
 use Rattle.session_model.specs.Commands.{does}
-use Rattle.session_model.specs.Events.{Outcome, outcome, refused, finished, reply_of, left_acts}
+use Rattle.session_model.specs.Events.{Outcome, outcome, finished, reply_of, left_acts}
 use Rattle.session_model.specs.Given.{Given, commands_of, has_x, with_order, ok_of}
 use Rattle.session_model.specs.Promises.{SomeOf}
 use Rattle.session_model.specs.Run.{IsStep}
 use Rattle.session_laws.specs.Laws.{DidItsRow, LineDidItsRow}
 use Rattle.session_laws.proofs.Lists.{some_weaken}
-use Rattle.session_laws.proofs.Doing.{giving}
 use Rattle.session_laws.proofs.Passing.{passed_has_x}
 use Rattle.session_laws.proofs.Asking.{line_given}
 use Rattle.session_laws.proofs.Outcomes as outcomes
