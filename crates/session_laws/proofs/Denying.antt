@@ -1,6 +1,6 @@
 -- Denials name what stands against them.
-use Rattle.std.proofs.Common.{◌≡◌, ℕ, Bool, true, false, not, List, [], ◌∷◌, Option, Some, None, Ok, Err, refl, ap, sym, ◌∙◌, arith, subst}
-use Rattle.std.specs.Prelude.{if◌then◌else◌, ◌==◌, ◌||◌, slice_get, MatchOption}
+use Rattle.std.proofs.Common.{◌≡◌, ℕ, Bool, true, false, not, List, [], ◌∷◌, Option, Some, None, Ok, Err, refl, ap, ◌∙◌, arith}
+use Rattle.std.specs.Prelude.{if◌then◌else◌, ◌==◌, ◌||◌, MatchOption}
 use Rattle.std.specs.List.{list_any, AllByRecursion}
 use Rattle.std.specs.Option.{option_map, option_map_or, option_and_then}
 use Rattle.std.proofs.lemmas.Bool.{or_parts}
@@ -31,7 +31,7 @@ use Rattle.session_model.specs.Denying.{NamesTruly, IsEntryMissing, IsLockHeld, 
 use Rattle.session_model.specs.Lines.{Caller}
 use Rattle.session_model.specs.Needs.{needs}
 use Rattle.session_model.specs.Rights.{may_in, has_in, leaders_in, holder_in}
-use Rattle.session_model.specs.Tables.{Tables, Window, row_of, window_at}
+use Rattle.session_model.specs.Tables.{Tables, Window, window_at}
 
 -- ---- the first check that fails
 

@@ -1,5 +1,5 @@
 -- What each command does outside the session, and what it lists: one row a command.
-use Rattle.std.proofs.Common.{◌≡◌, ℕ, Bool, true, false, not, List, [], ◌∷◌, ◌++◌, Option, Some, None, Ok, Err, map, filter, refl, ap, sym, ◌∙◌, subst, length}
+use Rattle.std.proofs.Common.{◌≡◌, ℕ, Bool, true, false, not, List, [], ◌∷◌, Option, Some, None, Ok, Err, map, filter, refl, ap, sym, ◌∙◌, subst, length}
 use Rattle.std.specs.Prelude.{if◌then◌else◌, ◌==◌}
 use Rattle.std.specs.List.{AllByRecursion}
 use Rattle.std.specs.Option.{option_and_then, option_map, option_map_or}
@@ -28,9 +28,9 @@ use Rattle.session_model.specs.Deeds.{Deed, Answer, given, unless, refused_if, r
 use Rattle.session_model.specs.Deeds.{without_window, without_windows, selects, former_of, listing, input_of}
 use Rattle.session_model.specs.Commands.{does, caller_client, on_client}
 use Rattle.session_model.specs.Given.{Given}
-use Rattle.session_model.specs.Promises.{SomeOf, IsOn, IsOpen, IsClient, IsDoneBy, is_named, is_owners}
+use Rattle.session_model.specs.Promises.{SomeOf, IsOn, IsOpen, IsClient, IsDoneBy, is_named}
 use Rattle.session_model.specs.Denying.{told_by}
-use Rattle.session_laws.proofs.Lists.{equal, all_of, all_weaken, all_append, all_map, all_passed, filter_all, some_weaken, members, row_serial}
+use Rattle.session_laws.proofs.Lists.{equal, all_weaken, all_append, all_map, all_passed, filter_all, some_weaken, members, row_serial}
 
 -- a refusal of a command's own
 abbrev pub is_plain : Refusal → Bool

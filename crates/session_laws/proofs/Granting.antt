@@ -1,12 +1,11 @@
 -- Commands act where x is granted.
-use Rattle.std.proofs.Common.{◌≡◌, ℕ, Bool, true, false, not, List, [], ◌∷◌, ◌++◌, Option, Some, None, Ok, Err, Result, refl, ap, sym, ◌∙◌, map, arith, subst}
-use Rattle.std.specs.Prelude.{if◌then◌else◌, ◌==◌, ◌&&◌, ◌||◌, take}
+use Rattle.std.proofs.Common.{◌≡◌, ℕ, Bool, true, false, not, List, [], ◌∷◌, ◌++◌, Option, Some, None, Ok, Err, Result, refl, ap, sym, ◌∙◌, arith, subst}
+use Rattle.std.specs.Prelude.{if◌then◌else◌, ◌==◌, ◌||◌, take}
 use Rattle.std.specs.List.{AllByRecursion}
 use Rattle.std.specs.Option.{option_map, option_map_or, is_some}
 use Rattle.std.proofs.lemmas.Bool.Decides.{nat_tests}
 use Rattle.acl.specs.declared.user_id.UserId.{UserId}
 use Rattle.acl.specs.declared.act.Act.{Act}
-use Rattle.acl.specs.declared.act.Act.TheVariants.{Left}
 use Rattle.acl.specs.declared.bits.Bit.TheVariants.{Write, Execute}
 use Rattle.acl.specs.declared.act.Object.TheVariants as object
 use Rattle.acl.specs.History.{followed_by}
@@ -36,19 +35,18 @@ use Rattle.session_model.specs.Deeds.{Answer, Deed, changing, hearing}
 use Rattle.session_model.specs.Denials.{lock_denial}
 use Rattle.session_model.specs.Events.{types, says, told, keyed, ordered, by_line, line_ruling, reading}
 use Rattle.session_model.specs.Events.{message_of, answered, commanded, outcome, keys_outcome}
-use Rattle.session_model.specs.Events.{refused, Outcome, unsaid, left_by, left_acts}
+use Rattle.session_model.specs.Events.{refused, Outcome, unsaid, left_acts}
 use Rattle.session_model.specs.Given.{has_x, has_x_on, Given, with_order, order_in, ok_of}
 use Rattle.session_model.specs.Given.{commands_of}
 use Rattle.session_model.specs.Keying.{typed_bytes, command_item, taken, step_items}
 use Rattle.session_model.specs.Lines.{Caller, caller_of, line_caller, read_line}
 use Rattle.session_model.specs.Needs.{needs}
-use Rattle.session_model.specs.Promises.{wants_x, reply_wants_x, unread, OnlyRead, is_answer_to}
+use Rattle.session_model.specs.Promises.{wants_x, reply_wants_x, OnlyRead, is_answer_to}
 use Rattle.session_model.specs.Promises.{ActsAsGranted, CommandsAct}
 use Rattle.session_model.specs.Rights.{may_in, holder_in}
 use Rattle.session_model.specs.Run.{IsStep, after}
-use Rattle.session_model.specs.Tables.{is_known, Tables, Window, Client, row_of, with_row}
-use Rattle.session_model.specs.Tables.{client_at, with_client, focused, focused_window, shows}
-use Rattle.session_model.specs.Tables.{is_in_focus}
+use Rattle.session_model.specs.Tables.{is_known, Tables, Window, Client}
+use Rattle.session_model.specs.Tables.{client_at, with_client, focused_window}
 use Rattle.session_model.specs.Texts.{text_of}
 use Rattle.session_model.specs.Trace.{Happening, Attach, Detach, Keys, Command, Resize, Open}
 use Rattle.session_model.specs.Trace.{Output, Closed, Draw, Reply, Entry}

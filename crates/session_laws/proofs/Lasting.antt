@@ -1,24 +1,15 @@
 -- Each event moves windows and clients so, and the tables stay sound.
-use Rattle.std.proofs.Common.{◌≡◌, ℕ, ◌+◌, ◌-◌, ◌<◌, ◌≤◌, ◌^◌, Bool, true, false, not, List, [], ◌∷◌, ◌++◌, Option, Some, None, Ok, Err, Result, refl, ap, sym, ◌∙◌, subst, map, filter, length, take, arith}
-use Rattle.std.specs.Prelude.{if◌then◌else◌, ◌==◌, ◌&&◌, ◌||◌, nat_lt, nat_le, is_some}
+use Rattle.std.proofs.Common.{◌≡◌, ℕ, ◌+◌, ◌<◌, ◌≤◌, Bool, true, false, not, List, [], ◌∷◌, ◌++◌, None, refl, ap, sym, ◌∙◌, subst, map, filter, length, arith}
+use Rattle.std.specs.Prelude.{if◌then◌else◌, ◌==◌}
 use Rattle.std.specs.List.{AllByRecursion}
-use Rattle.std.specs.Option.{option_and_then}
 use Rattle.std.proofs.lemmas.Bool.Decides.{nat_tests}
 use Rattle.acl.specs.declared.user_id.UserId.{UserId}
 use Rattle.acl.specs.declared.act.Act.{Act}
-use Rattle.acl.specs.declared.act.Act.TheVariants as act
-use Rattle.session_model.specs.declared.event.Effect.{Effect}
-use Rattle.session_model.specs.declared.message.Message.{Message}
-use Rattle.session_model.specs.Tables.{Tables, Window, Client, row_of, window_at, client_at, with_client, focused}
-use Rattle.session_model.specs.Naming.{with_number}
-use Rattle.session_model.specs.Deeds.{Deed}
-use Rattle.session_model.specs.Events.{left_by, left_acts, told}
-use Rattle.session_model.specs.Sound.{Rises, NumbersDiffer, AreSound, AreSoundRows, client_serials}
-use Rattle.session_laws.proofs.Lists.{row_serial, itself}
+use Rattle.session_model.specs.Tables.{Tables, Window, Client, row_of}
+use Rattle.session_model.specs.Sound.{Rises, AreSound, AreSoundRows, client_serials}
 use Rattle.session_laws.proofs.Numbers.{serial_of, Differ}
-use Rattle.session_laws.proofs.Moving.{AllAside, Moves, id_of, ids, serials}
-use Rattle.session_laws.proofs.Rows.{length_map, length_filter, client_ids}
-use Rattle.session_laws.proofs.Unread.{SameClients, row_at}
+use Rattle.session_laws.proofs.Moving.{Moves, id_of, ids, serials}
+use Rattle.session_laws.proofs.Rows.{length_map, length_filter}
 
 -- ---- rising serials
 

@@ -20,3 +20,11 @@ pub mod Rows
 pub mod Lasting
 pub mod Settling
 pub mod Sounding
+pub mod Counting
+pub mod Once
+pub mod Agreeing
+pub mod Noting
+pub mod Rowing
+pub mod Keeping
+pub mod Past
+pub mod Remembering

@@ -1,9 +1,7 @@
 -- How commands change which windows and clients there are, and by which acts: one row a command.
-use Rattle.std.proofs.Common.{◌≡◌, ℕ, ◌+◌, ◌-◌, ◌<◌, ◌≤◌, Bool, true, false, not, List, [], ◌∷◌, ◌++◌, Option, Some, None, Ok, Err, refl, ap, sym, ◌∙◌, subst, map, filter, length, arith}
+use Rattle.std.proofs.Common.{◌≡◌, ℕ, ◌+◌, ◌≤◌, Bool, true, false, not, List, [], ◌∷◌, ◌++◌, Option, Some, None, refl, ap, sym, ◌∙◌, map, filter, length, arith}
 use Rattle.std.specs.Prelude.{if◌then◌else◌, ◌==◌}
 use Rattle.std.specs.List.{AllByRecursion}
-use Rattle.std.specs.Option.{option_and_then, option_map_or}
-use Rattle.std.proofs.lemmas.Bool.Decides.{nat_tests}
 use Rattle.acl.specs.declared.user_id.UserId.{UserId}
 use Rattle.acl.specs.declared.bits.Bit.{Bit}
 use Rattle.acl.specs.declared.bits.BitChange.{BitChange}
@@ -14,12 +12,10 @@ use Rattle.acl.specs.declared.entries.MaskEntry.{MaskEntry}
 use Rattle.acl.specs.declared.entries.MaskScope.{MaskScope}
 use Rattle.acl.specs.declared.entries.MaskScope.TheVariants as scope
 use Rattle.acl.specs.declared.entries.NewLeader.{NewLeader}
-use Rattle.acl.specs.declared.faults.AclFault.{AclFault}
 use Rattle.acl.specs.History.{among}
-use Rattle.acl.specs.Names.{named_by}
-use Rattle.acl.specs.Commands.{change_fault, change_acts, name_acts, user_acts, sets, sets_on, with_name, add_acts, known_acts, new_acts, names_sets, name_sets, added, group_acts, chosen_leader, mask_acts, scope_acts}
-use Rattle.session_model.specs.Tables.{Tables, Window, Client, row_of, with_row, window_at, with_window, with_client}
-use Rattle.session_model.specs.Deeds.{Deed, Answer, acting, listing}
+use Rattle.acl.specs.Commands.{change_acts, name_acts, user_acts, sets, sets_on, with_name, add_acts, known_acts, new_acts, names_sets, name_sets, added, group_acts, mask_acts, scope_acts}
+use Rattle.session_model.specs.Tables.{Tables, Client, row_of, with_row}
+use Rattle.session_model.specs.Deeds.{Deed, acting, listing}
 use Rattle.session_model.specs.Sound.{NumbersDiffer}
 use Rattle.session_laws.proofs.Lists.{filter_all}
 use Rattle.session_laws.proofs.Numbers.{serial_of, Differ}

@@ -3,10 +3,10 @@ use Rattle.std.proofs.Common.{◌≡◌, ℕ, Bool, true, false, not, List, [], 
 use Rattle.std.specs.Prelude.{if◌then◌else◌, ◌==◌, ◌||◌, unwrap_or}
 use Rattle.std.specs.List.{list_any, range_with_len}
 use Rattle.std.proofs.lemmas.Bool.Decides.{nat_tests}
-use Rattle.session_model.specs.Tables.{Tables, Window, window_at, row_of, with_row}
+use Rattle.session_model.specs.Tables.{Window, row_of, with_row}
 use Rattle.session_model.specs.Naming.{with_number, has_number, free_number}
 use Rattle.session_model.specs.Sound.{NumbersDiffer}
-use Rattle.session_laws.proofs.Lists.{equal, row_serial}
+use Rattle.session_laws.proofs.Lists.{equal}
 
 abbrev pub serial_of : Window → ℕ
 serial_of w = w.serial

@@ -1,9 +1,8 @@
 -- Facts of outcomes: where a row is looked up, where checks come first, and where a command is answered.
-use Rattle.std.proofs.Common.{◌≡◌, ℕ, Bool, true, false, Option, Some, None, Ok, Err, Result, List, [], refl}
+use Rattle.std.proofs.Common.{◌≡◌, Bool, true, false, Option, Some, None, Ok, Err, Result, List, [], refl}
 use Rattle.std.specs.Prelude.{if◌then◌else◌}
 use Rattle.command_lang.specs.command.Command.{Command as Order}
 use Rattle.command_lang.specs.fault.ParseFault.{ParseFault}
-use Rattle.session_model.specs.declared.check.Check.{Check}
 use Rattle.session_model.specs.declared.refusal.Refusal.{Refusal}
 use Rattle.session_model.specs.declared.refusal.Refusal.TheVariants.{NoWindow, UnknownUser, Line}
 use Rattle.session_model.specs.declared.verdict.Verdict.{Verdict}

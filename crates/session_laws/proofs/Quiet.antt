@@ -11,11 +11,10 @@ use Rattle.session_model.specs.declared.refusal.Refusal.{Refusal}
 use Rattle.session_model.specs.declared.refusal.Refusal.TheVariants.{Acl, Windows, NoWindow}
 use Rattle.session_model.specs.declared.refusal.WindowsFault.TheVariants.{NoSuchWindow}
 use Rattle.acl.specs.declared.user_id.UserId.{UserId}
-use Rattle.acl.specs.declared.bits.BitChange.{BitChange}
 use Rattle.acl.specs.declared.act.Object.{Object}
 use Rattle.acl.specs.declared.faults.AclFault.{AclFault}
 use Rattle.acl.specs.Names.{named_by, name_of}
-use Rattle.acl.specs.Commands.{change_fault, added}
+use Rattle.acl.specs.Commands.{change_fault}
 use Rattle.session_model.specs.Commands.{does, caller_client, on_client}
 use Rattle.session_model.specs.Deeds.{Deed, Answer, given, unless, refused_if, removes, is_of}
 use Rattle.session_model.specs.Deeds.{parts, closes, selects, former_of}

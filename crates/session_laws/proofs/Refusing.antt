@@ -1,11 +1,10 @@
 -- What is refused changes nothing; what is drawn shows the view.
-use Rattle.std.proofs.Common.{◌≡◌, ℕ, ◌++◌, Bool, true, false, List, [], ◌∷◌, Option, Some, None, Ok, Err, Result, refl, ap, sym, ◌∙◌, take, subst}
-use Rattle.std.specs.Prelude.{if◌then◌else◌, ◌==◌, MatchOption, is_ok}
+use Rattle.std.proofs.Common.{◌≡◌, ℕ, ◌++◌, false, List, [], ◌∷◌, Option, Some, None, refl, ap, sym, ◌∙◌, take, subst}
+use Rattle.std.specs.Prelude.{◌==◌, MatchOption, is_ok}
 use Rattle.terminal_model.specs.Shows.{ShowsFromAny}
 use Rattle.session_model.specs.declared.event.Effect.{Effect}
 use Rattle.session_model.specs.declared.event.Reason.TheVariants as reason
 use Rattle.session_model.specs.declared.check.Check.TheVariants.{Must as must}
-use Rattle.session_model.specs.declared.refusal.Refusal.{Refusal}
 use Rattle.session_model.specs.declared.refusal.Refusal.TheVariants.{NoWindow, BadSize}
 use Rattle.session_model.specs.Trace.{Happening, Attach, Detach, Keys, Command, Resize, Open, Output, Closed, Draw, Entry}
 use Rattle.session_model.specs.Tables.{Tables, Window, Client, window_at, client_at, with_client, is_known}

@@ -1,7 +1,6 @@
 -- What each command moves: one row a command.
-use Rattle.std.proofs.Common.{◌≡◌, ℕ, ◌+◌, ◌-◌, ◌<◌, ◌≤◌, Bool, true, false, not, List, [], ◌∷◌, ◌++◌, Option, Some, None, Ok, Err, refl, ap, sym, ◌∙◌, subst, map, filter, length, arith, suc}
-use Rattle.std.specs.Prelude.{if◌then◌else◌, ◌==◌, codes}
-use Rattle.std.specs.List.{AllByRecursion}
+use Rattle.std.proofs.Common.{◌≡◌, ℕ, ◌+◌, ◌-◌, ◌≤◌, Bool, true, false, not, List, [], ◌∷◌, ◌++◌, Option, Some, None, Ok, Err, refl, ap, sym, ◌∙◌, subst, map, filter, length, arith, suc}
+use Rattle.std.specs.Prelude.{if◌then◌else◌, ◌==◌}
 use Rattle.std.specs.Option.{option_and_then, option_map_or}
 use Rattle.acl.specs.declared.user_id.UserId.{UserId}
 use Rattle.acl.specs.declared.act.Act.{Act}
@@ -9,7 +8,7 @@ use Rattle.acl.specs.declared.act.Act.TheVariants as act
 use Rattle.acl.specs.declared.act.Object.{Object}
 use Rattle.acl.specs.declared.faults.AclFault.{AclFault}
 use Rattle.acl.specs.Same.{same_user}
-use Rattle.acl.specs.Names.{named_by, name_of}
+use Rattle.acl.specs.Names.{named_by}
 use Rattle.acl.specs.Commands.{change_fault}
 use Rattle.command_lang.specs.command.Command.{Command as Order}
 use Rattle.command_lang.specs.command.Command.TheVariants as command
@@ -23,7 +22,7 @@ use Rattle.session_model.specs.declared.message.Message.TheVariants.{Text}
 use Rattle.session_model.specs.declared.refusal.Refusal.{Refusal}
 use Rattle.session_model.specs.declared.refusal.Refusal.TheVariants.{Acl, Windows, NoWindow}
 use Rattle.session_model.specs.declared.refusal.WindowsFault.TheVariants.{NoSuchWindow}
-use Rattle.session_model.specs.Tables.{Tables, Window, Client, row_of, window_at, client_at, with_window, with_client, with_layout, focused, known_users}
+use Rattle.session_model.specs.Tables.{Tables, Window, Client, window_at, client_at, with_window, with_client, with_layout, focused, known_users}
 use Rattle.session_model.specs.Naming.{names_of, with_number, window_named, window_after, window_before}
 use Rattle.session_model.specs.Lines.{Caller}
 use Rattle.session_model.specs.Deeds as deeds
@@ -33,10 +32,10 @@ use Rattle.session_model.specs.Commands.{does, caller_client, on_client, is_take
 use Rattle.session_model.specs.Sound.{NumbersDiffer}
 use Rattle.session_laws.proofs.Inputs.{append_nil}
 use Rattle.session_laws.proofs.Lists.{equal, filter_all, row_serial}
-use Rattle.session_laws.proofs.Numbers.{serial_of, Differ, IsFree, with_numbers, fewer_numbers, own_number}
+use Rattle.session_laws.proofs.Numbers.{serial_of, IsFree, with_numbers, fewer_numbers, own_number}
 use Rattle.session_laws.proofs.Doing.{Either, by_given, by_unless, by_refused, by_fault, by_shown}
 use Rattle.session_laws.proofs.Unread.{row_at}
-use Rattle.session_laws.proofs.Moving.{AllAside, Moves, DeedMoves, id_of, ids, serials, closed, parted, filter_map, stays, acts_only, lists_only, map_with_row, filter_none, change_aside, add_aside, group_aside, mask_aside}
+use Rattle.session_laws.proofs.Moving.{AllAside, DeedMoves, id_of, ids, serials, closed, parted, filter_map, stays, acts_only, lists_only, map_with_row, filter_none, change_aside, add_aside, group_aside, mask_aside}
 
 pub length_map : {A B : Type 0} (f : A → B) (xs : List A) → length (map f xs) ≡ length xs
 length_map f [] = refl

@@ -1,5 +1,5 @@
 -- Each effect has its cause, and each text that is said is true.
-use Rattle.std.proofs.Common.{◌≡◌, ℕ, Bool, true, false, List, [], ◌∷◌, ◌++◌, Option, Some, None, Ok, Err, Result, refl, ap, sym, ◌∙◌, subst, filter, length, inl, inr}
+use Rattle.std.proofs.Common.{◌≡◌, ℕ, Bool, true, false, List, [], ◌∷◌, Option, Some, None, Ok, Err, Result, refl, ap, sym, ◌∙◌, subst, filter, length, inl, inr}
 use Rattle.std.specs.Prelude.{if◌then◌else◌, ◌==◌, take, MatchOption}
 use Rattle.std.specs.List.{AllByRecursion}
 use Rattle.acl.specs.declared.user_id.UserId.{UserId}
@@ -21,7 +21,7 @@ use Rattle.session_model.specs.Terminals.{terminal_of}
 use Rattle.session_model.specs.Texts.{text_of}
 use Rattle.session_model.specs.Lines.{Caller, caller_of, line_caller, read_line}
 use Rattle.session_model.specs.Checks.{checks, first_fault, verdicts, typing_checks}
-use Rattle.session_model.specs.Deeds.{Answer, Deed, changing, parts, closes, input_of}
+use Rattle.session_model.specs.Deeds.{Answer, Deed, changing, parts, closes}
 use Rattle.session_model.specs.Commands.{does}
 use Rattle.session_model.specs.Keying.{typed_bytes, command_item, taken, step_items}
 use Rattle.session_model.specs.Events.{types, says_why, input_in, ordered, message_of, keyed, with_listed, reading, outcome, keys_outcome, refused, finished, done, where_passed, Outcome}
@@ -53,7 +53,7 @@ say_done t g (command.Multiuser true) to said is = absurd is
 say_done t g (command.Multiuser false) to said is = absurd is
 say_done t g c to said is = absurd is
 
-never_delivers : (t : Tables) (g : Given) (c : Order) (to : ℕ) (bytes : List ℕ) → IsDoneBy t g c (Deliver to bytes) → ⊥
+pub never_delivers : (t : Tables) (g : Given) (c : Order) (to : ℕ) (bytes : List ℕ) → IsDoneBy t g c (Deliver to bytes) → ⊥
 never_delivers t g (command.Multiuser true) to bytes is = is
 never_delivers t g (command.Multiuser false) to bytes is = is
 never_delivers t g c to bytes is = is

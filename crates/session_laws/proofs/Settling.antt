@@ -1,9 +1,7 @@
 -- Which windows and clients there are after each event.
-use Rattle.std.proofs.Common.{◌≡◌, ℕ, ◌+◌, ◌-◌, ◌<◌, ◌≤◌, ◌^◌, Bool, true, false, not, List, [], ◌∷◌, ◌++◌, Option, Some, None, Ok, Err, Result, refl, ap, sym, ◌∙◌, subst, map, filter, length, take, arith, append_assoc}
-use Rattle.std.specs.Prelude.{if◌then◌else◌, ◌==◌, ◌&&◌, ◌||◌, nat_lt, nat_le, is_some}
-use Rattle.std.specs.List.{AllByRecursion}
+use Rattle.std.proofs.Common.{◌≡◌, ℕ, Bool, true, false, not, List, [], ◌∷◌, ◌++◌, Option, Some, None, Ok, Err, Result, refl, ap, sym, ◌∙◌, subst, map, filter, length, take, arith, append_assoc}
+use Rattle.std.specs.Prelude.{if◌then◌else◌, ◌==◌, ◌||◌}
 use Rattle.std.specs.Option.{option_and_then}
-use Rattle.acl.specs.declared.user_id.UserId.{UserId}
 use Rattle.acl.specs.declared.act.Act.{Act}
 use Rattle.acl.specs.declared.act.Act.TheVariants as act
 use Rattle.command_lang.specs.command.Command.{Command as Order}
@@ -15,7 +13,7 @@ use Rattle.session_model.specs.declared.check.Check.TheVariants.{Must as must}
 use Rattle.session_model.specs.declared.message.Message.{Message}
 use Rattle.session_model.specs.declared.message.Message.TheVariants.{Text}
 use Rattle.session_model.specs.declared.refusal.Refusal.{Refusal}
-use Rattle.session_model.specs.declared.refusal.Refusal.TheVariants.{NoWindow, UnknownUser, BadSize}
+use Rattle.session_model.specs.declared.refusal.Refusal.TheVariants.{BadSize}
 use Rattle.session_model.specs.declared.verdict.Verdict.{Verdict}
 use Rattle.session_model.specs.Tables.{Tables, Window, Client, row_of, window_at, client_at, with_client, focused, is_in_focus, is_known}
 use Rattle.session_model.specs.Naming.{with_number}
@@ -84,7 +82,7 @@ still_moves t = stays t t [] 0 tt refl refl refl refl (omega arith) (λ differ n
 
 -- ---- messages
 
-told_same : (P : Tables → Type 0) (w : Tables) (client : ℕ) (m : Message) → P w → ((c : Client) → client_at w client ≡ Some c → P (with_client w (hearing m c))) → P (told w client m)
+pub told_same : (P : Tables → Type 0) (w : Tables) (client : ℕ) (m : Message) → P w → ((c : Client) → client_at w client ≡ Some c → P (with_client w (hearing m c))) → P (told w client m)
 told_same P w client m here changed = on (client_at w client) refl where
   on : (o : Option Client) → client_at w client ≡ o → P (elim o as (λ _. Tables) [ None ↦ w | Some c ↦ with_client w (hearing m c) ])
   on None is = here
@@ -196,7 +194,7 @@ pub line_row : (t : Tables) (number : Option ℕ) (w : Window) → Differ t.wind
 line_row t None w all is = absurd (cc (is))
 line_row t (Some n) w all is = number_row t.windows n w all is
 
-deed_moves : (t : Tables) (a : Answer) (d : Deed) → a ≡ Ok d → Either (DeedMoves t) a → DeedMoves t d
+pub deed_moves : (t : Tables) (a : Answer) (d : Deed) → a ≡ Ok d → Either (DeedMoves t) a → DeedMoves t d
 deed_moves t (Ok e) d is m = let same : e ≡ d = cc (is) in subst (DeedMoves t) same m
 deed_moves t (Err r) d is m = absurd (cc (is))
 

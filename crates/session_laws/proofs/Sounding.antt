@@ -1,6 +1,6 @@
 -- Tables stay sound.
-use Rattle.std.proofs.Common.{◌≡◌, ℕ, ◌+◌, ◌<◌, ◌≤◌, ◌^◌, Bool, true, false, not, List, [], ◌∷◌, ◌++◌, Option, Some, None, refl, ap, sym, ◌∙◌, subst, map, length, arith}
-use Rattle.std.specs.Prelude.{if◌then◌else◌, ◌==◌, ◌&&◌, ◌||◌, nat_lt, nat_le, is_some}
+use Rattle.std.proofs.Common.{◌≡◌, ℕ, ◌+◌, ◌<◌, ◌≤◌, ◌^◌, Bool, true, List, [], ◌∷◌, ◌++◌, Option, Some, None, refl, ap, sym, ◌∙◌, subst, map, length, arith}
+use Rattle.std.specs.Prelude.{◌&&◌, nat_lt, is_some}
 use Rattle.std.proofs.lemmas.Bool.Decides.{nat_tests}
 use Rattle.acl.specs.declared.user_id.UserId.{UserId}
 use Rattle.acl.specs.declared.command_name.CommandName.TheVariants.{Screen}
@@ -13,13 +13,13 @@ use Rattle.session_model.specs.declared.event.Effect.{Effect}
 use Rattle.session_model.specs.declared.refusal.Refusal.TheVariants.{NotMultiuser, UnknownUser, TooManyClients, BadSize, Windows}
 use Rattle.session_model.specs.declared.refusal.WindowsFault.TheVariants.{Full, BadTitle}
 use Rattle.session_model.specs.Trace.{Happening, Attach, Detach, Keys, Command, Resize, Open, Output, Closed, Draw, Entry}
-use Rattle.session_model.specs.Tables.{Tables, Window, Client, client_at, with_client, is_known, fresh}
+use Rattle.session_model.specs.Tables.{Tables, Window, Client, client_at, is_known, fresh}
 use Rattle.session_model.specs.Naming.{free_number, is_title}
 use Rattle.session_model.specs.Checks.{first_fault, verdicts}
-use Rattle.session_model.specs.Events.{outcome, Outcome, attach_checks, attaches, new_client, open_checks, opens, new_window, has_place, is_client_size, is_window_size, is_let_in, reply_of}
+use Rattle.session_model.specs.Events.{outcome, attach_checks, attaches, new_client, open_checks, opens, new_window, has_place, is_client_size, is_window_size, is_let_in, reply_of}
 use Rattle.session_model.specs.Granted.{granted_view}
-use Rattle.session_model.specs.Run.{after, drawn, drawn_on, with_drawn, tables_from}
-use Rattle.session_model.specs.Sound.{Rises, AreSound, AreSoundRows, client_serials, window_serials}
+use Rattle.session_model.specs.Run.{drawn, drawn_on, with_drawn, tables_from}
+use Rattle.session_model.specs.Sound.{Rises, AreSound, client_serials, window_serials}
 use Rattle.session_laws.proofs.Lists.{and_first}
 use Rattle.session_laws.proofs.Numbers.{more_numbers, number_free}
 use Rattle.session_laws.proofs.Passing.{behind, first_passes}
@@ -30,7 +30,7 @@ use Rattle.session_laws.proofs.Settling.{moving}
 use Rattle.session_laws.proofs.Unread.{row_at}
 use Rattle.session_laws.proofs.Outcomes as outcomes
 
-map_append : {A B : Type 0} (f : A → B) (xs : List A) (x : A) → map f (xs ++ x ∷ []) ≡ map f xs ++ f x ∷ []
+pub map_append : {A B : Type 0} (f : A → B) (xs : List A) (x : A) → map f (xs ++ x ∷ []) ≡ map f xs ++ f x ∷ []
 map_append f [] x = refl
 map_append f (y ∷ xs) x = ap (λ ys. f y ∷ ys) (map_append f xs x)
 

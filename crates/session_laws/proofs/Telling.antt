@@ -1,15 +1,14 @@
 -- Of typed bytes that don't reach their window it is told why.
-use Rattle.std.proofs.Common.{◌≡◌, ℕ, Bool, true, false, not, List, [], ◌∷◌, ◌++◌, Option, Some, None, Ok, Err, Result, refl, ap, sym, ◌∙◌, subst, filter, inl, inr, ⊎_elim}
+use Rattle.std.proofs.Common.{◌≡◌, ℕ, Bool, true, false, not, List, [], ◌∷◌, ◌++◌, Option, Some, None, Ok, Err, Result, refl, ap, sym, ◌∙◌, subst, inl, inr, ⊎_elim}
 use Rattle.std.specs.Prelude.{if◌then◌else◌, ◌==◌, ◌&&◌, ◌||◌, take}
 use Rattle.std.specs.List.{AllByRecursion, list_any, flat_map}
 use Rattle.std.specs.Option.{option_map_or}
 use Rattle.std.specs.Str.{bytes_eq}
 use Rattle.std.proofs.lemmas.Slice.Eq.{bytes_eq-Decides}
 use Rattle.acl.specs.declared.user_id.UserId.{UserId}
-use Rattle.acl.specs.declared.bits.Bit.TheVariants.{Write, Execute}
+use Rattle.acl.specs.declared.bits.Bit.TheVariants.{Execute}
 use Rattle.acl.specs.declared.act.Object.TheVariants as object
 use Rattle.acl.specs.declared.command_name.CommandName.TheVariants as names
-use Rattle.writelock.specs.LockTable.{stops_nobody_but}
 use Rattle.command_lang.specs.command.Command.{Command as Order}
 use Rattle.command_lang.specs.command.Command.TheVariants as command
 use Rattle.command_lang.specs.fault.ParseFault.{ParseFault}
@@ -22,8 +21,7 @@ use Rattle.session_model.specs.declared.refusal.Refusal.{Refusal}
 use Rattle.session_model.specs.declared.refusal.Refusal.TheVariants.{NoWindow, UnknownUser}
 use Rattle.session_model.specs.Trace.{Happening, Keys, Command, Reply, Entry}
 use Rattle.session_model.specs.Tables.{Tables, Window, Client, client_at, with_client, focused_window, is_known}
-use Rattle.session_model.specs.Rights.{may_in, holder_in}
-use Rattle.session_model.specs.Denials.{entry_denial, lock_denial}
+use Rattle.session_model.specs.Rights.{may_in}
 use Rattle.session_model.specs.Texts.{text_of}
 use Rattle.session_model.specs.Lines.{Caller, caller_of, line_caller, read_line}
 use Rattle.session_model.specs.Checks.{checks, first_fault, verdicts, typing_checks}
@@ -32,12 +30,12 @@ use Rattle.session_model.specs.Commands.{does}
 use Rattle.session_model.specs.Keying.{typed_bytes, command_item, taken, step_items}
 use Rattle.session_model.specs.Events.{types, says_why, input_in, ordered, message_of, keyed, reading, outcome, keys_outcome, refused, Outcome, unsaid, says_same, answered, commanded, line_ruling}
 use Rattle.session_model.specs.Events as events
-use Rattle.session_model.specs.Run.{IsStep, HasEffects}
-use Rattle.session_model.specs.Given.{Given, Typed, has_x, stuffed, all_typed, typed_by_client, with_order, order_in, ok_of}
-use Rattle.session_model.specs.Promises.{SomeOf, why_not, why_not_into, IsTold, IsToldOf, DenialIsTold}
-use Rattle.session_laws.proofs.Lists.{all_append, all_weaken, some_weaken, equal, and_first, and_second, row_serial, contradicts}
+use Rattle.session_model.specs.Run.{IsStep}
+use Rattle.session_model.specs.Given.{Given, Typed, has_x, stuffed, typed_by_client, with_order, order_in, ok_of}
+use Rattle.session_model.specs.Promises.{SomeOf, why_not, why_not_into, IsTold, DenialIsTold}
+use Rattle.session_laws.proofs.Lists.{all_weaken, equal, and_first, and_second, row_serial}
 use Rattle.session_laws.proofs.Doing.{giving}
-use Rattle.session_laws.proofs.Unread.{SameClients, typing_clients}
+use Rattle.session_laws.proofs.Unread.{typing_clients}
 
 -- ---- what is said once
 

@@ -11,13 +11,13 @@ use Rattle.session_model.specs.declared.event.Effect.TheVariants.{Say, GoneClien
 use Rattle.session_model.specs.declared.message.Message.{Message}
 use Rattle.session_model.specs.declared.message.Message.TheVariants.{Text}
 use Rattle.session_model.specs.declared.refusal.Refusal.{Refusal}
-use Rattle.session_model.specs.Tables.{Tables, Window, Client, row_of, with_row, client_at, with_client, focused, focused_window, shows, is_in_focus}
+use Rattle.session_model.specs.Tables.{Tables, Client, row_of, with_row, client_at, with_client, focused, focused_window, shows, is_in_focus}
 use Rattle.session_model.specs.Texts.{text_of, client_item, clients_text, separated}
 use Rattle.session_model.specs.Checks.{first_fault, typing_checks}
 use Rattle.session_model.specs.Deeds.{Deed, changing, hearing}
-use Rattle.session_model.specs.Events.{left_by, left_acts, told, says_why, types, input_in}
+use Rattle.session_model.specs.Events.{left_by, left_acts, says_why, types, input_in}
 use Rattle.session_model.specs.Given.{Given}
-use Rattle.session_model.specs.Promises.{SomeOf, IsClient, IsDoneBy, is_named, is_owners, unread, OnlyRead}
+use Rattle.session_model.specs.Promises.{SomeOf, IsClient, IsDoneBy, is_named, is_owners, unread}
 use Rattle.session_model.specs.Denying.{told_by}
 use Rattle.session_laws.proofs.Leaving.{none_left}
 use Rattle.session_laws.proofs.Lists.{row_serial, some_weaken, some_map, some_mapped}

@@ -1,9 +1,20 @@
 -- What holds of every step and of every run of a session.
-use Rattle.session_model.specs.Trace.{Entry, Trace}
+use Rattle.std.specs.Prelude.{◌≡◌, ◌≤◌, true, List, [], ◌∷◌, ◌++◌, length, Ok}
+use Rattle.std.specs.List.{AllByRecursion}
+use Rattle.session_model.specs.declared.event.Effect.{Effect}
+use Rattle.session_model.specs.declared.event.Effect.TheVariants.{Say}
+use Rattle.session_model.specs.declared.event.Done.{Done}
+use Rattle.session_model.specs.Trace.{Happening, Command, Reply, Entry, Trace}
 use Rattle.session_model.specs.Tables.{Tables}
+use Rattle.session_model.specs.Deeds.{Deed}
+use Rattle.session_model.specs.Commands.{does}
+use Rattle.session_model.specs.Events.{left_acts}
+use Rattle.session_model.specs.Given.{Given, commands_of, has_x}
+use Rattle.session_model.specs.Promises.{SomeOf}
 use Rattle.session_model.specs.Run.{IsStep, IsRun, after, tables_of}
 use Rattle.session_model.specs.Keeps.{KeepsPromise, KeepsPromises}
-use Rattle.session_model.specs.Sound.{AreSound}
+use Rattle.session_model.specs.Sound.{AreSound, ActsAgree}
+use Rattle.acl.specs.History.{followed_by}
 
 -- what is a step keeps the promise
 abbrev pub StepsKeepPromise : Type 0
@@ -19,3 +30,51 @@ TablesStaySound = (t : Tables) (e : Entry) → AreSound t → AreSound (after t 
 
 abbrev pub RunsAreSound : Type 0
 RunsAreSound = (h : Trace) → AreSound (tables_of h)
+
+-- a step has at most 256 effects
+abbrev pub StepsAreFew : Type 0
+StepsAreFew = (t : Tables) (e : Entry) → AreSound t → IsStep t e → length e.effects ≤ 256
+
+-- what is said isn't said again
+abbrev pub IsSaidOnce : Effect → List Effect → Type 0
+IsSaidOnce (Say client said) later = AllByRecursion (λ f. f ≡ Say client said → ⊥) later
+IsSaidOnce f later = Unit {0}
+
+abbrev pub AreSaidOnce : List Effect → Type 0
+AreSaidOnce [] = Unit {0}
+AreSaidOnce (f ∷ effects) = IsSaidOnce f effects × AreSaidOnce effects
+
+-- no client is told the same twice in a step
+abbrev pub StepsSayOnce : Type 0
+StepsSayOnce = (t : Tables) (e : Entry) → AreSound t → IsStep t e → AreSaidOnce e.effects
+
+-- the acts of the tables are those of all entries
+abbrev pub ActsAreNoted : Type 0
+ActsAreNoted = (t : Tables) (e : Entry) → IsStep t e → (after t e).acts ≡ followed_by t.acts e.acts
+
+-- and they agree with the windows and clients of the tables
+abbrev pub ActsStayAgreed : Type 0
+ActsStayAgreed = (t : Tables) (e : Entry) → AreSound t → ActsAgree t → ActsAgree (after t e)
+
+abbrev pub RunsAgree : Type 0
+RunsAgree = (h : Trace) → ActsAgree (tables_of h)
+
+-- a command of a line did its row: its acts, and then its users left windows; its effects; what it
+-- lists; and its tables
+pub record DidItsRow (t : Tables) (e : Entry) (done : Done) (g : Given) : Type 0 where
+  pub granted : has_x t g ≡ true
+  pub deed : Deed
+  pub does_it : does t g.caller g.order ≡ Ok deed
+  pub acts : e.acts ≡ deed.acts ++ left_acts t.clients deed.tables.clients
+  pub effects : e.effects ≡ deed.effects
+  pub lists : done.text ≡ deed.lists
+  pub tables : after t e ≡ record deed.tables { acts = followed_by t.acts e.acts }
+
+abbrev pub LineDidItsRow : Tables → Entry → Happening → Reply → Type 0
+LineDidItsRow t e (Command user number line) (Ok done) =
+    SomeOf (DidItsRow t e done) (commands_of t (Command user number line))
+LineDidItsRow t e _ _ = Unit {0}
+
+-- a Command that isn't refused is granted, and did its row
+abbrev pub CommandsDoTheirRows : Type 0
+CommandsDoTheirRows = (t : Tables) (e : Entry) → IsStep t e → LineDidItsRow t e e.event e.reply

@@ -2,7 +2,10 @@
 //! law: it does nothing, and its contract says what holds.
 #![tactic(auto)]
 
+ghost use Rattle.session_laws.specs.Entries.{ClientsAreRemembered};
 ghost use Rattle.session_laws.specs.Laws.{StepsKeepPromise, RunsKeepPromise, TablesStaySound, RunsAreSound};
+ghost use Rattle.session_laws.specs.Laws.{StepsAreFew, StepsSayOnce, CommandsDoTheirRows};
+ghost use Rattle.session_laws.specs.Laws.{ActsAreNoted, ActsStayAgreed, RunsAgree};
 
 /// Each step, whatever the tables, keeps the promise: typed bytes reach windows exactly by rights and locks, and
 /// else it is told why; commands act exactly where x is granted; draws show the granted view by frames; denials name
@@ -21,4 +24,33 @@ pub fn runs_keep_promise()
 pub fn tables_stay_sound()
     ensures step { TablesStaySound }
     ensures run { RunsAreSound }
+{}
+
+/// A step has at most 256 effects.
+pub fn steps_are_few()
+    ensures { StepsAreFew }
+{}
+
+/// No client is told the same twice in a step.
+pub fn steps_say_once()
+    ensures { StepsSayOnce }
+{}
+
+/// The acts of the tables are those that the steps noted; by them the same windows are open and the same clients
+/// attached.
+pub fn acts_agree()
+    ensures noted { ActsAreNoted }
+    ensures step { ActsStayAgreed }
+    ensures run { RunsAgree }
+{}
+
+/// A Command event that isn't refused is granted, and its command did its row: its acts, effects, text and tables.
+pub fn commands_do_their_rows()
+    ensures { CommandsDoTheirRows }
+{}
+
+/// The keys of each client, and what was delivered to it since it attached or last changed its size, are those that
+/// the entries of the run say.
+pub fn clients_are_remembered()
+    ensures { ClientsAreRemembered }
 {}

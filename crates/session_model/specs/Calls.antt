@@ -1,7 +1,6 @@
 -- What a call that takes many events did: the steps that it took, one after another.
-use Rattle.std.specs.Prelude.{ℕ, ◌≤◌, ◌<◌, nat_lt, ◌≡◌, ◌⊎◌, List, [], ◌∷◌, ◌++◌, Option}
-use Rattle.std.specs.Prelude.{Some, None}
-use Rattle.std.specs.Prelude.{Result, Ok, Err, if◌then◌else◌, MatchOption, drop, length, slice_get}
+use Rattle.std.specs.Prelude.{ℕ, ◌≤◌, ◌<◌, nat_lt, ◌≡◌, ◌⊎◌, List, [], ◌∷◌, ◌++◌}
+use Rattle.std.specs.Prelude.{Ok, if◌then◌else◌, MatchOption, drop, length, slice_get}
 use Rattle.session_model.specs.declared.event.Effect.{Effect}
 use Rattle.session_model.specs.declared.event.Ran.{Ran}
 use Rattle.session_model.specs.Trace.{Happening, Keys, Reply, Entry, Trace, with_step}

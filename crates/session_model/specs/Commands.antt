@@ -2,7 +2,7 @@
 -- its effects and what it lists. One row a command. The commands are those of the GNU Screen
 -- manual, but for scrollview, which is this project's own.
 use Rattle.std.specs.Prelude.{ℕ, ◌==◌, Bool, true, false, not, List, [], ◌∷◌, ◌++◌}
-use Rattle.std.specs.Prelude.{Option, Some, None, Result, Ok, Err}
+use Rattle.std.specs.Prelude.{Option, Some, None, Ok, Err}
 use Rattle.std.specs.Prelude.{codes, length}
 use Rattle.std.specs.List.{flat_map}
 use Rattle.std.specs.Option.{option_map, option_map_or, option_and_then}
@@ -12,14 +12,12 @@ use Rattle.acl.specs.declared.act.Act.{Act}
 use Rattle.acl.specs.declared.act.Act.TheVariants as act
 use Rattle.acl.specs.declared.act.Object.{Object}
 use Rattle.acl.specs.declared.entries.MaskEntry.{MaskEntry}
-use Rattle.acl.specs.declared.entries.NewLeader.{NewLeader}
 use Rattle.acl.specs.declared.faults.AclFault.{AclFault}
 use Rattle.acl.specs.Names.{named_by, name_of}
 use Rattle.acl.specs.Commands.{change_acts}
 use Rattle.acl.specs.Commands.{known_name_fault, group_acts, mask_fault, mask_acts}
 use Rattle.command_lang.specs.command.Command.{Command}
 use Rattle.command_lang.specs.command.Command.TheVariants as command
-use Rattle.command_lang.specs.command.Leader.{Leader}
 use Rattle.command_lang.specs.command.Mask.{Mask}
 use Rattle.command_lang.specs.command.Coding.{Coding}
 use Rattle.command_lang.specs.command.Coding.TheVariants as coding
@@ -32,7 +30,6 @@ use Rattle.regions.specs.Layouts.{kept_alone, split_focused, remove_focused, nex
 use Rattle.regions.specs.Layouts.{split_fault}
 use Rattle.terminal_model.specs.Writing as written
 use Rattle.session_model.specs.declared.event.Reason.TheVariants as reason
-use Rattle.session_model.specs.declared.refusal.Refusal.{Refusal}
 use Rattle.session_model.specs.declared.refusal.Refusal.TheVariants.{NoWindow, Acl}
 use Rattle.session_model.specs.declared.refusal.Refusal.TheVariants.{Windows, Regions}
 use Rattle.session_model.specs.declared.refusal.WindowsFault.TheVariants as fault
@@ -46,7 +43,7 @@ use Rattle.session_model.specs.Naming.{new_leader_of, entries_of}
 use Rattle.session_model.specs.Texts.{windows_text, clients_text, group_text}
 use Rattle.session_model.specs.Lines.{Caller}
 use Rattle.session_model.specs.Checks.{checks, verdicts, first_fault}
-use Rattle.session_model.specs.Deeds.{Deed, Answer, changing, acting, listing, both}
+use Rattle.session_model.specs.Deeds.{Answer, changing, acting, listing, both}
 use Rattle.session_model.specs.Deeds.{unless, refused_if, given, changes, parts, is_of}
 use Rattle.session_model.specs.Deeds.{removes, closes}
 use Rattle.session_model.specs.Deeds.{arranges, enters, showing, selects, former_of, shown_in_focus}

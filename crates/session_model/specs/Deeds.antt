@@ -1,13 +1,11 @@
 -- What can be done: to lists, to clients and windows, to pages, and to what a window shows.
-use Rattle.std.specs.Prelude.{ℕ, ◌-◌, ◌==◌, Bool, true, false, not, nat_lt, List, [], ◌∷◌, ◌++◌}
+use Rattle.std.specs.Prelude.{ℕ, ◌-◌, ◌==◌, Bool, not, nat_lt, List, [], ◌∷◌, ◌++◌}
 use Rattle.std.specs.Prelude.{Option, Some, None, Result, Ok, Err, if◌then◌else◌}
 use Rattle.std.specs.Prelude.{filter, map, length, slice_get, slice_set, unwrap_or}
 use Rattle.acl.specs.declared.user_id.UserId.{UserId}
-use Rattle.acl.specs.declared.bits.BitChange.{BitChange}
 use Rattle.acl.specs.declared.act.Act.{Act}
 use Rattle.acl.specs.declared.act.Act.TheVariants as act
 use Rattle.acl.specs.declared.act.Object.{Object}
-use Rattle.acl.specs.declared.faults.AclFault.{AclFault}
 use Rattle.acl.specs.Same.{same_user}
 use Rattle.acl.specs.Commands.{change_fault}
 use Rattle.regions.specs.declared.rect.Rect.{Rect}

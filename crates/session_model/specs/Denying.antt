@@ -1,9 +1,9 @@
 -- What a denial says, and what is said at all.
-use Rattle.std.specs.Prelude.{ℕ, ◌==◌, Bool, true, false, List, [], ◌∷◌, ◌++◌, ◌≡◌, ◌⊎◌}
-use Rattle.std.specs.Prelude.{Option, Some, None, Result, Ok, Err, if◌then◌else◌, MatchOption}
+use Rattle.std.specs.Prelude.{ℕ, ◌==◌, true, false, List, ◌++◌, ◌≡◌, ◌⊎◌}
+use Rattle.std.specs.Prelude.{Option, Some, None, Ok, Err, if◌then◌else◌, MatchOption}
 use Rattle.std.specs.Prelude.{codes}
 use Rattle.std.specs.List.{AllByRecursion}
-use Rattle.std.specs.Option.{option_map, option_map_or, option_and_then}
+use Rattle.std.specs.Option.{option_map, option_and_then}
 use Rattle.acl.specs.declared.user_id.UserId.{UserId}
 use Rattle.acl.specs.declared.bits.Bit.{Bit}
 use Rattle.acl.specs.declared.bits.Bit.TheVariants.{Write, Execute}
@@ -24,7 +24,7 @@ use Rattle.session_model.specs.declared.refusal.LockDenied.{LockDenied as LockDe
 use Rattle.session_model.specs.declared.refusal.Refusal.{Refusal}
 use Rattle.session_model.specs.declared.refusal.Refusal.TheVariants.{EntryDenied, LockDenied}
 use Rattle.session_model.specs.Trace.{Happening, Keys, Open, Reply, Entry}
-use Rattle.session_model.specs.Tables.{Window, Client, Tables, window_at}
+use Rattle.session_model.specs.Tables.{Window, Tables, window_at}
 use Rattle.session_model.specs.Rights.{may_in, has_in, leaders_in, holder_in}
 use Rattle.session_model.specs.Texts.{text_of, windows_text, clients_text, group_text}
 use Rattle.session_model.specs.Given.{Given, commands_of, has_x, Typed, keys_typed}

@@ -1,5 +1,5 @@
 -- A frame that is delivered behind all that was delivered before it.
-use Rattle.std.specs.Prelude.{◌≡◌, ℕ, List, [], ◌∷◌, ◌++◌, Option, Some, None, MatchOption}
+use Rattle.std.specs.Prelude.{◌≡◌, ℕ, List, [], ◌∷◌, ◌++◌, Option, Some, None}
 use Rattle.terminal_model.specs.Screen.{Page, blank_page}
 use Rattle.terminal_model.specs.Reading.{Terminal, Act, reads}
 use Rattle.terminal_model.specs.Shows.{View, IsOfSize, seen_at}

@@ -1,6 +1,6 @@
 -- What a step of a session promises, by the tables before it and after it.
 use Rattle.std.specs.Prelude.{ℕ, ◌==◌, Bool, true, false, ◌&&◌, List, [], ◌∷◌, ◌++◌, ◌≡◌, ◌⊎◌}
-use Rattle.std.specs.Prelude.{Option, Some, None, Result, Ok, Err, if◌then◌else◌, MatchOption}
+use Rattle.std.specs.Prelude.{Option, Some, None, Ok, Err, if◌then◌else◌, MatchOption}
 use Rattle.std.specs.Prelude.{map, codes, is_ok, not}
 use Rattle.std.specs.List.{AllByRecursion, flat_map}
 use Rattle.std.specs.Option.{option_map_or}

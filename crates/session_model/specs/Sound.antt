@@ -1,7 +1,9 @@
 -- What holds of the tables of a run.
-use Rattle.std.specs.Prelude.{◌≡◌, ◌<◌, ◌≤◌, ℕ, List, [], ◌∷◌, length, map, None}
+use Rattle.std.specs.Prelude.{◌≡◌, ◌<◌, ◌≤◌, ℕ, List, [], ◌∷◌, length, map, reverse, None, is_some}
 use Rattle.std.specs.List.{AllByRecursion}
-use Rattle.session_model.specs.Tables.{Window, Client, Tables}
+use Rattle.acl.specs.History.{is_open, open_count}
+use Rattle.writelock.specs.Holding.{clients_of}
+use Rattle.session_model.specs.Tables.{Window, Client, Tables, window_at}
 use Rattle.session_model.specs.Naming.{with_number}
 
 -- serials rise, and the last of them is below this one
@@ -32,3 +34,11 @@ pub record AreSoundRows
 
 abbrev pub AreSound : Tables → Type 0
 AreSound t = AreSoundRows t.windows t.clients t.next_window t.next_client
+
+-- what the acts of all steps say of windows and clients is what the tables have: which windows are
+-- open and how many, and who is attached, the newest first
+pub record ActsAgree (t : Tables) : Type 0 where
+  pub open_is : (window : ℕ) → is_open t.acts window ≡ is_some (window_at t window)
+  pub count_is : open_count t.acts ≡ length t.windows
+  pub clients_are :
+      clients_of t.acts ≡ reverse (map (λ (c : Client). (c.serial, c.user)) t.clients)

@@ -1,8 +1,7 @@
 -- Rights of several users: entries, leaders, masks and presets.
-use Rattle.std.specs.Prelude.{◌≡◌, ℕ, true, false, List, [], ◌∷◌, ◌++◌, Option, Some, None, Err, codes}
+use Rattle.std.specs.Prelude.{◌≡◌, ℕ, true, false, List, [], ◌∷◌, ◌++◌, Some, None, Err, codes}
 use Rattle.acl.specs.declared.edition.Edition.TheVariants.{First, Second}
 use Rattle.acl.specs.declared.bits.Bit.TheVariants.{Read, Write, Execute}
-use Rattle.acl.specs.declared.bits.BitChange.{BitChange}
 use Rattle.acl.specs.declared.act.Object.TheVariants as object
 use Rattle.acl.specs.declared.faults.AclFault.TheVariants as fault
 use Rattle.command_lang.specs.command.Command.TheVariants as command

@@ -1,10 +1,10 @@
 -- Windows and clients.
-use Rattle.std.specs.Prelude.{◌≡◌, ◌<◌, ℕ, true, false, List, [], ◌∷◌, ◌++◌, Option, Some, None}
+use Rattle.std.specs.Prelude.{◌≡◌, false, [], ◌∷◌, Some, None}
 use Rattle.std.specs.Prelude.{Err, codes, map}
 use Rattle.std.specs.List.{range_with_len}
 use Rattle.acl.specs.declared.edition.Edition.TheVariants.{Second}
 use Rattle.command_lang.specs.command.Command.TheVariants as command
-use Rattle.session_model.specs.declared.event.Effect.TheVariants.{Input, Say, Size, GoneWindow}
+use Rattle.session_model.specs.declared.event.Effect.TheVariants.{Input, Say, GoneWindow}
 use Rattle.session_model.specs.declared.event.Effect.TheVariants.{GoneClient}
 use Rattle.session_model.specs.declared.event.Reason.TheVariants as reason
 use Rattle.session_model.specs.declared.refusal.Refusal.TheVariants.{NotMultiuser, UnknownUser}
@@ -14,7 +14,7 @@ use Rattle.session_model.specs.Trace.{Keys, Attach, Open, Resize}
 use Rattle.session_model.specs.Tables.{Tables}
 use Rattle.session_model.specs.Events.{outcome, new_window}
 use Rattle.worked_rows.specs.Setup.{user, own, bob, window, several, ordered, after, typed}
-use Rattle.worked_rows.specs.Setup.{then_comes, why, listed}
+use Rattle.worked_rows.specs.Setup.{then_comes, listed}
 
 -- 40 windows
 abbrev pub full : Tables

@@ -1,6 +1,6 @@
 -- A session of four users: own, the owner, and ann, bob and eve; with three windows, zero, one
 -- and two, and a client each, of which own's and ann's show window 0, bob's and eve's window 2.
-use Rattle.std.specs.Prelude.{ℕ, ◌-◌, Bool, true, false, List, [], ◌∷◌, ◌++◌, Option, Some, None}
+use Rattle.std.specs.Prelude.{ℕ, ◌-◌, true, false, List, [], ◌∷◌, ◌++◌, Option, Some, None}
 use Rattle.std.specs.Prelude.{Ok, Err, codes, replicate, length}
 use Rattle.acl.specs.declared.user_id.UserId.{UserId}
 use Rattle.acl.specs.declared.edition.Edition.{Edition}
@@ -15,7 +15,7 @@ use Rattle.command_lang.specs.command.Leader.TheVariants.{Named}
 use Rattle.regions.specs.Layouts.{one_region}
 use Rattle.session_model.specs.declared.event.Effect.{Effect}
 use Rattle.session_model.specs.declared.message.Message.TheVariants.{Silence}
-use Rattle.session_model.specs.Trace.{Happening, Keys, Reply}
+use Rattle.session_model.specs.Trace.{Happening, Keys}
 use Rattle.session_model.specs.Texts.{text_of}
 use Rattle.session_model.specs.Tables.{Tables, Window, Client, fresh}
 use Rattle.session_model.specs.Lines.{line_caller}

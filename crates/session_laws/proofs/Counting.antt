@@ -1,0 +1,150 @@
+-- How many effects a step has.
+use Rattle.std.proofs.Common.{◌≡◌, ℕ, ◌+◌, ◌≤◌, List, [], ◌∷◌, ◌++◌, Option, Some, None, Ok, Err, Result, refl, ap, sym, subst, length, take, arith}
+use Rattle.std.specs.Prelude.{◌==◌, MatchOption}
+use Rattle.command_lang.specs.command.Command.{Command as Order}
+use Rattle.command_lang.specs.fault.ParseFault.{ParseFault}
+use Rattle.keys.specs.Grammar.{Item, typed, bound, line}
+use Rattle.terminal_model.specs.Reading.{reads}
+use Rattle.session_model.specs.declared.event.Effect.{Effect}
+use Rattle.session_model.specs.declared.event.Effect.TheVariants.{Input, Deliver}
+use Rattle.session_model.specs.declared.event.Reason.TheVariants as reason
+use Rattle.session_model.specs.declared.check.Check.TheVariants.{Must as must}
+use Rattle.session_model.specs.declared.refusal.Refusal.{Refusal}
+use Rattle.session_model.specs.declared.refusal.Refusal.TheVariants.{BadSize}
+use Rattle.session_model.specs.Trace.{Happening, Attach, Detach, Keys, Command, Resize, Open, Output, Closed, Draw, Entry}
+use Rattle.session_model.specs.Tables.{Tables, Window, Client, window_at, client_at, with_client, focused, focused_window, is_known}
+use Rattle.session_model.specs.Terminals.{terminal_of}
+use Rattle.session_model.specs.Lines.{Caller, caller_of, line_caller, read_line}
+use Rattle.session_model.specs.Checks.{checks, first_fault, verdicts, typing_checks}
+use Rattle.session_model.specs.Deeds.{Deed, Answer, changing, parts, closes}
+use Rattle.session_model.specs.Commands.{does}
+use Rattle.session_model.specs.Keying.{typed_bytes, command_item, taken, step_items}
+use Rattle.session_model.specs.Events.{types, says_why, input_in, ordered, keyed, with_listed, message_of, reading, unsaid, outcome, keys_outcome, refused, finished, done, where_passed, Outcome, attach_checks, open_checks, is_client_size, resized, reply_of, attaches, new_client, opens, new_window, outputs}
+use Rattle.session_model.specs.Events as events
+use Rattle.session_model.specs.Run.{IsStep, HasEffects, IsDraw, DrawsWhereNeeded}
+use Rattle.session_model.specs.Sound.{AreSound}
+use Rattle.session_laws.proofs.Doing.{Either}
+use Rattle.session_laws.proofs.Moving.{DeedMoves}
+use Rattle.session_laws.proofs.Rows.{moves, only_parts, closes_moves, input_few, length_append, length_filter, length_ids}
+use Rattle.session_laws.proofs.Lasting.{differ}
+use Rattle.session_laws.proofs.Settling.{focus_row, line_row, deed_moves, ids_same}
+use Rattle.session_laws.proofs.Unread.{typing_clients}
+use Rattle.session_laws.proofs.Outcomes as outcomes
+
+-- a window or a client goes or is told each, and three more
+abbrev pub IsFew : Tables → ℕ → Type 0
+IsFew t n = n ≤ length t.windows + length t.clients + 3
+
+abbrev Few : Tables → Outcome → Type 0
+Few t o = IsFew t (length o.effects)
+
+none_few : (t : Tables) → IsFew t 0
+none_few t = omega arith
+
+deed_few : (t : Tables) (d : Deed) → DeedMoves t d → IsFew t (length d.effects)
+deed_few t d m = let le : length d.effects ≤ length t.windows + length t.clients + 1 = m.few in omega (arith, le)
+
+-- ---- keys
+
+types_few : (u : Tables) (d : Client) (bytes : List ℕ) → length (types u d bytes).effects ≤ 1
+types_few u d [] = omega arith
+types_few u d (b ∷ bytes) = on (first_fault u (typing_checks d.user (focused_window u d))) (focused_window u d) where
+  on : (o : Option Refusal) (f : Option Window) → length (elim o as (λ _. Deed) [
+    | Some r ↦ says_why u d.serial r
+    | None ↦ record (changing u) { effects = input_in f (b ∷ bytes) }
+  ]).effects ≤ 1
+  on (Some r) f = omega arith
+  on None None = omega arith
+  on None (Some w) = omega arith
+
+keyed_few : (v : Tables) (client : ℕ) (m : List ℕ → Rattle.session_model.specs.declared.message.Message.Message) (a : Answer) → Either (DeedMoves v) a
+    → length (keyed v client m a).effects ≤ length v.windows + length v.clients + 2
+keyed_few v client m (Err r) plain = omega arith
+keyed_few v client m (Ok d) all = on d.lists where
+  le : length d.effects ≤ length v.windows + length v.clients + 1
+  le = all.few
+
+  on : (o : Option (List ℕ)) → length (with_listed client m o d).effects ≤ length v.windows + length v.clients + 2
+  on None = omega (arith, le)
+  on (Some bytes) = let sum : length (d.effects ++ Rattle.session_model.specs.declared.event.Effect.TheVariants.Say client bytes ∷ []) ≡ length d.effects + 1 = length_append d.effects _ in omega (arith, le, sum)
+
+ruled_few : (v : Tables) (client : ℕ) (m : List ℕ → Rattle.session_model.specs.declared.message.Message.Message) (k : Caller) (c : Order) (o : Option Refusal) → ((w : Window) → k.window ≡ Some w → window_at v w.serial ≡ Some w)
+    → length (keyed v client m (elim o as (λ _. Answer) [ Some r ↦ Err r | None ↦ does v k c ])).effects ≤ length v.windows + length v.clients + 2
+ruled_few v client m k c (Some r) row = omega arith
+ruled_few v client m k c None row = keyed_few v client m (does v k c) (moves v k row c)
+
+order_few : (v : Tables) (d : Client) (order : Order) → length (events.by_line v d (Ok order)).deed.effects ≤ length v.windows + length v.clients + 2
+order_few v d order = ruled_few v d.serial (message_of order) (caller_of v d) order (first_fault v (checks v (caller_of v d) order)) (focus_row v (focused d))
+
+read_few : (v : Tables) (d : Client) (r : Result Order ParseFault) → length (events.by_line v d r).deed.effects ≤ length v.windows + length v.clients + 2
+read_few v d (Err f) = omega arith
+read_few v d (Ok order) = order_few v d order
+
+item_few : (v : Tables) (d : Client) (item : Option Item) → length (ordered v d item).deed.effects ≤ length v.windows + length v.clients + 2
+item_few v d None = omega arith
+item_few v d (Some (typed b)) = omega arith
+item_few v d (Some (bound order)) = order_few v d order
+item_few v d (Some (line [])) = omega arith
+item_few v d (Some (line (b ∷ bs))) = read_few v d (read_line (b ∷ bs))
+
+keys_few : (t : Tables) (client : ℕ) (bytes : List ℕ) (c : Client) → client_at t client ≡ Some c → Few t (keys_outcome t c (take (taken c.keys bytes) bytes))
+keys_few t client bytes c is =
+    let read : List ℕ = take (taken c.keys bytes) bytes in
+    let given : List Item = step_items c bytes in
+    let d : Client = reading read c in
+    let before : List Effect = (types (with_client t d) d (typed_bytes given)).effects in
+    let one : length before ≤ 1 = types_few (with_client t d) d (typed_bytes given) in
+    typing_clients (λ v. IsFew t (length (before ++ unsaid before (ordered v d (command_item given)).deed.effects))) t client c d (typed_bytes given) is refl refl
+    (λ cs same.
+    let v : Tables = record t { clients = cs } in
+    let es : List Effect = (ordered v d (command_item given)).deed.effects in
+    let more : length es ≤ length t.windows + length cs + 2 = item_few v d (command_item given) in
+    let ones : length cs ≡ length t.clients = length_ids cs t.clients (ids_same t cs same) in
+    let less : length (unsaid before es) ≤ length es = length_filter _ es in
+    let sum : length (before ++ unsaid before es) ≡ length before + length (unsaid before es) = length_append before (unsaid before es) in
+    omega (arith, one, more, ones, less, sum))
+
+-- ---- events
+
+few : (t : Tables) (event : Happening) → AreSound t → Few t (outcome t event)
+few t (Attach user rows columns) s =
+    outcomes.passed (Few t) t (verdicts t (attach_checks t user rows columns)) (first_fault t (attach_checks t user rows columns)) (reply_of 0 t.next_client 0 None) (attaches t (new_client t user rows columns)) (λ r is. none_few t) (λ is. none_few t)
+few t (Detach client) s =
+    outcomes.found (Few t) t (λ c. finished t [] done (parts (λ d. d.serial == client) reason.Detached t)) (client_at t client) (none_few t)
+    (λ c is. deed_few t (parts (λ d. d.serial == client) reason.Detached t) (only_parts t (λ p. p.0 == client) reason.Detached))
+few t (Keys client bytes) s =
+    outcomes.found (Few t) t (λ c. keys_outcome t c (take (taken c.keys bytes) bytes)) (client_at t client) (none_few t) (λ c is. keys_few t client bytes c is)
+few t (Command user number bytes) s =
+    outcomes.by_line (Few t) t (line_caller t user number) (is_known t user) (read_line bytes) (λ vs f. none_few t)
+    (λ c d known read passes is. deed_few t d (deed_moves t (does t (line_caller t user number) c) d is
+    (moves t (line_caller t user number) (λ w at. line_row t number w (differ t.windows t.next_window s.windows_rise) at) c)))
+few t (Resize client rows columns) s =
+    outcomes.found (Few t) t (λ c. where_passed t (must (is_client_size rows columns) BadSize ∷ []) done (changing (with_client t (resized rows columns c)))) (client_at t client) (none_few t)
+    (λ c is. outcomes.passed (Few t) t (verdicts t (must (is_client_size rows columns) BadSize ∷ [])) (first_fault t (must (is_client_size rows columns) BadSize ∷ [])) done (changing (with_client t (resized rows columns c))) (λ r at. none_few t) (λ at. none_few t))
+few t (Open user rows columns keep title) s =
+    let v : Window = new_window t rows columns keep title in
+    outcomes.passed (Few t) t (verdicts t (open_checks t user rows columns keep title)) (first_fault t (open_checks t user rows columns keep title)) (reply_of 0 v.serial v.number None) (opens t user v) (λ r is. none_few t) (λ is. none_few t)
+few t (Output window bytes) s =
+    outcomes.found (Few t) t (λ v. finished t [] done (outputs t v bytes)) (window_at t window) (none_few t)
+    (λ v is. let le : length (outputs t v bytes).effects ≤ 1 = input_few v.serial (reads (terminal_of v) bytes).reports (length (reads (terminal_of v) bytes).reports == 0) in omega (arith, le))
+few t (Closed window) s =
+    outcomes.found (Few t) t (λ v. finished t [] done (closes (λ x. x.serial == window) reason.Detached t)) (window_at t window) (none_few t)
+    (λ v is. deed_few t (closes (λ x. x.serial == window) reason.Detached t) (closes_moves t (λ n. n == window) reason.Detached))
+few t (Draw client) s = outcomes.found (Few t) t (λ c. finished t [] done (changing t)) (client_at t client) (none_few t) (λ c is. none_few t)
+
+drawn_few : (t : Tables) (effects : List Effect) (o : Option Client) → MatchOption o (effects ≡ []) (IsDraw t effects) → length effects ≤ 1
+drawn_few t effects None is = let e : length effects ≡ 0 = ap length is in omega (arith, e)
+drawn_few t effects (Some c) is = on effects is.drawn where
+  on : (es : List Effect) → DrawsWhereNeeded t c es → length es ≤ 1
+  on [] none = omega arith
+  on (Deliver to bytes ∷ []) one = omega arith
+  on (f ∷ es) other = absurd other
+
+pub step_few : (t : Tables) (e : Entry) → AreSound t → IsStep t e → length e.effects ≤ 256
+step_few t e s step = on e.event step.effects where
+  bound : (n : ℕ) → IsFew t n → n ≤ 256
+  bound n le = let windows : length t.windows ≤ 40 = s.few_windows in let clients : length t.clients ≤ 64 = s.few_clients in omega (arith, le, windows, clients)
+
+  on : (event : Happening) → HasEffects t event e.effects → length e.effects ≤ 256
+  on (Draw client) is = let le : length e.effects ≤ 1 = drawn_few t e.effects (client_at t client) is in omega (arith, le)
+  on event is = subst (λ (es : List Effect). length es ≤ 256) (sym is) (bound (length (outcome t event).effects) (few t event s))

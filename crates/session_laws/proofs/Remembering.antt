@@ -1,0 +1,357 @@
+-- The tables of a run have just the keys and the deliveries of its entries.
+use Rattle.std.proofs.Common.{◌≡◌, ℕ, ◌<◌, ◌≤◌, Bool, true, false, List, [], ◌∷◌, ◌++◌, Option, Some, None, Ok, Err, refl, ap, sym, ◌∙◌, subst, filter, take, length, inl, inr, ⊎_elim, arith, suc, zero}
+use Rattle.std.specs.Prelude.{◌⊎◌, if◌then◌else◌, ◌==◌, MatchOption}
+use Rattle.std.specs.List.{AllByRecursion}
+use Rattle.std.proofs.lemmas.Bool.Decides.{nat_tests}
+use Rattle.acl.specs.declared.user_id.UserId.{UserId}
+use Rattle.keys.specs.Grammar.{Item}
+use Rattle.session_model.specs.declared.event.Effect.{Effect}
+use Rattle.session_model.specs.declared.event.Effect.TheVariants.{Deliver}
+use Rattle.session_model.specs.declared.event.Reason.TheVariants as reason
+use Rattle.session_model.specs.declared.check.Check.TheVariants.{Must as must}
+use Rattle.session_model.specs.declared.refusal.Refusal.TheVariants.{NoWindow, BadSize}
+use Rattle.session_model.specs.Trace.{Happening, Attach, Detach, Keys, Command, Resize, Open, Output, Closed, Draw, Reply, Entry, Trace}
+use Rattle.session_model.specs.Tables.{Tables, Window, Client, row_of, with_row, window_at, client_at, with_client, is_known, fresh}
+use Rattle.session_model.specs.Lines.{line_caller, read_line}
+use Rattle.session_model.specs.Checks.{first_fault, verdicts}
+use Rattle.session_model.specs.Deeds.{Deed, Answer, changing, parts, closes}
+use Rattle.session_model.specs.Commands.{does}
+use Rattle.session_model.specs.Keying.{taken, step_items, typed_bytes, command_item}
+use Rattle.session_model.specs.Events.{outcome, Outcome, keys_outcome, finished, done, where_passed, attach_checks, attaches, new_client, open_checks, opens, new_window, reply_of, is_client_size, resized, outputs, reading}
+use Rattle.session_model.specs.Granted.{granted_view}
+use Rattle.session_model.specs.Run.{HasEffects, IsDraw, DrawsWhereNeeded, deliveries, drawn, drawn_on, with_drawn, after, IsStep, IsRun, IsRunFrom, tables_from, tables_of}
+use Rattle.session_model.specs.Promises.{SomeOf, IsEffectOf}
+use Rattle.session_model.specs.Sound.{Rises, AreSound, client_serials}
+use Rattle.session_laws.specs.Entries.{keys_read, is_resize, delivered_by, all_keys, all_delivered}
+use Rattle.session_laws.proofs.Inputs.{append_nil}
+use Rattle.session_laws.proofs.Lists.{all_weaken, all_append, equal, itself, row_serial}
+use Rattle.session_laws.proofs.Doing.{Either}
+use Rattle.session_laws.proofs.Saying.{Fits, step_fits}
+use Rattle.session_laws.proofs.Unread.{row_at}
+use Rattle.session_laws.proofs.Keeping.{core, Keeps, keeps_same, keeps, keeps_filter, without_keeps}
+use Rattle.session_laws.proofs.Past.{GoesOn, AllGoOn, goes_on, all_go_on, changed_row, is_draw, undelivered, keys_keep}
+use Rattle.acl.specs.declared.edition.Edition.{Edition}
+use Rattle.session_laws.proofs.Settling.{moving}
+use Rattle.session_laws.proofs.Sounding.{run_sound, fresh_sound}
+use Rattle.session_laws.proofs.Outcomes as outcomes
+
+-- a new client, or one that was there and goes on
+abbrev pub IsNew : Tables → Client → Type 0
+IsNew t d = (d.serial ≡ t.next_client) × (d.keys ≡ []) × (d.delivered ≡ [])
+
+abbrev pub Row : Tables → Happening → Reply → List Effect → Client → Type 0
+Row t event reply effects d = SomeOf (λ c. GoesOn event reply effects c d) t.clients ⊎ IsNew t d
+
+abbrev pub Rows : Tables → Happening → Reply → List Effect → List Client → Type 0
+Rows t event reply effects ds = AllByRecursion (Row t event reply effects) ds
+
+old_rows : (t : Tables) (event : Happening) (reply : Reply) (effects : List Effect) (ds : List Client) → AllGoOn event reply effects t.clients ds → Rows t event reply effects ds
+old_rows t event reply effects ds all = all_weaken (λ d. SomeOf (λ c. GoesOn event reply effects c d) t.clients) (Row t event reply effects) ds (λ d some. inl some) all
+
+-- where no keys are read and nothing is delivered
+kept_rows : (t : Tables) (event : Happening) (reply : Reply) (effects : List Effect) (ds : List Client) → ((n : ℕ) → keys_read event reply n ≡ []) → ((n : ℕ) → is_resize event reply n ≡ false) → ((n : ℕ) → deliveries effects n ≡ [])
+    → Keeps t.clients ds → Rows t event reply effects ds
+kept_rows t event reply effects ds unread same_size none kept = old_rows t event reply effects ds (all_go_on event reply effects t.clients ds unread same_size none kept)
+
+take_taken : (k : ℕ) (xs : List ℕ) → take (length (take k xs)) xs ≡ take k xs
+take_taken zero xs = refl
+take_taken (suc k) [] = refl
+take_taken (suc k) (x ∷ xs) = ap (λ ys. x ∷ ys) (take_taken k xs)
+
+other_serial : (client n r : ℕ) → n ≡ client → (r == n) ≡ false → (client == r) ≡ false
+other_serial client n r same off = grind (arith, nat_tests, same, off)
+
+-- ---- keys
+
+keys_rows : (t : Tables) (client : ℕ) (bytes : List ℕ) (c : Client) (effects : List Effect) → client_at t client ≡ Some c → AreSound t → ((n : ℕ) → deliveries effects n ≡ [])
+    → let o : Outcome = keys_outcome t c (take (taken c.keys bytes) bytes) in Rows t (Keys client bytes) o.reply effects o.tables.clients
+keys_rows t client bytes c effects is s none =
+    let read : List ℕ = take (taken c.keys bytes) bytes in
+    let given : List Item = step_items c bytes in
+    let x : Client = reading read c in
+    let u : Tables = with_client t x in
+    let o : Outcome = keys_outcome t c read in
+    let serial : c.serial ≡ client = row_serial (λ (r : Client). r.serial) t.clients client c is in
+    let F : Client → Client → Type 0 = λ q d. GoesOn (Keys client bytes) o.reply effects q d in
+    let here : (client == c.serial) ≡ true = ap (λ n. n == c.serial) (sym serial) ∙ itself c.serial in
+    old_rows t (Keys client bytes) o.reply effects o.tables.clients
+    (all_weaken (λ d. SomeOf (λ q. core q ≡ core d) u.clients) (λ d. SomeOf (λ q. F q d) t.clients) o.tables.clients
+    (λ d some. changed_row F c x
+    (λ d same. (
+      sym (ap (λ (q : Client). q.serial) same),
+      sym (ap (λ (q : Client). q.keys) same) ∙ ap (λ ks. c.keys ++ ks) (sym (ap (λ (b : Bool). if b then take (length read) bytes else []) here ∙ take_taken (taken c.keys bytes) bytes)),
+      sym (ap (λ (q : Client). q.delivered) same) ∙ sym (append_nil c.delivered) ∙ ap (λ bs. c.delivered ++ bs) (sym (none c.serial)),
+    ))
+    (λ r off d same. goes_on (Keys client bytes) o.reply effects r d (ap (λ (b : Bool). if b then take (length read) bytes else []) (other_serial client c.serial r.serial serial off)) refl (none r.serial) same)
+    t.clients t.next_client s.clients_rise (row_at t client c is) d some)
+    (keys_keep u x (typed_bytes given) (command_item given)))
+
+-- ---- another size
+
+resize_rows : (t : Tables) (client rows columns : ℕ) (c : Client) (effects : List Effect) → client_at t client ≡ Some c → AreSound t → ((n : ℕ) → deliveries effects n ≡ [])
+    → Rows t (Resize client rows columns) done effects (with_client t (resized rows columns c)).clients
+resize_rows t client rows columns c effects is s none =
+    let x : Client = resized rows columns c in
+    let u : Tables = with_client t x in
+    let serial : c.serial ≡ client = row_serial (λ (r : Client). r.serial) t.clients client c is in
+    let F : Client → Client → Type 0 = λ q d. GoesOn (Resize client rows columns) done effects q d in
+    let here : (client == c.serial) ≡ true = ap (λ n. n == c.serial) (sym serial) ∙ itself c.serial in
+    old_rows t (Resize client rows columns) done effects u.clients
+    (all_weaken (λ d. SomeOf (λ q. core q ≡ core d) u.clients) (λ d. SomeOf (λ q. F q d) t.clients) u.clients
+    (λ d some. changed_row F c x
+    (λ d same. (
+      sym (ap (λ (q : Client). q.serial) same),
+      sym (ap (λ (q : Client). q.keys) same) ∙ sym (append_nil c.keys),
+      sym (ap (λ (q : Client). q.delivered) same) ∙ sym (ap (λ (b : Bool). (if b then [] else c.delivered) ++ deliveries effects c.serial) here ∙ none c.serial),
+    ))
+    (λ r off d same. goes_on (Resize client rows columns) done effects r d refl (other_serial client c.serial r.serial serial off) (none r.serial) same)
+    t.clients t.next_client s.clients_rise (row_at t client c is) d some)
+    (keeps_same u.clients))
+
+-- ---- a draw
+
+drawn_rows : (t w : Tables) (client : ℕ) (effects : List Effect) (reply : Reply) (o : Option Client) → w.clients ≡ t.clients → client_at t client ≡ o → AreSound t → MatchOption o (effects ≡ []) (IsDraw t effects)
+    → Rows t (Draw client) reply effects (drawn_on o effects w).clients
+drawn_rows t w client effects reply None same at s is =
+    kept_rows t (Draw client) reply effects w.clients (λ n. refl) (λ n. refl) (λ n. ap (λ es. deliveries es n) is) (subst (Keeps t.clients) (sym same) (keeps_same t.clients))
+drawn_rows t w client effects reply (Some c) same at s is =
+    let x : Client = with_drawn effects (granted_view w c) c in
+    let F : Client → Client → Type 0 = λ q d. GoesOn (Draw client) reply effects q d in
+    subst (λ cs. Rows t (Draw client) reply effects (with_row (λ (r : Client). r.serial) cs x.serial x)) (sym same)
+    (subst (λ n. Rows t (Draw client) reply effects (with_row (λ (r : Client). r.serial) t.clients n x)) (sym (drawn_serial effects))
+    (old_rows t (Draw client) reply effects (with_row (λ (r : Client). r.serial) t.clients c.serial x)
+    (all_weaken (λ d. SomeOf (λ q. core q ≡ core d) (with_row (λ (r : Client). r.serial) t.clients c.serial x)) (λ d. SomeOf (λ q. F q d) t.clients) (with_row (λ (r : Client). r.serial) t.clients c.serial x)
+    (λ d some. changed_row F c x (own effects)
+    (λ r off d same. goes_on (Draw client) reply effects r d refl refl (others effects is.drawn r.serial off) same)
+    t.clients t.next_client s.clients_rise (row_at t client c at) d some)
+    (keeps_same (with_row (λ (r : Client). r.serial) t.clients c.serial x))))) where
+      drawn_serial : (es : List Effect) → (with_drawn es (granted_view w c) c).serial ≡ c.serial
+      drawn_serial [] = refl
+      drawn_serial (f ∷ es) = refl
+
+      own : (es : List Effect) (d : Client) → core (with_drawn es (granted_view w c) c) ≡ core d → GoesOn (Draw client) reply es c d
+      own [] d same = (sym (ap (λ (q : Client). q.serial) same), sym (ap (λ (q : Client). q.keys) same) ∙ sym (append_nil c.keys), sym (ap (λ (q : Client). q.delivered) same) ∙ sym (append_nil c.delivered))
+      own (f ∷ es) d same = (sym (ap (λ (q : Client). q.serial) same), sym (ap (λ (q : Client). q.keys) same) ∙ sym (append_nil c.keys), sym (ap (λ (q : Client). q.delivered) same))
+
+      off_by : (to n : ℕ) (bytes : List ℕ) → to ≡ c.serial → (n == c.serial) ≡ false → (if to == n then bytes else []) ++ [] ≡ []
+      off_by to n bytes is off = ap (λ (b : Bool). (if b then bytes else []) ++ []) (other_serial to c.serial n (sym is) off)
+
+      others : (es : List Effect) → DrawsWhereNeeded t c es → (n : ℕ) → (n == c.serial) ≡ false → deliveries es n ≡ []
+      others [] none n off = refl
+      others (Deliver to bytes ∷ []) one n off = off_by to n bytes one.0 off
+      others (f ∷ es) other n off = absurd other
+
+none_of : (t : Tables) (event : Happening) (effects : List Effect) → is_draw event ≡ false → HasEffects t event effects → (n : ℕ) → deliveries effects n ≡ []
+none_of t event effects other is = undelivered t event effects other (all_weaken (Fits t event) (IsEffectOf t event) effects (λ f all. all.0) (step_fits t event effects is))
+
+-- ---- the events
+
+deed_keeps : (t : Tables) (a : Answer) (d : Deed) → a ≡ Ok d → Either (λ (e : Deed). Keeps t.clients e.tables.clients) a → Keeps t.clients d.tables.clients
+deed_keeps t (Ok e) d is all = let same : e ≡ d = cc (is) in subst (λ (x : Deed). Keeps t.clients x.tables.clients) same all
+deed_keeps t (Err r) d is all = absurd (cc (is))
+
+abbrev Kept : Tables → Outcome → Type 0
+Kept t o = Keeps t.clients o.tables.clients
+
+module _ (t : Tables) (effects : List Effect) (s : AreSound t) where
+  rows_of : (event : Happening) → is_draw event ≡ false → ((n : ℕ) → deliveries effects n ≡ []) → Rows t event (outcome t event).reply effects (outcome t event).tables.clients
+  rows_of (Attach user rows columns) other none =
+      let c : Client = new_client t user rows columns in
+      outcomes.passed (λ o. Rows t (Attach user rows columns) o.reply effects o.tables.clients) t (verdicts t (attach_checks t user rows columns)) (first_fault t (attach_checks t user rows columns)) (reply_of 0 t.next_client 0 None) (attaches t c)
+      (λ r is. kept_rows t (Attach user rows columns) (Err r) effects t.clients (λ n. refl) (λ n. refl) none (keeps_same t.clients))
+      (λ is. all_append (Row t (Attach user rows columns) (reply_of 0 t.next_client 0 None) effects) t.clients (c ∷ [])
+      (kept_rows t (Attach user rows columns) (reply_of 0 t.next_client 0 None) effects t.clients (λ n. refl) (λ n. refl) none (keeps_same t.clients)) (inr (refl, refl, refl), tt))
+  rows_of (Detach client) other none = kept_rows t (Detach client) (outcome t (Detach client)).reply effects (outcome t (Detach client)).tables.clients (λ n. refl) (λ n. refl) none
+      (outcomes.found (Kept t) t (λ c. finished t [] done (parts (λ d. d.serial == client) reason.Detached t)) (client_at t client) (keeps_same t.clients) (λ c is. keeps_filter _ t.clients t.clients (keeps_same t.clients)))
+  rows_of (Keys client bytes) other none =
+      outcomes.found (λ o. Rows t (Keys client bytes) o.reply effects o.tables.clients) t (λ c. keys_outcome t c (take (taken c.keys bytes) bytes)) (client_at t client)
+      (kept_rows t (Keys client bytes) (Err NoWindow) effects t.clients (λ n. refl) (λ n. refl) none (keeps_same t.clients)) (λ c is. keys_rows t client bytes c effects is s none)
+  rows_of (Command user number bytes) other none = kept_rows t (Command user number bytes) (outcome t (Command user number bytes)).reply effects (outcome t (Command user number bytes)).tables.clients (λ n. refl) (λ n. refl) none
+      (outcomes.by_line (Kept t) t (line_caller t user number) (is_known t user) (read_line bytes) (λ vs f. keeps_same t.clients)
+      (λ c d known read passes is. deed_keeps t (does t (line_caller t user number) c) d is (keeps t (line_caller t user number) c)))
+  rows_of (Resize client rows columns) other none =
+      outcomes.found (λ o. Rows t (Resize client rows columns) o.reply effects o.tables.clients) t (λ c. where_passed t (must (is_client_size rows columns) BadSize ∷ []) done (changing (with_client t (resized rows columns c)))) (client_at t client)
+      (kept_rows t (Resize client rows columns) (Err NoWindow) effects t.clients (λ n. refl) (λ n. refl) none (keeps_same t.clients))
+      (λ c is. outcomes.passed (λ o. Rows t (Resize client rows columns) o.reply effects o.tables.clients) t (verdicts t (must (is_client_size rows columns) BadSize ∷ [])) (first_fault t (must (is_client_size rows columns) BadSize ∷ [])) done (changing (with_client t (resized rows columns c)))
+      (λ r at. kept_rows t (Resize client rows columns) (Err r) effects t.clients (λ n. refl) (λ n. refl) none (keeps_same t.clients))
+      (λ at. resize_rows t client rows columns c effects is s none))
+  rows_of (Open user rows columns keep title) other none =
+      let v : Window = new_window t rows columns keep title in
+      kept_rows t (Open user rows columns keep title) (outcome t (Open user rows columns keep title)).reply effects (outcome t (Open user rows columns keep title)).tables.clients (λ n. refl) (λ n. refl) none
+      (outcomes.passed (Kept t) t (verdicts t (open_checks t user rows columns keep title)) (first_fault t (open_checks t user rows columns keep title)) (reply_of 0 v.serial v.number None) (opens t user v) (λ r is. keeps_same t.clients) (λ is. keeps_same t.clients))
+  rows_of (Output window bytes) other none = kept_rows t (Output window bytes) (outcome t (Output window bytes)).reply effects (outcome t (Output window bytes)).tables.clients (λ n. refl) (λ n. refl) none
+      (outcomes.found (Kept t) t (λ v. finished t [] done (outputs t v bytes)) (window_at t window) (keeps_same t.clients) (λ v is. keeps_same t.clients))
+  rows_of (Closed window) other none = kept_rows t (Closed window) (outcome t (Closed window)).reply effects (outcome t (Closed window)).tables.clients (λ n. refl) (λ n. refl) none
+      (outcomes.found (Kept t) t (λ v. finished t [] done (closes (λ x. x.serial == window) reason.Detached t)) (window_at t window) (keeps_same t.clients)
+      (λ v is. without_keeps t.clients (filter (λ (x : Window). x.serial == window) t.windows) t.clients (keeps_same t.clients)))
+  rows_of (Draw client) other none = absurd (cc (other))
+
+-- ---- steps
+
+quiet_draw : (t : Tables) (client : ℕ) → (outcome t (Draw client)).tables.clients ≡ t.clients
+quiet_draw t client = outcomes.found (λ o. o.tables.clients ≡ t.clients) t (λ c. finished t [] done (changing t)) (client_at t client) refl (λ c is. refl)
+
+pub step_rows : (t : Tables) (event : Happening) (effects : List Effect) → AreSound t → HasEffects t event effects → Rows t event (outcome t event).reply effects (drawn event effects (outcome t event).tables).clients
+step_rows t (Draw client) effects s is =
+    let w : Tables = (outcome t (Draw client)).tables in
+    subst (λ (o : Option Client). Rows t (Draw client) (outcome t (Draw client)).reply effects (drawn_on o effects w).clients) (sym (ap (λ cs. row_of (λ (c : Client). c.serial) cs client) (quiet_draw t client)))
+    (drawn_rows t w client effects (outcome t (Draw client)).reply (client_at t client) (quiet_draw t client) refl s is)
+step_rows t (Attach user rows columns) effects s is = rows_of t effects s (Attach user rows columns) refl (none_of t (Attach user rows columns) effects refl is)
+step_rows t (Detach client) effects s is = rows_of t effects s (Detach client) refl (none_of t (Detach client) effects refl is)
+step_rows t (Keys client bytes) effects s is = rows_of t effects s (Keys client bytes) refl (none_of t (Keys client bytes) effects refl is)
+step_rows t (Command user number bytes) effects s is = rows_of t effects s (Command user number bytes) refl (none_of t (Command user number bytes) effects refl is)
+step_rows t (Resize client rows columns) effects s is = rows_of t effects s (Resize client rows columns) refl (none_of t (Resize client rows columns) effects refl is)
+step_rows t (Open user rows columns keep title) effects s is = rows_of t effects s (Open user rows columns keep title) refl (none_of t (Open user rows columns keep title) effects refl is)
+step_rows t (Output window bytes) effects s is = rows_of t effects s (Output window bytes) refl (none_of t (Output window bytes) effects refl is)
+step_rows t (Closed window) effects s is = rows_of t effects s (Closed window) refl (none_of t (Closed window) effects refl is)
+
+-- ---- serials that weren't given
+
+row_below : (cs : List Client) (next n : ℕ) (c : Client) → Rises (client_serials cs) next → row_of (λ (r : Client). r.serial) cs n ≡ Some c → c.serial < next
+row_below [] next n c rise is = absurd (cc (is))
+row_below (r ∷ cs) next n c rise is = on (r.serial == n) is (row_below cs next n c rise.2) where
+  on : (b : Bool) → (if b then Some r else row_of (λ (q : Client). q.serial) cs n) ≡ Some c → (row_of (λ (q : Client). q.serial) cs n ≡ Some c → c.serial < next) → c.serial < next
+  on true is more = let e : r ≡ c = cc (is) in subst (λ (q : Client). q.serial < next) e rise.0
+  on false is more = more is
+
+below_off : (client n next : ℕ) → client < next → next ≤ n → (client == n) ≡ false
+below_off client n next lt le = grind (arith, nat_tests, lt, le)
+
+-- no keys are read of a client that isn't there, and nothing is delivered to it
+above_unread : (t : Tables) (event : Happening) (n : ℕ) → AreSound t → t.next_client ≤ n → keys_read event (outcome t event).reply n ≡ []
+above_unread t (Keys client bytes) n s le =
+    outcomes.found (λ o. keys_read (Keys client bytes) o.reply n ≡ []) t (λ c. keys_outcome t c (take (taken c.keys bytes) bytes)) (client_at t client) refl
+    (λ c is. let lt : client < t.next_client = subst (λ m. m < t.next_client) (row_serial (λ (r : Client). r.serial) t.clients client c is) (row_below t.clients t.next_client client c s.clients_rise is) in
+    ap (λ (b : Bool). if b then take (length (take (taken c.keys bytes) bytes)) bytes else []) (below_off client n t.next_client lt le))
+above_unread t (Attach user rows columns) n s le = refl
+above_unread t (Detach client) n s le = refl
+above_unread t (Command user number bytes) n s le = refl
+above_unread t (Resize client rows columns) n s le = refl
+above_unread t (Open user rows columns keep title) n s le = refl
+above_unread t (Output window bytes) n s le = refl
+above_unread t (Closed window) n s le = refl
+above_unread t (Draw client) n s le = refl
+
+drawn_above : (t : Tables) (client n : ℕ) (effects : List Effect) (o : Option Client) → client_at t client ≡ o → AreSound t → t.next_client ≤ n → MatchOption o (effects ≡ []) (IsDraw t effects) → deliveries effects n ≡ []
+drawn_above t client n effects None at s le is = ap (λ es. deliveries es n) is
+drawn_above t client n effects (Some c) at s le is = on effects is.drawn where
+  lt : c.serial < t.next_client
+  lt = row_below t.clients t.next_client client c s.clients_rise at
+
+  on : (es : List Effect) → DrawsWhereNeeded t c es → deliveries es n ≡ []
+  on [] none = refl
+  on (Deliver to bytes ∷ []) one = ap (λ (b : Bool). (if b then bytes else []) ++ []) (below_off to n t.next_client (subst (λ m. m < t.next_client) (sym one.0) lt) le)
+  on (f ∷ es) other = absurd other
+
+above_none : (t : Tables) (event : Happening) (effects : List Effect) (n : ℕ) → AreSound t → t.next_client ≤ n → HasEffects t event effects → deliveries effects n ≡ []
+above_none t (Draw client) effects n s le is = drawn_above t client n effects (client_at t client) refl s le is
+above_none t (Attach user rows columns) effects n s le is = none_of t (Attach user rows columns) effects refl is n
+above_none t (Detach client) effects n s le is = none_of t (Detach client) effects refl is n
+above_none t (Keys client bytes) effects n s le is = none_of t (Keys client bytes) effects refl is n
+above_none t (Command user number bytes) effects n s le is = none_of t (Command user number bytes) effects refl is n
+above_none t (Resize client rows columns) effects n s le is = none_of t (Resize client rows columns) effects refl is n
+above_none t (Open user rows columns keep title) effects n s le is = none_of t (Open user rows columns keep title) effects refl is n
+above_none t (Output window bytes) effects n s le is = none_of t (Output window bytes) effects refl is n
+above_none t (Closed window) effects n s le is = none_of t (Closed window) effects refl is n
+
+-- ---- serials that come next
+
+same_next : (a b : ℕ) → a ≡ b → b ≤ a
+same_next a b is = omega (arith, is)
+
+next_grows : (t : Tables) (event : Happening) → AreSound t → t.next_client ≤ (outcome t event).tables.next_client
+next_grows t (Attach user rows columns) s =
+    outcomes.passed (λ o. t.next_client ≤ o.tables.next_client) t (verdicts t (attach_checks t user rows columns)) (first_fault t (attach_checks t user rows columns)) (reply_of 0 t.next_client 0 None) (attaches t (new_client t user rows columns)) (λ r is. omega arith) (λ is. omega arith)
+next_grows t (Open user rows columns keep title) s =
+    let v : Window = new_window t rows columns keep title in
+    outcomes.passed (λ o. t.next_client ≤ o.tables.next_client) t (verdicts t (open_checks t user rows columns keep title)) (first_fault t (open_checks t user rows columns keep title)) (reply_of 0 v.serial v.number None) (opens t user v) (λ r is. omega arith) (λ is. omega arith)
+next_grows t (Detach client) s = same_next _ _ (moving t (Detach client) s refl).next_client
+next_grows t (Keys client bytes) s = same_next _ _ (moving t (Keys client bytes) s refl).next_client
+next_grows t (Command user number bytes) s = same_next _ _ (moving t (Command user number bytes) s refl).next_client
+next_grows t (Resize client rows columns) s = same_next _ _ (moving t (Resize client rows columns) s refl).next_client
+next_grows t (Output window bytes) s = same_next _ _ (moving t (Output window bytes) s refl).next_client
+next_grows t (Closed window) s = same_next _ _ (moving t (Closed window) s refl).next_client
+next_grows t (Draw client) s = same_next _ _ (moving t (Draw client) s refl).next_client
+
+drawn_next : (o : Option Client) (effects : List Effect) (v : Tables) → (drawn_on o effects v).next_client ≡ v.next_client
+drawn_next None effects v = refl
+drawn_next (Some c) effects v = refl
+
+after_grows : (t : Tables) (event : Happening) (effects : List Effect) → AreSound t → t.next_client ≤ (drawn event effects (outcome t event).tables).next_client
+after_grows t (Draw client) effects s =
+    let w : Tables = (outcome t (Draw client)).tables in
+    subst (λ n. t.next_client ≤ n) (sym (drawn_next (client_at w client) effects w)) (next_grows t (Draw client) s)
+after_grows t event effects s = next_grows t event s
+
+-- ---- runs
+
+pub record Remembers (t : Tables) (past : List Entry) : Type 0 where
+  pub rows : AllByRecursion (λ (c : Client). (c.keys ≡ all_keys past c.serial) × (c.delivered ≡ all_delivered past c.serial)) t.clients
+  pub later : (n : ℕ) → t.next_client ≤ n → (all_keys past n ≡ []) × (all_delivered past n ≡ [])
+
+some_elim : {A : Type 0} (P Q : A → Type 0) (R : Type 0) (xs : List A) → ((x : A) → P x → Q x → R) → SomeOf P xs → AllByRecursion Q xs → R
+some_elim P Q R [] on some all = absurd some
+some_elim P Q R (x ∷ xs) on some all = ⊎_elim (λ (here : P x). on x here all.0) (λ later. some_elim P Q R xs on later all.1) some
+
+none_by : (event : Happening) (reply : Reply) (effects : List Effect) (n : ℕ) (before : List ℕ) → before ≡ [] → deliveries effects n ≡ [] → delivered_by event reply effects n before ≡ []
+none_by event reply effects n before is none = ap (λ bs. (if is_resize event reply n then [] else bs) ++ deliveries effects n) is ∙ ap (λ bs. (if is_resize event reply n then [] else []) ++ bs) none ∙ on (is_resize event reply n) where
+  on : (b : Bool) → (if b then (let empty : List ℕ = [] in empty) else []) ++ [] ≡ []
+  on true = refl
+  on false = refl
+
+pub remembers : (t : Tables) (past : List Entry) (e : Entry) → AreSound t → IsStep t e → Remembers t past → Remembers (after t e) (e ∷ past)
+remembers t past e s step m = record {
+  rows = subst (λ (reply : Reply). AllByRecursion (λ (d : Client). (d.keys ≡ all_keys past d.serial ++ keys_read e.event reply d.serial) × (d.delivered ≡ delivered_by e.event reply e.effects d.serial (all_delivered past d.serial))) (after t e).clients) (sym step.reply)
+      (all_weaken (Row t e.event (outcome t e.event).reply e.effects) (λ (d : Client). (d.keys ≡ all_keys past d.serial ++ keys_read e.event (outcome t e.event).reply d.serial) × (d.delivered ≡ delivered_by e.event (outcome t e.event).reply e.effects d.serial (all_delivered past d.serial))) (after t e).clients one
+      (step_rows t e.event e.effects s step.effects));
+  later = λ n le.
+      let above : t.next_client ≤ n = (let grows : t.next_client ≤ (after t e).next_client = after_grows t e.event e.effects s in omega (arith, grows, le)) in
+      let old = m.later n above in (
+        ap (λ ks. ks ++ keys_read e.event e.reply n) old.0 ∙ ap (λ (r : Reply). keys_read e.event r n) step.reply ∙ above_unread t e.event n s above,
+        none_by e.event e.reply e.effects n (all_delivered past n) old.1 (above_none t e.event e.effects n s above step.effects),
+      );
+} where
+  le : t.next_client ≤ t.next_client
+  le = omega arith
+
+  one : (d : Client) → Row t e.event (outcome t e.event).reply e.effects d
+      → (d.keys ≡ all_keys past d.serial ++ keys_read e.event (outcome t e.event).reply d.serial) × (d.delivered ≡ delivered_by e.event (outcome t e.event).reply e.effects d.serial (all_delivered past d.serial))
+  one d row =
+      let reply : Reply = (outcome t e.event).reply in
+      let keys_at : ℕ → List ℕ = λ n. all_keys past n ++ keys_read e.event reply n in
+      let delivered_at : ℕ → List ℕ = λ n. delivered_by e.event reply e.effects n (all_delivered past n) in
+      ⊎_elim
+      (λ (old : SomeOf (λ c. GoesOn e.event reply e.effects c d) t.clients).
+      some_elim (λ c. GoesOn e.event reply e.effects c d) (λ (c : Client). (c.keys ≡ all_keys past c.serial) × (c.delivered ≡ all_delivered past c.serial))
+      ((d.keys ≡ keys_at d.serial) × (d.delivered ≡ delivered_at d.serial)) t.clients
+      (λ c go was. (
+        go.1 ∙ ap (λ ks. ks ++ keys_read e.event reply c.serial) was.0 ∙ ap keys_at (sym go.0),
+        go.2 ∙ ap (delivered_by e.event reply e.effects c.serial) was.1 ∙ ap delivered_at (sym go.0),
+      )) old m.rows)
+      (λ new.
+      let was = m.later t.next_client le in (
+        new.1 ∙ sym (ap (λ ks. ks ++ keys_read e.event reply t.next_client) was.0 ∙ above_unread t e.event t.next_client s le) ∙ ap keys_at (sym new.0),
+        new.2 ∙ sym (none_by e.event reply e.effects t.next_client (all_delivered past t.next_client) was.1 (above_none t e.event e.effects t.next_client s le step.effects)) ∙ ap delivered_at (sym new.0),
+      ))
+      row
+
+pub run_remembers : (edition : Edition) (owner : UserId) (entries : List Entry) → IsRunFrom (fresh edition owner) entries → Remembers (tables_from (fresh edition owner) entries) entries
+run_remembers edition owner [] run = record { rows = tt; later = λ n le. (refl, refl) }
+run_remembers edition owner (e ∷ past) run =
+    remembers (tables_from (fresh edition owner) past) past e (run_sound (fresh edition owner) past (fresh_sound edition owner)) run.1 (run_remembers edition owner past run.0)
+
+found_row : (past : List Entry) (cs : List Client) (n : ℕ) (c : Client) → row_of (λ (r : Client). r.serial) cs n ≡ Some c
+    → AllByRecursion (λ (r : Client). (r.keys ≡ all_keys past r.serial) × (r.delivered ≡ all_delivered past r.serial)) cs → (c.keys ≡ all_keys past n) × (c.delivered ≡ all_delivered past n)
+found_row past [] n c is all = absurd (cc (is))
+found_row past (r ∷ cs) n c is all = on (r.serial == n) refl is (found_row past cs n c) where
+  on : (b : Bool) → (r.serial == n) ≡ b → (if b then Some r else row_of (λ (q : Client). q.serial) cs n) ≡ Some c
+      → (row_of (λ (q : Client). q.serial) cs n ≡ Some c → AllByRecursion (λ (q : Client). (q.keys ≡ all_keys past q.serial) × (q.delivered ≡ all_delivered past q.serial)) cs → (c.keys ≡ all_keys past n) × (c.delivered ≡ all_delivered past n))
+      → (c.keys ≡ all_keys past n) × (c.delivered ≡ all_delivered past n)
+  on true at is more =
+      let e : r ≡ c = cc (is) in
+      let same : r.serial ≡ n = equal r.serial n at in
+      subst (λ (q : Client). (q.keys ≡ all_keys past n) × (q.delivered ≡ all_delivered past n)) e (all.0.0 ∙ ap (all_keys past) same, all.0.1 ∙ ap (all_delivered past) same)
+  on false at is more = more is all.1
+
+pub remembered : (h : Trace) → IsRun h → (n : ℕ) (c : Client) → client_at (tables_of h) n ≡ Some c → (c.keys ≡ all_keys h.entries n) × (c.delivered ≡ all_delivered h.entries n)
+remembered h run n c is = found_row h.entries (tables_of h).clients n c is (run_remembers h.edition h.owner h.entries run).rows

@@ -1,0 +1,74 @@
+-- A command of a line that isn't refused did its row.
+use Rattle.std.proofs.Common.{◌≡◌, ℕ, true, List, [], ◌++◌, Option, Ok, Err, refl, ap, sym, ◌∙◌, subst, inl}
+use Rattle.std.specs.Prelude.{if◌then◌else◌}
+use Rattle.acl.specs.declared.user_id.UserId.{UserId}
+use Rattle.acl.specs.declared.act.Act.{Act}
+use Rattle.acl.specs.History.{followed_by}
+use Rattle.session_model.specs.declared.event.Effect.{Effect}
+use Rattle.session_model.specs.declared.event.Done.{Done}
+use Rattle.session_model.specs.declared.verdict.Verdict.{Verdict}
+use Rattle.session_model.specs.Trace.{Happening, Command, Reply, Entry}
+use Rattle.session_model.specs.Tables.{Tables, is_known}
+use Rattle.session_model.specs.Lines.{Caller, line_caller, read_line}
+use Rattle.session_model.specs.Checks.{checks, verdicts}
+use Rattle.session_model.specs.Deeds.{Deed}
+use Rattle.session_model.specs.Commands.{does}
+use Rattle.session_model.specs.Events.{Outcome, outcome, finished, reply_of, left_acts}
+use Rattle.session_model.specs.Given.{Given, commands_of, has_x, with_order, ok_of}
+use Rattle.session_model.specs.Promises.{SomeOf}
+use Rattle.session_model.specs.Run.{IsStep}
+use Rattle.session_laws.specs.Laws.{DidItsRow, LineDidItsRow}
+use Rattle.session_laws.proofs.Lists.{some_weaken}
+use Rattle.session_laws.proofs.Passing.{passed_has_x}
+use Rattle.session_laws.proofs.Asking.{line_given}
+use Rattle.session_laws.proofs.Outcomes as outcomes
+
+-- what the outcome says of a reply that is Ok
+record Did (t : Tables) (o : Outcome) (done : Done) (g : Given) : Type 0 where
+  granted : has_x t g ≡ true
+  deed : Deed
+  does_it : does t g.caller g.order ≡ Ok deed
+  acts : o.acts ≡ deed.acts ++ left_acts t.clients deed.tables.clients
+  effects : o.effects ≡ deed.effects
+  lists : done.text ≡ deed.lists
+  tables : o.tables ≡ record deed.tables { acts = followed_by t.acts (deed.acts ++ left_acts t.clients deed.tables.clients) }
+
+abbrev DidIn : Tables → List Given → Outcome → Type 0
+DidIn t gs o = (done : Done) → o.reply ≡ Ok done → SomeOf (Did t o done) gs
+
+did : (t : Tables) (user : UserId) (number : Option ℕ) (bytes : List ℕ) → DidIn t (commands_of t (Command user number bytes)) (outcome t (Command user number bytes))
+did t user number bytes =
+    let k : Caller = line_caller t user number in
+    outcomes.by_line (DidIn t (commands_of t (Command user number bytes))) t k (is_known t user) (read_line bytes)
+    (λ vs f done is. absurd (cc (is)))
+    (λ c d known read passes is done answer. subst (λ gs. SomeOf (Did t (finished t (verdicts t (checks t k c)) (reply_of 0 0 0 d.lists) d) done) gs)
+    (sym (line_given t user number bytes (is_known t user) (read_line bytes) refl refl ∙ ap (λ b. if b then with_order k (ok_of (read_line bytes)) else []) known ∙ ap (λ r. with_order k (ok_of r)) read))
+    (inl (record {
+      granted = passed_has_x t k c passes;
+      deed = d;
+      does_it = is;
+      acts = refl;
+      effects = refl;
+      lists = (let same : record { taken = 0; made = 0; number = 0; text = d.lists } ≡ done = cc (answer) in sym (ap (λ (x : Done). x.text) same));
+      tables = refl;
+    })))
+
+pub rows_done : (t : Tables) (event : Happening) (reply : Reply) (acts : List Act) (vs : List Verdict) (effects : List Effect)
+    → let e : Entry = record { event = event; reply = reply; acts = acts; verdicts = vs; effects = effects } in IsStep t e → LineDidItsRow t e event reply
+rows_done t (Command user number bytes) (Ok done) acts vs effects step = some (commands_of t (Command user number bytes)) (did t user number bytes done (sym step.reply)) where
+  one : (g : Given) → Did t (outcome t (Command user number bytes)) done g → DidItsRow t (record { event = Command user number bytes; reply = Ok done; acts = acts; verdicts = vs; effects = effects }) done g
+  one g d = record {
+    granted = d.granted;
+    deed = d.deed;
+    does_it = d.does_it;
+    acts = step.acts ∙ d.acts;
+    effects = step.effects ∙ d.effects;
+    lists = d.lists;
+    tables = d.tables ∙ ap (λ x. record d.deed.tables { acts = followed_by t.acts x }) (sym (step.acts ∙ d.acts));
+  }
+
+  some : (gs : List Given) → SomeOf (Did t (outcome t (Command user number bytes)) done) gs
+      → SomeOf (DidItsRow t (record { event = Command user number bytes; reply = Ok done; acts = acts; verdicts = vs; effects = effects }) done) gs
+  some gs all = some_weaken (Did t (outcome t (Command user number bytes)) done) (DidItsRow t (record { event = Command user number bytes; reply = Ok done; acts = acts; verdicts = vs; effects = effects }) done) gs one all
+rows_done t (Command user number bytes) (Err r) acts vs effects step = tt
+rows_done t event reply acts vs effects step = tt
