@@ -1,12 +1,12 @@
--- Acts that are none of rights: what the lists stand for goes on.
-use Rattle.std.proofs.Common.{[], ◌∷◌, List}
+-- Acts of clients and locks leave what the lists stand for, and acts of list commands the open windows.
+use Rattle.std.proofs.Common.{◌≡◌, ◌∙◌, ℕ, refl, [], ◌∷◌, List}
 use Rattle.std.specs.List.{AllByRecursion}
 use Rattle.acl.specs.declared.edition.Edition.{Edition}
 use Rattle.acl.specs.declared.user_id.UserId.{UserId}
 use Rattle.acl.specs.declared.act.Act.{Act}
 use Rattle.acl.specs.declared.act.Act.TheVariants.{Known, Gone, Set, Grouped, Masked, Preset, Opened, Closed, Attached, Parted, Entered, Left, Mode, Default}
-use Rattle.acl.specs.History.{History, followed_by}
-use Rattle.acl.specs.Commands.{IsAside}
+use Rattle.acl.specs.History.{History, followed_by, is_open, open_count}
+use Rattle.acl.specs.Commands.{IsAside, MayFollow, AllMayFollow}
 use Rattle.acl.specs.Table.{Table, StandsFor}
 
 pub StandsFor-aside : (t : Table) (edition : Edition) (owner : UserId) (h : History) (a : Act) → IsAside a → StandsFor t edition owner h → StandsFor t edition owner (a ∷ h)
@@ -28,3 +28,44 @@ StandsFor-aside t edition owner h (Closed window) aside s = absurd aside
 pub StandsFor-all_aside : (t : Table) (edition : Edition) (owner : UserId) (h : History) (acts : List Act) → AllByRecursion IsAside acts → StandsFor t edition owner h → StandsFor t edition owner (followed_by h acts)
 StandsFor-all_aside t edition owner h [] aside s = s
 StandsFor-all_aside t edition owner h (a ∷ acts) aside s = StandsFor-all_aside t edition owner (a ∷ h) acts aside.1 (StandsFor-aside t edition owner h a aside.0 s)
+
+-- an act of a list command leaves the open windows
+open-same : (edition : Edition) (owner : UserId) (h : History) (a : Act) → MayFollow edition owner h a → (w : ℕ) → is_open (a ∷ h) w ≡ is_open h w
+open-same edition owner h (Known v) m w = refl
+open-same edition owner h (Gone v) m w = refl
+open-same edition owner h (Set v bit object value) m w = refl
+open-same edition owner h (Grouped v leader) m w = refl
+open-same edition owner h (Masked by v bit value) m w = refl
+open-same edition owner h (Preset kind bit value) m w = refl
+open-same edition owner h (Opened by v) m w = absurd m
+open-same edition owner h (Closed v) m w = absurd m
+open-same edition owner h (Attached client user) m w = absurd m
+open-same edition owner h (Parted client) m w = absurd m
+open-same edition owner h (Entered user v) m w = absurd m
+open-same edition owner h (Left user v) m w = absurd m
+open-same edition owner h (Mode by v mode) m w = absurd m
+open-same edition owner h (Default mode) m w = absurd m
+
+count-same : (edition : Edition) (owner : UserId) (h : History) (a : Act) → MayFollow edition owner h a → open_count (a ∷ h) ≡ open_count h
+count-same edition owner h (Known v) m = refl
+count-same edition owner h (Gone v) m = refl
+count-same edition owner h (Set v bit object value) m = refl
+count-same edition owner h (Grouped v leader) m = refl
+count-same edition owner h (Masked by v bit value) m = refl
+count-same edition owner h (Preset kind bit value) m = refl
+count-same edition owner h (Opened by v) m = absurd m
+count-same edition owner h (Closed v) m = absurd m
+count-same edition owner h (Attached client user) m = absurd m
+count-same edition owner h (Parted client) m = absurd m
+count-same edition owner h (Entered user v) m = absurd m
+count-same edition owner h (Left user v) m = absurd m
+count-same edition owner h (Mode by v mode) m = absurd m
+count-same edition owner h (Default mode) m = absurd m
+
+pub open-all_same : (edition : Edition) (owner : UserId) (h : History) (acts : List Act) → AllMayFollow edition owner h acts → (w : ℕ) → is_open (followed_by h acts) w ≡ is_open h w
+open-all_same edition owner h [] m w = refl
+open-all_same edition owner h (a ∷ acts) m w = open-all_same edition owner (a ∷ h) acts m.1 w ∙ open-same edition owner h a m.0 w
+
+pub count-all_same : (edition : Edition) (owner : UserId) (h : History) (acts : List Act) → AllMayFollow edition owner h acts → open_count (followed_by h acts) ≡ open_count h
+count-all_same edition owner h [] m = refl
+count-all_same edition owner h (a ∷ acts) m = count-all_same edition owner (a ∷ h) acts m.1 ∙ count-same edition owner h a m.0

@@ -307,6 +307,7 @@ module _ (old new : Table) (start : ℕ) (before planned after given : List Act)
       → TakesAll old new (drop start planned) → FollowsAll follows followed old (drop start planned)
       → (edition : Edition) (owner : UserId) (h : History) → StandsFor old edition owner h → AllMayFollow edition owner h given → IsDone edition owner h given new before after follows followed
   is_done at is same stands follower edition owner h s allowed = record {
+    follow = allowed;
     stands = subst (λ acts. StandsFor new edition owner (followed_by h acts)) tail (stands edition owner h s (subst (AllMayFollow edition owner h) (sym tail) allowed));
     acts = same ∙ is;
     follower = λ f. subst (λ acts. followed edition owner (followed_by h acts)) tail (follower edition owner h s (subst (AllMayFollow edition owner h) (sym tail) allowed) f);

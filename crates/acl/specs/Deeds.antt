@@ -36,14 +36,20 @@ Refuses old fault result =
     (edition : Edition) (owner : UserId) (h : History) → StandsFor old edition owner h → Answers result (fault edition owner h)
 
 -- a list command was done after the history h: the table stands for h and then its acts, which are given out in order, and so does
--- what follows the acts
+-- what follows the acts. Each act may follow those before it
 pub record IsDone (edition : Edition) (owner : UserId) (h : History) (given : List Act) (new : Table) (before after : List Act) (follows followed : Edition → UserId → History → Type 0) : Type 0 where
+  pub follow : AllMayFollow edition owner h given
   pub stands : StandsFor new edition owner (followed_by h given)
   pub acts : after ≡ before ++ given
   pub follower : follows edition owner h → followed edition owner (followed_by h given)
 
--- and that after each history that the table stood for, in which these objects are there
-abbrev pub Does : (old new : Table) (before after : List Act) (follows followed : Edition → UserId → History → Type 0) → List Object → (UserId → History → List Act) → Type 0
-Does old new before after follows followed objects given =
+-- and that after each history that the table stood for
+abbrev pub Does : (old new : Table) (before after : List Act) (follows followed : Edition → UserId → History → Type 0) → (UserId → History → List Act) → Type 0
+Does old new before after follows followed given =
+    (edition : Edition) (owner : UserId) (h : History) → StandsFor old edition owner h → IsDone edition owner h (given owner h) new before after follows followed
+
+-- or after each in which these objects are there
+abbrev pub DoesOn : List Object → (old new : Table) (before after : List Act) (follows followed : Edition → UserId → History → Type 0) → (UserId → History → List Act) → Type 0
+DoesOn objects old new before after follows followed given =
     (edition : Edition) (owner : UserId) (h : History) → StandsFor old edition owner h → All (λ object. there h object ≡ true) objects
     → IsDone edition owner h (given owner h) new before after follows followed

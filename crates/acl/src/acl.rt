@@ -18,10 +18,11 @@ use std::marker::Model;
 /// The access lists of a session: who is known, what each user may do, who leads whom, masks and
 /// presets.
 ///
-/// Each list command is done whole or refused whole; the refusal is its first fault from the left, or that
-/// memory was refused. Its words for users are given as `UserId::of` answers them, none for a word that is no
-/// name. Its acts go to the end of `acts`, in order, and each to the follower once it is done. `room` is how many
-/// acts more there is room for behind them, which a caller may then push without a growth.
+/// Each list command is done whole or refused whole; the refusal is its first fault from the left, or
+/// that memory was refused. Its words for users are given as `UserId::of` answers them, none for a word
+/// that is no name. Its acts go to the end of `acts`, in order, and each to the follower once it is
+/// done. `room` is how many acts more there is room for behind them, which a caller may then push
+/// without a growth.
 #[derive(Drop)]
 pub struct Acl {
     lists: Lists,
@@ -41,7 +42,7 @@ impl Acl {
     ghost use Rattle.std.specs.Prelude.{◌≡◌, ◌∷◌, ◌<◌};
     ghost use Rattle.acl.specs.History.{History, is_known, is_open, open_count, users_of, leaders_of, there, may};
     ghost use Rattle.acl.specs.Commands.{add_acts, change_fault, change_acts, known_name_fault, removal_acts, group_fault, group_acts, mask_fault, mask_acts};
-    ghost use Rattle.acl.specs.Deeds.{Refuses, Does};
+    ghost use Rattle.acl.specs.Deeds.{Refuses, Does, DoesOn};
     ghost use Rattle.acl.specs.Table.{StandsFor, IsDenial, knows, led_by, lets, users_in};
     ghost use Rattle.acl.specs.Lists.{table_of};
     ghost use Rattle.acl.specs.declared.edition.Edition.{Edition};
@@ -119,7 +120,7 @@ impl Acl {
         self.lists.may(user, bit, object)
     }
 
-    /// The fault that refuses a change of these names' bits, or their addition: the first from the
+    /// The fault that refuses a change of these users' bits, or their addition: the first from the
     /// left.
     pub fn change_fault(&self, names: &[Option<UserId>]) -> Option<AclFault>
         ensures { (edition : Edition) (owner : UserId) (h : History) →
@@ -142,8 +143,8 @@ impl Acl {
     ) -> Result<(), AclFault>
         ensures answer { Refuses self.old
             (λ _ owner h. change_fault owner (users_of owner h) names.now) result }
-        ensures done { OnOk result (Does self.old self.new acts.old.items acts.new.items
-            (F.follows follower.old) (F.follows follower.new) objects.now
+        ensures done { OnOk result (DoesOn objects.now self.old self.new acts.old.items acts.new.items
+            (F.follows follower.old) (F.follows follower.new)
             (λ owner h. change_acts (users_of owner h) names.now changes.now objects.now)) }
         ensures room { OnOk result (vec_len acts.new + room ≤ vec_capacity acts.new) }
         ensures err { OnErr result ((self.new ≡ self.old) × (acts.new.items ≡ acts.old.items)
@@ -166,8 +167,8 @@ impl Acl {
     ) -> Result<(), AclFault>
         ensures answer { Refuses self.old
             (λ _ owner h. change_fault owner (users_of owner h) names.now) result }
-        ensures done { OnOk result (Does self.old self.new acts.old.items acts.new.items
-            (F.follows follower.old) (F.follows follower.new) objects.now
+        ensures done { OnOk result (DoesOn objects.now self.old self.new acts.old.items acts.new.items
+            (F.follows follower.old) (F.follows follower.new)
             (λ owner h. add_acts (users_of owner h) names.now objects.now)) }
         ensures room { OnOk result (vec_len acts.new + room ≤ vec_capacity acts.new) }
         ensures err { OnErr result ((self.new ≡ self.old) × (acts.new.items ≡ acts.old.items)
@@ -189,7 +190,7 @@ impl Acl {
         ensures answer { Refuses self.old
             (λ _ owner h. known_name_fault owner (users_of owner h) name) result }
         ensures done { OnOk result (Does self.old self.new acts.old.items acts.new.items
-            (F.follows follower.old) (F.follows follower.new) []
+            (F.follows follower.old) (F.follows follower.new)
             (λ owner h. removal_acts name)) }
         ensures room { OnOk result (vec_len acts.new + room ≤ vec_capacity acts.new) }
         ensures err { OnErr result ((self.new ≡ self.old) × (acts.new.items ≡ acts.old.items)
@@ -213,7 +214,7 @@ impl Acl {
         ensures answer { Refuses self.old (λ edition owner h. group_fault edition owner
             (users_of owner h) (leaders_of edition h) name leader) result }
         ensures done { OnOk result (Does self.old self.new acts.old.items acts.new.items
-            (F.follows follower.old) (F.follows follower.new) []
+            (F.follows follower.old) (F.follows follower.new)
             (λ owner h. group_acts name leader)) }
         ensures room { OnOk result (vec_len acts.new + room ≤ vec_capacity acts.new) }
         ensures err { OnErr result ((self.new ≡ self.old) × (acts.new.items ≡ acts.old.items)
@@ -236,7 +237,7 @@ impl Acl {
         ensures answer { Refuses self.old
             (λ _ owner h. mask_fault owner (users_of owner h) entries.now) result }
         ensures done { OnOk result (Does self.old self.new acts.old.items acts.new.items
-            (F.follows follower.old) (F.follows follower.new) []
+            (F.follows follower.old) (F.follows follower.new)
             (λ owner h. mask_acts by entries.now)) }
         ensures room { OnOk result (vec_len acts.new + room ≤ vec_capacity acts.new) }
         ensures err { OnErr result ((self.new ≡ self.old) × (acts.new.items ≡ acts.old.items)

@@ -1,11 +1,11 @@
 //! Laws of the definitions, for the crates above. Each function here does nothing; its contract says
 //! what holds.
 
-ghost use Rattle.std.specs.Prelude.{◌≡◌, ◌∷◌, ◌++◌, List, true};
+ghost use Rattle.std.specs.Prelude.{◌≡◌, ◌∷◌, ◌++◌, ℕ, List, true};
 ghost use Rattle.std.specs.List.{AllByRecursion};
 ghost use Rattle.acl.specs.Same.{same_user};
-ghost use Rattle.acl.specs.History.{History, followed_by, is_known, users_of, among};
-ghost use Rattle.acl.specs.Commands.{IsAside};
+ghost use Rattle.acl.specs.History.{History, followed_by, is_known, is_open, open_count, users_of, among};
+ghost use Rattle.acl.specs.Commands.{IsAside, AllMayFollow};
 ghost use Rattle.acl.specs.Table.{Table, StandsFor};
 ghost use Rattle.acl.specs.declared.act.Act.{Act};
 ghost use Rattle.acl.specs.declared.edition.Edition.{Edition};
@@ -18,6 +18,15 @@ pub fn acts_aside()
     ensures all { (t : Table) (edition : Edition) (owner : UserId) (h : History) (acts : List Act) →
         AllByRecursion IsAside acts → StandsFor t edition owner h →
         StandsFor t edition owner (followed_by h acts) }
+{}
+
+/// Acts of list commands leave the open windows as they are.
+pub fn windows_stay()
+    ensures windows { (edition : Edition) (owner : UserId) (h : History) (acts : List Act) →
+        AllMayFollow edition owner h acts →
+        (window : ℕ) → is_open (followed_by h acts) window ≡ is_open h window }
+    ensures count { (edition : Edition) (owner : UserId) (h : History) (acts : List Act) →
+        AllMayFollow edition owner h acts → open_count (followed_by h acts) ≡ open_count h }
 {}
 
 /// Acts behind acts follow the history that those before leave.

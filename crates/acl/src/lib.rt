@@ -27,7 +27,7 @@ pub use edition::Edition;
 pub use entries::{EntryDenial, MaskEntry, MaskScope, NewLeader};
 pub use faults::AclFault;
 pub use follower::Follower;
-pub use laws::{acts_aside, acts_in_order, names_equal, users_listed};
+pub use laws::{acts_aside, acts_in_order, names_equal, users_listed, windows_stay};
 pub use leaders::Leaders;
 pub use limits::{USERS, WINDOWS};
 pub use lists::Lists;

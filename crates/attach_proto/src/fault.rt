@@ -68,7 +68,7 @@ impl From<AllocError> for WriteFault {
 }
 
 // Why a payload gives no message.
-#[derive(Clone, Copy, Debug, PartialEq, Eq)]
+#[derive(Clone, Copy, PartialEq, Eq)]
 pub enum Unread {
     Memory,
     Payload,

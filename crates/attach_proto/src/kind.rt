@@ -7,7 +7,7 @@ ghost use Rattle.attach_proto.specs.Reading.{kind_at};
 use crate::side::Side;
 
 /// The kinds of frames.
-#[derive(Clone, Copy, Debug, PartialEq, Eq)]
+#[derive(Clone, Copy, PartialEq, Eq)]
 pub enum Kind {
     Attach,
     Window,

@@ -13,7 +13,7 @@ use crate::why::Why;
 use std::alloc::{AllocError, Global};
 
 /// What stands at the front of a stream.
-#[derive(Debug, Drop)]
+#[derive(Drop)]
 pub enum Front {
     /// Less than a whole frame.
     Part,

@@ -1,7 +1,7 @@
 //! The two ends of a connection.
 
 /// Who reads.
-#[derive(Clone, Copy, Debug, PartialEq, Eq)]
+#[derive(Clone, Copy, PartialEq, Eq)]
 pub enum Side {
     /// The server, which reads what its peers send.
     Server,

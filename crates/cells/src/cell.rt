@@ -1,7 +1,7 @@
 //! What stands at a place of a line.
 
 ghost use Rattle.std.specs.Prelude.{◌≡◌, ◌↔◌, IsTrue};
-ghost use Rattle.cells.specs.Line.{joined, unprotected, narrow_cell, left_cell, right_cell};
+ghost use Rattle.cells.specs.Line.{blank, joined, unprotected, narrow_cell, left_cell, right_cell};
 
 /// The part of its character that a cell holds (UAX #11, section 5).
 #[derive(Clone, Copy, Debug, PartialEq, Eq)]
@@ -109,6 +109,48 @@ impl Cell {
             shape: Shape::Right,
             ..Cell::narrow(character, rendition, is_protected)
         }
+    }
+
+    /// Its character, which both halves of a wide one have.
+    pub fn glyph(&self) -> char
+        ensures { result ≡ self.now.character }
+    {
+        self.character
+    }
+
+    /// The marks that joined it.
+    pub fn marks(&self) -> Marks
+        ensures { result ≡ self.now.marks }
+    {
+        self.marks
+    }
+
+    /// How it is shown.
+    pub fn rendition(&self) -> Rendition
+        ensures { result ≡ self.now.rendition }
+    {
+        self.rendition
+    }
+
+    /// Whether a selective erasure spares it.
+    pub fn is_protected(&self) -> bool
+        ensures { result ≡ self.now.is_protected }
+    {
+        self.is_protected
+    }
+
+    /// The part of its character that it holds.
+    pub fn shape(&self) -> Shape
+        ensures { result ≡ self.now.shape }
+    {
+        self.shape
+    }
+
+    /// Whether it is a blank: a space without rendition, marks and protection.
+    pub fn is_blank(&self) -> bool
+        ensures { IsTrue result ↔ (self.now ≡ blank) }
+    {
+        self.is_like(&Cell::BLANK) && !self.is_protected
     }
 
     /// Whether it is a character of width 1.

@@ -13,6 +13,3 @@ pub use glyph::glyph_width;
 pub use grid::{Grid, GridFault};
 pub use line::Line;
 pub use unlike::next_unlike;
-
-#[cfg(test)]
-mod tests;

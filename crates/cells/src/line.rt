@@ -9,6 +9,21 @@ use crate::edits;
 use std::alloc::{AllocError, Global};
 use std::marker::Model;
 
+/// As many blanks as a line of a page has at most: they are copied at once.
+static BLANKS: [Cell; 300] = [Cell::BLANK; 300];
+
+/// Makes every cell a blank.
+fn clear_all(cells: &mut [Cell])
+    ensures { cells.new ≡ replicate (length cells.old) blank }
+{
+    let width = cells.len();
+    if width > BLANKS.len() {
+        cells.fill(Cell::BLANK);
+        return;
+    }
+    cells.copy_from_slice(&BLANKS[..width]);
+}
+
 /// A line of cells, in which the halves of wide characters are paired. Its width stays.
 #[derive(Drop)]
 pub struct Line {
@@ -36,6 +51,15 @@ impl Line {
         Ok(Line { cells })
     }
 
+    /// A line of no cell. No memory is taken.
+    pub fn empty(alloc: Global) -> Line
+        ensures { result ≡ [] }
+    {
+        Line {
+            cells: Vec::new(alloc),
+        }
+    }
+
     /// The number of its cells.
     pub fn width(&self) -> usize
         ensures { result ≡ length self.now }
@@ -55,7 +79,7 @@ impl Line {
     pub fn clear(&mut self)
         ensures { self.new ≡ replicate (length self.old) blank }
     {
-        self.cells.as_mut_slice().fill(Cell::BLANK);
+        clear_all(self.cells.as_mut_slice());
     }
 
     /// Makes every cell the same one, of width 1.

@@ -11,7 +11,7 @@ use Rattle.charsets.specs.Utf8.{Piece, whole, is_lead, follows, continues, code_
 use Rattle.charsets.specs.Units.{units}
 use Rattle.charsets.proofs.Cuts.{cut_by, cut-step}
 
-by_piece : (a : ℕ) (bytes : List ℕ) (p : Option Piece) → piece a bytes ≡ p → codes (a ∷ bytes) ≡ cut_by p a bytes
+pub by_piece : (a : ℕ) (bytes : List ℕ) (p : Option Piece) → piece a bytes ≡ p → codes (a ∷ bytes) ≡ cut_by p a bytes
 by_piece a bytes p e = cut-step a bytes ∙ ap (λ p. cut_by p a bytes) e
 
 pub one_byte : (c : ℕ) → c < 0x80 → (rest : List ℕ) → codes (c ∷ rest) ≡ with_front (c ∷ []) (codes rest)

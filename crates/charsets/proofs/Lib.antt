@@ -6,3 +6,4 @@ pub mod Tables
 pub mod Pieces
 pub mod Shifted
 pub mod Scalars
+pub mod Fronts

@@ -7,6 +7,7 @@ mod sets;
 mod shifts;
 mod unit;
 mod utf8;
+mod whole;
 
 pub use decoder::Decoder;
 pub use laws::{
@@ -16,6 +17,4 @@ pub use laws::{
 pub use sets::CharacterSet;
 pub use shifts::{Place, Shift, Shifts};
 pub use unit::{Coding, Unit, Units};
-
-#[cfg(test)]
-mod tests;
+pub use whole::first_character;

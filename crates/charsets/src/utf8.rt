@@ -31,13 +31,13 @@ fn can_lead(a: u8) -> bool
     0xC1 < a && a < 0xF5
 }
 
-fn can_continue(b: u8) -> bool
+pub fn can_continue(b: u8) -> bool
     ensures { result ≡ continues b }
 {
     0x7F < b && b < 0xC0
 }
 
-fn can_follow(a: u8, b: u8) -> bool
+pub fn can_follow(a: u8, b: u8) -> bool
     ensures { result ≡ follows a b }
 {
     match a {
@@ -49,7 +49,7 @@ fn can_follow(a: u8, b: u8) -> bool
     }
 }
 
-fn char_of_2(a: u8, b: u8) -> char
+pub fn char_of_2(a: u8, b: u8) -> char
     requires lead { is_lead a ≡ true }
     requires short { a < 0xE0 }
     requires second { follows a b ≡ true }
@@ -59,7 +59,7 @@ fn char_of_2(a: u8, b: u8) -> char
     char::from_u32(code).unwrap()
 }
 
-fn char_of_3(a: u8, b: u8, c: u8) -> char
+pub fn char_of_3(a: u8, b: u8, c: u8) -> char
     requires long { 0xE0 ≤ a }
     requires short { a < 0xF0 }
     requires second { follows a b ≡ true }

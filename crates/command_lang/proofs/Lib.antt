@@ -6,3 +6,4 @@ pub mod Sound
 pub mod Spelled
 pub mod ReadBack
 pub mod Places
+pub mod OneReading

@@ -1,14 +1,14 @@
 -- The texts of words of characters are text.
-use Rattle.std.proofs.Common.{◌≡◌, ℕ, zero, suc, ◌+◌, ◌-◌, ◌*◌, ◌<◌, Bool, true, false, ◌&&◌, cond, List, [], ◌∷◌, ◌++◌, refl, sym, ap, ◌∙◌, arith, true≢false}
-use Rattle.std.specs.Prelude.{◌==◌, nat_lt}
+use Rattle.std.proofs.Common.{◌≡◌, ℕ, ◌+◌, ◌-◌, ◌*◌, ◌<◌, Bool, true, false, ◌&&◌, cond, List, [], ◌∷◌, ◌++◌, refl, sym, ap, ◌∙◌, arith, true≢false, Option, Some, None, unwrap_or}
+use Rattle.std.specs.Prelude.{nat_lt}
 use Rattle.std.proofs.lemmas.Bool.Decides.{nat_tests}
 use Rattle.std.proofs.Math.Utf8.{scalars, scalar}
 use Rattle.std.specs.Str.{IsUtf8}
-use Rattle.std.specs.Char.{len_utf8}
+use Rattle.std.specs.Option.{is_some}
 use Rattle.command_lang_words.specs.declared.word.Word.{Word}
-use Rattle.command_lang_words.specs.Lines.{word_at, words_from}
+use Rattle.command_lang_words.specs.Grammar.{is_octal, octal_front, Escaped, Character, Single, Double, Part, Parts, Line, IsCut, size}
+use Rattle.command_lang_words.proofs.Suffixes.{Behind, character-behind, part-behind, parts-behind}
 use Rattle.command_lang_table.specs.Meaning.{texts_of}
-use Rattle.command_lang_words.specs.Parts.{Part, done, before, further, gives, escape, plain, is_octal, in_single, in_double, part, word}
 
 pub and-parts : (a b : Bool) → (a && b) ≡ true → (a ≡ true) × (b ≡ true)
 and-parts true b h = (refl, h)
@@ -29,10 +29,6 @@ small-scalar c h = grind (arith, nat_tests)
 lone : (c : ℕ) → scalar c ≡ true → scalars (c ∷ []) ≡ true
 lone c h = and-both (scalar c) true h refl
 
-of-cond : (b : Bool) (p q : Part) → scalars p.text ≡ true → scalars q.text ≡ true → scalars (cond b p q).text ≡ true
-of-cond true p q h k = h
-of-cond false p q h k = k
-
 octal_small : (a b c : ℕ) → ((is_octal a && nat_lt a 0x32) && (is_octal b && is_octal c)) ≡ true → ((a - 0x30) * 8 + (b - 0x30)) * 8 + (c - 0x30) < 128
 octal_small a b c h =
     let p = and-parts (is_octal a && nat_lt a 0x32) (is_octal b && is_octal c) h in
@@ -43,69 +39,73 @@ octal_small a b c h =
     let n : c < 0x38 = grind (arith, nat_tests, r.1) in
     omega (arith, l, m, n)
 
-of-escape : (cs : List ℕ) → scalars cs ≡ true → scalars (escape cs).text ≡ true
-of-escape [] h = refl
-of-escape (a ∷ []) h = lone a (and-parts (scalar a) true h).0
-of-escape (a ∷ b ∷ []) h = lone a (and-parts (scalar a) (scalars (b ∷ [])) h).0
-of-escape (a ∷ b ∷ c ∷ cs) h = by ((is_octal a && nat_lt a 0x32) && (is_octal b && is_octal c)) refl
+of-octal : (cs : List ℕ) (c : ℕ) → octal_front cs ≡ Some c → scalars (c ∷ []) ≡ true
+of-octal [] c h = absurd (true≢false (sym (ap is_some h)))
+of-octal (x ∷ []) c h = absurd (true≢false (sym (ap is_some h)))
+of-octal (x ∷ y ∷ []) c h = absurd (true≢false (sym (ap is_some h)))
+of-octal (x ∷ y ∷ z ∷ cs) c h = by ((is_octal x && nat_lt x 0x32) && (is_octal y && is_octal z)) refl h
   where
-    by : (t : Bool) → ((is_octal a && nat_lt a 0x32) && (is_octal b && is_octal c)) ≡ t
-        → scalars (cond t (gives (((a - 0x30) * 8 + (b - 0x30)) * 8 + (c - 0x30)) 3) (gives a 1)).text ≡ true
-    by true e = lone (((a - 0x30) * 8 + (b - 0x30)) * 8 + (c - 0x30)) (small-scalar (((a - 0x30) * 8 + (b - 0x30)) * 8 + (c - 0x30)) (octal_small a b c e))
-    by false e = lone a (and-parts (scalar a) (scalars (b ∷ c ∷ cs)) h).0
+    by : (t : Bool) → ((is_octal x && nat_lt x 0x32) && (is_octal y && is_octal z)) ≡ t
+        → cond t (Some (((x - 0x30) * 8 + (y - 0x30)) * 8 + (z - 0x30))) None ≡ Some c → scalars (c ∷ []) ≡ true
+    by true e k =
+        let n = ((x - 0x30) * 8 + (y - 0x30)) * 8 + (z - 0x30) in
+        ap (λ o. scalars (unwrap_or o n ∷ [])) (sym k) ∙ lone n (small-scalar n (octal_small x y z e))
+    by false e k = absurd (true≢false (sym (ap is_some k)))
 
-of-plain : (c : ℕ) (cs : List ℕ) → scalar c ≡ true → scalars cs ≡ true → scalars (plain c cs).text ≡ true
-of-plain c cs h k = of-cond (c == 0x5C) (escape cs) (gives c 0) (of-escape cs k) (lone c h)
+-- what follows a thing
+behind : (n : ℕ) (cs rest : List ℕ) → Behind n cs (Some rest) → scalars cs ≡ true → scalars rest ≡ true
+behind n cs rest b h = later b.0 (sym (ap scalars b.1.1) ∙ h)
+  where
+    later : (front : List ℕ) → scalars (front ++ rest) ≡ true → scalars rest ≡ true
+    later [] k = k
+    later (x ∷ xs) k = later xs (and-parts (scalar x) (scalars (xs ++ rest)) k).1
 
-of-single : (cs : List ℕ) → scalars cs ≡ true → scalars (in_single cs).text ≡ true
-unfolding in_single
-of-single [] h = refl
-of-single (c ∷ cs) h =
+of-escaped : {cs text : List ℕ} {end : Option (List ℕ)} → Escaped cs text end → scalars cs ≡ true → scalars text ≡ true
+of-escaped (Escaped.octal {cs = cs} {c = c} e) h = of-octal cs c e
+of-escaped (Escaped.itself {c = c} {rest = rest} e) h = lone c (and-parts (scalar c) (scalars rest) h).0
+of-escaped Escaped.unended h = refl
+
+of-character : {cs text : List ℕ} {end : Option (List ℕ)} → Character cs text end → scalars cs ≡ true → scalars text ≡ true
+of-character (Character.plain {c = c} {rest = rest} n) h = lone c (and-parts (scalar c) (scalars rest) h).0
+of-character (Character.escape {cs = cs} d) h = of-escaped d (and-parts (scalar 0x5C) (scalars cs) h).1
+
+of-single : {cs text : List ℕ} {end : Option (List ℕ)} → Single cs text end → scalars cs ≡ true → scalars text ≡ true
+of-single Single.closed h = refl
+of-single (Single.more {c = c} {cs = cs} {text = text} n d) h =
     let p = and-parts (scalar c) (scalars cs) h in
-    of-cond (c == 0x27) (further done) (before (gives c 0) (in_single cs)) refl (scalars-append (c ∷ []) (in_single cs).text (lone c p.0) (of-single cs p.1))
+    and-both (scalar c) (scalars text) p.0 (of-single d p.1)
+of-single Single.unended h = refl
 
-of-double : (skip : ℕ) (cs : List ℕ) → scalars cs ≡ true → scalars (in_double skip cs).text ≡ true
-unfolding in_double
-of-double zero [] h = refl
-of-double (suc skip) [] h = refl
-of-double (suc skip) (c ∷ cs) h = of-double skip cs (and-parts (scalar c) (scalars cs) h).1
-of-double zero (c ∷ cs) h =
-    let p = and-parts (scalar c) (scalars cs) h in
-    of-cond (c == 0x22) (further done) (before (plain c cs) (in_double (plain c cs).count cs)) refl
-    (scalars-append (plain c cs).text (in_double (plain c cs).count cs).text (of-plain c cs p.0 p.1) (of-double (plain c cs).count cs p.1))
+of-double : {cs text : List ℕ} {end : Option (List ℕ)} → Double cs text end → scalars cs ≡ true → scalars text ≡ true
+of-double Double.closed h = refl
+of-double (Double.more {c = c} {cs = cs} {first = first} {behind = rest} {text = text} n f d) h =
+    scalars-append first text (of-character f h) (of-double d (behind 1 (c ∷ cs) rest (character-behind f) h))
+of-double (Double.broken n f) h = of-character f h
+of-double Double.unended h = refl
 
-of-part : (c : ℕ) (cs : List ℕ) → scalar c ≡ true → scalars cs ≡ true → scalars (part c cs).text ≡ true
-unfolding part
-of-part c cs h k = of-cond (c == 0x27) (in_single cs) (cond (c == 0x22) (in_double 0 cs) (plain c cs)) (of-single cs k)
-    (of-cond (c == 0x22) (in_double 0 cs) (plain c cs) (of-double 0 cs k) (of-plain c cs h k))
+of-part : {cs text : List ℕ} {end : Option (List ℕ)} → Part cs text end → scalars cs ≡ true → scalars text ≡ true
+of-part (Part.single {cs = cs} d) h = of-single d (and-parts (scalar 0x27) (scalars cs) h).1
+of-part (Part.double {cs = cs} d) h = of-double d (and-parts (scalar 0x22) (scalars cs) h).1
+of-part (Part.character n m d) h = of-character d h
 
-pub of-word : (skip : ℕ) (cs : List ℕ) → scalars cs ≡ true → scalars (word skip cs).text ≡ true
-unfolding word
-of-word zero [] h = refl
-of-word (suc skip) [] h = refl
-of-word (suc skip) (c ∷ cs) h = of-word skip cs (and-parts (scalar c) (scalars cs) h).1
-of-word zero (c ∷ cs) h =
-    let p = and-parts (scalar c) (scalars cs) h in
-    of-cond (c == 0x20) done (before (part c cs) (word (part c cs).count cs)) refl
-    (scalars-append (part c cs).text (word (part c cs).count cs).text (of-part c cs p.0 p.1) (of-word (part c cs).count cs p.1))
+of-parts : {cs text : List ℕ} {end : Option (List ℕ)} → Parts cs text end → scalars cs ≡ true → scalars text ≡ true
+of-parts Parts.last h = refl
+of-parts Parts.blank h = refl
+of-parts (Parts.more {c = c} {cs = cs} {first = first} {behind = rest} {text = text} n f d) h =
+    scalars-append first text (of-part f h) (of-parts d (behind 1 (c ∷ cs) rest (part-behind f) h))
+of-parts (Parts.broken n f) h = of-part f h
 
 -- each text of a list is UTF-8
 abbrev pub AllText : List (List ℕ) → Type 0
 AllText [] = Unit {0}
 AllText (t ∷ ts) = IsUtf8 t × AllText ts
 
-cond-text : (b : Bool) (ws vs : List Word) → AllText (texts_of ws) → AllText (texts_of vs) → AllText (texts_of (cond b ws vs))
-cond-text true ws vs h k = h
-cond-text false ws vs h k = k
+of-line : (end : ℕ) {cs : List ℕ} {ws : List Word} → Line end cs ws → scalars cs ≡ true → AllText (texts_of ws)
+of-line end Line.last h = tt
+of-line end (Line.blank {cs = cs} d) h = of-line end d (and-parts (scalar 0x20) (scalars cs) h).1
+of-line end (Line.word {c = c} {cs = cs} {text = text} {rest = rest} n f d) h =
+    ((text, (of-parts f h, refl)), of-line end d (behind 0 (c ∷ cs) rest (parts-behind f) h))
+of-line end (Line.broken {text = text} n f) h = ((text, (of-parts f h, refl)), tt)
 
-pub of-words : (place skip : ℕ) (cs : List ℕ) → scalars cs ≡ true → AllText (texts_of (words_from place skip cs))
-unfolding words_from
-of-words place zero [] h = tt
-of-words place (suc skip) [] h = tt
-of-words place (suc skip) (c ∷ cs) h = of-words (place + len_utf8 c) skip cs (and-parts (scalar c) (scalars cs) h).1
-of-words place zero (c ∷ cs) h =
-    let p = and-parts (scalar c) (scalars cs) h in
-    cond-text (c == 0x20) (words_from (place + 1) 0 cs)
-    (word_at place (word 0 (c ∷ cs)) ∷ words_from (place + len_utf8 c) ((word 0 (c ∷ cs)).count - 1) cs)
-    (of-words (place + 1) 0 cs p.1)
-    (((word 0 (c ∷ cs)).text, (of-word 0 (c ∷ cs) h, refl)), of-words (place + len_utf8 c) ((word 0 (c ∷ cs)).count - 1) cs p.1)
+pub of-cut : (cs : List ℕ) (ws : List Word) → IsCut cs ws → scalars cs ≡ true → AllText (texts_of ws)
+of-cut cs ws d h = of-line (size cs) d h

@@ -8,11 +8,11 @@ use Rattle.acl.specs.declared.command_name.CommandName.TheVariants as name
 use Rattle.command_lang_table.specs.declared.command.Command.{Command}
 use Rattle.command_lang_table.specs.declared.command.Command.TheVariants as command
 use Rattle.command_lang_table.specs.declared.command.Mask.{Mask}
-use Rattle.command_lang_table.specs.declared.table.Kind.TheVariants as kind
+use Rattle.command_lang_table.specs.declared.rows.Kind.TheVariants as kind
 use Rattle.command_lang_table.specs.declared.fault.FaultKind.TheVariants as faults
 use Rattle.command_lang_table.specs.MaskFaults.{unless}
 use Rattle.command_lang_table.specs.Values.{number_in, number_after, is_vertical, lock_mode_in, switch_in, coding_in, users_of, items_of, leader_of, bits_of, mask_of}
-use Rattle.command_lang_table.specs.Table.{row}
+use Rattle.command_lang_table.specs.Rows.{takes}
 use Rattle.command_lang_table.specs.Meaning.{bare, with_word, with_words, command_of}
 use Rattle.command_lang_table.specs.Names.{name_of}
 use Rattle.command_lang_printing.specs.Printing.{words_of, mask_word, bits_word}
@@ -24,14 +24,14 @@ use Rattle.command_lang.proofs.Canonical.{some-same, items_again, users_again, l
 pub record Sound (n : CommandName) (c : Command) : Type 0 where
   pub named : name_of c ≡ n
   pub again : command_of n (words_of c) ≡ Some c
-  pub fit : Fits (row n) (words_of c)
+  pub fit : Fits (takes n) (words_of c)
   pub text : AllText (words_of c)
 
-exact : (n : CommandName) (c : Command) (ts : List (List ℕ)) → name_of c ≡ n → words_of c ≡ ts → command_of n ts ≡ Some c → Fits (row n) ts → AllText ts → Sound n c
+exact : (n : CommandName) (c : Command) (ts : List (List ℕ)) → name_of c ≡ n → words_of c ≡ ts → command_of n ts ≡ Some c → Fits (takes n) ts → AllText ts → Sound n c
 exact n c ts m e h f u = record {
   named = m;
   again = ap (command_of n) e ∙ h;
-  fit = subst (Fits (row n)) (sym e) f;
+  fit = subst (Fits (takes n)) (sym e) f;
   text = subst AllText (sym e) u;
 }
 
@@ -52,23 +52,11 @@ numbered n f limit t c l h g =
 number-read : (limit v : ℕ) → Again limit v → number_in limit (decimal v) ≡ Some v
 number-read limit v a = ap (λ b. cond b (Some (number_after 0 (decimal v))) None) a.fine ∙ ap (λ m. Some m) a.value
 
-bare_sound : (n : CommandName) → Fits (row n) [] → (c : Command) → bare n ≡ Some c → Sound n c
-bare_sound name.Acladd f c h = absurd f
-bare_sound name.Aclchg f c h = absurd f
-bare_sound name.Acldel f c h = absurd f
-bare_sound name.Aclgrp f c h = absurd f
-bare_sound name.Aclumask f c h = absurd f
-bare_sound name.Writelock f c h = absurd f
-bare_sound name.Defwritelock f c h = absurd f
-bare_sound name.Multiuser f c h = absurd f
-bare_sound name.Wall f c h = absurd f
+bare_sound : (n : CommandName) → Fits (takes n) [] → (c : Command) → bare n ≡ Some c → Sound n c
 bare_sound name.Detach f c h = at name.Detach command.Detach c h (exact name.Detach command.Detach [] refl refl refl tt tt)
-bare_sound name.Select f c h = absurd f
 bare_sound name.Next f c h = at name.Next command.Next c h (exact name.Next command.Next [] refl refl refl tt tt)
 bare_sound name.Prev f c h = at name.Prev command.Prev c h (exact name.Prev command.Prev [] refl refl refl tt tt)
 bare_sound name.Other f c h = at name.Other command.Other c h (exact name.Other command.Other [] refl refl refl tt tt)
-bare_sound name.Title f c h = absurd f
-bare_sound name.Number f c h = absurd f
 bare_sound name.Kill f c h = at name.Kill command.Kill c h (exact name.Kill command.Kill [] refl refl refl tt tt)
 bare_sound name.Screen f c h = at name.Screen command.Screen c h (exact name.Screen command.Screen [] refl refl refl tt tt)
 bare_sound name.Split f c h = at name.Split (command.Split false) c h (exact name.Split (command.Split false) [] refl refl refl tt tt)
@@ -76,18 +64,15 @@ bare_sound name.Focus f c h = at name.Focus command.Focus c h (exact name.Focus 
 bare_sound name.Remove f c h = at name.Remove command.Remove c h (exact name.Remove command.Remove [] refl refl refl tt tt)
 bare_sound name.Only f c h = at name.Only command.Only c h (exact name.Only command.Only [] refl refl refl tt tt)
 bare_sound name.Fit f c h = at name.Fit command.Fit c h (exact name.Fit command.Fit [] refl refl refl tt tt)
-bare_sound name.Scrollview f c h = absurd f
 bare_sound name.Clear f c h = at name.Clear command.Clear c h (exact name.Clear command.Clear [] refl refl refl tt tt)
 bare_sound name.Reset f c h = at name.Reset command.Reset c h (exact name.Reset command.Reset [] refl refl refl tt tt)
-bare_sound name.Encoding f c h = absurd f
-bare_sound name.Stuff f c h = absurd f
 bare_sound name.Windows f c h = at name.Windows command.Windows c h (exact name.Windows command.Windows [] refl refl refl tt tt)
 bare_sound name.Displays f c h = at name.Displays command.Displays c h (exact name.Displays command.Displays [] refl refl refl tt tt)
 bare_sound name.Quit f c h = at name.Quit command.Quit c h (exact name.Quit command.Quit [] refl refl refl tt tt)
+bare_sound _ f c h = absurd f
 
-word_sound : (n : CommandName) (t : List ℕ) → Fits (row n) (t ∷ []) → IsUtf8 t → (c : Command) → with_word n t ≡ Some c → Sound n c
+word_sound : (n : CommandName) (t : List ℕ) → Fits (takes n) (t ∷ []) → IsUtf8 t → (c : Command) → with_word n t ≡ Some c → Sound n c
 word_sound name.Acladd t f u c h = at name.Acladd (command.Acladd (users_of t)) c h (exact name.Acladd (command.Acladd (users_of t)) (t ∷ []) refl (ap (λ w. w ∷ []) (users_again t)) refl f (u, tt))
-word_sound name.Aclchg t f u c h = absurd f
 word_sound name.Acldel t f u c h = at name.Acldel (command.Acldel t) c h (exact name.Acldel (command.Acldel t) (t ∷ []) refl refl refl f (u, tt))
 word_sound name.Aclgrp t f u c h = at name.Aclgrp (command.Aclgrp t None) c h (exact name.Aclgrp (command.Aclgrp t None) (t ∷ []) refl refl refl f (u, tt))
 word_sound name.Aclumask t f u c h =
@@ -107,38 +92,24 @@ word_sound name.Multiuser t f u c h =
     subst (Sound name.Multiuser) m.1.1
     (exact name.Multiuser (command.Multiuser m.0) (t ∷ []) refl (ap (λ w. w ∷ []) (switch_again t m.0 m.1.0)) (ap (option_map command.Multiuser) m.1.0) f (u, tt))
 word_sound name.Wall t f u c h = at name.Wall (command.Wall t) c h (exact name.Wall (command.Wall t) (t ∷ []) refl refl refl f (u, tt))
-word_sound name.Detach t f u c h = absurd f
 word_sound name.Select t f u c h = at name.Select (command.Select t) c h (exact name.Select (command.Select t) (t ∷ []) refl refl refl f (u, tt))
-word_sound name.Next t f u c h = absurd f
-word_sound name.Prev t f u c h = absurd f
-word_sound name.Other t f u c h = absurd f
 word_sound name.Title t f u c h = at name.Title (command.Title t) c h (exact name.Title (command.Title t) (t ∷ []) refl refl refl f (u, tt))
 word_sound name.Number t f u c h =
     numbered name.Number command.Number 39 t c (omega arith) h
     (λ v a. exact name.Number (command.Number v) (decimal v ∷ []) refl refl (ap (option_map command.Number) (number-read 39 v a)) (ap (λ b. unless b faults.BadNumber) a.fine) (a.text, tt))
-word_sound name.Kill t f u c h = absurd f
-word_sound name.Screen t f u c h = absurd f
 word_sound name.Split t f u c h =
     let v = passes (is_vertical t) faults.BadWord f in
     at name.Split (command.Split true) c (sym (ap (λ b. cond {A = Option Command} b (Some (command.Split true)) None) v) ∙ h)
     (exact name.Split (command.Split true) (t ∷ []) refl (ap (λ w. w ∷ []) (vertical_again t v)) (ap (λ b. cond {A = Option Command} b (Some (command.Split true)) None) v) f (u, tt))
-word_sound name.Focus t f u c h = absurd f
-word_sound name.Remove t f u c h = absurd f
-word_sound name.Only t f u c h = absurd f
-word_sound name.Fit t f u c h = absurd f
 word_sound name.Scrollview t f u c h =
     numbered name.Scrollview command.Scrollview 2000 t c (omega arith) h
     (λ v a. exact name.Scrollview (command.Scrollview v) (decimal v ∷ []) refl refl (ap (option_map command.Scrollview) (number-read 2000 v a)) (ap (λ b. unless b faults.BadNumber) a.fine) (a.text, tt))
-word_sound name.Clear t f u c h = absurd f
-word_sound name.Reset t f u c h = absurd f
 word_sound name.Encoding t f u c h =
     let m = mapped command.Encoding (coding_in t) c h in
     subst (Sound name.Encoding) m.1.1
     (exact name.Encoding (command.Encoding m.0) (t ∷ []) refl (ap (λ w. w ∷ []) (coding_again t m.0 m.1.0)) (ap (option_map command.Encoding) m.1.0) f (u, tt))
 word_sound name.Stuff t f u c h = at name.Stuff (command.Stuff t) c h (exact name.Stuff (command.Stuff t) (t ∷ []) refl refl refl f (u, tt))
-word_sound name.Windows t f u c h = absurd f
-word_sound name.Displays t f u c h = absurd f
-word_sound name.Quit t f u c h = absurd f
+word_sound _ t f u c h = absurd f
 
 -- masks
 pub record MasksAgain (ts : List (List ℕ)) : Type 0 where
@@ -157,7 +128,7 @@ masks_again (t ∷ ts) f u =
       text = (m.text, r.text);
     }
 
-words_sound : (n : CommandName) (t u : List ℕ) (ts : List (List ℕ)) → Fits (row n) (t ∷ u ∷ ts) → AllText (t ∷ u ∷ ts) → (c : Command) → with_words n (t ∷ u ∷ ts) ≡ Some c → Sound n c
+words_sound : (n : CommandName) (t u : List ℕ) (ts : List (List ℕ)) → Fits (takes n) (t ∷ u ∷ ts) → AllText (t ∷ u ∷ ts) → (c : Command) → with_words n (t ∷ u ∷ ts) ≡ Some c → Sound n c
 words_sound name.Aclumask t u ts f x c h =
     let r = masks_again (t ∷ u ∷ ts) f x in
     at name.Aclumask (command.Aclumask (map mask_of (t ∷ u ∷ ts))) c h
@@ -177,7 +148,7 @@ words_sound name.Aclchg t u (v ∷ []) f x c h =
 words_sound name.Aclchg t u (v ∷ w ∷ ts) f x c h = absurd f
 words_sound _ t u ts f x c h = absurd f
 
-pub sound : (n : CommandName) (ts : List (List ℕ)) → Fits (row n) ts → AllText ts → (c : Command) → command_of n ts ≡ Some c → Sound n c
+pub sound : (n : CommandName) (ts : List (List ℕ)) → Fits (takes n) ts → AllText ts → (c : Command) → command_of n ts ≡ Some c → Sound n c
 sound n [] f u c h = bare_sound n f c h
 sound n (t ∷ []) f u c h = word_sound n t f u.0 c h
 sound n (t ∷ v ∷ ts) f u c h = words_sound n t v ts f u c h

@@ -1,8 +1,7 @@
 -- The words of printed characters.
-use Rattle.std.proofs.Common.{◌≡◌, ℕ, suc, ◌+◌, ◌-◌, ◌/◌, ◌%◌, Bool, true, false, not, ◌||◌, cond, List, [], ◌∷◌, ◌++◌, length, refl, sym, ap, ◌∙◌, subst, arith, append_assoc, true≢false}
+use Rattle.std.proofs.Common.{◌≡◌, ◌≢◌, Some, ℕ, ◌+◌, ◌-◌, ◌/◌, ◌%◌, Bool, true, false, not, ◌&&◌, ◌||◌, cond, List, [], ◌∷◌, ◌++◌, refl, sym, ap, ◌∙◌, subst, arith, append_assoc, true≢false}
 use Rattle.std.specs.Prelude.{◌==◌, nat_lt}
 use Rattle.std.specs.List.{list_all}
-use Rattle.std.specs.Char.{len_utf8}
 use Rattle.std.specs.Str.{chars, IsUtf8, encode_utf8_all}
 use Rattle.std.proofs.lemmas.Bool.Decides.{nat_tests}
 use Rattle.std.proofs.lemmas.List.{append-nil}
@@ -13,8 +12,7 @@ use Rattle.acl.specs.declared.command_name.CommandName.TheVariants as name
 use Rattle.command_lang_words.specs.declared.word.Word.{Word}
 use Rattle.command_lang_table.specs.Names.{name_text}
 use Rattle.command_lang_table.specs.Values.{is_empty_text}
-use Rattle.command_lang_words.specs.Parts.{Part, done, before, further, gives, escape, plain, in_single, in_double, part, word}
-use Rattle.command_lang_words.specs.Lines.{word_at, words_from, words}
+use Rattle.command_lang_words.specs.Grammar.{Character, Double, Part, Parts, Line, IsCut, size}
 use Rattle.command_lang_table.specs.Meaning.{texts_of}
 use Rattle.command_lang_printing.specs.Printing.{is_plain, octal, escaped, quoted, needs_no_quotes, printed_word, printed_words}
 use Rattle.command_lang.proofs.Quoting.{quoted_reads}
@@ -22,81 +20,51 @@ use Rattle.command_lang_printing.proofs.Appends.{name-encoded}
 use Rattle.command_lang_table.proofs.Fits.{AllWhole}
 use Rattle.command_lang.proofs.Scalars.{and-parts, and-both, scalars-append, small-scalar, AllText}
 
-abbrev Read : List ℕ → List ℕ → Part
-Read text cs = record { text = text; count = length cs; whole = true }
-
 -- what may follow a word: nothing, or a blank
 abbrev pub Ends : List ℕ → Type 0
 Ends [] = Unit {0}
-Ends (c ∷ cs) = (c == 0x20) ≡ true
+Ends (c ∷ cs) = c ≡ 0x20
 
 -- what begins a word
 abbrev pub Visible : List ℕ → Type 0
 Visible [] = ⊥
-Visible (c ∷ cs) = (c == 0x20) ≡ false
+Visible (c ∷ cs) = c ≢ 0x20
 
-word-ends : (rest : List ℕ) → Ends rest → word 0 rest ≡ done
-unfolding word
-word-ends [] h = refl
-word-ends (c ∷ cs) h = ap (λ b. cond b done (before (part c cs) (word (part c cs).count cs))) h
+word-ends : (rest : List ℕ) → Ends rest → Parts rest [] (Some rest)
+word-ends [] h = Parts.last
+word-ends (c ∷ cs) h = subst (λ x. Parts (x ∷ cs) [] (Some (x ∷ cs))) (sym h) Parts.blank
 
-no-blank : (c : ℕ) → is_plain c ≡ true → (c == 0x20) ≡ false
-no-blank c h = grind (arith, nat_tests)
+no-blank : (c : ℕ) → is_plain c ≡ true → c ≢ 0x20
+no-blank c h e = grind (arith, nat_tests)
 
-no-single : (c : ℕ) → is_plain c ≡ true → (c == 0x27) ≡ false
-no-single c h = grind (arith, nat_tests)
+no-single : (c : ℕ) → is_plain c ≡ true → c ≢ 0x27
+no-single c h e = grind (arith, nat_tests)
 
-no-double : (c : ℕ) → is_plain c ≡ true → (c == 0x22) ≡ false
-no-double c h = grind (arith, nat_tests)
+no-double : (c : ℕ) → is_plain c ≡ true → c ≢ 0x22
+no-double c h e = grind (arith, nat_tests)
 
-no-escape : (c : ℕ) → is_plain c ≡ true → (c == 0x5C) ≡ false
-no-escape c h = grind (arith, nat_tests)
+no-escape : (c : ℕ) → is_plain c ≡ true → c ≢ 0x5C
+no-escape c h e = grind (arith, nat_tests)
 
-part-plain : (c : ℕ) (cs : List ℕ) → is_plain c ≡ true → part c cs ≡ gives c 0
-unfolding part
-part-plain c cs h =
-    ap (λ b. cond b (in_single cs) (cond (c == 0x22) (in_double 0 cs) (plain c cs))) (no-single c h)
-    ∙ ap (λ b. cond b (in_double 0 cs) (plain c cs)) (no-double c h)
-    ∙ ap (λ b. cond b (escape cs) (gives c 0)) (no-escape c h)
-
-word-cons : (c : ℕ) (cs : List ℕ) → (c == 0x20) ≡ false → word 0 (c ∷ cs) ≡ before (part c cs) (word (part c cs).count cs)
-unfolding word
-word-cons c cs h = ap (λ b. cond b done (before (part c cs) (word (part c cs).count cs))) h
-
-one_more : (n : ℕ) → n + 1 ≡ suc n
-one_more n = omega arith
-
-plain-word : (cs rest : List ℕ) → list_all is_plain cs ≡ true → Ends rest → word 0 (cs ++ rest) ≡ Read cs cs
+plain-word : (cs rest : List ℕ) → list_all is_plain cs ≡ true → Ends rest → Parts (cs ++ rest) cs (Some rest)
 plain-word [] rest h e = word-ends rest e
 plain-word (c ∷ cs) rest h e =
     let p = and-parts (is_plain c) (list_all is_plain cs) h in
-    word-cons c (cs ++ rest) (no-blank c p.0)
-    ∙ ap (λ (q : Part). before q (word q.count (cs ++ rest))) (part-plain c (cs ++ rest) p.0)
-    ∙ ap (λ (q : Part). before (gives c 0) q) (plain-word cs rest p.1 e)
-    ∙ (λ j. record { text = c ∷ cs; count = one_more (length cs) j; whole = true })
+    Parts.more (no-blank c p.0) (Part.character (no-single c p.0) (no-double c p.0) (Character.plain (no-escape c p.0))) (plain-word cs rest p.1 e)
 
-passed : (cs rest : List ℕ) → Ends rest → word (length cs) (cs ++ rest) ≡ Read [] cs
-unfolding word
-passed [] rest e = word-ends rest e
-passed (c ∷ cs) rest e = ap further (passed cs rest e) ∙ (λ j. record { text = []; count = one_more (length cs) j; whole = true })
+quote-visible : ◌≢◌ {A = ℕ} 0x22 0x20
+quote-visible h = omega (arith, h)
 
-quoted-part : (cs rest : List ℕ) → part 0x22 ((quoted cs ++ 0x22 ∷ []) ++ rest) ≡ Read cs (quoted cs ++ 0x22 ∷ [])
-unfolding part
-quoted-part cs rest = ap (in_double 0) (append_assoc (quoted cs) (0x22 ∷ []) rest) ∙ quoted_reads cs rest
-
-quoted-word : (cs rest : List ℕ) → Ends rest → word 0 (0x22 ∷ ((quoted cs ++ 0x22 ∷ []) ++ rest)) ≡ Read cs (0x22 ∷ (quoted cs ++ 0x22 ∷ []))
+quoted-word : (cs rest : List ℕ) → Ends rest → Parts (0x22 ∷ ((quoted cs ++ 0x22 ∷ []) ++ rest)) cs (Some rest)
 quoted-word cs rest e =
-    word-cons 0x22 ((quoted cs ++ 0x22 ∷ []) ++ rest) refl
-    ∙ ap (λ (q : Part). before q (word q.count ((quoted cs ++ 0x22 ∷ []) ++ rest))) (quoted-part cs rest)
-    ∙ ap (λ (q : Part). before (Read cs (quoted cs ++ 0x22 ∷ [])) q) (passed (quoted cs ++ 0x22 ∷ []) rest e)
-    ∙ (λ j. record { text = append-nil cs j; count = one_more (length (quoted cs ++ 0x22 ∷ [])) j; whole = true })
+    let d = subst (λ x. Double x cs (Some rest)) (sym (append_assoc (quoted cs) (0x22 ∷ []) rest)) (quoted_reads cs rest) in
+    subst (λ t. Parts (0x22 ∷ ((quoted cs ++ 0x22 ∷ []) ++ rest)) t (Some rest)) (append-nil cs) (Parts.more quote-visible (Part.double d) (word-ends rest e))
 
 -- a printed word is read whole
-pub word-read : (t rest : List ℕ) → Ends rest → word 0 (printed_word t ++ rest) ≡ Read (chars t) (printed_word t)
+pub word-read : (t rest : List ℕ) → Ends rest → Parts (printed_word t ++ rest) (chars t) (Some rest)
 word-read t rest e = by (needs_no_quotes t) refl
   where
-    by : (b : Bool) → needs_no_quotes t ≡ b
-        → word 0 (cond b (chars t) (0x22 ∷ (quoted (chars t) ++ 0x22 ∷ [])) ++ rest) ≡ Read (chars t) (cond b (chars t) (0x22 ∷ (quoted (chars t) ++ 0x22 ∷ [])))
+    by : (b : Bool) → needs_no_quotes t ≡ b → Parts (cond b (chars t) (0x22 ∷ (quoted (chars t) ++ 0x22 ∷ [])) ++ rest) (chars t) (Some rest)
     by true h = plain-word (chars t) rest (and-parts (not (is_empty_text t)) (list_all is_plain (chars t)) h).1 e
     by false h = quoted-word (chars t) rest e
 
@@ -114,31 +82,16 @@ word-visible t u = by (needs_no_quotes t) refl
     by true h =
         let p = and-parts (not (is_empty_text t)) (list_all is_plain (chars t)) h in
         plain-visible (chars t) p.1 (some-chars t u p.0)
-    by false h = refl
-
--- behind a word
-skipped : (place : ℕ) (cs rest : List ℕ) → (p : ℕ) × (words_from place (length cs) (cs ++ rest) ≡ words_from p 0 rest)
-unfolding words_from
-skipped place [] rest = (place, refl)
-skipped place (c ∷ cs) rest = skipped (place + len_utf8 c) cs rest
+    by false h = quote-visible
 
 abbrev at-word : ℕ → List ℕ → Word
-at-word place text = record { place = place; text = encode_utf8_all text; whole = true }
+at-word place text = record { place = place; text = encode_utf8_all text; is_closed = true }
 
-count-less : (n : ℕ) → suc n - 1 ≡ n
-count-less n = omega arith
-
-pub one-word : (place : ℕ) (cs rest text : List ℕ) → Visible cs → word 0 (cs ++ rest) ≡ Read text cs → (p : ℕ) × (words_from place 0 (cs ++ rest) ≡ at-word place text ∷ words_from p 0 rest)
-unfolding words_from
-one-word place [] rest text v e = absurd v
-one-word place (c ∷ cs) rest text v e =
-    let s = skipped (place + len_utf8 c) cs rest in (
-      s.0,
-      ap (λ b. cond b (words_from (place + 1) 0 (cs ++ rest)) (word_at place (word 0 (c ∷ (cs ++ rest))) ∷ words_from (place + len_utf8 c) ((word 0 (c ∷ (cs ++ rest))).count - 1) (cs ++ rest))) v
-          ∙ ap (λ (q : Part). word_at place q ∷ words_from (place + len_utf8 c) (q.count - 1) (cs ++ rest)) e
-          ∙ ap (λ n. at-word place text ∷ words_from (place + len_utf8 c) n (cs ++ rest)) (count-less (length cs))
-          ∙ ap (λ l. at-word place text ∷ l) s.1,
-    )
+-- a word, and the words behind it
+pub one-word : (end : ℕ) (cs rest text : List ℕ) (ws : List Word) → Visible cs → Parts (cs ++ rest) text (Some rest) → Line end rest ws
+    → (place : ℕ) × Line end (cs ++ rest) (at-word place text ∷ ws)
+one-word end [] rest text ws v p d = absurd v
+one-word end (c ∷ cs) rest text ws v p d = (end - size (c ∷ (cs ++ rest)), Line.word v p d)
 
 pub ends-words : (ts : List (List ℕ)) → Ends (printed_words ts)
 ends-words [] = tt
@@ -149,147 +102,69 @@ pub record Spells (ws : List Word) (ts : List (List ℕ)) : Type 0 where
   pub whole : AllWhole ws
   pub texts : texts_of ws ≡ ts
 
-cons-spells : (place p : ℕ) (t : List ℕ) (ts : List (List ℕ)) (ws vs : List Word) → IsUtf8 t → ws ≡ at-word place (chars t) ∷ vs → Spells vs ts → Spells ws (t ∷ ts)
-cons-spells place p t ts ws vs u e s = record {
-  whole = subst AllWhole (sym e) (refl, s.whole);
-  texts = ap texts_of e ∙ (λ j. encodes-chars t u j ∷ s.texts j);
-}
+-- a line's words, which spell these texts
+pub record Spelling (end : ℕ) (cs : List ℕ) (ts : List (List ℕ)) : Type 0 where
+  pub words : List Word
+  pub cut : Line end cs words
+  pub spelled : Spells words ts
 
-none-from : (place : ℕ) → words_from place 0 [] ≡ []
-unfolding words_from
-none-from place = refl
-
-past-blank : (place : ℕ) (cs : List ℕ) → words_from place 0 (0x20 ∷ cs) ≡ words_from (place + 1) 0 cs
-unfolding words_from
-past-blank place cs = refl
-
-pub spells : (place : ℕ) (ts : List (List ℕ)) → AllText ts → Spells (words_from place 0 (printed_words ts)) ts
-spells place [] u = record { whole = subst AllWhole (sym (none-from place)) tt; texts = ap texts_of (none-from place) }
-spells place (t ∷ ts) u =
-    let w = one-word (place + 1) (printed_word t) (printed_words ts) (chars t) (word-visible t u.0) (word-read t (printed_words ts) (ends-words ts)) in
-    cons-spells (place + 1) w.0 t ts (words_from place 0 (printed_words (t ∷ ts))) (words_from w.0 0 (printed_words ts)) u.0
-    (past-blank place (printed_word t ++ printed_words ts) ∙ w.1) (spells w.0 ts u.1)
+pub spells : (end : ℕ) (ts : List (List ℕ)) → AllText ts → Spelling end (printed_words ts) ts
+spells end [] u = record { words = []; cut = Line.last; spelled = record { whole = tt; texts = refl } }
+spells end (t ∷ ts) u =
+    let s = spells end ts u.1 in
+    let w = one-word end (printed_word t) (printed_words ts) (chars t) s.words (word-visible t u.0) (word-read t (printed_words ts) (ends-words ts)) s.cut in
+    record {
+      words = at-word w.0 (chars t) ∷ s.words;
+      cut = Line.blank w.1;
+      spelled = record { whole = (refl, s.spelled.whole); texts = λ j. encodes-chars t u.0 j ∷ s.spelled.texts j };
+    }
 
 -- the name
+abbrev is_word : List ℕ → Bool
+is_word cs = not (is_empty_text cs) && list_all is_plain cs
+
+name-word : (n : CommandName) → is_word (name_text n) ≡ true
+name-word name.Acladd = refl
+name-word _ = refl
+
 plain-name : (n : CommandName) → list_all is_plain (name_text n) ≡ true
-plain-name name.Acladd = refl
-plain-name name.Aclchg = refl
-plain-name name.Acldel = refl
-plain-name name.Aclgrp = refl
-plain-name name.Aclumask = refl
-plain-name name.Writelock = refl
-plain-name name.Defwritelock = refl
-plain-name name.Multiuser = refl
-plain-name name.Wall = refl
-plain-name name.Detach = refl
-plain-name name.Select = refl
-plain-name name.Next = refl
-plain-name name.Prev = refl
-plain-name name.Other = refl
-plain-name name.Title = refl
-plain-name name.Number = refl
-plain-name name.Kill = refl
-plain-name name.Screen = refl
-plain-name name.Split = refl
-plain-name name.Focus = refl
-plain-name name.Remove = refl
-plain-name name.Only = refl
-plain-name name.Fit = refl
-plain-name name.Scrollview = refl
-plain-name name.Clear = refl
-plain-name name.Reset = refl
-plain-name name.Encoding = refl
-plain-name name.Stuff = refl
-plain-name name.Windows = refl
-plain-name name.Displays = refl
-plain-name name.Quit = refl
+plain-name n = (and-parts (not (is_empty_text (name_text n))) (list_all is_plain (name_text n)) (name-word n)).1
 
 visible-name : (n : CommandName) → Visible (name_text n)
-visible-name name.Acladd = refl
-visible-name name.Aclchg = refl
-visible-name name.Acldel = refl
-visible-name name.Aclgrp = refl
-visible-name name.Aclumask = refl
-visible-name name.Writelock = refl
-visible-name name.Defwritelock = refl
-visible-name name.Multiuser = refl
-visible-name name.Wall = refl
-visible-name name.Detach = refl
-visible-name name.Select = refl
-visible-name name.Next = refl
-visible-name name.Prev = refl
-visible-name name.Other = refl
-visible-name name.Title = refl
-visible-name name.Number = refl
-visible-name name.Kill = refl
-visible-name name.Screen = refl
-visible-name name.Split = refl
-visible-name name.Focus = refl
-visible-name name.Remove = refl
-visible-name name.Only = refl
-visible-name name.Fit = refl
-visible-name name.Scrollview = refl
-visible-name name.Clear = refl
-visible-name name.Reset = refl
-visible-name name.Encoding = refl
-visible-name name.Stuff = refl
-visible-name name.Windows = refl
-visible-name name.Displays = refl
-visible-name name.Quit = refl
+visible-name n = plain-visible (name_text n) (plain-name n)
+    (λ e. true≢false (sym (and-parts (not (is_empty_text (name_text n))) (list_all is_plain (name_text n)) (name-word n)).0 ∙ ap (λ l. not (is_empty_text l)) e))
 
 pub record LineSpells (cs : List ℕ) (n : CommandName) (ts : List (List ℕ)) : Type 0 where
   pub first : Word
   pub behind : List Word
-  pub are : words cs ≡ first ∷ behind
-  pub whole : first.whole ≡ true
+  pub cut : IsCut cs (first ∷ behind)
+  pub whole : first.is_closed ≡ true
   pub name : first.text ≡ name_text n
   pub spelled : Spells behind ts
 
 pub line-spells : (n : CommandName) (ts : List (List ℕ)) → AllText ts → LineSpells (name_text n ++ printed_words ts) n ts
 line-spells n ts u =
-    let w = one-word 0 (name_text n) (printed_words ts) (name_text n) (visible-name n) (plain-word (name_text n) (printed_words ts) (plain-name n) (ends-words ts)) in
+    let s = spells (size (name_text n ++ printed_words ts)) ts u in
+    let w = one-word (size (name_text n ++ printed_words ts)) (name_text n) (printed_words ts) (name_text n) s.words (visible-name n)
+    (plain-word (name_text n) (printed_words ts) (plain-name n) (ends-words ts)) s.cut in
     record {
-      first = at-word 0 (name_text n);
-      behind = words_from w.0 0 (printed_words ts);
-      are = w.1;
+      first = at-word w.0 (name_text n);
+      behind = s.words;
+      cut = w.1;
       whole = refl;
       name = name-encoded n;
-      spelled = spells w.0 ts u;
+      spelled = s.spelled;
     }
 
 -- what is printed is made of characters
-scalar-name : (n : CommandName) → scalars (name_text n) ≡ true
-scalar-name name.Acladd = refl
-scalar-name name.Aclchg = refl
-scalar-name name.Acldel = refl
-scalar-name name.Aclgrp = refl
-scalar-name name.Aclumask = refl
-scalar-name name.Writelock = refl
-scalar-name name.Defwritelock = refl
-scalar-name name.Multiuser = refl
-scalar-name name.Wall = refl
-scalar-name name.Detach = refl
-scalar-name name.Select = refl
-scalar-name name.Next = refl
-scalar-name name.Prev = refl
-scalar-name name.Other = refl
-scalar-name name.Title = refl
-scalar-name name.Number = refl
-scalar-name name.Kill = refl
-scalar-name name.Screen = refl
-scalar-name name.Split = refl
-scalar-name name.Focus = refl
-scalar-name name.Remove = refl
-scalar-name name.Only = refl
-scalar-name name.Fit = refl
-scalar-name name.Scrollview = refl
-scalar-name name.Clear = refl
-scalar-name name.Reset = refl
-scalar-name name.Encoding = refl
-scalar-name name.Stuff = refl
-scalar-name name.Windows = refl
-scalar-name name.Displays = refl
-scalar-name name.Quit = refl
+plain-scalar : (c : ℕ) → is_plain c ≡ true → scalar c ≡ true
+plain-scalar c h = small-scalar c (grind (arith, nat_tests))
+
+plain-scalars : (cs : List ℕ) → list_all is_plain cs ≡ true → scalars cs ≡ true
+plain-scalars [] h = refl
+plain-scalars (c ∷ cs) h =
+    let p = and-parts (is_plain c) (list_all is_plain cs) h in
+    and-both (scalar c) (scalars cs) (plain-scalar c p.0) (plain-scalars cs p.1)
 
 octal-scalars : (c : ℕ) → scalars (octal c) ≡ true
 octal-scalars c =
@@ -324,4 +199,4 @@ words-scalars [] u = refl
 words-scalars (t ∷ ts) u = scalars-append (printed_word t) (printed_words ts) (word-scalars t u.0) (words-scalars ts u.1)
 
 pub line-scalars : (n : CommandName) (ts : List (List ℕ)) → AllText ts → scalars (name_text n ++ printed_words ts) ≡ true
-line-scalars n ts u = scalars-append (name_text n) (printed_words ts) (scalar-name n) (words-scalars ts u)
+line-scalars n ts u = scalars-append (name_text n) (printed_words ts) (plain-scalars (name_text n) (plain-name n)) (words-scalars ts u)

@@ -1,10 +1,11 @@
 pub mod Relation
 pub mod ReadsBack
-pub use Rattle.command_lang_words.specs.Parts
+pub use Rattle.command_lang_words.specs.Grammar
 pub use Rattle.command_lang_words.specs.Lines
 pub use Rattle.command_lang_table.specs.Values
 pub use Rattle.command_lang_table.specs.MaskFaults
 pub use Rattle.command_lang_table.specs.Names
+pub use Rattle.command_lang_table.specs.Rows
 pub use Rattle.command_lang_table.specs.Table
 pub use Rattle.command_lang_table.specs.Meaning
 pub use Rattle.command_lang_table.specs.LineFaults

@@ -1,6 +1,7 @@
 //! The commands of a session: a line is a command, and a command is a line.
 #![tactic(auto)]
 
+mod laws;
 mod printing;
 mod reading;
 
@@ -8,6 +9,7 @@ pub use command_lang_table::{
     BitList, Coding, Command, FaultKind, Leader, Mask, Masks, ParseFault, Users, command_named,
     name_text,
 };
-pub use command_lang_words::{Text, Texts};
+pub use command_lang_words::{Items, Text, Texts, each_line_is_cut_once};
+pub use laws::each_line_is_a_command_or_faulty;
 pub use printing::print;
 pub use reading::{LONGEST_LINE, parse};

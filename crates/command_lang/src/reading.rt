@@ -5,7 +5,7 @@ ghost use Rattle.std.specs.Str.{is_utf8};
 ghost use Rattle.command_lang_table.specs.declared.fault.FaultKind.TheVariants as faults;
 ghost use Rattle.command_lang_table.specs.Table.{at};
 ghost use Rattle.command_lang_table.specs.LineFaults.{no_memory};
-ghost use Rattle.command_lang.specs.Relation.{faults_of, NoneBefore, Relates, Refuses};
+ghost use Rattle.command_lang.specs.Relation.{NoneBefore, Relates, Refuses};
 
 use command_lang_table::{Command, FaultKind, ParseFault, command_of};
 use command_lang_words::words;
@@ -50,8 +50,8 @@ pub fn parse(alloc: Global, line: &[u8]) -> Result<Command, ParseFault>
     // These two take no memory.
     ensures long { 1024 < length line.now → result ≡ Err (at 1024 faults.TooLong) }
     ensures no_text { length line.now ≤ 1024 → is_utf8 line.now ≡ false → result ≡ Err (at 0 faults.BadWord) }
-    // No fault of the line is at a place before the one that is answered.
-    ensures least { IfErr result (λ f. (f ≡ no_memory) ⊎ NoneBefore f.place (faults_of line.now)) }
+    // No fault of the line's words is at a place before the one that is answered.
+    ensures least { IfErr result (λ f. (f ≡ no_memory) ⊎ NoneBefore line.now f) }
 {
     command_in(alloc, line)
 }

@@ -90,36 +90,7 @@ quoted_text old a b new text h e f g =
 pub name-encoded : (n : CommandName) → encode_utf8_all (name_text n) ≡ name_text n
 unfolding lib.Utf8.encode
 name-encoded name.Acladd = refl
-name-encoded name.Aclchg = refl
-name-encoded name.Acldel = refl
-name-encoded name.Aclgrp = refl
-name-encoded name.Aclumask = refl
-name-encoded name.Writelock = refl
-name-encoded name.Defwritelock = refl
-name-encoded name.Multiuser = refl
-name-encoded name.Wall = refl
-name-encoded name.Detach = refl
-name-encoded name.Select = refl
-name-encoded name.Next = refl
-name-encoded name.Prev = refl
-name-encoded name.Other = refl
-name-encoded name.Title = refl
-name-encoded name.Number = refl
-name-encoded name.Kill = refl
-name-encoded name.Screen = refl
-name-encoded name.Split = refl
-name-encoded name.Focus = refl
-name-encoded name.Remove = refl
-name-encoded name.Only = refl
-name-encoded name.Fit = refl
-name-encoded name.Scrollview = refl
-name-encoded name.Clear = refl
-name-encoded name.Reset = refl
-name-encoded name.Encoding = refl
-name-encoded name.Stuff = refl
-name-encoded name.Windows = refl
-name-encoded name.Displays = refl
-name-encoded name.Quit = refl
+name-encoded _ = refl
 
 pub printed_is : (c : Command) → printed c ≡ name_text (name_of c) ++ encode_utf8_all (printed_words (words_of c))
 unfolding printed

@@ -120,8 +120,8 @@ octal c = (0x30 + c / 64 % 8) ∷ (0x30 + c / 8 % 8) ∷ (0x30 + c % 8) ∷ []
 abbrev pub escaped : ℕ → List ℕ
 escaped c =
     if c == 0x22 || c == 0x5C then 0x5C ∷ c ∷ []
-    else (if nat_lt c 0x20 || c == 0x7F then 0x5C ∷ octal c
-    else c ∷ [])
+    else if nat_lt c 0x20 || c == 0x7F then 0x5C ∷ octal c
+    else c ∷ []
 
 abbrev pub quoted : List ℕ → List ℕ
 quoted [] = []

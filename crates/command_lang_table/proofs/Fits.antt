@@ -5,9 +5,9 @@ use Rattle.std.proofs.lemmas.Bool.Decides.{nat_tests}
 use Rattle.std.specs.Option.{is_some, option_map}
 use Rattle.acl.specs.declared.command_name.CommandName.{CommandName}
 use Rattle.acl.specs.declared.command_name.CommandName.TheVariants as name
-use Rattle.command_lang_table.specs.declared.table.Kind.{Kind}
-use Rattle.command_lang_table.specs.declared.table.Words.{Words}
-use Rattle.command_lang_table.specs.declared.table.Words.TheVariants.{Nothing, One, Perhaps, OneOrTwo, Three, Several}
+use Rattle.command_lang_table.specs.declared.rows.Kind.{Kind}
+use Rattle.command_lang_table.specs.declared.rows.Words.{Words}
+use Rattle.command_lang_table.specs.declared.rows.Words.TheVariants.{Nothing, One, Perhaps, OneOrTwo, Three, Several}
 use Rattle.command_lang_words.specs.declared.word.Word.{Word}
 use Rattle.command_lang_table.specs.declared.fault.FaultKind.{FaultKind}
 use Rattle.command_lang_table.specs.declared.fault.FaultKind.TheVariants as faults
@@ -16,7 +16,8 @@ use Rattle.command_lang_table.specs.declared.command.Command.{Command}
 use Rattle.command_lang_table.specs.declared.command.Command.TheVariants as command
 use Rattle.command_lang_table.specs.MaskFaults.{unless}
 use Rattle.command_lang_table.specs.Values.{number_in, is_number, number_after, is_vertical}
-use Rattle.command_lang_table.specs.Table.{row, least, kind_at, kind_fault, at_place, word_fault, words_faults, first_of}
+use Rattle.command_lang_table.specs.Rows.{takes}
+use Rattle.command_lang_table.specs.Table.{least, kind_at, kind_fault, at_place, word_fault, words_faults, first_of}
 use Rattle.command_lang_table.specs.Meaning.{bare, with_word, with_words, command_of, texts_of}
 
 -- the texts are those that the row wants
@@ -40,7 +41,7 @@ split None fs h = (refl, h)
 split (Some f) fs h = absurd (true≢false (ap is_some h))
 
 fitting : (k : Kind) (w : Word) → word_fault (Some k) w ≡ None → kind_fault k w.text ≡ None
-fitting k w h = by w.whole (kind_fault k w.text) h
+fitting k w h = by w.is_closed (kind_fault k w.text) h
   where
     by : (b : Bool) (o : Option FaultKind) → at_place w.place (cond b o (Some faults.BadQuote)) ≡ None → o ≡ None
     by true None h = refl
@@ -48,7 +49,7 @@ fitting k w h = by w.whole (kind_fault k w.text) h
     by false o h = absurd (true≢false (ap is_some h))
 
 extra : (w : Word) → word_fault None w ≡ None → ⊥
-extra w h = by w.whole h
+extra w h = by w.is_closed h
   where
     by : (b : Bool) → at_place w.place (cond b (Some faults.ExtraWord) (Some faults.BadQuote)) ≡ None → ⊥
     by true h = true≢false (ap is_some h)
@@ -106,23 +107,11 @@ mapped f (Some x) k h = refl
 numbered : (f : ℕ → Command) (limit : ℕ) (text : List ℕ) → unless (is_number limit text) faults.BadNumber ≡ None → is_some (option_map f (number_in limit text)) ≡ true
 numbered f limit text h = ap (λ b. is_some (option_map f (cond b (Some (number_after 0 text)) None))) (passes (is_number limit text) faults.BadNumber h)
 
-bare_is : (n : CommandName) → Fits (row n) [] → is_some (bare n) ≡ true
-bare_is name.Acladd h = absurd h
-bare_is name.Aclchg h = absurd h
-bare_is name.Acldel h = absurd h
-bare_is name.Aclgrp h = absurd h
-bare_is name.Aclumask h = absurd h
-bare_is name.Writelock h = absurd h
-bare_is name.Defwritelock h = absurd h
-bare_is name.Multiuser h = absurd h
-bare_is name.Wall h = absurd h
+bare_is : (n : CommandName) → Fits (takes n) [] → is_some (bare n) ≡ true
 bare_is name.Detach h = refl
-bare_is name.Select h = absurd h
 bare_is name.Next h = refl
 bare_is name.Prev h = refl
 bare_is name.Other h = refl
-bare_is name.Title h = absurd h
-bare_is name.Number h = absurd h
 bare_is name.Kill h = refl
 bare_is name.Screen h = refl
 bare_is name.Split h = refl
@@ -130,18 +119,15 @@ bare_is name.Focus h = refl
 bare_is name.Remove h = refl
 bare_is name.Only h = refl
 bare_is name.Fit h = refl
-bare_is name.Scrollview h = absurd h
 bare_is name.Clear h = refl
 bare_is name.Reset h = refl
-bare_is name.Encoding h = absurd h
-bare_is name.Stuff h = absurd h
 bare_is name.Windows h = refl
 bare_is name.Displays h = refl
 bare_is name.Quit h = refl
+bare_is _ h = absurd h
 
-one_is : (n : CommandName) (t : List ℕ) → Fits (row n) (t ∷ []) → is_some (with_word n t) ≡ true
+one_is : (n : CommandName) (t : List ℕ) → Fits (takes n) (t ∷ []) → is_some (with_word n t) ≡ true
 one_is name.Acladd t h = refl
-one_is name.Aclchg t h = absurd h
 one_is name.Acldel t h = refl
 one_is name.Aclgrp t h = refl
 one_is name.Aclumask t h = refl
@@ -149,30 +135,16 @@ one_is name.Writelock t h = mapped _ _ faults.BadWord h
 one_is name.Defwritelock t h = mapped _ _ faults.BadWord h
 one_is name.Multiuser t h = mapped _ _ faults.BadWord h
 one_is name.Wall t h = refl
-one_is name.Detach t h = absurd h
 one_is name.Select t h = refl
-one_is name.Next t h = absurd h
-one_is name.Prev t h = absurd h
-one_is name.Other t h = absurd h
 one_is name.Title t h = refl
 one_is name.Number t h = numbered _ 39 t h
-one_is name.Kill t h = absurd h
-one_is name.Screen t h = absurd h
 one_is name.Split t h = ap (λ b. is_some (cond {A = Option Command} b (Some (command.Split true)) None)) (passes (is_vertical t) faults.BadWord h)
-one_is name.Focus t h = absurd h
-one_is name.Remove t h = absurd h
-one_is name.Only t h = absurd h
-one_is name.Fit t h = absurd h
 one_is name.Scrollview t h = numbered _ 2000 t h
-one_is name.Clear t h = absurd h
-one_is name.Reset t h = absurd h
 one_is name.Encoding t h = mapped _ _ faults.BadWord h
 one_is name.Stuff t h = refl
-one_is name.Windows t h = absurd h
-one_is name.Displays t h = absurd h
-one_is name.Quit t h = absurd h
+one_is _ t h = absurd h
 
-several_is : (n : CommandName) (t u : List ℕ) (ts : List (List ℕ)) → Fits (row n) (t ∷ u ∷ ts) → is_some (with_words n (t ∷ u ∷ ts)) ≡ true
+several_is : (n : CommandName) (t u : List ℕ) (ts : List (List ℕ)) → Fits (takes n) (t ∷ u ∷ ts) → is_some (with_words n (t ∷ u ∷ ts)) ≡ true
 several_is name.Aclumask t u ts h = refl
 several_is name.Aclgrp t u [] h = refl
 several_is name.Aclgrp t u (v ∷ ts) h = absurd h
@@ -182,7 +154,7 @@ several_is name.Aclchg t u (v ∷ w ∷ ts) h = absurd h
 several_is _ t u ts h = absurd h
 
 -- texts that fit mean a command
-pub means_one : (n : CommandName) (ts : List (List ℕ)) → Fits (row n) ts → is_some (command_of n ts) ≡ true
+pub means_one : (n : CommandName) (ts : List (List ℕ)) → Fits (takes n) ts → is_some (command_of n ts) ≡ true
 means_one n [] h = bare_is n h
 means_one n (t ∷ []) h = one_is n t h
 means_one n (t ∷ u ∷ ts) h = several_is n t u ts h
@@ -190,9 +162,9 @@ means_one n (t ∷ u ∷ ts) h = several_is n t u ts h
 -- Words that fit have no fault.
 abbrev pub AllWhole : List Word → Type 0
 AllWhole [] = Unit {0}
-AllWhole (w ∷ ws) = (w.whole ≡ true) × AllWhole ws
+AllWhole (w ∷ ws) = (w.is_closed ≡ true) × AllWhole ws
 
-fine : (k : Kind) (w : Word) → w.whole ≡ true → kind_fault k w.text ≡ None → word_fault (Some k) w ≡ None
+fine : (k : Kind) (w : Word) → w.is_closed ≡ true → kind_fault k w.text ≡ None → word_fault (Some k) w ≡ None
 fine k w e f = ap (λ b. at_place w.place (cond b (kind_fault k w.text) (Some faults.BadQuote))) e ∙ ap (at_place w.place) f
 
 word-fine : (r : Words) (i end : ℕ) (w : Word) (ws : List Word) → word_fault (kind_at r i) w ≡ None → words_faults r (i + 1) end ws ≡ [] → words_faults r i end (w ∷ ws) ≡ []

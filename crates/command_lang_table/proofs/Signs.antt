@@ -1,12 +1,16 @@
 -- Bits, byte by byte, and where they begin.
-use Rattle.std.proofs.Common.{◌≡◌, ℕ, suc, ◌+◌, ◌<◌, ◌≤◌, Bool, true, false, not, ◌&&◌, cond, List, [], ◌∷◌, ◌++◌, length, drop, get_or, Option, Some, None, refl, sym, ap, ◌∙◌, arith, unwrap_or, append_assoc}
+use Rattle.std.proofs.Common.{◌≡◌, ℕ, suc, ◌+◌, ◌<◌, ◌≤◌, Bool, true, false, not, ◌&&◌, cond, List, [], ◌∷◌, ◌++◌, length, drop, get_or, Option, Some, None, refl, sym, ap, ◌∙◌, arith, unwrap_or, append_assoc, drop-cons}
 use Rattle.std.specs.Prelude.{nat_lt}
 use Rattle.std.specs.List.{position_or_len}
 use Rattle.std.proofs.lemmas.Bool.Decides.{nat_tests}
 use Rattle.acl.specs.declared.bits.Bit.{Bit}
 use Rattle.acl.specs.declared.bits.BitChange.{BitChange}
 use Rattle.command_lang_table.specs.Values.{is_sign, is_letter, bit_of, goes_on, change_of, value_after, bits_after}
-use Rattle.command_lang_words.proofs.Runs.{drop-at}
+
+drop-at : (cs : List ℕ) (i x : ℕ) → i < length cs → x ≡ get_or cs i x → drop i cs ≡ x ∷ drop (i + 1) cs
+drop-at cs i x h e =
+    let k : suc i ≡ i + 1 = omega arith in
+    drop-cons cs i x h ∙ (λ j. sym e j ∷ drop (k j) cs)
 
 place_le : (xs : List ℕ) → position_or_len is_sign xs ≤ length xs
 place_le [] = omega arith

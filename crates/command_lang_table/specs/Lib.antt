@@ -1,10 +1,11 @@
 pub mod Values
 pub mod MaskFaults
+pub mod Rows
 pub mod Names
 pub mod Table
 pub mod Meaning
 pub mod FirstWord
 pub mod LineFaults
 pub mod FaultNumbers
-pub use Rattle.command_lang_words.specs.Parts
+pub use Rattle.command_lang_words.specs.Grammar
 pub use Rattle.command_lang_words.specs.Lines

@@ -5,16 +5,17 @@ use Rattle.command_lang_words.specs.declared.word.Word.{Word}
 use Rattle.command_lang_table.specs.declared.fault.FaultKind.TheVariants as faults
 use Rattle.command_lang_table.specs.declared.fault.ParseFault.{ParseFault}
 use Rattle.command_lang_table.specs.Names.{command_named}
-use Rattle.command_lang_table.specs.Table.{row, at, words_faults}
+use Rattle.command_lang_table.specs.Rows.{takes}
+use Rattle.command_lang_table.specs.Table.{at, words_faults}
 
 abbrev pub named_faults : Option CommandName → ℕ → ℕ → List Word → List ParseFault
 named_faults None place end ws = at place faults.UnknownCommand ∷ []
-named_faults (Some n) place end ws = words_faults (row n) 0 end ws
+named_faults (Some n) place end ws = words_faults (takes n) 0 end ws
 
 -- the faults of the words of a line of that length, by rising place
 abbrev pub line_faults : ℕ → List Word → List ParseFault
 line_faults end [] = at end faults.MissingWord ∷ []
-line_faults end (w ∷ ws) = if w.whole then named_faults (command_named w.text) w.place end ws else at w.place faults.BadQuote ∷ []
+line_faults end (w ∷ ws) = if w.is_closed then named_faults (command_named w.text) w.place end ws else at w.place faults.BadQuote ∷ []
 
 -- want of memory, at no place
 abbrev pub no_memory : ParseFault

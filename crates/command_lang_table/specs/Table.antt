@@ -1,53 +1,16 @@
--- The words that each command takes, and the faults of words.
+-- The faults of a command's words.
 use Rattle.std.specs.Prelude.{ℕ, ◌+◌, not, nat_lt, ◌==◌, if◌then◌else◌, List, [], ◌∷◌, ◌++◌, Option, Some, None, option_to_list}
 use Rattle.std.specs.Option.{is_some}
-use Rattle.acl.specs.declared.command_name.CommandName.{CommandName}
-use Rattle.acl.specs.declared.command_name.CommandName.TheVariants as name
-use Rattle.command_lang_table.specs.declared.table.Kind.{Kind}
-use Rattle.command_lang_table.specs.declared.table.Kind.TheVariants as kind
-use Rattle.command_lang_table.specs.declared.table.Words.{Words}
-use Rattle.command_lang_table.specs.declared.table.Words.TheVariants.{Nothing, One, Perhaps, OneOrTwo, Three, Several}
+use Rattle.command_lang_table.specs.declared.rows.Kind.{Kind}
+use Rattle.command_lang_table.specs.declared.rows.Kind.TheVariants as kind
+use Rattle.command_lang_table.specs.declared.rows.Words.{Words}
+use Rattle.command_lang_table.specs.declared.rows.Words.TheVariants.{Nothing, One, Perhaps, OneOrTwo, Three, Several}
 use Rattle.command_lang_words.specs.declared.word.Word.{Word}
 use Rattle.command_lang_table.specs.declared.fault.FaultKind.{FaultKind}
 use Rattle.command_lang_table.specs.declared.fault.FaultKind.TheVariants as faults
 use Rattle.command_lang_table.specs.declared.fault.ParseFault.{ParseFault}
 use Rattle.command_lang_table.specs.Values.{is_number, lock_mode_in, switch_in, coding_in, is_vertical, is_bits, has_empty_item}
 use Rattle.command_lang_table.specs.MaskFaults.{unless, mask_fault}
-
--- The table of commands, by their entries in the GNU Screen manual; scrollview, writelock's three words and the numbers'
--- limits are this project's own.
-abbrev pub row : CommandName → Words
-row name.Acladd = One kind.Items
-row name.Aclchg = Three kind.Items kind.Bits kind.Items
-row name.Acldel = One kind.Text
-row name.Aclgrp = OneOrTwo kind.Text kind.Text
-row name.Aclumask = Several kind.Mask
-row name.Writelock = One kind.LockMode
-row name.Defwritelock = One kind.LockMode
-row name.Multiuser = One kind.Switch
-row name.Wall = One kind.Text
-row name.Detach = Nothing
-row name.Select = One kind.Text
-row name.Next = Nothing
-row name.Prev = Nothing
-row name.Other = Nothing
-row name.Title = One kind.Text
-row name.Number = One (kind.Number 39)
-row name.Kill = Nothing
-row name.Screen = Nothing
-row name.Split = Perhaps kind.Vertical
-row name.Focus = Nothing
-row name.Remove = Nothing
-row name.Only = Nothing
-row name.Fit = Nothing
-row name.Scrollview = One (kind.Number 2000)
-row name.Clear = Nothing
-row name.Reset = Nothing
-row name.Encoding = One kind.Coding
-row name.Stuff = One kind.Text
-row name.Windows = Nothing
-row name.Displays = Nothing
-row name.Quit = Nothing
 
 -- how many words there are at least
 abbrev pub least : Words → ℕ
@@ -63,8 +26,8 @@ abbrev pub kind_at : Words → ℕ → Option Kind
 kind_at Nothing i = None
 kind_at (One a) i = if i == 0 then Some a else None
 kind_at (Perhaps a) i = if i == 0 then Some a else None
-kind_at (OneOrTwo a b) i = if i == 0 then Some a else (if i == 1 then Some b else None)
-kind_at (Three a b c) i = if i == 0 then Some a else (if i == 1 then Some b else (if i == 2 then Some c else None))
+kind_at (OneOrTwo a b) i = if i == 0 then Some a else if i == 1 then Some b else None
+kind_at (Three a b c) i = if i == 0 then Some a else if i == 1 then Some b else if i == 2 then Some c else None
 kind_at (Several a) i = Some a
 
 -- why a text isn't what a word has to be
@@ -93,7 +56,7 @@ judged (Some k) text = kind_fault k text
 
 -- the fault of a word; a bad quote goes first
 abbrev pub word_fault : Option Kind → Word → Option ParseFault
-word_fault k w = at_place w.place (if w.whole then judged k w.text else Some faults.BadQuote)
+word_fault k w = at_place w.place (if w.is_closed then judged k w.text else Some faults.BadQuote)
 
 -- The faults of a command's words from number i on, in a line of that length, by rising place.
 unfoldable pub words_faults : Words → ℕ → ℕ → List Word → List ParseFault

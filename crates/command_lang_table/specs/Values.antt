@@ -36,21 +36,21 @@ number_in limit text = if is_number limit text then Some (number_after 0 text) e
 abbrev pub lock_mode_in : List ℕ → Option LockMode
 lock_mode_in text =
     if bytes_eq text (codes "off") then Some lock_mode.Off
-    else (if bytes_eq text (codes "auto") then Some lock_mode.Auto
-    else (if bytes_eq text (codes "on") then Some lock_mode.On
-    else None))
+    else if bytes_eq text (codes "auto") then Some lock_mode.Auto
+    else if bytes_eq text (codes "on") then Some lock_mode.On
+    else None
 
 abbrev pub switch_in : List ℕ → Option Bool
 switch_in text =
     if bytes_eq text (codes "on") then Some true
-    else (if bytes_eq text (codes "off") then Some false
-    else None)
+    else if bytes_eq text (codes "off") then Some false
+    else None
 
 abbrev pub coding_in : List ℕ → Option Coding
 coding_in text =
     if bytes_eq text (codes "utf8") then Some coding.Utf8
-    else (if bytes_eq text (codes "ecma35") then Some coding.Ecma35
-    else None)
+    else if bytes_eq text (codes "ecma35") then Some coding.Ecma35
+    else None
 
 abbrev pub is_vertical : List ℕ → Bool
 is_vertical text = bytes_eq text (codes "-v")
@@ -79,9 +79,9 @@ is_sign c = c == 0x2B || c == 0x2D
 abbrev pub bit_of : ℕ → Option Bit
 bit_of c =
     if c == 0x72 then Some bit.Read
-    else (if c == 0x77 then Some bit.Write
-    else (if c == 0x78 then Some bit.Execute
-    else None))
+    else if c == 0x77 then Some bit.Write
+    else if c == 0x78 then Some bit.Execute
+    else None
 
 abbrev pub is_letter : ℕ → Bool
 is_letter c = is_some (bit_of c)

@@ -1,12 +1,7 @@
 //! A command and its words.
 
-ghost use Rattle.std.specs.Prelude.{◌≡◌, ◌++◌, ◌∷◌, [], OnOk, OnErr};
-
-use crate::bit_list::BitList;
-use acl::{CommandName, LockMode};
-use command_lang_words::{Text, Texts};
-use std::alloc::{AllocError, Global};
-use std::marker::Model;
+use acl::{BitChange, CommandName, LockMode};
+use command_lang_words::{Items, Text, Texts};
 
 /// Users of a list command: all whom the session knows, or those whom words name.
 #[derive(Drop, Debug)]
@@ -22,6 +17,9 @@ pub enum Leader {
     Named(Text),
 }
 
+/// Bits that are given and taken, in order.
+pub type BitList = Items<BitChange>;
+
 /// A mask: without users it is meant for all.
 #[derive(Drop, Debug)]
 pub struct Mask {
@@ -30,46 +28,7 @@ pub struct Mask {
 }
 
 /// Masks, in order.
-#[derive(Drop, Debug)]
-pub struct Masks {
-    items: Vec<Mask>,
-}
-
-impl Model for Masks {
-    ghost use Rattle.std.specs.Prelude.{List};
-    ghost use Rattle.command_lang_table.specs.declared.command.Mask.{Mask};
-
-    ghost Value = { List Mask };
-
-    ghost view = { λ m. m.items.items };
-}
-
-impl Masks {
-    /// No mask.
-    pub fn new(alloc: Global) -> Masks
-        ensures { result ≡ [] }
-    {
-        Masks {
-            items: Vec::new(alloc),
-        }
-    }
-
-    /// Puts a mask at the end.
-    pub fn push(&mut self, mask: Mask) -> Result<(), AllocError>
-        ensures ok { OnOk result (self.new ≡ self.old ++ mask ∷ []) }
-        ensures err { OnErr result (self.new ≡ self.old) }
-    {
-        self.items.push(mask)?;
-        Ok(())
-    }
-
-    /// The masks.
-    pub fn as_slice(&self) -> &[Mask]
-        ensures { result.now ≡ self.now }
-    {
-        self.items.as_slice()
-    }
-}
+pub type Masks = Items<Mask>;
 
 /// A coding of a window's program: UTF-8, or sets and shifts by ECMA-35.
 #[derive(Clone, Copy, PartialEq, Eq, Debug)]

@@ -1,17 +1,16 @@
 //! The table of commands: their names, the words that each takes, and what words mean.
 #![tactic(auto)]
 
-mod bit_list;
 mod build;
 mod command;
 mod fault;
 mod line;
 mod names;
+mod rows;
 mod table;
 mod values;
 
-pub use bit_list::BitList;
-pub use command::{Coding, Command, Leader, Mask, Masks, Users};
+pub use command::{BitList, Coding, Command, Leader, Mask, Masks, Users};
 pub use fault::{FaultKind, ParseFault};
 pub use line::command_of;
 pub use names::{command_named, name_text};

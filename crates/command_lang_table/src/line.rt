@@ -8,7 +8,8 @@ ghost use Rattle.command_lang_table.specs.LineFaults.{line_faults, no_memory};
 use crate::build::build;
 use crate::command::Command;
 use crate::fault::{FaultKind, ParseFault};
-use crate::table::{first_name, words_fault, words_of};
+use crate::rows::row;
+use crate::table::{first_name, words_fault};
 use command_lang_words::Word;
 use std::alloc::Global;
 
@@ -24,7 +25,7 @@ pub fn command_of(alloc: Global, line: &[Word], end: usize) -> Result<Command, P
         });
     };
     let name = first_name(first)?;
-    if let Some(fault) = words_fault(words_of(name), rest, end) {
+    if let Some(fault) = words_fault(row(name).words, rest, end) {
         return Err(fault);
     }
     match build(alloc, name, rest) {

@@ -1,86 +1,19 @@
-//! The words that each command takes, and the faults of words.
+//! The faults of a command's words.
 
 ghost use Rattle.std.specs.Prelude.{◌≡◌};
 ghost use Rattle.command_lang_table.specs.Names.{command_named};
-ghost use Rattle.command_lang_table.specs.Table.{row, least, kind_at, kind_fault, word_fault, words_faults, first_of, at};
+ghost use Rattle.command_lang_table.specs.Table.{least, kind_at, kind_fault, word_fault, words_faults, first_of, at};
 ghost use Rattle.command_lang_table.specs.MaskFaults.{unless};
 ghost use Rattle.command_lang_table.specs.FirstWord.{name_in};
 
 use crate::fault::{FaultKind, ParseFault};
 use crate::names::command_named;
+use crate::rows::{Kind, Words};
 use crate::values::{
     coding, has_empty_item, is_bits, is_vertical, lock_mode, mask_fault, number, switch,
 };
 use acl::CommandName;
 use command_lang_words::Word;
-
-/// What a word has to be.
-#[derive(Clone, Copy, PartialEq, Eq, Debug)]
-pub enum Kind {
-    /// Any text: a message, a title, a name, or a window's number or title.
-    Text,
-    /// A list between commas without an empty item.
-    Items,
-    Bits,
-    /// Users, if any, and bits.
-    Mask,
-    /// 1 to 4 decimal digits, up to a number.
-    Number(u16),
-    LockMode,
-    Switch,
-    Coding,
-    Vertical,
-}
-
-/// The words that a command takes.
-#[derive(Clone, Copy, PartialEq, Eq, Debug)]
-pub enum Words {
-    Nothing,
-    One(Kind),
-    Perhaps(Kind),
-    OneOrTwo(Kind, Kind),
-    Three(Kind, Kind, Kind),
-    Several(Kind),
-}
-
-/// The table of commands.
-pub fn words_of(name: CommandName) -> Words
-    ensures { result ≡ row name }
-{
-    match name {
-        CommandName::Acladd => Words::One(Kind::Items),
-        CommandName::Aclchg => Words::Three(Kind::Items, Kind::Bits, Kind::Items),
-        CommandName::Acldel => Words::One(Kind::Text),
-        CommandName::Aclgrp => Words::OneOrTwo(Kind::Text, Kind::Text),
-        CommandName::Aclumask => Words::Several(Kind::Mask),
-        CommandName::Writelock => Words::One(Kind::LockMode),
-        CommandName::Defwritelock => Words::One(Kind::LockMode),
-        CommandName::Multiuser => Words::One(Kind::Switch),
-        CommandName::Wall => Words::One(Kind::Text),
-        CommandName::Detach => Words::Nothing,
-        CommandName::Select => Words::One(Kind::Text),
-        CommandName::Next => Words::Nothing,
-        CommandName::Prev => Words::Nothing,
-        CommandName::Other => Words::Nothing,
-        CommandName::Title => Words::One(Kind::Text),
-        CommandName::Number => Words::One(Kind::Number(39)),
-        CommandName::Kill => Words::Nothing,
-        CommandName::Screen => Words::Nothing,
-        CommandName::Split => Words::Perhaps(Kind::Vertical),
-        CommandName::Focus => Words::Nothing,
-        CommandName::Remove => Words::Nothing,
-        CommandName::Only => Words::Nothing,
-        CommandName::Fit => Words::Nothing,
-        CommandName::Scrollview => Words::One(Kind::Number(2000)),
-        CommandName::Clear => Words::Nothing,
-        CommandName::Reset => Words::Nothing,
-        CommandName::Encoding => Words::One(Kind::Coding),
-        CommandName::Stuff => Words::One(Kind::Text),
-        CommandName::Windows => Words::Nothing,
-        CommandName::Displays => Words::Nothing,
-        CommandName::Quit => Words::Nothing,
-    }
-}
 
 /// How many words there are at least.
 fn least(words: Words) -> usize
@@ -148,7 +81,7 @@ fn judge(kind: Kind, text: &str) -> Option<FaultKind>
 fn word_fault(kind: Option<Kind>, word: &Word) -> Option<ParseFault>
     ensures { result ≡ word_fault kind word.now }
 {
-    let fault = if !word.whole {
+    let fault = if !word.is_closed {
         Some(FaultKind::BadQuote)
     } else if let Some(kind) = kind {
         judge(kind, word.text.as_str())
@@ -188,7 +121,7 @@ pub fn words_fault(taken: Words, words: &[Word], end: usize) -> Option<ParseFaul
 pub fn first_name(word: &Word) -> Result<CommandName, ParseFault>
     ensures { result ≡ name_in word.now }
 {
-    if !word.whole {
+    if !word.is_closed {
         return Err(ParseFault {
             kind: FaultKind::BadQuote,
             place: word.place,

@@ -4,8 +4,7 @@ ghost use Rattle.std.specs.Prelude.{◌≡◌, true, IfOk};
 ghost use Rattle.command_lang_table.specs.Values as mean;
 ghost use Rattle.command_lang_table.specs.MaskFaults as judging;
 
-use crate::bit_list::BitList;
-use crate::command::{Coding, Leader, Mask, Users};
+use crate::command::{BitList, Coding, Leader, Mask, Users};
 use crate::fault::FaultKind;
 use acl::{Bit, BitChange, LockMode};
 use command_lang_words::{Text, Texts};

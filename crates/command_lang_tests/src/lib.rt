@@ -1,6 +1,8 @@
-//! Tests of lines and commands: their table, made-up texts and refused memory.
+//! Tests of lines and commands: their table, made-up texts and refused memory; and of the keys that give them.
 #![tactic(auto)]
 
+#[cfg(test)]
+mod client_keys;
 #[cfg(test)]
 mod lines;
 #[cfg(test)]

@@ -1,2 +1,5 @@
-pub mod Runs
-pub mod CutLemmas
+pub mod Fronts
+pub mod Suffixes
+pub mod Steps
+pub mod Cutting
+pub mod Readings

@@ -1,3 +1,3 @@
-pub mod Parts
-pub mod Reading
+pub mod Grammar
 pub mod Lines
+pub mod Reading

@@ -1,21 +1,48 @@
--- The words of a line.
-use Rattle.std.specs.Prelude.{ℕ, zero, suc, ◌+◌, ◌-◌, ◌==◌, if◌then◌else◌, List, [], ◌∷◌}
-use Rattle.std.specs.Char.{len_utf8}
-use Rattle.std.specs.Str.{encode_utf8_all}
+-- The words of a line, computed: `IsCut` of the grammar holds of these alone. The first number of a function bounds how
+-- many characters it reads; each gives the text and what follows it, as the relation of its name does.
+use Rattle.std.specs.Prelude.{ℕ, zero, suc, ◌-◌, true, false, ◌==◌, List, [], ◌∷◌, ◌++◌, length, drop, Option, Some, None}
 use Rattle.command_lang_words.specs.declared.word.Word.{Word}
-use Rattle.command_lang_words.specs.Parts.{Part, word}
+use Rattle.command_lang_words.specs.Grammar.{octal_front, size, word_at}
 
--- a word at this place, with its text in UTF-8
-abbrev pub word_at : ℕ → Part → Word
-word_at place p = record { place = place; text = encode_utf8_all p.text; whole = p.whole }
+abbrev pub Read : Type 0
+Read = List ℕ × Option (List ℕ)
 
--- the words of the characters behind the first skip, which begin at this place
-unfoldable pub words_from : ℕ → ℕ → List ℕ → List Word
-words_from place skip [] = []
-words_from place (suc skip) (c ∷ cs) = words_from (place + len_utf8 c) skip cs
-words_from place zero (c ∷ cs) =
-    if c == 0x20 then words_from (place + 1) 0 cs
-    else word_at place (word 0 (c ∷ cs)) ∷ words_from (place + len_utf8 c) ((word 0 (c ∷ cs)).count - 1) cs
+-- a text, and then what is read behind it
+abbrev pub and_then : Read → (List ℕ → Read) → Read
+and_then r next = elim r.1 [ Some rest ↦ (let later = next rest in (r.0 ++ later.0, later.1)) | None ↦ r ]
+
+abbrev pub escaped : List ℕ → Read
+escaped [] = ([], None)
+escaped (c ∷ cs) = elim (octal_front (c ∷ cs)) [ Some value ↦ (value ∷ [], Some (drop 3 (c ∷ cs))) | None ↦ (c ∷ [], Some cs) ]
+
+abbrev pub character : ℕ → List ℕ → Read
+character c cs = elim (c == 0x5C) [ true ↦ escaped cs | false ↦ (c ∷ [], Some cs) ]
+
+unfoldable pub single : List ℕ → Read
+single [] = ([], None)
+single (c ∷ cs) = elim (c == 0x27) [ true ↦ ([], Some cs) | false ↦ (let later = single cs in (c ∷ later.0, later.1)) ]
+
+unfoldable pub double : ℕ → List ℕ → Read
+double zero cs = ([], None)
+double (suc n) [] = ([], None)
+double (suc n) (c ∷ cs) = elim (c == 0x22) [ true ↦ ([], Some cs) | false ↦ and_then (character c cs) (λ rest. double n rest) ]
+
+abbrev pub part : ℕ → ℕ → List ℕ → Read
+part n c cs = elim (c == 0x27) [ true ↦ single cs | false ↦ elim (c == 0x22) [ true ↦ double n cs | false ↦ character c cs ] ]
+
+unfoldable pub parts : ℕ → List ℕ → Read
+parts zero cs = ([], Some [])
+parts (suc n) [] = ([], Some [])
+parts (suc n) (c ∷ cs) = elim (c == 0x20) [ true ↦ ([], Some (c ∷ cs)) | false ↦ and_then (part n c cs) (λ rest. parts n rest) ]
+
+-- a word, and the words behind it
+abbrev pub and_words : ℕ → Read → (List ℕ → List Word) → List Word
+and_words place r next = elim r.1 [ Some rest ↦ word_at place r.0 true ∷ next rest | None ↦ word_at place r.0 false ∷ [] ]
+
+unfoldable pub line : ℕ → ℕ → List ℕ → List Word
+line end zero cs = []
+line end (suc n) [] = []
+line end (suc n) (c ∷ cs) = elim (c == 0x20) [ true ↦ line end n cs | false ↦ and_words (end - size (c ∷ cs)) (parts (suc n) (c ∷ cs)) (λ rest. line end n rest) ]
 
 abbrev pub words : List ℕ → List Word
-words cs = words_from 0 0 cs
+words cs = line (size cs) (length cs) cs

@@ -1,15 +1,16 @@
 -- What the functions that read words append and return.
-use Rattle.std.specs.Prelude.{◌≡◌, ℕ, ◌+◌, Bool, ◌&&◌, List, ◌++◌}
+use Rattle.std.specs.Prelude.{Result, IfOk, ◌≡◌, List, ℕ, ◌++◌, Option}
+use Rattle.std.specs.Option.{option_map}
 use Rattle.std.specs.Str.{encode_utf8_all}
-use Rattle.command_lang_words.specs.declared.parts.Extent.{Extent}
-use Rattle.command_lang_words.specs.Parts.{Part}
+use Rattle.std.specs.declared.alloc.AllocError.{AllocError}
+use denote.Ref.{Bor}
 
--- the part's text was appended, and its extent told
-abbrev pub Reads : List ℕ → List ℕ → Extent → Part → Type 0
-Reads old new e p = (new ≡ old ++ encode_utf8_all p.text) × ((e.count ≡ p.count) × (e.whole ≡ p.whole))
+-- A front of the characters is a thing of this kind: its text was appended, and what follows it is the rest.
+pub record Reads (Kind : List ℕ → List ℕ → Option (List ℕ) → Type 0) (cs old new : List ℕ) (rest : Option (List ℕ)) : Type 0 where
+  pub text : List ℕ
+  pub put : new ≡ old ++ encode_utf8_all text
+  pub read : Kind cs text rest
 
--- Of the part p, which began where the text was old, all but q is read: count characters.
-pub record IsAhead (old now : List ℕ) (count : ℕ) (whole : Bool) (p q : Part) : Type 0 where
-  pub text : old ++ encode_utf8_all p.text ≡ now ++ encode_utf8_all q.text
-  pub length : p.count ≡ count + q.count
-  pub closed : p.whole ≡ (whole && q.whole)
+-- The same of a function's answer, where memory sufficed.
+abbrev pub Puts : (List ℕ → List ℕ → Option (List ℕ) → Type 0) → List ℕ → List ℕ → List ℕ → Result (Option (Bor (List ℕ))) AllocError → Type 0
+Puts Kind cs old new result = IfOk result (λ rest. Reads Kind cs old new (option_map (λ l. l.now) rest))

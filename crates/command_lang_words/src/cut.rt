@@ -2,44 +2,58 @@
 
 ghost use Rattle.std.specs.Prelude.{◌≡◌, ◌≤◌, length, IfOk};
 ghost use Rattle.std.specs.Str.{chars};
-ghost use Rattle.command_lang_words.specs.Lines.{words};
+ghost use Rattle.command_lang_words.specs.Grammar.{size, Line, IsCut};
 
-use crate::parts::put_word;
+use crate::parts::put_parts;
 use crate::text::Text;
 use crate::word::Word;
 use std::alloc::{AllocError, Global};
 
-/// The words of a line's characters.
+/// How many bytes characters have in UTF-8.
+fn byte_count(cs: &[char]) -> usize
+    requires { length cs.now ≤ 1024 }
+    ensures { result ≡ size cs.now }
+{
+    let mut count = 0;
+    for c in cs {
+        count += c.len_utf8();
+    }
+    count
+}
+
+/// The words of the characters of a line.
 fn words_of(alloc: Global, cs: &[char]) -> Result<Vec<Word>, AllocError>
     requires { length cs.now ≤ 1024 }
-    ensures { IfOk result (λ ws. ws.items ≡ words cs.now) }
+    ensures { IfOk result (λ ws. IsCut cs.now ws.items) }
 {
-    let mut out = Vec::new(alloc);
-    let mut place = 0;
-    let mut skip = 0;
-    for i in 0..cs.len() {
-        let c = cs[i];
-        if skip > 0 {
-            skip -= 1;
-        } else if c != ' ' {
+    let mut words = Vec::new(alloc);
+    let end = byte_count(cs);
+    let mut left = cs;
+    while let [c, rest @ ..] = left {
+        if *c == ' ' {
+            left = rest;
+        } else {
+            let place = end - byte_count(left);
             let mut text = String::new(alloc);
-            let read = put_word(&cs[i..], &mut text)?;
-            out.push(Word {
+            let behind = put_parts(left, &mut text)?;
+            words.push(Word {
                 place,
                 text: Text::new(text),
-                whole: read.whole,
+                is_closed: behind.is_some(),
             })?;
-            skip = read.count - 1;
+            let Some(rest) = behind else {
+                return Ok(words);
+            };
+            left = rest;
         }
-        place += c.len_utf8();
     }
-    Ok(out)
+    Ok(words)
 }
 
 /// The words of a line of at most 1,024 bytes.
 pub fn words(alloc: Global, line: &str) -> Result<Vec<Word>, AllocError>
     requires { length line.now ≤ 1024 }
-    ensures { IfOk result (λ ws. ws.items ≡ words (chars line.now)) }
+    ensures { IfOk result (λ ws. IsCut (chars line.now) ws.items) }
 {
     let cs: Vec<char> = line.chars().collect(alloc)?;
     words_of(alloc, cs.as_slice())

@@ -1,18 +1,12 @@
 //! The parts of a word, from its front.
 
-ghost use Rattle.std.specs.Prelude.{◌≡◌, ◌&&◌, IfOk};
+ghost use Rattle.std.specs.Prelude.{◌≡◌, ◌∷◌, IfOk, ℕ, List};
+ghost use Rattle.std.specs.Option.{option_map};
 ghost use Rattle.std.specs.String.{string_bytes};
-ghost use Rattle.command_lang_words.specs.Parts.{gives, escape, plain, in_single, in_double, part, word, is_octal};
-ghost use Rattle.command_lang_words.specs.Reading.{Reads};
+ghost use Rattle.command_lang_words.specs.Grammar.{is_octal, octal_front, Escaped, Character, Single, Double, Part, Parts};
+ghost use Rattle.command_lang_words.specs.Reading.{Puts};
 
 use std::alloc::AllocError;
-
-/// How many characters a part has, and whether the line doesn't end inside it.
-#[derive(Clone, Copy, PartialEq, Eq, Debug)]
-pub struct Extent {
-    pub count: usize,
-    pub whole: bool,
-}
 
 /// Whether the character is an octal digit.
 fn is_octal_digit(c: char) -> bool
@@ -21,129 +15,115 @@ fn is_octal_digit(c: char) -> bool
     '0' <= c && c <= '7'
 }
 
-/// Whether both are true.
-fn both(a: bool, b: bool) -> bool
-    ensures { result ≡ (a && b) }
+/// The character of three octal digits of value at most 177, if the characters begin with them.
+fn octal_front(cs: &[char]) -> Option<char>
+    ensures { result ≡ octal_front cs.now }
 {
-    a && b
-}
-
-/// Appends a character, which stands for itself and as many more.
-fn put_char(c: char, count: usize, out: &mut String) -> Result<Extent, AllocError>
-    ensures { IfOk result (λ e. Reads (string_bytes out.old) (string_bytes out.new) e (gives c count)) }
-{
-    out.push(c)?;
-    Ok(Extent { count, whole: true })
-}
-
-/// Appends what stands behind a backslash: three octal digits of value at most 177, or another character.
-fn put_escape(after: &[char], out: &mut String) -> Result<Extent, AllocError>
-    ensures { IfOk result (λ e. Reads (string_bytes out.old) (string_bytes out.new) e (escape after.now)) }
-{
-    match after {
-        [] => Ok(Extent {
-            count: 0,
-            whole: false,
-        }),
+    match cs {
         [a, b, c, ..]
             if is_octal_digit(*a) && *a < '2' && is_octal_digit(*b) && is_octal_digit(*c) => {
             let code = ((*a as u32 - 48) * 8 + (*b as u32 - 48)) * 8 + (*c as u32 - 48);
-            put_char(code as u8 as char, 3, out)
+            Some(code as u8 as char)
         }
-        [a, ..] => put_char(*a, 1, out),
+        _ => None,
     }
 }
 
-/// Appends a character that is no quote, or what stands behind it where it is a backslash.
-fn put_plain(c: char, after: &[char], out: &mut String) -> Result<Extent, AllocError>
-    ensures { IfOk result (λ e. Reads (string_bytes out.old) (string_bytes out.new) e (plain c after.now)) }
+/// Appends what stands behind a backslash: three octal digits, or another character.
+fn put_escaped<'a>(after: &'a [char], out: &mut String) -> Result<Option<&'a [char]>, AllocError>
+    ensures { Puts Escaped after.now (string_bytes out.old) (string_bytes out.new) result }
+{
+    if let Some(c) = octal_front(after) {
+        out.push(c)?;
+        return Ok(Some(&after[3..]));
+    }
+    match after {
+        [] => Ok(None),
+        [c, rest @ ..] => {
+            out.push(*c)?;
+            Ok(Some(rest))
+        }
+    }
+}
+
+/// Appends a character, or what stands behind it where it is a backslash.
+fn put_character<'a>(
+    c: char,
+    after: &'a [char],
+    out: &mut String,
+) -> Result<Option<&'a [char]>, AllocError>
+    ensures { Puts Character (c ∷ after.now) (string_bytes out.old) (string_bytes out.new) result }
 {
     if c == '\\' {
-        put_escape(after, out)
+        put_escaped(after, out)
     } else {
-        put_char(c, 0, out)
+        out.push(c)?;
+        Ok(Some(after))
     }
 }
 
 /// Appends what stands behind `'`.
-fn put_single(after: &[char], out: &mut String) -> Result<Extent, AllocError>
-    ensures { IfOk result (λ e. Reads (string_bytes out.old) (string_bytes out.new) e (in_single after.now)) }
+fn put_single<'a>(mut left: &'a [char], out: &mut String) -> Result<Option<&'a [char]>, AllocError>
+    ensures { Puts Single left.entry.now (string_bytes out.old) (string_bytes out.new) result }
 {
-    for i in 0..after.len() {
-        let c = after[i];
-        if c == '\'' {
-            return Ok(Extent {
-                count: i + 1,
-                whole: true,
-            });
+    while let [c, rest @ ..] = left {
+        if *c == '\'' {
+            return Ok(Some(rest));
         }
-        put_char(c, 0, out)?;
+        out.push(*c)?;
+        left = rest;
     }
-    Ok(Extent {
-        count: after.len(),
-        whole: false,
-    })
+    Ok(None)
 }
 
 /// Appends what stands behind `"`.
-fn put_double(after: &[char], out: &mut String) -> Result<Extent, AllocError>
-    ensures { IfOk result (λ e. Reads (string_bytes out.old) (string_bytes out.new) e (in_double 0 after.now)) }
+fn put_double<'a>(mut left: &'a [char], out: &mut String) -> Result<Option<&'a [char]>, AllocError>
+    ensures { Puts Double left.entry.now (string_bytes out.old) (string_bytes out.new) result }
 {
-    let mut skip = 0;
-    let mut whole = true;
-    for i in 0..after.len() {
-        let c = after[i];
-        if skip > 0 {
-            skip -= 1;
-        } else if c == '"' {
-            return Ok(Extent {
-                count: i + 1,
-                whole,
-            });
-        } else {
-            let read = put_plain(c, &after[i + 1..], out)?;
-            skip = read.count;
-            whole = both(whole, read.whole);
+    while let [c, rest @ ..] = left {
+        if *c == '"' {
+            return Ok(Some(rest));
         }
+        let Some(behind) = put_character(*c, rest, out)? else {
+            return Ok(None);
+        };
+        left = behind;
     }
-    Ok(Extent {
-        count: after.len(),
-        whole: false,
-    })
+    Ok(None)
 }
 
 /// Appends the part of a word that begins with this character.
-#[tactic(auto, unfolding(crate::specs::Parts::part))]
-fn put_part(c: char, after: &[char], out: &mut String) -> Result<Extent, AllocError>
-    ensures { IfOk result (λ e. Reads (string_bytes out.old) (string_bytes out.new) e (part c after.now)) }
+fn put_part<'a>(
+    c: char,
+    after: &'a [char],
+    out: &mut String,
+) -> Result<Option<&'a [char]>, AllocError>
+    ensures { Puts Part (c ∷ after.now) (string_bytes out.old) (string_bytes out.new) result }
 {
-    match c {
-        '\'' => put_single(after, out),
-        '"' => put_double(after, out),
-        _ => put_plain(c, after, out),
+    if c == '\'' {
+        put_single(after, out)
+    } else if c == '"' {
+        put_double(after, out)
+    } else {
+        put_character(c, after, out)
     }
 }
 
-/// Appends the text of the word that the characters begin with.
-pub fn put_word(cs: &[char], out: &mut String) -> Result<Extent, AllocError>
-    ensures { IfOk result (λ e. Reads (string_bytes out.old) (string_bytes out.new) e (word 0 cs.now)) }
+/// Appends the parts that the characters begin with, up to a blank or the end of the line.
+pub fn put_parts<'a>(
+    mut left: &'a [char],
+    out: &mut String,
+) -> Result<Option<&'a [char]>, AllocError>
+    ensures { Puts Parts left.entry.now (string_bytes out.old) (string_bytes out.new) result }
 {
-    let mut skip = 0;
-    let mut whole = true;
-    for i in 0..cs.len() {
-        let c = cs[i];
-        if skip > 0 {
-            skip -= 1;
-        } else if c == ' ' {
-            return Ok(Extent { count: i, whole });
-        } else {
-            let read = put_part(c, &cs[i + 1..], out)?;
-            skip = read.count;
-            whole = both(whole, read.whole);
+    while let [c, rest @ ..] = left {
+        if *c == ' ' {
+            break;
         }
+        let Some(behind) = put_part(*c, rest, out)? else {
+            return Ok(None);
+        };
+        left = behind;
     }
-    Ok(Extent {
-        count: cs.len(),
-        whole,
-    })
+    Ok(Some(left))
 }

@@ -1,8 +1,9 @@
-//! The text of a word, and lists of texts. Contracts see a text as its bytes in UTF-8.
+//! The text of a word. Contracts see it as its bytes in UTF-8.
 
-ghost use Rattle.std.specs.Prelude.{◌≡◌, ◌++◌, ◌∷◌, [], IfOk, OnOk, OnErr};
+ghost use Rattle.std.specs.Prelude.{◌≡◌, IfOk};
 ghost use Rattle.std.specs.String.{string_bytes};
 
+use crate::items::Items;
 use std::alloc::{AllocError, Global};
 use std::marker::Model;
 
@@ -46,42 +47,4 @@ impl Text {
 }
 
 /// Texts, in order.
-#[derive(Drop, Debug)]
-pub struct Texts {
-    items: Vec<Text>,
-}
-
-impl Model for Texts {
-    ghost use Rattle.std.specs.Prelude.{ℕ, List};
-
-    ghost Value = { List (List ℕ) };
-
-    ghost view = { λ l. l.items.items };
-}
-
-impl Texts {
-    /// No text.
-    pub fn new(alloc: Global) -> Texts
-        ensures { result ≡ [] }
-    {
-        Texts {
-            items: Vec::new(alloc),
-        }
-    }
-
-    /// Puts a text at the end.
-    pub fn push(&mut self, text: Text) -> Result<(), AllocError>
-        ensures ok { OnOk result (self.new ≡ self.old ++ text ∷ []) }
-        ensures err { OnErr result (self.new ≡ self.old) }
-    {
-        self.items.push(text)?;
-        Ok(())
-    }
-
-    /// The texts.
-    pub fn as_slice(&self) -> &[Text]
-        ensures { result.now ≡ self.now }
-    {
-        self.items.as_slice()
-    }
-}
+pub type Texts = Items<Text>;

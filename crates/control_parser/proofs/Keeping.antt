@@ -72,11 +72,11 @@ inside_tracks here r u s x e h =
     tracks_cond (is_control (code u)) _ _ _ _ (record { funcs = refl; rest = e })
     (tracks_cond (code u == 0x7F) _ _ _ _ (record { funcs = refl; rest = e }) h)
 
-abbrev csi_list : Option Text → ℕ → List Func
+abbrev pub csi_list : Option Text → ℕ → List Func
 csi_list None c = []
 csi_list (Some p) c = Csi p.mark p.params p.intermediates c ∷ []
 
-control_of-parts : (t : List ℕ) (c : ℕ) (o : Option Text) → parts t ≡ o → control_of t c ≡ csi_list o c
+pub control_of-parts : (t : List ℕ) (c : ℕ) (o : Option Text) → parts t ≡ o → control_of t c ≡ csi_list o c
 unfolding parts
 control_of-parts t c o h = by (is_well_formed t) _ ∙ ap (λ o. csi_list o c) h
   where

@@ -21,7 +21,7 @@ use Rattle.control_parser.proofs.Texts.{IsFull, full_fields}
 use Rattle.control_parser.specs.Steps.{is_final_from}
 
 -- bytes below 80 are units as they are
-abbrev coded : List ℕ → List Unit
+abbrev pub coded : List ℕ → List Unit
 coded cs = map (λ c. units.Code c) cs
 
 abbrev is_low : ℕ → Bool
@@ -39,14 +39,14 @@ codes-low (b ∷ bs) h =
     let low : b < 0x80 = grind (arith, nat_tests, p.0) in
     one_byte b low bs ∙ ap (λ (x : List ℕ × List ℕ). (b ∷ x.0, x.1)) (codes-low bs p.1)
 
-reads_low : (bs : List ℕ) (given : List Func) → list_all is_low bs ≡ true → machine nothing (coded bs) ≡ (given, nothing) → ReadsAs Utf8 bs given
+pub reads_low : (bs : List ℕ) (given : List Func) → list_all is_low bs ≡ true → machine nothing (coded bs) ≡ (given, nothing) → ReadsAs Utf8 bs given
 reads_low bs given h e = (
   ap (λ (x : List ℕ × List ℕ). x.1) (codes-low bs h),
   ap (λ (x : List ℕ × List ℕ). functions (coded x.0)) (codes-low bs h) ∙ functions_behind-machine 0 (coded bs) ∙ e,
 )
 
 -- the text of a control sequence, up to its final
-control_run : (t text : List ℕ) (last : ℕ) → list_all is_sequence_text text ≡ true → 0x3F < last → last < 0x7F
+pub control_run : (t text : List ℕ) (last : ℕ) → list_all is_sequence_text text ≡ true → 0x3F < last → last < 0x7F
     → machine (control t) (coded (text ++ last ∷ [])) ≡ (control_of (t ++ text) last, nothing)
 unfolding machine
 control_run t [] last h low high =
@@ -305,7 +305,7 @@ mark_text : (m : Option ℕ) → IfSome m (λ m. is_mark m ≡ true) → list_al
 mark_text None h = refl
 mark_text (Some c) h = let e : is_sequence_text c ≡ true = grind (arith, nat_tests) in all_more is_sequence_text c [] e refl
 
-last_low : (text : List ℕ) (last : ℕ) → list_all is_sequence_text text ≡ true → last < 0x7F → list_all is_low (text ++ last ∷ []) ≡ true
+pub last_low : (text : List ℕ) (last : ℕ) → list_all is_sequence_text text ≡ true → last < 0x7F → list_all is_low (text ++ last ∷ []) ≡ true
 last_low text last h l = let e : is_low last ≡ true = grind (arith, nat_tests) in all-append is_low text (last ∷ []) (all_weaker is_sequence_text is_low text_low text h) (all_more is_low last [] e refl)
 
 pub spelled_reads : (f : Func) → IsGiven f → ReadsAs (coding_of f) (spelling f) (f ∷ [])

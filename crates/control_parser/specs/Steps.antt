@@ -1,12 +1,12 @@
 -- One unit more, on what the parser keeps. The grammar is apart from this: what the public calls promise cites this nowhere.
-use Rattle.std.specs.Prelude.{ℕ, ◌-◌, Bool, true, false, not, ◌&&◌, ◌||◌, nat_lt, ◌==◌, if◌then◌else◌, List, [], ◌∷◌, ◌++◌, length, Option, Some, None}
+use Rattle.std.specs.Prelude.{◌≡◌, ℕ, ◌-◌, Bool, true, false, not, ◌&&◌, ◌||◌, nat_lt, ◌==◌, if◌then◌else◌, List, [], ◌∷◌, ◌++◌, length, Option, Some, None}
 use Rattle.charsets.specs.declared.unit.Unit.{Unit}
 use Rattle.control_parser.specs.declared.func.Func.{Func}
 use Rattle.control_parser.specs.declared.func.Func.TheVariants.{Print, Control, Esc, Csi}
 use Rattle.control_parser.specs.declared.state.Text.{Text}
 use Rattle.control_parser.specs.declared.state.State.{State}
 use Rattle.control_parser.specs.declared.state.State.TheVariants as state
-use Rattle.control_parser.specs.Text.{is_intermediate, is_digit, is_mark, digit_added}
+use Rattle.control_parser.specs.Text.{is_intermediate, is_digit, is_mark, with_last, digit_added}
 use Rattle.control_parser.specs.Grammar.{code, is_control, is_c1, is_sequence_text, is_string_opener, alone}
 
 abbrev pub no_text : Text
@@ -20,6 +20,15 @@ text_grown t c =
     else (if c == 0x3B then Some (record t { begun = true; params = if nat_lt (length t.params) 16 then t.params ++ 0 ∷ [] else t.params; over = if nat_lt (length t.params) 16 then t.over else true })
     else (if is_mark c && not t.begun then Some (record t { begun = true; mark = Some c })
     else None))))
+
+-- the text whose last parameter has this value
+abbrev pub valued : Text → ℕ → Text
+valued t value = record t { params = with_last t.params value }
+
+-- a digit counts for the last parameter
+pub record TakesDigits (t : Text) : Type 0 where
+  pub few : t.over ≡ false
+  pub inside : t.intermediates ≡ []
 
 abbrev pub first_func : List Func → Option Func
 first_func [] = None

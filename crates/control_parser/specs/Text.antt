@@ -1,6 +1,7 @@
 -- The text of a control sequence: what stands between CSI and the final byte (ECMA-48, 5.4).
-use Rattle.std.specs.Prelude.{ℕ, ◌+◌, ◌-◌, ◌*◌, Bool, ◌&&◌, ◌||◌, nat_lt, nat_le, ◌==◌, if◌then◌else◌, List, [], ◌∷◌, length, take, map, min, Option, Some, None}
+use Rattle.std.specs.Prelude.{ℕ, ◌+◌, ◌-◌, ◌*◌, Bool, not, ◌&&◌, ◌||◌, nat_lt, nat_le, ◌==◌, if◌then◌else◌, List, [], ◌∷◌, length, take, map, min, Option, Some, None}
 use Rattle.std.specs.List.{list_all}
+use Rattle.charsets.specs.Units.{is_plain}
 
 -- an intermediate byte (ECMA-48, 5.4, and of escape sequences ECMA-35, 13)
 abbrev pub is_intermediate : ℕ → Bool
@@ -16,6 +17,10 @@ is_number c = is_digit c || c == 0x3B
 -- one of < = > ?, which begin private parameters (ECMA-48, 5.4.1)
 abbrev pub is_mark : ℕ → Bool
 is_mark c = nat_lt 0x3B c && nat_lt c 0x40
+
+-- a byte outside 20 to 7E
+abbrev pub is_no_plain : ℕ → Bool
+is_no_plain b = not (is_plain b)
 
 -- the longest front that passes, and what follows it
 abbrev pub while : {A : Type 0} → (A → Bool) → List A → List A × List A
@@ -65,6 +70,17 @@ is_well_formed text = list_all is_intermediate (intermediates_of text) && nat_le
 -- sixteen parameters count (VT220 Programmer Reference Manual, chapter 2)
 abbrev pub params_of : List ℕ → List ℕ
 params_of text = take 16 (values (numbers_of text))
+
+-- the last of some values, and some values with another last one
+abbrev pub last_value : List ℕ → ℕ
+last_value [] = 0
+last_value (n ∷ []) = n
+last_value (n ∷ m ∷ ns) = last_value (m ∷ ns)
+
+abbrev pub with_last : List ℕ → ℕ → List ℕ
+with_last [] value = []
+with_last (n ∷ []) value = value ∷ []
+with_last (n ∷ m ∷ ns) value = n ∷ with_last (m ∷ ns) value
 
 -- one digit more of a value, and of the last of some values
 abbrev pub longer : ℕ → ℕ → ℕ

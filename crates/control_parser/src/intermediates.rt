@@ -52,6 +52,14 @@ impl Intermediates {
         }
     }
 
+    /// Becomes no intermediate.
+    pub(crate) fn clear(&mut self)
+        ensures { self.new ≡ [] }
+    {
+        self.bytes = [0; 2];
+        self.count = 0;
+    }
+
     /// How many there are.
     pub fn len(&self) -> usize
         ensures value { result ≡ length self.now }

@@ -7,6 +7,7 @@ mod laws;
 mod params;
 mod parser;
 mod plain;
+mod sequence;
 mod spelling;
 mod state;
 
@@ -19,8 +20,6 @@ pub use laws::{
 pub use params::Params;
 pub use parser::Parser;
 pub use plain::plain_run;
+pub use sequence::Sequence;
 pub use spelling::spell;
 pub use std::alloc::AllocError as NoMemory;
-
-#[cfg(test)]
-mod tests;

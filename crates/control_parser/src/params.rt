@@ -1,7 +1,7 @@
 //! Parameters.
 
 ghost use Rattle.std.specs.Prelude.{◌≡◌, ◌<◌, ◌≤◌, ◌∷◌, ◌++◌, [], length, slice_index};
-ghost use Rattle.control_parser.specs.Text.{digit_added};
+ghost use Rattle.control_parser.specs.Text.{digit_added, last_value, with_last};
 
 use std::marker::Model;
 
@@ -68,6 +68,14 @@ impl Params {
         }
     }
 
+    /// Becomes one parameter, absent.
+    pub(crate) fn clear(&mut self)
+        ensures { self.new ≡ 0 ∷ [] }
+    {
+        self.values = [0; PARAMS];
+        self.count = 1;
+    }
+
     /// How many there are.
     pub fn len(&self) -> usize
         ensures { result ≡ length self.now }
@@ -98,6 +106,20 @@ impl Params {
         let last = self.count - 1;
         let longer = self.values[last] as u32 * 10 + digit as u32;
         self.values[last] = longer.min(9999) as u16;
+    }
+
+    /// The last one.
+    pub(crate) fn last(&self) -> u16
+        ensures { result ≡ last_value self.now }
+    {
+        self.values[self.count - 1]
+    }
+
+    /// Gives the last one another value.
+    pub(crate) fn set_last(&mut self, value: u16)
+        ensures { self.new ≡ with_last self.old value }
+    {
+        self.values[self.count - 1] = value;
     }
 
     /// One parameter more.

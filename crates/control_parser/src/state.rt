@@ -2,7 +2,7 @@
 
 ghost use Rattle.std.specs.Prelude.{◌≡◌, ◌==◌, ◌∷◌, [], true, false, Some, None, length, IsTrue};
 ghost use Rattle.control_parser.specs.Text.{is_intermediate};
-ghost use Rattle.control_parser.specs.Steps.{no_text, text_grown, begun_step, broken_step, escape_step, control_step, breaks_string, is_final_from, step_of, alone_of};
+ghost use Rattle.control_parser.specs.Steps.{TakesDigits, no_text, text_grown, begun_step, broken_step, escape_step, control_step, breaks_string, is_final_from, step_of, alone_of};
 ghost use Rattle.control_parser.specs.Grammar.{code, is_control, is_c1, is_sequence_text};
 
 use crate::func::Func;
@@ -81,7 +81,8 @@ fn ends_string(c: u32) -> bool
 }
 
 impl Text {
-    fn empty() -> Text
+    /// The text of a control sequence that has just begun.
+    pub fn empty() -> Text
         ensures { result ≡ no_text }
     {
         Text {
@@ -91,6 +92,24 @@ impl Text {
             over: false,
             intermediates: Intermediates::none(),
         }
+    }
+
+    /// Becomes the text of a control sequence that has just begun.
+    pub fn clear(&mut self)
+        ensures { self.new ≡ no_text }
+    {
+        self.begun = false;
+        self.mark = None;
+        self.params.clear();
+        self.over = false;
+        self.intermediates.clear();
+    }
+
+    /// Whether a digit counts for the last parameter.
+    pub fn takes_digits(&self) -> bool
+        ensures { IsTrue result → TakesDigits self.now }
+    {
+        !self.over && self.intermediates.is_empty()
     }
 
     // The control sequence with this final.
@@ -105,8 +124,8 @@ impl Text {
         }
     }
 
-    // Takes one character more; false where the text is ignored from here on.
-    fn grow(&mut self, c: u8) -> bool
+    /// Takes one character more; false where the text is ignored from here on.
+    pub fn grow(&mut self, c: u8) -> bool
         ensures grown { IsTrue result → text_grown self.old c ≡ Some self.new }
         ensures ignored { result ≡ false → text_grown self.old c ≡ None }
     {

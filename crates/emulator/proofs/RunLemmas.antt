@@ -32,7 +32,7 @@ prefix-plain p (x ∷ xs) = by (p x) refl (prefix-plain p xs)
     by false e h = refl
 
 -- functions that act, as the screen and as the terminal have them
-effects-are : (x : Screen) (fs : List Func) → effects x fs ≡ readings.effects x fs
+pub effects-are : (x : Screen) (fs : List Func) → effects x fs ≡ readings.effects x fs
 effects-are x [] = refl
 effects-are x (f ∷ later) = effects-are (effect x f) later
 
@@ -41,7 +41,7 @@ prints-coding x [] = refl
 prints-coding x (b ∷ bytes) = prints-coding (effect x (Print b)) bytes ∙ effect-coding x (Print b) refl
 
 -- a terminal between characters, sequences and strings
-ready-is : (e : Parts) (t : Terminal) → StandsFor e t → e.decoding.rest ≡ [] → IsIdle e.parsing → t ≡ ready t.screen
+pub ready-is : (e : Parts) (t : Terminal) → StandsFor e t → e.decoding.rest ≡ [] → IsIdle e.parsing → t ≡ ready t.screen
 ready-is e t h rest idle =
     let none : t.rest ≡ [] = sym (ap (λ (d : Decoding). d.rest) h.decoding) ∙ rest in
     let ended : t.unended ≡ nothing = kept-ground t.unended (sym h.parsing ∙ idle) in

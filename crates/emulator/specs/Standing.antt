@@ -1,9 +1,9 @@
 -- What an emulator holds, and the terminals that it stands for.
-use Rattle.std.specs.Prelude.{◌≡◌, ℕ, List, [], ◌++◌}
+use Rattle.std.specs.Prelude.{◌≡◌, ℕ, List, [], ◌++◌, take}
 use Rattle.charsets.specs.Units.{Decoding}
 use Rattle.control_parser.specs.declared.state.State.{State}
 use Rattle.control_parser.specs.Grammar.{functions}
-use Rattle.control_parser.specs.Kept.{kept, opening}
+use Rattle.control_parser.specs.Kept.{kept, opening, IsIdle}
 use Rattle.terminal_model.specs.Screen.{Screen}
 use Rattle.terminal_model.specs.Reading.{Terminal, IsTerminal, rest_in, reads}
 
@@ -36,3 +36,12 @@ in_screen_coding e =
 pub record HasRead (t : Terminal) (bytes : List ℕ) (before : List ℕ) (e : Parts) (answered : List ℕ) : Type 0 where
   pub stands : StandsFor e (reads t bytes).terminal
   pub reports : answered ≡ before ++ (reads t bytes).reports
+
+-- so it is with the first so many of some bytes, whatever terminal it stood for before
+abbrev pub HasTaken : Parts → List ℕ → ℕ → List ℕ → Parts → List ℕ → Type 0
+HasTaken old bytes count before new answered = (t : Terminal) → StandsFor old t → HasRead t (take count bytes) before new answered
+
+-- no character, sequence or string has begun
+pub record IsBetween (e : Parts) : Type 0 where
+  pub whole : e.decoding.rest ≡ []
+  pub idle : IsIdle e.parsing

@@ -1,11 +1,14 @@
 //! Laws of the definitions.
 
-ghost use Rattle.std.specs.Prelude.{◌≡◌, ℕ, List, [], ◌++◌};
+ghost use Rattle.std.specs.Prelude.{◌≡◌, ℕ, List, [], ◌++◌, length, take, reverse};
+ghost use Rattle.std.specs.List.{AllByRecursion};
+ghost use Rattle.cells.specs.Page.{IsGridSize};
 ghost use Rattle.charsets.specs.declared.unit.Coding.{Coding};
-ghost use Rattle.terminal_model.specs.Reading.{Terminal, reads};
-ghost use Rattle.terminal_model.specs.Screen.{Screen};
-ghost use Rattle.terminal_model.specs.Writing.{Clear, Reset, Encoding, writes};
-ghost use Rattle.emulator.specs.Standing.{Parts, HasRead};
+ghost use Rattle.terminal_model.specs.Reading.{Terminal, ready, reads};
+ghost use Rattle.terminal_model.specs.Screen.{Screen, starting};
+ghost use Rattle.terminal_model.specs.Scrollback.{all_left};
+ghost use Rattle.terminal_model.specs.Writing.{Writing, Clear, Reset, Encoding, IsWriting, writes, writes_all};
+ghost use Rattle.emulator.specs.Standing.{Parts, StandsFor, HasRead};
 ghost use Rattle.emulator.specs.Pages.{moved_back};
 
 /// Bytes that are read in two pieces are read as the whole.
@@ -24,4 +27,12 @@ pub fn commands_answer_nothing()
 /// A page that is moved back by no line is the page.
 pub fn unmoved_page_is_the_page()
     ensures { (x : Screen) → moved_back 0 x ≡ x.page }
+{}
+
+/// Of all lines that left a window's page while it wrote, a page that is moved back shows the last ones, above its own lines.
+pub fn moved_page_shows_the_last_lines()
+    ensures { (e : Parts) (rows columns keep offset : ℕ) (writings : List Writing) → IsGridSize rows columns → AllByRecursion IsWriting writings →
+        let t : Terminal = ready (starting rows columns keep) in
+        StandsFor e (writes_all t writings).terminal →
+        moved_back offset e.screen ≡ take (length e.screen.page) (reverse (take offset (take keep (reverse (all_left [] t writings)))) ++ e.screen.page) }
 {}

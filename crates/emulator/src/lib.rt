@@ -6,5 +6,8 @@ mod laws;
 mod shown;
 
 pub use emulator::{Emulator, Stopped};
-pub use laws::{commands_answer_nothing, pieces_are_whole, unmoved_page_is_the_page};
+pub use laws::{
+    commands_answer_nothing, moved_page_shows_the_last_lines, pieces_are_whole,
+    unmoved_page_is_the_page,
+};
 pub use shown::Shown;

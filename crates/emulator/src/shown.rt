@@ -22,17 +22,17 @@ impl<'a> Model for Shown<'a> {
 
     ghost Value = { Page };
 
-    ghost view = { λ s. moved_back s.back s.screen.now };
+    ghost view = { λ s. moved_back s.back s.screen.now.screen };
 
-    ghost invariant = { λ s. IsShown s.screen.now s.back };
+    ghost invariant = { λ s. IsShown s.screen.now.screen s.back };
 }
 
 impl<'a> Shown<'a> {
     /// The page moved back by so many lines, or by all that are kept where they are fewer.
     pub(crate) fn of(screen: &'a Screen, offset: usize) -> Shown<'a>
-        ensures lines { result ≡ moved_back offset screen.now }
-        ensures sized { IsPage screen.now.state.rows screen.now.state.columns result }
-        ensures page { offset ≡ 0 → result ≡ screen.now.page }
+        ensures lines { result ≡ moved_back offset screen.now.screen }
+        ensures sized { IsPage screen.now.screen.state.rows screen.now.screen.state.columns result }
+        ensures page { offset ≡ 0 → result ≡ screen.now.screen.page }
     {
         Shown {
             screen,

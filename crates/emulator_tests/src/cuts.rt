@@ -2,7 +2,7 @@
 
 ghost use Rattle.std.specs.Prelude.{◌<◌, ◌≤◌};
 
-use crate::judging::{are_alike, fed, made};
+use crate::judging::{are_alike, fed, made, modes_of};
 use std::alloc::Global;
 use std::test::Fail;
 
@@ -45,7 +45,7 @@ fn next_list(numbers: &mut Numbers, list: &mut [u8; LONGEST]) -> usize
     count
 }
 
-/// Whether the pieces give the page, the cursor and the answers of the whole.
+/// Whether the pieces give the page, the cursor, the modes and the answers of the whole.
 fn is_whole(alloc: Global, bytes: &[u8], cut: usize, other_cut: usize) -> Result<bool, Fail> {
     let mut whole = made(alloc, (3, 6, 2))?;
     let mut answers = Vec::new(alloc);
@@ -61,6 +61,7 @@ fn is_whole(alloc: Global, bytes: &[u8], cut: usize, other_cut: usize) -> Result
         are_alike(&whole.page(2), &pieces.page(2))
             && are_alike(&whole.page(0), &pieces.page(0))
             && whole.cursor() == pieces.cursor()
+            && modes_of(&whole) == modes_of(&pieces)
             && answers.as_slice() == pieces_answers.as_slice(),
     )
 }

@@ -76,3 +76,32 @@ pub fn are_alike(page: &Shown<'_>, other: &Shown<'_>) -> bool {
     }
     true
 }
+
+/// The letters of the modes: IRM, LNM, ?1, ?5, ?6, ?7, ?25, and an application keypad.
+pub const LETTERS: [u8; 8] = *b"ilavowck";
+
+/// Which modes are set, in the order of their letters.
+pub fn modes_of(emulator: &Emulator) -> [bool; 8] {
+    let modes = emulator.modes();
+    [
+        modes.inserts,
+        modes.starts_lines,
+        modes.has_application_arrows,
+        modes.is_inverted,
+        modes.counts_from_margin,
+        modes.wraps,
+        modes.shows_cursor,
+        modes.has_application_keypad,
+    ]
+}
+
+/// Whether those modes are set that have these letters, and no others.
+pub fn has_modes(emulator: &Emulator, letters: &[u8]) -> bool {
+    let modes = modes_of(emulator);
+    for place in 0..LETTERS.len() {
+        if letters.contains(&LETTERS[place]) != modes[place] {
+            return false;
+        }
+    }
+    true
+}

@@ -11,3 +11,7 @@ mod judging;
 mod pages;
 #[cfg(test)]
 mod reports;
+#[cfg(test)]
+mod runs;
+#[cfg(test)]
+mod table;

@@ -1,3 +1,4 @@
 pub mod Lines
 pub mod Pushes
+pub mod Readings
 pub mod Digits

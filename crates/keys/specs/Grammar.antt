@@ -1,6 +1,7 @@
 -- The items of a client's keys. C-a is the command key, as in the GNU Screen manual, section Default Key Bindings; this
 -- project's own are the prompt's edits, which are those of a line by ECMA-48's DEL and BS, and its length of 1,024 bytes.
-use Rattle.std.specs.Prelude.{ℕ, zero, suc, ◌+◌, Bool, true, false, not, ◌&&◌, ◌||◌, nat_lt, ◌==◌, if◌then◌else◌, List, [], ◌∷◌, ◌++◌, length, Option, Some, None}
+use Rattle.std.specs.Prelude.{◌≡◌, ◌≢◌, ℕ, Bool, true, false, not, ◌&&◌, ◌||◌, nat_lt, ◌==◌, if◌then◌else◌, List, [], ◌∷◌, ◌++◌, length, map, find, Option, Some, None}
+use Rattle.std.specs.Option.{option_map}
 use Rattle.std.specs.List.{list_all}
 use Rattle.command_lang.specs.command.Command.{Command}
 use Rattle.command_lang.specs.command.Command.TheVariants.{Next, Prev, Detach, Kill, Split, Focus, Remove, Only, Windows, Displays, Select, Other}
@@ -17,31 +18,30 @@ pub data Rest : Type 0 where
   command_key : Rest
   prompt : List ℕ → Rest
 
--- what the key does behind the command key
+-- the line of the open prompt
+abbrev pub open_line : Rest → Option (List ℕ)
+open_line nothing = None
+open_line command_key = None
+open_line (prompt bytes) = Some bytes
+
+-- The keys that are bound behind the command key. A digit selects the window of that name.
+abbrev pub bindings : List (ℕ × Command)
+bindings =
+    (0x6E, Next) ∷ (0x20, Next) ∷ (0x70, Prev) ∷ (0x64, Detach) ∷ (0x6B, Kill) ∷ (0x53, Split false) ∷ (0x7C, Split true) ∷ (0x09, Focus)
+    ∷ (0x58, Remove) ∷ (0x51, Only) ∷ (0x77, Windows) ∷ (0x2A, Displays) ∷ (0x01, Other)
+    ∷ map (λ k. (k, Select (k ∷ []))) (0x30 ∷ 0x31 ∷ 0x32 ∷ 0x33 ∷ 0x34 ∷ 0x35 ∷ 0x36 ∷ 0x37 ∷ 0x38 ∷ 0x39 ∷ [])
+
+-- what the key does there
 abbrev pub binding : ℕ → Option Command
-binding k =
-    if k == 0x6E || k == 0x20 then Some Next
-    else (if k == 0x70 then Some Prev
-    else (if k == 0x64 then Some Detach
-    else (if k == 0x6B then Some Kill
-    else (if k == 0x53 then Some (Split false)
-    else (if k == 0x7C then Some (Split true)
-    else (if k == 0x09 then Some Focus
-    else (if k == 0x58 then Some Remove
-    else (if k == 0x51 then Some Only
-    else (if k == 0x77 then Some Windows
-    else (if k == 0x2A then Some Displays
-    else (if nat_lt 0x2F k && nat_lt k 0x3A then Some (Select (k ∷ []))
-    else (if k == 0x01 then Some Other
-    else None))))))))))))
+binding k = option_map (λ b. b.1) (find (λ b. b.0 == k) bindings)
 
 abbrev pub bound_items : Option Command → List Item
 bound_items None = []
 bound_items (Some b) = bound b ∷ []
 
 -- what the key gives behind the command key, other than the prompt
-abbrev pub chosen : ℕ → List Item
-chosen k = if k == 0x61 then typed 1 ∷ [] else bound_items (binding k)
+abbrev pub key_items : ℕ → List Item
+key_items k = if k == 0x61 then typed 1 ∷ [] else bound_items (binding k)
 
 -- A line as the keys of a prompt edit it.
 -- a trailing byte of a character
@@ -53,16 +53,16 @@ abbrev pub shortened : List ℕ → List ℕ
 shortened [] = []
 shortened (b ∷ bytes) = if list_all continues bytes then [] else b ∷ shortened bytes
 
-abbrev pub edited : List ℕ → ℕ → List ℕ
-edited bytes k =
+abbrev pub line_after_key : List ℕ → ℕ → List ℕ
+line_after_key bytes k =
     if k == 0x08 || k == 0x7F then shortened bytes
-    else (if nat_lt k 0x20 then bytes
-    else (if nat_lt (length bytes) 1024 then bytes ++ k ∷ []
-    else bytes))
+    else if nat_lt k 0x20 then bytes
+    else if nat_lt (length bytes) 1024 then bytes ++ k ∷ []
+    else bytes
 
 unfoldable pub line_of : List ℕ → List ℕ → List ℕ
 line_of bytes [] = bytes
-line_of bytes (k ∷ keys) = line_of (edited bytes k) keys
+line_of bytes (k ∷ keys) = line_of (line_after_key bytes k) keys
 
 -- the keys that end a prompt's line, and those that close it
 abbrev pub ends_line : ℕ → Bool
@@ -74,39 +74,33 @@ closes k = k == 0x1B || (k == 0x03 || k == 0x07)
 abbrev pub stays : ℕ → Bool
 stays k = not (ends_line k || closes k)
 
--- the longest front that passes, and what follows it
-abbrev pub while : (ℕ → Bool) → List ℕ → List ℕ × List ℕ
-while p [] = ([], [])
-while p (x ∷ xs) = if p x then (x ∷ (while p xs).0, (while p xs).1) else ([], x ∷ xs)
+-- what the key that ends or closes a prompt completes
+abbrev pub line_items : List ℕ → ℕ → List Item
+line_items bytes k = if ends_line k then line bytes ∷ [] else []
 
--- A piece of the keys: the items that it gives, and how many keys it has beside its first one; or it is unended.
-pub data Piece : Type 0 where
-  ends : List Item → ℕ → Piece
-  unended : Rest → Piece
+-- Keys, the items that they complete, and what is unended at their end: typed bytes, the command key with the key behind it,
+-- and prompts. The keys of a prompt are those that edit its line, up to one that ends or closes it.
+pub data Keys : List ℕ → List Item → Rest → Type 0 where
+  none : Keys [] [] nothing
+  plain : {k : ℕ} {keys : List ℕ} {given : List Item} {rest : Rest} → k ≢ 0x01 → Keys keys given rest → Keys (k ∷ keys) (typed k ∷ given) rest
+  waits : Keys (0x01 ∷ []) [] command_key
+  behind : {k : ℕ} {keys : List ℕ} {given : List Item} {rest : Rest} → k ≢ 0x3A → Keys keys given rest → Keys (0x01 ∷ k ∷ keys) (key_items k ++ given) rest
+  opens : (edits : List ℕ) → list_all stays edits ≡ true → Keys (0x01 ∷ 0x3A ∷ edits) [] (prompt (line_of [] edits))
+  ends : (edits : List ℕ) (k : ℕ) (keys : List ℕ) {given : List Item} {rest : Rest} → list_all stays edits ≡ true → stays k ≡ false → Keys keys given rest
+      → Keys (0x01 ∷ 0x3A ∷ (edits ++ k ∷ keys)) (line_items (line_of [] edits) k ++ given) rest
 
--- the prompt whose keys are these
-abbrev pub prompt_end : List ℕ → ℕ → List ℕ → Piece
-prompt_end bytes n [] = unended (prompt bytes)
-prompt_end bytes n (k ∷ keys) = ends (if ends_line k then line bytes ∷ [] else []) (n + 1)
-
-abbrev pub prompt_piece : List ℕ → Piece
-prompt_piece keys = prompt_end (line_of [] (while stays keys).0) (length (while stays keys).0 + 1) (while stays keys).1
-
-abbrev pub command_piece : List ℕ → Piece
-command_piece [] = unended command_key
-command_piece (k ∷ keys) = if k == 0x3A then prompt_piece keys else ends (chosen k) 1
-
-unfoldable pub piece : ℕ → List ℕ → Piece
-piece k keys = if k == 1 then command_piece keys else ends (typed k ∷ []) 0
+-- The same, computed key by key: what a key completes behind what is unended, and what is unended then.
+abbrev pub rest_step : Rest → ℕ → List Item × Rest
+rest_step nothing k = if k == 0x01 then ([], command_key) else (typed k ∷ [], nothing)
+rest_step command_key k = if k == 0x3A then ([], prompt []) else (key_items k, nothing)
+rest_step (prompt bytes) k = if stays k then ([], prompt (line_after_key bytes k)) else (line_items bytes k, nothing)
 
 abbrev pub with_front : List Item → List Item × Rest → List Item × Rest
 with_front front later = (front ++ later.0, later.1)
 
--- the items of the keys behind the first skip, which belong to a piece that began before, and what is unended
-unfoldable pub items_behind : ℕ → List ℕ → List Item × Rest
-items_behind skip [] = ([], nothing)
-items_behind (suc skip) (k ∷ keys) = items_behind skip keys
-items_behind zero (k ∷ keys) = elim (piece k keys) [ ends given more ↦ with_front given (items_behind more keys) | unended rest ↦ ([], rest) ]
+unfoldable pub items_from : Rest → List ℕ → List Item × Rest
+items_from rest [] = ([], rest)
+items_from rest (k ∷ keys) = let step = rest_step rest k in with_front step.0 (items_from step.1 keys)
 
 abbrev pub items : List ℕ → List Item × Rest
-items keys = items_behind 0 keys
+items keys = items_from nothing keys

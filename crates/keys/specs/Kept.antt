@@ -15,10 +15,6 @@ pub record Keeping : Type 0 where
 abbrev pub rest_of : Keeping → Rest
 rest_of r = elim r.mode [ Typing ↦ nothing | Command ↦ command_key | Prompt ↦ prompt r.line ]
 
--- the line of the open prompt
-abbrev pub open_line : Keeping → Option (List ℕ)
-open_line r = elim r.mode [ Typing ↦ None | Command ↦ None | Prompt ↦ Some r.line ]
-
 -- the reader has read these keys
 abbrev pub StandsFor : Keeping → List ℕ → Type 0
 StandsFor reader keys = (items keys).1 ≡ rest_of reader

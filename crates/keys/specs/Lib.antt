@@ -1,4 +1,3 @@
 pub mod Grammar
-pub mod Steps
 pub mod Bindings
 pub mod Kept

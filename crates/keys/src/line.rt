@@ -1,7 +1,7 @@
 //! The line of a prompt, in a fixed array.
 
 ghost use Rattle.std.specs.Prelude.{◌≡◌, ◌≤◌, ℕ, List, [], ◌∷◌, ◌++◌, length, take, nat_lt, if◌then◌else◌};
-ghost use Rattle.keys.specs.Grammar.{continues, shortened, edited};
+ghost use Rattle.keys.specs.Grammar.{continues, shortened, line_after_key};
 
 use std::marker::Model;
 
@@ -38,6 +38,16 @@ impl Line {
         Line {
             bytes: [0; ROOM],
             count: 0,
+        }
+    }
+
+    /// A copy.
+    pub fn copied(&self) -> Line
+        ensures { result ≡ self.now }
+    {
+        Line {
+            bytes: self.bytes,
+            count: self.count,
         }
     }
 
@@ -79,7 +89,7 @@ impl Line {
 
     /// One key of the prompt, which neither ends the line nor closes it.
     pub fn edit(&mut self, key: u8)
-        ensures { self.new ≡ edited self.old key }
+        ensures { self.new ≡ line_after_key self.old key }
     {
         if key == 0x08 || key == 0x7F {
             self.shorten();

@@ -15,7 +15,7 @@ pub enum KeyItem {
     Typed(u8),
     /// The command of a key behind the command key.
     Bound(Binding),
-    /// The prompt was opened, edited or closed.
+    /// The prompt was opened, line_after_key or closed.
     Edit,
     /// The prompt's line is ended, and `line` lends it until the next push. It may be empty.
     Line,
@@ -59,18 +59,27 @@ fn is_closing(key: u8) -> bool
 }
 
 impl KeyReader {
-    ghost use Rattle.keys.specs.Grammar.{items};
-    ghost use Rattle.keys.specs.Steps.{rest_step};
-    ghost use Rattle.keys.specs.Kept.{StandsFor, rest_of, item_list, open_line};
+    ghost use Rattle.keys.specs.Grammar.{items, open_line, rest_step};
+    ghost use Rattle.keys.specs.Kept.{StandsFor, rest_of, item_list};
 
     /// A reader that has read nothing.
-    #[tactic(auto, unfolding(crate::specs::Grammar::items_behind))]
+    #[tactic(auto, unfolding(crate::specs::Grammar::items_from))]
     pub fn new() -> KeyReader
         ensures stands { StandsFor result [] }
     {
         KeyReader {
             mode: Mode::Typing,
             line: Line::new(),
+        }
+    }
+
+    /// A copy, which has read the same keys.
+    pub fn copied(&self) -> KeyReader
+        ensures { result ≡ self.now }
+    {
+        KeyReader {
+            mode: self.mode,
+            line: self.line.copied(),
         }
     }
 
@@ -83,7 +92,7 @@ impl KeyReader {
 
     /// The line of the prompt, while the prompt is open.
     pub fn prompt(&self) -> Option<&[u8]>
-        ensures { option_map (λ l. l.now) result ≡ open_line self.now }
+        ensures { option_map (λ l. l.now) result ≡ open_line (rest_of self.now) }
     {
         match self.mode {
             Mode::Prompt => Some(self.line.as_slice()),

@@ -108,55 +108,56 @@ abbrev pub PrintsNone : Command → Type 0
 PrintsNone (Glyph c) = ⊥
 PrintsNone other = Prim.Unit {0}
 
-listed_render : (a b c d : Bool) → IsListed (func_of (Render (record { is_bold = a; is_underlined = b; is_blinking = c; is_reversed = d })))
+listed_render : (rows : ℕ) (a b c d : Bool) → IsListed rows (func_of (Render (record { is_bold = a; is_underlined = b; is_blinking = c; is_reversed = d })))
 unfolding plain_sequence
-listed_render true true true true = record { acts = omega arith; named = refl }
-listed_render true true true false = record { acts = omega arith; named = refl }
-listed_render true true false true = record { acts = omega arith; named = refl }
-listed_render true true false false = record { acts = omega arith; named = refl }
-listed_render true false true true = record { acts = omega arith; named = refl }
-listed_render true false true false = record { acts = omega arith; named = refl }
-listed_render true false false true = record { acts = omega arith; named = refl }
-listed_render true false false false = record { acts = omega arith; named = refl }
-listed_render false true true true = record { acts = omega arith; named = refl }
-listed_render false true true false = record { acts = omega arith; named = refl }
-listed_render false true false true = record { acts = omega arith; named = refl }
-listed_render false true false false = record { acts = omega arith; named = refl }
-listed_render false false true true = record { acts = omega arith; named = refl }
-listed_render false false true false = record { acts = omega arith; named = refl }
-listed_render false false false true = record { acts = omega arith; named = refl }
-listed_render false false false false = record { acts = omega arith; named = refl }
+listed_render rows true true true true = record { acts = omega arith; named = refl; in_order = refl }
+listed_render rows true true true false = record { acts = omega arith; named = refl; in_order = refl }
+listed_render rows true true false true = record { acts = omega arith; named = refl; in_order = refl }
+listed_render rows true true false false = record { acts = omega arith; named = refl; in_order = refl }
+listed_render rows true false true true = record { acts = omega arith; named = refl; in_order = refl }
+listed_render rows true false true false = record { acts = omega arith; named = refl; in_order = refl }
+listed_render rows true false false true = record { acts = omega arith; named = refl; in_order = refl }
+listed_render rows true false false false = record { acts = omega arith; named = refl; in_order = refl }
+listed_render rows false true true true = record { acts = omega arith; named = refl; in_order = refl }
+listed_render rows false true true false = record { acts = omega arith; named = refl; in_order = refl }
+listed_render rows false true false true = record { acts = omega arith; named = refl; in_order = refl }
+listed_render rows false true false false = record { acts = omega arith; named = refl; in_order = refl }
+listed_render rows false false true true = record { acts = omega arith; named = refl; in_order = refl }
+listed_render rows false false true false = record { acts = omega arith; named = refl; in_order = refl }
+listed_render rows false false false true = record { acts = omega arith; named = refl; in_order = refl }
+listed_render rows false false false false = record { acts = omega arith; named = refl; in_order = refl }
 
-listed : (c : Command) → PrintsNone c → IsListed (func_of c)
+listed : (rows : ℕ) (c : Command) → PrintsNone c → IsListed rows (func_of c)
 unfolding plain_sequence private_sequence
-listed (Glyph c) h = absurd h
-listed (MoveTo line column) h = record {
+listed rows (Glyph c) h = absurd h
+listed rows (MoveTo line column) h = record {
   acts = omega arith;
   named = ⊎_elim (λ (e : eqb column 0 ≡ true). rw e refl) (λ (e : eqb column 0 ≡ false). rw e refl) (cases_Bool (eqb column 0));
+  in_order = refl;
 }
-listed NextLine h = record { acts = omega arith; named = refl }
-listed (Forward n) h = record { acts = omega arith; named = refl }
-listed (Render r) h = listed_render r.is_bold r.is_underlined r.is_blinking r.is_reversed
-listed (EraseCells n) h = record { acts = omega arith; named = refl }
-listed EraseToEnd h = record { acts = omega arith; named = refl }
-listed (Arrows true) h = record { acts = omega arith; named = refl }
-listed (Arrows false) h = record { acts = omega arith; named = refl }
-listed (ShowCursor true) h = record { acts = omega arith; named = refl }
-listed (ShowCursor false) h = record { acts = omega arith; named = refl }
-listed (Keypad true) h = record { acts = omega arith; named = refl }
-listed (Keypad false) h = record { acts = omega arith; named = refl }
+listed rows NextLine h = record { acts = omega arith; named = refl; in_order = refl }
+listed rows (Forward n) h = record { acts = omega arith; named = refl; in_order = refl }
+listed rows (Render r) h = listed_render rows r.is_bold r.is_underlined r.is_blinking r.is_reversed
+listed rows (EraseCells n) h = record { acts = omega arith; named = refl; in_order = refl }
+listed rows EraseToEnd h = record { acts = omega arith; named = refl; in_order = refl }
+listed rows (Arrows true) h = record { acts = omega arith; named = refl; in_order = refl }
+listed rows (Arrows false) h = record { acts = omega arith; named = refl; in_order = refl }
+listed rows (ShowCursor true) h = record { acts = omega arith; named = refl; in_order = refl }
+listed rows (ShowCursor false) h = record { acts = omega arith; named = refl; in_order = refl }
+listed rows (Keypad true) h = record { acts = omega arith; named = refl; in_order = refl }
+listed rows (Keypad false) h = record { acts = omega arith; named = refl; in_order = refl }
 
 discreet_one : (page : Page) (x : Screen) (c : Command) → PrintsNone c → IsDiscreet page (record { before = x; func = func_of c })
 discreet_one page x (Glyph c) h = absurd h
-discreet_one page x (MoveTo line column) h = listed (MoveTo line column) h
-discreet_one page x NextLine h = listed NextLine h
-discreet_one page x (Forward n) h = listed (Forward n) h
-discreet_one page x (Render r) h = listed (Render r) h
-discreet_one page x (EraseCells n) h = listed (EraseCells n) h
-discreet_one page x EraseToEnd h = listed EraseToEnd h
-discreet_one page x (Arrows on) h = listed (Arrows on) h
-discreet_one page x (ShowCursor on) h = listed (ShowCursor on) h
-discreet_one page x (Keypad on) h = listed (Keypad on) h
+discreet_one page x (MoveTo line column) h = listed x.state.rows (MoveTo line column) h
+discreet_one page x NextLine h = listed x.state.rows NextLine h
+discreet_one page x (Forward n) h = listed x.state.rows (Forward n) h
+discreet_one page x (Render r) h = listed x.state.rows (Render r) h
+discreet_one page x (EraseCells n) h = listed x.state.rows (EraseCells n) h
+discreet_one page x EraseToEnd h = listed x.state.rows EraseToEnd h
+discreet_one page x (Arrows on) h = listed x.state.rows (Arrows on) h
+discreet_one page x (ShowCursor on) h = listed x.state.rows (ShowCursor on) h
+discreet_one page x (Keypad on) h = listed x.state.rows (Keypad on) h
 
 spare_one : (old page : Page) (x : Screen) (c : Command) → PrintsNone c → IsSpare old page (record { before = x; func = func_of c })
 spare_one old page x (Glyph c) h = absurd h

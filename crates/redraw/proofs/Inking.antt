@@ -10,12 +10,12 @@ use Rattle.cells.specs.Line.{blank, cell_at, is_left, is_right}
 use Rattle.cells.specs.Page.{line_at}
 use Rattle.control_parser.specs.Spelling.{spelling}
 use Rattle.terminal_model.specs.Screen.{Page, Screen}
-use Rattle.terminal_model.specs.Drawing.{Holds, HasMark, Differs}
+use Rattle.terminal_model.specs.Drawing.{HasMark, HasPart, Differs}
 use Rattle.terminal_model.specs.Drawable.{IsGlyph, AreMarks, HasGlyph, IsDrawableCell}
 use Rattle.redraw.specs.declared.pen.Pen.{Pen}
 use Rattle.redraw.specs.declared.command.Command.TheVariants.{Glyph}
 use Rattle.redraw.specs.Commands.{func_of}
-use Rattle.redraw.specs.Drawing.{Row, seen, over, row_of, width_of, mark_bytes, glyph_bytes, Drawing, Takes, Keeps, Writes, KnowsRendition}
+use Rattle.redraw.specs.Drawing.{Row, seen, over, row_of, width_of, mark_bytes, glyph_bytes, Drawing, Takes, Keeps, Writes, Stands, KnowsRendition}
 use Rattle.redraw.proofs.Screens.{LeadsTo}
 use Rattle.redraw.proofs.Printing.{Inked, narrow_leads, wide_leads, mark_leads}
 use Rattle.redraw.proofs.Takings.{leads_then, takes_then, takes_bytes}
@@ -28,7 +28,7 @@ module _ (rows columns : ℕ) (old new : Page) (pen : Pen) (lh : pen.line < rows
     abbrev with_marks : Marks → Cell
     with_marks ms = record { shape = shape; character = c; marks = ms; rendition = r; is_protected = false }
 
-    marks_lead : (ms : Marks) (bytes : List ℕ) → AreMarks ms → ((m : ℕ) → HasMark ms m → Holds there m) → LeadsTo rows columns old new x bytes (Inked rows columns pen (with_marks Bare) n x)
+    marks_lead : (ms : Marks) (bytes : List ℕ) → AreMarks ms → ((m : ℕ) → HasMark ms m → HasMark there.marks m) → LeadsTo rows columns old new x bytes (Inked rows columns pen (with_marks Bare) n x)
         → LeadsTo rows columns old new x (bytes ++ mark_bytes ms) (Inked rows columns pen (with_marks ms) n x)
     marks_lead Bare bytes are stand l = subst (λ b. LeadsTo rows columns old new x b (Inked rows columns pen (with_marks Bare) n x)) (sym (append-nil bytes)) l
     marks_lead (One m) bytes are stand l =
@@ -47,27 +47,29 @@ module _ (rows columns : ℕ) (old new : Page) (pen : Pen) (lh : pen.line < rows
   behind n = record pen { column = pen.column + n }
 
   -- a cell that is printed
-  narrow_cell_leads : (cell : Cell) (x : Screen) → Drawing rows columns pen x → pen.rendition ≡ Some cell.rendition → cell.shape ≡ Narrow → IsDrawableCell cell → there ≡ cell → Differs old new pen.line pen.column
+  narrow_cell_leads : (cell : Cell) (x : Screen) → Drawing rows columns pen x → pen.rendition ≡ Some cell.rendition → cell.shape ≡ Narrow → IsDrawableCell cell → Stands new pen.line pen.column cell → Differs old new pen.line pen.column
       → LeadsTo rows columns old new x (glyph_bytes cell) (Writes rows columns (behind 1) pen.line pen.column 1 (row_of cell pen.column) x)
   narrow_cell_leads cell x d known shape is stands differs =
       let r : x.state.rendition ≡ cell.rendition = subst (λ (k : Option Rendition). KnowsRendition k x.state.rendition) known d.rendition_is in
       let glyph : IsGlyph 1 cell.character = subst (λ sh. HasGlyph sh cell.character) shape is.glyph in
-      let l = narrow_leads rows columns old new pen x d lh ch cell.character glyph (rw stands (inl refl)) differs in
+      let l = narrow_leads rows columns old new pen x d lh ch cell.character glyph (record { shape_is = rw stands.here shape; character_is = rw stands.here refl }) differs in
       let l' = subst (λ z. LeadsTo rows columns old new x (spelling (func_of (Glyph cell.character))) (Inked rows columns pen (record { shape = Narrow; character = cell.character; marks = Bare; rendition = z; is_protected = false }) 1 x)) r l in
-      let k = marks_lead Narrow cell.character cell.rendition 1 (omega arith) differs x cell.marks (spelling (func_of (Glyph cell.character))) is.marks (λ m h. rw stands (inr h)) l' in
+      let k = marks_lead Narrow cell.character cell.rendition 1 (omega arith) differs x cell.marks (spelling (func_of (Glyph cell.character))) is.marks (λ m h. rw stands.here h) l' in
       (k.0, k.1, subst (λ sh. Writes rows columns (behind 1) pen.line pen.column 1 (row_of (record cell { shape = sh }) pen.column) x k.0) (sym shape) (k.2).writes)
 
-  wide_cell_leads : (cell : Cell) (x : Screen) → Drawing rows columns pen x → pen.rendition ≡ Some cell.rendition → cell.shape ≡ Left → pen.column + 2 ≤ columns → IsDrawableCell cell → there ≡ cell → Differs old new pen.line pen.column
+  wide_cell_leads : (cell : Cell) (x : Screen) → Drawing rows columns pen x → pen.rendition ≡ Some cell.rendition → cell.shape ≡ Left → pen.column + 2 ≤ columns → IsDrawableCell cell → Stands new pen.line pen.column cell → Differs old new pen.line pen.column
       → LeadsTo rows columns old new x (glyph_bytes cell) (Writes rows columns (behind 2) pen.line pen.column 2 (row_of cell pen.column) x)
   wide_cell_leads cell x d known shape room is stands differs =
       let r : x.state.rendition ≡ cell.rendition = subst (λ (k : Option Rendition). KnowsRendition k x.state.rendition) known d.rendition_is in
       let glyph : IsGlyph 2 cell.character = subst (λ sh. HasGlyph sh cell.character) shape is.glyph in
-      let l = wide_leads rows columns old new pen x d lh ch cell.character glyph room (rw stands (inl refl)) differs in
+      let half = stands.beside (ap is_left shape) in
+      let beside : HasPart Right cell.character (cell_at (line_at new pen.line) (pen.column + 1)) = record { shape_is = ap (λ (z : Cell). z.shape) half; character_is = ap (λ (z : Cell). z.character) half } in
+      let l = wide_leads rows columns old new pen x d lh ch cell.character glyph room (record { shape_is = rw stands.here shape; character_is = rw stands.here refl }, beside) differs in
       let l' = subst (λ z. LeadsTo rows columns old new x (spelling (func_of (Glyph cell.character))) (Inked rows columns pen (record { shape = Left; character = cell.character; marks = Bare; rendition = z; is_protected = false }) 2 x)) r l in
-      let k = marks_lead Left cell.character cell.rendition 2 (omega arith) differs x cell.marks (spelling (func_of (Glyph cell.character))) is.marks (λ m h. rw stands (inr h)) l' in
+      let k = marks_lead Left cell.character cell.rendition 2 (omega arith) differs x cell.marks (spelling (func_of (Glyph cell.character))) is.marks (λ m h. rw stands.here h) l' in
       (k.0, k.1, subst (λ sh. Writes rows columns (behind 2) pen.line pen.column 2 (row_of (record cell { shape = sh }) pen.column) x k.0) (sym shape) (k.2).writes)
 
-  pub cell_leads : (cell : Cell) (x : Screen) → Drawing rows columns pen x → pen.rendition ≡ Some cell.rendition → is_right cell.shape ≡ false → pen.column + width_of cell.shape ≤ columns → IsDrawableCell cell → there ≡ cell
+  pub cell_leads : (cell : Cell) (x : Screen) → Drawing rows columns pen x → pen.rendition ≡ Some cell.rendition → is_right cell.shape ≡ false → pen.column + width_of cell.shape ≤ columns → IsDrawableCell cell → Stands new pen.line pen.column cell
       → Differs old new pen.line pen.column → LeadsTo rows columns old new x (glyph_bytes cell) (Writes rows columns (behind (width_of cell.shape)) pen.line pen.column (width_of cell.shape) (row_of cell pen.column) x)
   cell_leads cell x d known whole room is stands differs = by_shape cell.shape refl
     where
@@ -112,7 +114,7 @@ width_some Right = omega arith
 
 -- the pen is aimed, and then it prints a cell
 pub put_takes : (old new : Page) (rows columns : ℕ) (p q : Pen) (line column w : ℕ) (cell : Cell) (a b c : List ℕ) → q ≡ record { line = line; column = column; rendition = Some cell.rendition } → w ≡ width_of cell.shape
-    → line < rows → column + width_of cell.shape ≤ columns → IsDrawableCell cell → is_right cell.shape ≡ false → cell_at (line_at new line) column ≡ cell → Differs old new line column
+    → line < rows → column + width_of cell.shape ≤ columns → IsDrawableCell cell → is_right cell.shape ≡ false → Stands new line column cell → Differs old new line column
     → Takes old new (Drawing rows columns p) (Keeps rows columns q) a b → c ≡ b ++ glyph_bytes cell
     → Takes old new (Drawing rows columns p) (Writes rows columns (record { line = q.line; column = column + w; rendition = q.rendition }) line column (width_of cell.shape) (row_of cell column)) a c
 put_takes old new rows columns p q line column w cell a b c is width lh room drawable whole stands differs aimed appended =

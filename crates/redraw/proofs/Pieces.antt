@@ -11,7 +11,7 @@ use Rattle.terminal_model.specs.Screen.{Page}
 use Rattle.terminal_model.specs.Shows.{seen_at}
 use Rattle.terminal_model.specs.Drawable.{IsDrawableLine}
 use Rattle.redraw.specs.declared.pen.Pen.{Pen}
-use Rattle.redraw.specs.Drawing.{Row, seen, mixed, row_of, width_of, Drawing, Takes, Writes, HasLine, DrawsLine, DrawsPiece, DrawsUpTo, AreLines}
+use Rattle.redraw.specs.Drawing.{Row, seen, mixed, row_of, width_of, Drawing, Takes, Writes, Stands, HasLine, DrawsLine, DrawsPiece, DrawsUpTo, AreLines}
 use Rattle.redraw.proofs.Rows.{IsPairedRow, mixed_over, mixed_same, mixed_start}
 use Rattle.redraw.proofs.Printing.{over_same}
 use Rattle.redraw.proofs.Takings.{takes_nothing, takes_then, takes_weaker}
@@ -101,6 +101,18 @@ pub cell_piece : (old new : Page) (rows : ℕ) (p q : Pen) (line column next : �
 cell_piece old new rows p q line column next cell cells a b here is paired drawable whole inside e t =
     put_piece old new rows p q line column next cells a b is paired drawable whole inside (e ∙ ap (λ (z : Cell). column + width_of z.shape) here)
     (subst (λ (z : Cell). Takes old new (Drawing rows (length cells) p) (Writes rows (length cells) q line column (width_of z.shape) (row_of z column)) a b) here t)
+
+-- a cell of a line stands in the page
+pub cell_stands : (old new : Page) (line : ℕ) (before after : List Cell) → AreLines old new line before after → (column : ℕ) (cell : Cell) → cell ≡ cell_at after column → Stands new line column cell
+cell_stands old new line before after lines column cell here = record {
+  here = ap (λ (l : List Cell). cell_at l column) lines.new_is ∙ sym here;
+  beside = λ left.
+      let next : column + 1 ≡ suc column = omega arith in
+      ap (λ (l : List Cell). unprotected (cell_at l (column + 1))) lines.new_is
+      ∙ ap (λ k. unprotected (cell_at after k)) next
+      ∙ lines.new_drawable.halves column (sym (ap (λ (z : Cell). is_left z.shape) here) ∙ left)
+      ∙ ap (λ (z : Cell). right_cell z.character z.rendition false) (sym here);
+}
 
 -- A LINE
 module _ (old new : Page) (rows : ℕ) (line : ℕ) (before after : List Cell) (lines : AreLines old new line before after) where

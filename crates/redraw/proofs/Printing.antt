@@ -17,7 +17,7 @@ use Rattle.terminal_model.specs.declared.state.Position.{Position}
 use Rattle.terminal_model.specs.Screen.{Page, Screen, IsSound}
 use Rattle.terminal_model.specs.Functions.{plain_sequence}
 use Rattle.terminal_model.specs.Table.{effect, acted_from, settled, with_state, printed, printed_as, placed, advanced, following, marked_at, drawn}
-use Rattle.terminal_model.specs.Drawing.{drawn_state, Holds, cell_of, has_room, mark_place, place_by, Differs}
+use Rattle.terminal_model.specs.Drawing.{drawn_state, StandsAt, cell_of, has_room, mark_place, place_by, Differs}
 use Rattle.terminal_model.proofs.Sound.{IsSound-effect}
 use Rattle.terminal_model.specs.Drawable.{IsGlyph}
 use Rattle.redraw.specs.declared.pen.Pen.{Pen}
@@ -181,12 +181,12 @@ module _ (rows columns : ℕ) (old new : Page) (pen : Pen) (x : Screen) (d : Dra
 
   -- what is printed takes a place where it stands, and where the old page differs
   pub printed_leads : (w c line column : ℕ) (y : Screen) → IsGlyph w c → effect x (Print c) ≡ y → place_by w (record { before = x; func = Print c }) ≡ Some (record { line = line; column = column })
-      → Holds (cell_at (line_at new line) column) c → Differs old new line column → Leads old new x (spelling (func_of (Glyph c))) y
+      → StandsAt w new (record { line = line; column = column }) c → Differs old new line column → Leads old new x (spelling (func_of (Glyph c))) y
   printed_leads w c line column y g is place stands differs =
       let there = ap (λ n. place_by n (record { before = x; func = Print c })) g.columns_are ∙ place in
       subst (Leads old new x (spelling (func_of (Glyph c)))) is
       (one_leads old new x (Glyph c) (utf8 rows columns pen x d) g.given
-      (record { character = c; place = record { line = line; column = column }; prints = (print_maps w c g, there); stands = rw g.stays stands })
+      (record { character = c; place = record { line = line; column = column }; prints = (print_maps w c g, there); stands = subst (λ n. StandsAt n new (record { line = line; column = column }) (drawn c)) (sym g.columns_are) (rw g.stays stands) })
       (record {
         character = c;
         place = record { line = line; column = column };
@@ -238,7 +238,7 @@ module _ (rows columns : ℕ) (old new : Page) (pen : Pen) (x : Screen) (d : Dra
     narrow_is : (c : ℕ) → IsGlyph 1 c → effect x (Print c) ≡ placed (narrow_cell c x.state.rendition x.state.is_protecting ∷ []) x
     narrow_is c g = print_is 1 c g ∙ rw (none_pending rows columns pen x d) refl
 
-    pub narrow_leads : (c : ℕ) → IsGlyph 1 c → Holds (cell_at (line_at new pen.line) pen.column) c → Differs old new pen.line pen.column
+    pub narrow_leads : (c : ℕ) → IsGlyph 1 c → StandsAt 1 new (record { line = pen.line; column = pen.column }) c → Differs old new pen.line pen.column
         → LeadsTo rows columns old new x (spelling (func_of (Glyph c))) (Inked rows columns pen (narrow_cell c x.state.rendition false) 1 x)
     narrow_leads c g stands differs =
         let s : State = x.state in
@@ -259,7 +259,7 @@ module _ (rows columns : ℕ) (old new : Page) (pen : Pen) (x : Screen) (d : Dra
         let some : eqb (x.state.column + 1) x.state.columns ≡ false = ne_eqb (x.state.column + 1) x.state.columns (λ e. absurd (omega (arith, d.column_is ch, d.columns_are))) in
         print_is 2 c g ∙ rw (none_pending rows columns pen x d, some, some) refl
 
-    pub wide_leads : (c : ℕ) → IsGlyph 2 c → pen.column + 2 ≤ columns → Holds (cell_at (line_at new pen.line) pen.column) c → Differs old new pen.line pen.column
+    pub wide_leads : (c : ℕ) → IsGlyph 2 c → pen.column + 2 ≤ columns → StandsAt 2 new (record { line = pen.line; column = pen.column }) c → Differs old new pen.line pen.column
         → LeadsTo rows columns old new x (spelling (func_of (Glyph c))) (Inked rows columns pen (left_cell c x.state.rendition false) 2 x)
     wide_leads c g room stands differs =
         let s : State = x.state in
@@ -331,7 +331,7 @@ module _ (rows columns : ℕ) (old new : Page) (pen : Pen) (cell : Cell) (n m : 
   mark_elsewhere : (l : ℕ) → (l ≡ pen.line → ⊥) → line_at page' l ≡ line_at y.page l
   mark_elsewhere l ne = get_or-set_other y.page pen.line l line' [] ne
 
-  pub mark_leads : has_room cell.marks ≡ true → Holds (cell_at (line_at new pen.line) pen.column) m → Differs old new pen.line pen.column
+  pub mark_leads : has_room cell.marks ≡ true → StandsAt 0 new there m → Differs old new pen.line pen.column
       → LeadsTo rows columns old new y (spelling (func_of (Glyph m))) (Inked rows columns pen (marked cell m) n x)
   mark_leads room stands differs =
       let d = (k.writes).drawing in

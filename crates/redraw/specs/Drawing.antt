@@ -108,6 +108,11 @@ pub record HasPage (rows columns : ℕ) (pen : Pen) (page : Page) (x : Screen) :
 abbrev pub row_of : Cell → ℕ → Row
 row_of cell at c = cond (c == at) (unprotected cell) (right_cell cell.character cell.rendition false)
 
+-- a cell stands at a place, and the right half beside a left one
+pub record Stands (page : Page) (line column : ℕ) (cell : Cell) : Type 0 where
+  pub here : cell_at (line_at page line) column ≡ cell
+  pub beside : is_left cell.shape ≡ true → unprotected (cell_at (line_at page line) (column + 1)) ≡ right_cell cell.character cell.rendition false
+
 -- the columns that a cell's character takes
 abbrev pub width_of : Shape → ℕ
 width_of Narrow = 1

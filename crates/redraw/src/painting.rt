@@ -31,17 +31,10 @@ fn blank_run(cells: &[Cell], from: usize) -> usize
     ensures blanks { (c : ℕ) → from ≤ c → c < from + result → cell_at cells.now c ≡ blank }
 {
     let mut end = from;
-    while end < cells.len() && cells[end].is_like(&Cell::BLANK) && !cells[end].is_protected {
+    while end < cells.len() && cells[end].is_blank() {
         end += 1;
     }
     end - from
-}
-
-fn nth(cells: &[Cell], column: usize) -> Cell
-    requires { column < length cells.now }
-    ensures { result ≡ cell_at cells.now column }
-{
-    cells[column]
 }
 
 /// Draws a line at a column where it differs, up to the column that it returns: the differing columns end
@@ -78,7 +71,7 @@ fn draw_piece(
         pen.erase_cells(line, column as u16, erased as u16, out)?;
         return Ok(column + erased);
     }
-    let cell = nth(after, column);
+    let cell = after[column];
     pen.put_cell(line, column as u16, cell, out)?;
     Ok(column + columns_of(cell) as usize)
 }

@@ -1,12 +1,11 @@
 //! What is known of a terminal's cursor and rendition while a frame is made.
 
 ghost use Rattle.std.specs.Prelude.{◌≡◌, ◌<◌, ◌≤◌, ◌+◌, ◌++◌, ℕ, false, Some, OnOk};
-ghost use Rattle.cells.specs.Line.{blank, cell_at, is_right};
-ghost use Rattle.cells.specs.Page.{line_at};
+ghost use Rattle.cells.specs.Line.{blank, is_right};
 ghost use Rattle.terminal_model.specs.Screen.{Page};
 ghost use Rattle.terminal_model.specs.Drawing.{Differs};
 ghost use Rattle.terminal_model.specs.Drawable.{IsDrawableCell};
-ghost use Rattle.redraw.specs.Drawing.{IsWay, Drawing, Takes, Keeps, Writes, row_of, width_of, glyph_bytes};
+ghost use Rattle.redraw.specs.Drawing.{IsWay, Drawing, Takes, Keeps, Writes, Stands, row_of, width_of, glyph_bytes};
 
 use crate::command::Command;
 use cells::{Cell, Marks, Rendition, Shape};
@@ -97,7 +96,7 @@ impl Pen {
     ) -> Result<(), AllocError>
         requires { (line < 9999) × (column < 9999) }
         ensures takes { OnOk result ((old new : Page) (rows columns : ℕ) → line < rows → rows < 9999 → column + width_of cell.shape ≤ columns → columns < 9999 →
-            IsDrawableCell cell → is_right cell.shape ≡ false → cell_at (line_at new line) column ≡ cell → Differs old new line column →
+            IsDrawableCell cell → is_right cell.shape ≡ false → Stands new line column cell → Differs old new line column →
             Takes old new (Drawing rows columns self.old) (Writes rows columns self.new line column (width_of cell.shape) (row_of cell column)) out.old.items out.new.items) }
     {
         self.aim(line, column, cell.rendition, out)?;

@@ -13,6 +13,32 @@ use view::View;
 
 const STEPS: usize = 1000;
 
+/// Draws the view into a terminal, and gives how many bytes that took.
+fn draw(
+    alloc: Global,
+    view: &View,
+    shadow: &mut Shadow,
+    terminal: &mut Emulator,
+) -> Result<usize, Fail>
+    requires { HasSize shadow.old.rows shadow.old.columns view.now }
+    ensures rows { OnOk result (shadow.new.rows ≡ shadow.old.rows) }
+    ensures columns { OnOk result (shadow.new.columns ≡ shadow.old.columns) }
+{
+    let mut bytes = Vec::new(alloc);
+    frame(alloc, shadow, view, &mut bytes)?;
+    read(terminal, alloc, &bytes)?;
+    Ok(bytes.len())
+}
+
+/// Draws the view into a terminal in some state.
+fn drawn_from_unknown(alloc: Global, view: &View, dice: &mut Dice) -> Result<Emulator, Fail>
+    requires { HasSize 10 24 view.now }
+{
+    let mut terminal = terminal_in_some_state(alloc, dice)?;
+    draw(alloc, view, &mut Shadow::unknown(ROWS, COLS), &mut terminal)?;
+    Ok(terminal)
+}
+
 /// Draws the view both ways, and looks at what the terminals show then.
 fn draw_both_ways(
     rt: &(impl Abort + AllocGlobal),
@@ -28,20 +54,14 @@ fn draw_both_ways(
     ensures rows { OnOk result (shadow.new.rows ≡ 10) }
     ensures columns { OnOk result (shadow.new.columns ≡ 24) }
 {
-    let alloc = rt.alloc();
     let is_needed = needs_draw(shadow, view);
-    let mut bytes = Vec::new(alloc);
-    frame(alloc, shadow, view, &mut bytes)?;
+    let count = draw(rt.alloc(), view, shadow, terminal)?;
     assert!(rt;
-        is_needed != bytes.is_empty(),
+        is_needed == (0 < count),
         "step {step}: a draw is needed or not"
     );
-    read(terminal, alloc, &bytes)?;
     assert!(rt; shows(terminal, view), "step {step}: from what was known");
-    let mut whole = Vec::new(alloc);
-    frame(alloc, &mut Shadow::unknown(ROWS, COLS), view, &mut whole)?;
-    let mut other = terminal_in_some_state(alloc, dice)?;
-    read(&mut other, alloc, &whole)?;
+    let other = drawn_from_unknown(rt.alloc(), view, dice)?;
     assert!(rt; shows(&other, view), "step {step}: from unknown");
     Ok(())
 }

@@ -18,7 +18,7 @@ use std::marker::Model;
 pub const REGIONS: usize = 16;
 
 /// The regions of a client's page, what they show, and which one has the focus.
-#[derive(Debug, Drop)]
+#[derive(Drop)]
 pub struct Layout {
     tree: Node,
     focus: usize,

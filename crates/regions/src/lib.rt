@@ -9,8 +9,6 @@ mod node;
 mod rect;
 mod rects;
 mod shown;
-#[cfg(test)]
-mod tests;
 mod way;
 
 pub use fault::RegionFault;

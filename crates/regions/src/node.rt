@@ -10,7 +10,7 @@ use std::alloc::{AllocError, Global};
 use std::mem;
 
 /// A region, or two halves.
-#[derive(Debug, Drop)]
+#[derive(Drop)]
 pub enum Node {
     Region,
     Split(Way, Box<Node>, Box<Node>),

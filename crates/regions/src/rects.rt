@@ -9,7 +9,7 @@ use std::alloc::{AllocError, Global};
 
 /// The boxes of a page's regions in the order of the splits, each with its caption in its last row; the
 /// separators between them; the place of the focused one among the boxes; and the status line.
-#[derive(Debug, Drop)]
+#[derive(Drop)]
 pub struct Rects {
     pub boxes: Vec<Rect>,
     pub separators: Vec<Rect>,

@@ -1,7 +1,7 @@
 //! The two ways to split a region.
 
 /// Where a region's second half goes.
-#[derive(Clone, Copy, Debug, PartialEq, Eq)]
+#[derive(Clone, Copy, PartialEq, Eq)]
 pub enum Way {
     /// Under the first half: GNU Screen's `split`.
     Below,

@@ -83,26 +83,26 @@ fn one_user(rt: HostRuntime) -> Result<(), Fail> {
 #[test]
 fn additions(rt: HostRuntime) -> Result<(), Fail> {
     let mut stage = Stage::new(rt.alloc(), Edition::Second)?;
-    let start = stage.acts.len();
+    stage.acts.clear();
     stage.play(Call::AddAll(Name::Zed, Name::Bob, Name::Yan))?;
     let zed = user(Name::Zed).ok_or("no name")?;
     let yan = user(Name::Yan).ok_or("no name")?;
     let bob = user(Name::Bob).ok_or("no name")?;
-    let acts = &stage.acts.as_slice()[start..];
-    assert_eq!(rt; acts.len(), 11);
-    assert_eq!(rt; acts.first().copied(), Some(Act::Known { user: zed }));
-    assert_eq!(rt; acts.get(1).copied(), Some(Act::Known { user: yan }));
-    for (place, user) in [zed, bob, yan].iter().enumerate() {
-        for (i, bit) in BITS.iter().enumerate() {
+    let mut acts = stage.acts.as_slice().iter();
+    assert_eq!(rt; acts.next().copied(), Some(Act::Known { user: zed }));
+    assert_eq!(rt; acts.next().copied(), Some(Act::Known { user: yan }));
+    for user in [zed, bob, yan] {
+        for bit in BITS {
             let set = Act::Set {
-                user: *user,
-                bit: *bit,
+                user,
+                bit,
                 object: Object::Command(CommandName::Kill),
                 value: true,
             };
-            assert_eq!(rt; acts.get(2 + 3 * place + i).copied(), Some(set));
+            assert_eq!(rt; acts.next().copied(), Some(set));
         }
     }
+    assert!(rt; acts.next().is_none());
     Ok(())
 }
 

@@ -1,6 +1,6 @@
 //! Scripts and words that aren't understood, and readers and writers that fail.
 
-use crate::play::play;
+use crate::play::{arguments, play};
 use session::simulate;
 use std::io::{Read, Write};
 use std::test::Fail;
@@ -132,27 +132,26 @@ impl Write for Full {
     }
 }
 
+const SCRIPT: &[u8] = b"open own 2 5 0 sh\n";
+
 #[test]
-fn failing_reads_and_writes_are_told(rt: HostRuntime) -> Result<(), Fail> {
-    let mut words = Vec::new(rt.alloc());
-    words.push(String::from_str(rt.alloc(), "muxsim")?)?;
-    words.push(String::from_str(rt.alloc(), "own")?)?;
-    let script = b"open own 2 5 0 sh\n";
+fn failing_reads_are_told(rt: HostRuntime) -> Result<(), Fail> {
+    let words = arguments(rt.alloc(), &["own"])?;
     let mut output = Vec::new(rt.alloc());
     let mut errors = Vec::new(rt.alloc());
-    let torn = Torn { bytes: script };
+    let torn = Torn { bytes: SCRIPT };
     let status = simulate(rt.alloc(), &words, torn, &mut output, &mut errors);
     assert_eq!(rt; status, 1);
     assert_eq!(rt; output.as_slice(), b"opened 0 0\n".as_slice());
     assert!(rt; errors.starts_with(b"muxsim: "));
-    errors.clear();
-    let status = simulate(
-        rt.alloc(),
-        &words,
-        script.as_slice(),
-        &mut Full,
-        &mut errors,
-    );
+    Ok(())
+}
+
+#[test]
+fn failing_writes_are_told(rt: HostRuntime) -> Result<(), Fail> {
+    let words = arguments(rt.alloc(), &["own"])?;
+    let mut errors = Vec::new(rt.alloc());
+    let status = simulate(rt.alloc(), &words, SCRIPT, &mut Full, &mut errors);
     assert_eq!(rt; status, 1);
     assert!(rt; errors.starts_with(b"muxsim: "));
     Ok(())

@@ -1,6 +1,6 @@
 //! Plays a script and judges what it prints.
 
-use cells::Marks;
+use cells::{Cell, Marks};
 use emulator::Emulator;
 use session::simulate;
 use std::alloc::{AllocError, Global};
@@ -36,13 +36,19 @@ const STATES: [&[u8]; 2] = [
     b"x\xE6\xBC\xA2y\x1b[2;3r\x1b[?1;5;6h\x1b[4;20h\x1b[1;4;7m\x1b7\x1b[?25l\x1b=\x1b)0\x0e\x1b%@\x1bPtext",
 ];
 
-/// Plays a script with these words behind the program's name.
-pub fn play(alloc: Global, words: &[&str], script: &[u8]) -> io::Result<Played> {
+/// The program's name, and these words behind it.
+pub fn arguments(alloc: Global, words: &[&str]) -> Result<Vec<String>, AllocError> {
     let mut owned = Vec::new(alloc);
     owned.push(String::from_str(alloc, "muxsim")?)?;
     for word in words {
         owned.push(String::from_str(alloc, word)?)?;
     }
+    Ok(owned)
+}
+
+/// Plays a script with these words behind the program's name.
+pub fn play(alloc: Global, words: &[&str], script: &[u8]) -> io::Result<Played> {
+    let owned = arguments(alloc, words)?;
     let mut output = Vec::new(alloc);
     let mut errors = Vec::new(alloc);
     let status = simulate(alloc, owned.as_slice(), script, &mut output, &mut errors);
@@ -96,51 +102,76 @@ fn is_draw(begin: &str, line: &str) -> bool {
     }
 }
 
-/// What a terminal in a state shows after these bytes, as `--show` prints it.
-fn shown_after(
+fn read(alloc: Global, terminal: &mut Emulator, bytes: &[u8]) -> Result<(), AllocError> {
+    let mut reports = Vec::new(alloc);
+    terminal
+        .feed_all(bytes, &mut reports)
+        .map_err(|_| AllocError)
+}
+
+/// A terminal that was in a state and has read these bytes.
+fn terminal_after(
     alloc: Global,
     (rows, cols): (usize, usize),
     state: &[u8],
     bytes: &[u8],
-) -> Result<String, AllocError> {
-    let mut reports = Vec::new(alloc);
-    let mut text = String::new(alloc);
-    let Ok(mut terminal) = Emulator::new(alloc, rows, cols, 0) else {
-        return Ok(text);
-    };
-    if terminal.feed_all(state, &mut reports).is_err()
-        || terminal.feed_all(bytes, &mut reports).is_err()
-    {
-        return Ok(text);
-    }
-    let page = terminal.page(0);
-    for line in 0..page.rows() {
-        text.push('|')?;
-        for cell in page.line(line) {
-            if cell.is_right() {
-                continue;
-            }
-            text.push(cell.character)?;
-            match cell.marks {
-                Marks::Bare => {}
-                Marks::One(mark) => text.push(mark)?,
-                Marks::Two(first, second) => {
-                    text.push(first)?;
-                    text.push(second)?;
-                }
+) -> Result<Emulator, AllocError> {
+    let mut terminal = Emulator::new(alloc, rows, cols, 0).map_err(|_| AllocError)?;
+    read(alloc, &mut terminal, state)?;
+    read(alloc, &mut terminal, bytes)?;
+    Ok(terminal)
+}
+
+/// Appends a line, as `--show` prints it.
+fn put_line(cells: &[Cell], text: &mut String) -> Result<(), AllocError> {
+    text.push('|')?;
+    for cell in cells {
+        if cell.is_right() {
+            continue;
+        }
+        text.push(cell.character)?;
+        match cell.marks {
+            Marks::Bare => {}
+            Marks::One(mark) => text.push(mark)?,
+            Marks::Two(first, second) => {
+                text.push(first)?;
+                text.push(second)?;
             }
         }
-        text.push_str("|\n")?;
     }
-    if terminal.modes().shows_cursor {
-        let (line, column) = terminal.cursor();
-        let line = line.saturating_add(1);
-        let column = column.saturating_add(1);
-        writeln!(&mut text, "cursor {line} {column}").map_err(|_| AllocError)?;
-    } else {
-        text.push_str("cursor hidden\n")?;
+    text.push_str("|\n")
+}
+
+/// Appends where the cursor is, as `--show` prints it.
+fn put_cursor(terminal: &Emulator, text: &mut String) -> Result<(), AllocError> {
+    if !terminal.modes().shows_cursor {
+        return text.push_str("cursor hidden\n");
     }
+    let (line, column) = terminal.cursor();
+    let (line, column) = (line.saturating_add(1), column.saturating_add(1));
+    writeln!(text, "cursor {line} {column}").map_err(|_| AllocError)
+}
+
+/// What a terminal shows, as `--show` prints it.
+fn shown(alloc: Global, terminal: &Emulator) -> Result<String, AllocError> {
+    let mut text = String::new(alloc);
+    let page = terminal.page(0);
+    for line in 0..page.rows() {
+        put_line(page.line(line), &mut text)?;
+    }
+    put_cursor(terminal, &mut text)?;
     Ok(text)
+}
+
+/// What a terminal in a state shows after these bytes.
+fn shown_after(
+    alloc: Global,
+    size: (usize, usize),
+    state: &[u8],
+    bytes: &[u8],
+) -> Result<String, AllocError> {
+    let terminal = terminal_after(alloc, size, state, bytes)?;
+    shown(alloc, &terminal)
 }
 
 /// Appends the bytes that a printed text stands for.

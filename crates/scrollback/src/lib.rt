@@ -4,6 +4,3 @@
 mod ring;
 
 pub use ring::{NoMemory, Ring};
-
-#[cfg(test)]
-mod tests;

@@ -11,7 +11,6 @@ use cells::{Cell, Line};
 use circular_buffer::HeapCircularBuffer;
 use std::alloc::{AllocError, Global};
 use std::marker::Model;
-use std::mem;
 use thiserror::Error;
 
 /// An allocation was refused.
@@ -127,23 +126,14 @@ impl Ring {
         ensures stands { Continues self.old self.new line }
         ensures width { length result ≡ self.old.columns }
     {
-        let mut spare = line;
-        self.swap_in(&mut spare);
-        spare
-    }
-
-    /// Takes in a line of its width, and leaves one of that width in its place. No memory is taken.
-    pub fn swap_in(&mut self, line: &mut Line)
-        requires { length line.old ≡ self.old.columns }
-        ensures kept { self.new ≡ taken_in self.old line.old }
-        ensures stands { Continues self.old self.new line.old }
-        ensures width { length line.new ≡ self.old.columns }
-    {
         let keep = self.lines.capacity();
-        if let Some(mut spare) = self.lines.pop_front() {
-            mem::swap(line, &mut spare);
-            let _ = self.lines.push_back(spare);
-            self.count = (self.count + 1).min(keep);
+        match self.lines.pop_front() {
+            Some(spare) => {
+                let _ = self.lines.push_back(line);
+                self.count = (self.count + 1).min(keep);
+                spare
+            }
+            None => line,
         }
     }
 

@@ -8,7 +8,7 @@ use acl::UserId;
 
 /// An event. It lends its bytes and its title. Windows and clients are named by serial numbers, each counted
 /// from 0 in the order in which they came; sizes are lines by columns.
-#[derive(Clone, Copy, Debug)]
+#[derive(Clone, Copy)]
 pub enum Event<'a> {
     /// A client of a user, whose terminal has 4 to 200 lines by 20 to 300 columns.
     Attach {
@@ -42,7 +42,7 @@ pub enum Event<'a> {
 }
 
 /// What a step does outside the session.
-#[derive(Debug, Drop)]
+#[derive(Drop)]
 pub enum Effect {
     /// Bytes for a window's program: what was typed into it, or reports of its own screen.
     Input(u32, Bytes),
@@ -53,7 +53,7 @@ pub enum Effect {
 }
 
 /// What a step did that wasn't refused.
-#[derive(Debug, Drop)]
+#[derive(Drop)]
 pub struct Done {
     /// How many bytes of a Keys event were read; 0 for others.
     pub taken: usize,
@@ -69,7 +69,7 @@ pub struct Done {
 pub type Reply = Result<Done, Refusal>;
 
 /// How far a run came.
-#[derive(Clone, Copy, Debug, PartialEq, Eq)]
+#[derive(Clone, Copy, PartialEq, Eq)]
 pub struct Ran {
     /// How many events were wholly taken.
     pub taken: usize,

@@ -7,7 +7,7 @@ const COMMAND_KEY: u8 = 0x01;
 
 /// Reads the keys of a client, however they are cut. The command key and `a` type the command key; any other
 /// key behind the command key is dropped.
-#[derive(Clone, Copy, Debug, PartialEq, Eq)]
+#[derive(Clone, Copy, PartialEq, Eq)]
 pub struct KeyReader {
     is_after_command_key: bool,
 }

@@ -7,7 +7,7 @@ use std::alloc::{AllocError, Global};
 use std::marker::Model;
 
 /// The acts of a step, in their order. Each step that isn't refused for want of memory makes them anew.
-#[derive(Debug, Drop)]
+#[derive(Drop)]
 pub struct Notes {
     acts: Vec<Act>,
 }

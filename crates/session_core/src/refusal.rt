@@ -6,7 +6,7 @@ ghost use Rattle.session_core.specs.declared.refusal.Refusal.TheVariants.{NoMemo
 use std::alloc::{AllocError, AllocFailed};
 
 /// Why a step was refused. Its text names the cause.
-#[derive(Clone, Copy, Debug, PartialEq, Eq)]
+#[derive(Clone, Copy, PartialEq, Eq)]
 pub enum Refusal {
     /// The user isn't known.
     UnknownUser,
@@ -19,7 +19,7 @@ pub enum Refusal {
 }
 
 /// Why the table of windows doesn't change.
-#[derive(Clone, Copy, Debug, PartialEq, Eq)]
+#[derive(Clone, Copy, PartialEq, Eq)]
 pub enum WindowsFault {
     /// There are as many windows as there may be.
     Full = 1,

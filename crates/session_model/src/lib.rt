@@ -9,6 +9,7 @@ mod event;
 mod message;
 mod needs;
 mod refusal;
+mod text;
 mod verdict;
 
 pub use bytes::Bytes;
@@ -17,4 +18,5 @@ pub use event::{Done, Effect, Event, Ran, Reason, Reply};
 pub use message::Message;
 pub use needs::Needs;
 pub use refusal::{Denied, EntryDenied, LockDenied, Refusal, WindowsFault};
+pub use text::push_decimal;
 pub use verdict::Verdict;

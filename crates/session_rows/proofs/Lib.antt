@@ -1,3 +1,3 @@
-pub mod EntriesComputed
-pub mod LockingComputed
-pub mod OpeningComputed
+pub mod Lending
+pub mod Matching
+pub mod Serials

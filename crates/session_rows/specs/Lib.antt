@@ -1,4 +1,2 @@
-pub mod Setup
-pub mod Entries
-pub mod Locking
-pub mod Opening
+pub mod Lending
+pub mod Matched

@@ -49,7 +49,7 @@ placed-over : (fresh : List Cell) (x : Screen) → IsSound x → x.state.modes.i
 placed-over fresh x h i pairs some room = record {
   page = λ line column. over-at x.state.rows x.state.columns x.state.line x.state.column (cond x.state.modes.inserts x.state.column (x.state.column + length fresh)) fresh x.page
       h.sized h.cursor.0 pairs some room (rw i refl) line column;
-  state = refl;
+  rest = refl;
 }
 
 pub narrow-over : (x : Screen) (c : ℕ) → IsPlain x → is_graphic (Code c) ≡ true → columns_of c ≡ 1 → PutsOver x (narrow_at x (drawn c)) (advanced x.state 1) (effect x (Print c))
@@ -68,7 +68,7 @@ pub mark-joins : (x : Screen) (c : ℕ) (p : Position) → IsPlain x → is_grap
 mark-joins x c p h g w j l k =
     let put : PutsMark x p (drawn c) (marked_at (Some p) (drawn c) x) = record {
       page = λ line column. marked-at x.state.rows x.state.columns p.line p.column (drawn c) x.page h.sound.sized l k line column;
-      state = refl;
+      rest = refl;
     } in
     subst (PutsMark x p (drawn c)) (sym (prints-mark x c h g w ∙ ap (λ q. marked_at q (drawn c) x) j)) put
 
@@ -83,7 +83,7 @@ erased-over x count h some room =
           ap (λ k. place (page_from (edited x.state.line (spliced x.state.column (replicate k blank) (x.state.column + count) x.state.columns)) x.page) line column) same
           ∙ over-at x.state.rows x.state.columns x.state.line x.state.column (x.state.column + count) (replicate count blank) x.page
           h.sized h.cursor.0 (IsPaired-blanks count) (rw n some) (rw n room) (rw n refl) line column;
-      state = refl;
+      rest = refl;
     }
 
 -- ECH

@@ -1,6 +1,5 @@
--- The scrollback, first frames, acts behind each other, and the functions that frames are made of.
-use Rattle.std.proofs.Common.{◌≡◌, ℕ, zero, suc, ◌<◌, Bool, true, false, List, [], ◌∷◌, ◌++◌, length, take, reverse, Option, Some, None, refl, sym, ap, ◌∙◌, subst, arith, append_assoc, append-nil}
-use Rattle.std.proofs.lemmas.List.{reverse-append}
+-- First frames, acts behind each other, and the functions that frames are made of.
+use Rattle.std.proofs.Common.{◌≡◌, ℕ, ◌<◌, Bool, true, false, List, [], ◌∷◌, ◌++◌, length, Option, Some, None, refl, sym, ap, ◌∙◌, subst, arith, append-nil}
 use Rattle.std.proofs.lemmas.Grind.{flat_map-append}
 use Rattle.std.specs.Prelude.{is_some, option_to_list, ◌&&◌}
 use Rattle.std.specs.List.{AllByRecursion, flat_map}
@@ -8,44 +7,13 @@ use Rattle.control_parser.specs.Spelling.{spelling}
 use Rattle.control_parser.specs.declared.func.Func.TheVariants.{Esc, Csi}
 use Rattle.control_parser.specs.declared.func.Func.{Func}
 use Rattle.terminal_model.specs.declared.action.Action.{Action}
-use Rattle.terminal_model.specs.Screen.{Page, Screen, IsSound, all_taken_in}
+use Rattle.terminal_model.specs.Screen.{Page, Screen, IsSound}
 use Rattle.terminal_model.specs.Functions.{plain_sequence, private_sequence, rendered, private_mode_set}
 use Rattle.terminal_model.specs.Reading.{Act, ready}
 use Rattle.terminal_model.specs.Shows.{blank_view}
 use Rattle.terminal_model.specs.Drawing.{Draws, IsDiscreet, IsSpare, IsListed, IsDrawn, AreSpelled, frame_start}
 use Rattle.terminal_model.specs.Places.{IsPlain, mode_final, keypad_final}
 use Rattle.terminal_model.proofs.Sound.{IsPage-blank, tabs-start}
-
--- the last lines of all that were taken in
-
-take-again : {X : Type 0} → (n : ℕ) (xs : List X) → take n (take n xs) ≡ take n xs
-take-again zero xs = refl
-take-again (suc n) [] = refl
-take-again (suc n) (x ∷ xs) = ap (λ l. x ∷ l) (take-again n xs)
-
-take-shorter : {X : Type 0} → (n : ℕ) (xs : List X) → take n (take (suc n) xs) ≡ take n xs
-take-shorter zero xs = refl
-take-shorter (suc n) [] = refl
-take-shorter (suc n) (x ∷ xs) = ap (λ l. x ∷ l) (take-shorter n xs)
-
-one_more : {X : Type 0} → (n : ℕ) (x : X) (xs : List X) → take n (x ∷ take n xs) ≡ take n (x ∷ xs)
-one_more zero x xs = refl
-one_more (suc n) x xs = ap (λ l. x ∷ l) (take-shorter n xs)
-
-all-taken : (keep : ℕ) (lines old : Page) → all_taken_in keep lines (take keep old) ≡ take keep (reverse lines ++ old)
-all-taken keep [] old = refl
-all-taken keep (line ∷ later) old =
-    ap (all_taken_in keep later) (one_more keep line old)
-    ∙ all-taken keep later (line ∷ old)
-    ∙ ap (take keep) (sym (append_assoc (reverse later) (line ∷ []) old))
-    ∙ ap (λ l. take keep (l ++ old)) (sym (reverse-append (line ∷ []) later))
-
-take-nil : {X : Type 0} → (n : ℕ) → take {A = X} n [] ≡ []
-take-nil zero = refl
-take-nil (suc n) = refl
-
-pub last-taken : (keep : ℕ) (lines : Page) → all_taken_in keep lines [] ≡ take keep (reverse lines)
-last-taken keep lines = ap (all_taken_in keep lines) (sym (take-nil keep)) ∙ all-taken keep lines [] ∙ ap (take keep) (append-nil (reverse lines))
 
 -- what a first frame begins with
 
@@ -92,33 +60,33 @@ spelled-one x f = sym (append-nil (spelling f))
 
 -- listed functions
 
-pub cursor-listed : (line column : ℕ) → IsListed (Csi None (line ∷ column ∷ []) [] 0x48)
+pub cursor-listed : (rows line column : ℕ) → IsListed rows (Csi None (line ∷ column ∷ []) [] 0x48)
 unfolding plain_sequence
-cursor-listed line column = record { acts = omega arith; named = refl }
+cursor-listed rows line column = record { acts = omega arith; named = refl; in_order = refl }
 
-pub cells-listed : (n : ℕ) → IsListed (Csi None (n ∷ []) [] 0x58)
+pub cells-listed : (rows n : ℕ) → IsListed rows (Csi None (n ∷ []) [] 0x58)
 unfolding plain_sequence
-cells-listed n = record { acts = omega arith; named = refl }
+cells-listed rows n = record { acts = omega arith; named = refl; in_order = refl }
 
-pub line-listed : IsListed (Csi None (0 ∷ []) [] 0x4B)
+pub line-listed : (rows : ℕ) → IsListed rows (Csi None (0 ∷ []) [] 0x4B)
 unfolding plain_sequence
-line-listed = record { acts = omega arith; named = refl }
+line-listed rows = record { acts = omega arith; named = refl; in_order = refl }
 
 some-acts : (o : Option Action) (a : Action) → o ≡ Some a → 0 < length (option_to_list o ++ [])
 some-acts o a h = subst (λ (v : Option Action). 0 < length (option_to_list v ++ [])) (sym h) (omega arith)
 
-some-named : (o : Option Action) (a : Action) → o ≡ Some a → (is_some o && true) ≡ true
-some-named o a h = ap (λ (v : Option Action). is_some v && true) h
+some-named : (o : Option Action) (a : Action) → o ≡ Some a → (is_some o && true && true) ≡ true
+some-named o a h = ap (λ (v : Option Action). is_some v && true && true) h
 
-pub rendered-listed : (n : ℕ) (a : Action) → rendered n ≡ Some a → IsListed (Csi None (n ∷ []) [] 0x6D)
+pub rendered-listed : (rows n : ℕ) (a : Action) → rendered n ≡ Some a → IsListed rows (Csi None (n ∷ []) [] 0x6D)
 unfolding plain_sequence
-rendered-listed n a h = record { acts = some-acts (rendered n) a h; named = some-named (rendered n) a h }
+rendered-listed rows n a h = record { acts = some-acts (rendered n) a h; named = some-named (rendered n) a h; in_order = refl }
 
-pub mode-listed : (on : Bool) (n : ℕ) (a : Action) → private_mode_set on n ≡ Some a → IsListed (Csi (Some 0x3F) (n ∷ []) [] (mode_final on))
+pub mode-listed : (rows : ℕ) (on : Bool) (n : ℕ) (a : Action) → private_mode_set on n ≡ Some a → IsListed rows (Csi (Some 0x3F) (n ∷ []) [] (mode_final on))
 unfolding private_sequence
-mode-listed true n a h = record { acts = some-acts (private_mode_set true n) a h; named = some-named (private_mode_set true n) a h }
-mode-listed false n a h = record { acts = some-acts (private_mode_set false n) a h; named = some-named (private_mode_set false n) a h }
+mode-listed rows true n a h = record { acts = some-acts (private_mode_set true n) a h; named = some-named (private_mode_set true n) a h; in_order = refl }
+mode-listed rows false n a h = record { acts = some-acts (private_mode_set false n) a h; named = some-named (private_mode_set false n) a h; in_order = refl }
 
-pub keypad-listed : (on : Bool) → IsListed (Esc [] (keypad_final on))
-keypad-listed true = record { acts = omega arith; named = refl }
-keypad-listed false = record { acts = omega arith; named = refl }
+pub keypad-listed : (rows : ℕ) (on : Bool) → IsListed rows (Esc [] (keypad_final on))
+keypad-listed rows true = record { acts = omega arith; named = refl; in_order = refl }
+keypad-listed rows false = record { acts = omega arith; named = refl; in_order = refl }

@@ -13,6 +13,9 @@ pub mod DrawableTerminals
 pub mod Places
 pub mod Frames
 pub mod Shown
+pub mod DrawnRows
+pub mod Leaving
+pub mod WholeReading
 pub mod Further
 pub mod Renditions
 pub mod Plain

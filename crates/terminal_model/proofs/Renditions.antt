@@ -35,27 +35,27 @@ rendition-made x false false false false = refl
 pub rendition-is : (x : Screen) (r : Rendition) → effect x (Csi None (rendition_values r) [] 0x6D) ≡ with_state x (apart (record x.state { rendition = r }))
 rendition-is x r = rendition-made x r.is_bold r.is_underlined r.is_blinking r.is_reversed
 
-rendition-listed : (b u k v : Bool) → IsListed (Csi None (rendition_values (record { is_bold = b; is_underlined = u; is_blinking = k; is_reversed = v })) [] 0x6D)
+rendition-listed : (rows : ℕ) (b u k v : Bool) → IsListed rows (Csi None (rendition_values (record { is_bold = b; is_underlined = u; is_blinking = k; is_reversed = v })) [] 0x6D)
 unfolding plain_sequence
-rendition-listed true true true true = record { acts = omega arith; named = refl }
-rendition-listed true true true false = record { acts = omega arith; named = refl }
-rendition-listed true true false true = record { acts = omega arith; named = refl }
-rendition-listed true true false false = record { acts = omega arith; named = refl }
-rendition-listed true false true true = record { acts = omega arith; named = refl }
-rendition-listed true false true false = record { acts = omega arith; named = refl }
-rendition-listed true false false true = record { acts = omega arith; named = refl }
-rendition-listed true false false false = record { acts = omega arith; named = refl }
-rendition-listed false true true true = record { acts = omega arith; named = refl }
-rendition-listed false true true false = record { acts = omega arith; named = refl }
-rendition-listed false true false true = record { acts = omega arith; named = refl }
-rendition-listed false true false false = record { acts = omega arith; named = refl }
-rendition-listed false false true true = record { acts = omega arith; named = refl }
-rendition-listed false false true false = record { acts = omega arith; named = refl }
-rendition-listed false false false true = record { acts = omega arith; named = refl }
-rendition-listed false false false false = record { acts = omega arith; named = refl }
+rendition-listed rows true true true true = record { acts = omega arith; named = refl; in_order = refl }
+rendition-listed rows true true true false = record { acts = omega arith; named = refl; in_order = refl }
+rendition-listed rows true true false true = record { acts = omega arith; named = refl; in_order = refl }
+rendition-listed rows true true false false = record { acts = omega arith; named = refl; in_order = refl }
+rendition-listed rows true false true true = record { acts = omega arith; named = refl; in_order = refl }
+rendition-listed rows true false true false = record { acts = omega arith; named = refl; in_order = refl }
+rendition-listed rows true false false true = record { acts = omega arith; named = refl; in_order = refl }
+rendition-listed rows true false false false = record { acts = omega arith; named = refl; in_order = refl }
+rendition-listed rows false true true true = record { acts = omega arith; named = refl; in_order = refl }
+rendition-listed rows false true true false = record { acts = omega arith; named = refl; in_order = refl }
+rendition-listed rows false true false true = record { acts = omega arith; named = refl; in_order = refl }
+rendition-listed rows false true false false = record { acts = omega arith; named = refl; in_order = refl }
+rendition-listed rows false false true true = record { acts = omega arith; named = refl; in_order = refl }
+rendition-listed rows false false true false = record { acts = omega arith; named = refl; in_order = refl }
+rendition-listed rows false false false true = record { acts = omega arith; named = refl; in_order = refl }
+rendition-listed rows false false false false = record { acts = omega arith; named = refl; in_order = refl }
 
-pub values-listed : (r : Rendition) → IsListed (Csi None (rendition_values r) [] 0x6D)
-values-listed r = rendition-listed r.is_bold r.is_underlined r.is_blinking r.is_reversed
+pub values-listed : (rows : ℕ) (r : Rendition) → IsListed rows (Csi None (rendition_values r) [] 0x6D)
+values-listed rows r = rendition-listed rows r.is_bold r.is_underlined r.is_blinking r.is_reversed
 
 -- a value of SGR answers nothing
 record IsRendering (o : Option Action) : Type 0 where

@@ -15,7 +15,8 @@ use Rattle.terminal_model.specs.Writing.{Output, writes_all}
 use Rattle.control_parser.specs.Spelling.{decimal}
 use Rattle.terminal_model.specs.Reading.{ready}
 use Rattle.terminal_model.specs.Screen.{blank_page, starting}
-use Rattle.terminal_model.specs.Rows.{fresh_reads, letters, protected_letters, wide, seen, shown, csi, kanji, new_line, shown_keeping}
+use Rattle.terminal_model.specs.Rows.{fresh_reads, letters, protected_letters, wide, seen, shown, csi, kanji, new_line, shown_keeping, narrowed}
+use Rattle.terminal_model.specs.Scrollback.{all_left}
 
 pub fresh : shown 24 80 [] ≡ record { page = blank_page 24 80; line = 0; column = 0 }
 unfolding unicode_width cut piece mapped character_at supplement fields controls text begun_by function_piece functions_behind decimal plain_sequence private_sequence columns_of drawn acted_from resized act act_all read_unit read_units read_byte reads writes_all
@@ -136,3 +137,11 @@ beginning_broken = refl
 pub smaller : seen (resized 2 4 (fresh_reads 3 6 3 (codes "abc" ++ kanji ++ codes "d" ++ new_line ++ codes "xy")).terminal.screen) ≡ record { page = letters (codes "abc ") ∷ letters (codes "xy  ") ∷ []; line = 1; column = 2 }
 unfolding unicode_width cut piece mapped character_at supplement fields controls text begun_by function_piece functions_behind decimal plain_sequence private_sequence columns_of drawn acted_from resized act act_all read_unit read_units read_byte reads writes_all
 smaller = refl
+
+pub scrollback_narrowed : (writes_all (ready (starting 2 5 1)) narrowed).terminal.screen.kept ≡ letters (codes "fg ") ∷ []
+unfolding unicode_width cut piece mapped character_at supplement fields controls text begun_by function_piece functions_behind decimal plain_sequence private_sequence columns_of drawn acted_from resized act act_all read_unit read_units read_byte reads writes_all
+scrollback_narrowed = refl
+
+pub lines_that_left : all_left [] (ready (starting 2 5 1)) narrowed ≡ letters (codes "abc") ∷ letters (codes "fg ") ∷ []
+unfolding unicode_width cut piece mapped character_at supplement fields controls text begun_by function_piece functions_behind decimal plain_sequence private_sequence columns_of drawn acted_from resized act act_all read_unit read_units read_byte reads writes_all
+lines_that_left = refl

@@ -1,10 +1,12 @@
 -- What a frame may hold, and what is known of a terminal that has read it.
-use Rattle.std.specs.Prelude.{◌≡◌, ℕ, zero, suc, ◌+◌, ◌<◌, ◌⊎◌, Bool, true, false, if◌then◌else◌, ◌==◌, ◌&&◌, nat_le, max, List, [], ◌∷◌, length, Option, Some, None, is_some, MatchOption}
+use Rattle.std.specs.Prelude.{◌≡◌, ℕ, zero, suc, ◌+◌, ◌-◌, ◌<◌, ◌⊎◌, Bool, true, false, if◌then◌else◌, ◌==◌, ◌&&◌, ◌||◌, not, nat_lt, nat_le, max, List, [], ◌∷◌, length, Option, Some, None, is_some, MatchOption}
 use Rattle.std.specs.List.{AllByRecursion, flat_map, list_all}
 use Rattle.control_parser.specs.Spelling.{spelling}
 use Rattle.charsets.specs.declared.unit.Unit.{Unit}
 use Rattle.charsets.specs.declared.unit.Unit.TheVariants as units
 use Rattle.charsets.specs.Shifts.{mapped}
+use Rattle.cells.specs.declared.cell.Shape.{Shape}
+use Rattle.cells.specs.declared.cell.Shape.TheVariants.{Narrow, Left, Right}
 use Rattle.cells.specs.declared.cell.Marks.{Marks}
 use Rattle.cells.specs.declared.cell.Marks.TheVariants.{Bare, One, Two}
 use Rattle.cells.specs.declared.cell.Cell.{Cell}
@@ -15,8 +17,8 @@ use Rattle.control_parser.specs.declared.func.Func.TheVariants.{Print, High, Csi
 use Rattle.terminal_model.specs.declared.state.Position.{Position}
 use Rattle.terminal_model.specs.declared.state.State.{State}
 use Rattle.terminal_model.specs.Screen.{Page, Screen, starting_modes, starting_state, starting_tabs, blank_page}
-use Rattle.terminal_model.specs.Functions.{actions_of, rendered, mode_set, private_mode_set}
-use Rattle.terminal_model.specs.Table.{effect, columns_of, drawn}
+use Rattle.terminal_model.specs.Functions.{actions_of, rendered, mode_set, private_mode_set, first, second, last_line}
+use Rattle.terminal_model.specs.Table.{effect, bottom_of, columns_of, drawn}
 use Rattle.terminal_model.specs.Reading.{Terminal, ready, Act}
 use Rattle.terminal_model.specs.Shows.{View, seen_at, Shows, IsOfSize}
 
@@ -38,6 +40,14 @@ frame_start x =
 abbrev pub most_params : ℕ → ℕ
 most_params last = if last == 0x48 then 2 else (if last == 0x66 then 2 else (if last == 0x72 then 2 else 1))
 
+-- DECSTR, CSI ! p, has none: one that is absent is read as 0
+abbrev pub has_no_params : List ℕ → ℕ → Bool
+has_no_params [] last = false
+has_no_params (intermediate ∷ more) last = intermediate == 0x21 && last == 0x70
+
+abbrev pub is_absent : ℕ → Bool
+is_absent n = n == 0
+
 -- the meaning of each value of SGR, SM, RM, DECSM and DECRM
 abbrev pub meaning_of : Option ℕ → List ℕ → ℕ → Option (ℕ → Bool)
 meaning_of None [] last =
@@ -57,13 +67,20 @@ values_named (Some is_named) params last = list_all is_named params
 values_named None params last = nat_le (length params) (most_params last)
 
 abbrev pub are_values_named : Func → Bool
-are_values_named (Csi mark params intermediates last) = values_named (meaning_of mark intermediates last) params last
+are_values_named (Csi mark params intermediates last) =
+    values_named (meaning_of mark intermediates last) params last && (not (has_no_params intermediates last) || list_all is_absent params)
 are_values_named f = true
 
--- a function that the screen table lists, all its values being named
-pub record IsListed (f : Func) : Type 0 where
+-- On a page of so many lines DECSTBM isn't ignored: its margins have two lines or more.
+abbrev pub are_margins_in_order : ℕ → Func → Bool
+are_margins_in_order rows (Csi None params [] last) = not (last == 0x72) || nat_lt (first params - 1) (bottom_of rows (last_line (second params)))
+are_margins_in_order rows f = true
+
+-- a function that the screen table lists, all its values being named, and that its row doesn't ignore on a page of so many lines
+pub record IsListed (rows : ℕ) (f : Func) : Type 0 where
   pub acts : 0 < length (actions_of f)
   pub named : are_values_named f ≡ true
+  pub in_order : are_margins_in_order rows f ≡ true
 
 -- the unit that a function prints
 abbrev pub unit_of : Func → Option Unit
@@ -71,14 +88,16 @@ unit_of (Print c) = Some (units.Code c)
 unit_of (High b) = Some (units.High b)
 unit_of f = None
 
--- the character stands in the cell, or is one of its marks
+-- the character is one of the marks
 abbrev pub HasMark : Marks → ℕ → Type 0
 HasMark Bare c = ⊥
 HasMark (One a) c = a ≡ c
 HasMark (Two a b) c = (a ≡ c) ⊎ (b ≡ c)
 
-abbrev pub Holds : Cell → ℕ → Type 0
-Holds cell c = (cell.character ≡ c) ⊎ HasMark cell.marks c
+-- the cell has this character, or this half of it
+pub record HasPart (shape : Shape) (c : ℕ) (cell : Cell) : Type 0 where
+  pub shape_is : cell.shape ≡ shape
+  pub character_is : cell.character ≡ c
 
 abbrev pub has_room : Marks → Bool
 has_room (Two a b) = false
@@ -86,6 +105,13 @@ has_room marks = true
 
 abbrev pub cell_of : Page → Position → Cell
 cell_of page p = cell_at (line_at page p.line) p.column
+
+-- A character of so many columns stands at a place: a mark on its cell, one of width 1 in it, and of a wide one the left half in
+-- it and the right half beside it.
+abbrev pub StandsAt : ℕ → Page → Position → ℕ → Type 0
+StandsAt zero page p c = HasMark (cell_of page p).marks c
+StandsAt (suc zero) page p c = HasPart Narrow c (cell_of page p)
+StandsAt (suc (suc more)) page p c = HasPart Left c (cell_of page p) × HasPart Right c (cell_of page (record p { column = p.column + 1 }))
 
 -- the place where a mark joins a cell
 abbrev pub mark_place : Page → Option Position → Option Position
@@ -107,10 +133,10 @@ pub record PrintsOf (page : Page) (a : Act) : Type 0 where
   pub character : ℕ
   pub place : Position
   pub prints : Prints a character place
-  pub stands : Holds (cell_of page place) (drawn character)
+  pub stands : StandsAt (columns_of character) page place (drawn character)
 
 abbrev pub IsDiscreet : Page → Act → Type 0
-IsDiscreet page a = MatchOption (unit_of a.func) (IsListed a.func) (λ u. PrintsOf page a)
+IsDiscreet page a = MatchOption (unit_of a.func) (IsListed a.before.state.rows a.func) (λ u. PrintsOf page a)
 
 -- SPARE: a character that is printed takes some place at which the old page differs.
 abbrev pub Differs : Page → Page → ℕ → ℕ → Type 0

@@ -4,6 +4,8 @@ pub mod Table
 pub mod Reports
 pub mod Reading
 pub mod Writing
+pub mod Scrollback
+pub mod Whole
 pub mod Shows
 pub mod Drawing
 pub mod Drawable

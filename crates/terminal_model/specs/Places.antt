@@ -48,15 +48,15 @@ narrow_at x c = narrow_cell c x.state.rendition x.state.is_protecting ∷ []
 abbrev pub wide_at : Screen → ℕ → List Cell
 wide_at x c = left_cell c x.state.rendition x.state.is_protecting ∷ right_cell c x.state.rendition x.state.is_protecting ∷ []
 
--- new cells were put at the cursor, and the state is this one
+-- new cells were put at the cursor, the state is this one, and all else stayed
 pub record PutsOver (x : Screen) (fresh : List Cell) (s : State) (y : Screen) : Type 0 where
   pub page : (line column : ℕ) → place y.page line column ≡ over_cursor fresh x line column
-  pub state : y.state ≡ s
+  pub rest : y ≡ record x { state = s; page = y.page }
 
 -- a mark joined the cell of a place, and nothing else changed
 pub record PutsMark (x : Screen) (p : Position) (mark : ℕ) (y : Screen) : Type 0 where
   pub page : (line column : ℕ) → place y.page line column ≡ with_mark p.line p.column mark x.page line column
-  pub state : y.state ≡ x.state
+  pub rest : y ≡ record x { page = y.page }
 
 -- the final byte of DECSM and DECRM, of DECKPAM and DECKPNM
 abbrev pub mode_final : Bool → ℕ

@@ -1,9 +1,10 @@
 -- Worked rows: what a fresh window shows when it has read some bytes.
-use Rattle.std.specs.Prelude.{ℕ, true, false, List, [], ◌∷◌, map}
+use Rattle.std.specs.Prelude.{ℕ, true, false, List, [], ◌∷◌, ◌++◌, map, codes}
 use Rattle.cells.specs.declared.cell.Cell.{Cell}
 use Rattle.cells.specs.Line.{plain, narrow_cell, left_cell, right_cell}
-use Rattle.terminal_model.specs.Screen.{Page, Screen, starting}
+use Rattle.terminal_model.specs.Screen.{Page, Screen, blank_page, starting}
 use Rattle.terminal_model.specs.Reading.{ready, Read, reads}
+use Rattle.terminal_model.specs.Writing.{Writing, Output, Size}
 
 abbrev pub fresh_reads : ℕ → ℕ → ℕ → List ℕ → Read
 fresh_reads rows columns keep bytes = reads (ready (starting rows columns keep)) bytes
@@ -47,3 +48,15 @@ kanji = 0xE6 ∷ 0xBC ∷ 0xA2 ∷ []
 -- CR LF
 abbrev pub new_line : List ℕ
 new_line = 0x0D ∷ 0x0A ∷ []
+
+-- two lines leave a window of 2 by 5, the second one after it has become 2 by 3
+abbrev pub narrowed : List Writing
+narrowed = Output (codes "abcde" ++ new_line ++ codes "fg" ++ new_line ++ codes "h") ∷ Size 2 3 ∷ Output (new_line ++ codes "i") ∷ []
+
+-- a wide character and a letter behind it
+abbrev pub wide_page : Page
+wide_page = (wide 0x6F22 ++ letters (codes "x  ")) ∷ blank_page 1 5
+
+-- bytes that lead to it, but print the wide character one column beside its place first
+abbrev pub printed_beside : List ℕ
+printed_beside = csi (codes "1;2H") ++ kanji ++ csi (codes "1;1H") ++ kanji ++ codes "x"

@@ -28,11 +28,6 @@ pub record Screen : Type 0 where
 abbrev pub taken_in : ℕ → List Cell → Page → Page
 taken_in keep line kept = take keep (line ∷ kept)
 
--- the same with several lines, one after the other
-abbrev pub all_taken_in : ℕ → Page → Page → Page
-all_taken_in keep [] kept = kept
-all_taken_in keep (line ∷ later) kept = all_taken_in keep later (taken_in keep line kept)
-
 -- the starting values of the modes: ?7 and ?25 are set, the others are reset, and the keypad is numeric (VT220 manual, chapter 4)
 abbrev pub starting_modes : Modes
 starting_modes = record {

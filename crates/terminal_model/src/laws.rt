@@ -16,12 +16,16 @@ ghost use Rattle.terminal_model.specs.declared.action.Action.TheVariants.{SetMar
 ghost use Rattle.terminal_model.specs.declared.action.Attribute.{Attribute};
 ghost use Rattle.terminal_model.specs.declared.action.Mode.{Mode};
 ghost use Rattle.terminal_model.specs.declared.state.Position.{Position};
-ghost use Rattle.terminal_model.specs.Screen.{Page, Screen, IsSound, starting, blank_page, all_taken_in};
+ghost use Rattle.terminal_model.specs.Screen.{Page, Screen, IsSound, starting, blank_page};
 ghost use Rattle.terminal_model.specs.Functions.{actions_of, rendered, private_mode_set};
 ghost use Rattle.terminal_model.specs.Table.{acted, effect, bottom_of, resized, advanced, settled, apart, moved_to, with_state, homed, rendition_with, modes_with, columns_of, drawn};
 ghost use Rattle.terminal_model.specs.Reports.{report};
 ghost use Rattle.terminal_model.specs.Reading.{Act, Terminal, IsTerminal, ready, joined, reads};
 ghost use Rattle.terminal_model.specs.Writing.{Writing, IsWriting, Output, writes_all};
+ghost use Rattle.terminal_model.specs.Scrollback.{lines_of, all_left, KeepsLast};
+ghost use Rattle.charsets.specs.Units.{units};
+ghost use Rattle.control_parser.specs.Grammar.{functions};
+ghost use Rattle.terminal_model.specs.Whole.{functions_of_bytes, acted_functions, KeepsCoding, IsWhole};
 ghost use Rattle.terminal_model.specs.Shows.{blank_view};
 ghost use Rattle.terminal_model.specs.Drawing.{frame_bytes, frame_start, Draws, IsListed, IsDrawn, AreSpelled};
 ghost use Rattle.terminal_model.specs.Drawable.{IsDrawableScreen};
@@ -32,6 +36,21 @@ pub fn pieces_are_whole()
     ensures bytes { (t : Terminal) (a b : List ℕ) → reads t (a ++ b) ≡ joined (reads t a) (reads (reads t a).terminal b) }
     ensures writing { (t : Terminal) (a b : List Writing) → writes_all t (a ++ b) ≡ joined (writes_all t a) (writes_all (writes_all t a).terminal b) }
     ensures output { (t : Terminal) (a b : List ℕ) (later : List Writing) → writes_all t (Output a ∷ Output b ∷ later) ≡ writes_all t (Output (a ++ b) ∷ later) }
+{}
+
+/// What acts while a terminal reads are the functions of the units of all its bytes, as decoder and parser define them for whole lists,
+/// as long as no function changes the coding. Where the last byte's function does, so it is up to there, and what follows is read in
+/// the other coding from its first byte on.
+pub fn reading_is_of_the_whole()
+    ensures one_coding { (t : Terminal) (bytes : List ℕ) → IsTerminal t → AllByRecursion KeepsCoding (reads t bytes).acts → IsWhole t bytes }
+    ensures fresh { (x : Screen) (bytes : List ℕ) → IsSound x → AllByRecursion KeepsCoding (reads (ready x) bytes).acts →
+        acted_functions (reads (ready x) bytes).acts ≡ (functions (units x.state.coding bytes).0).0 }
+    ensures up_to_a_change { (t : Terminal) (bytes : List ℕ) (b : ℕ) → IsTerminal t → AllByRecursion KeepsCoding (reads t bytes).acts →
+        acted_functions (reads t (bytes ++ b ∷ [])).acts ≡ (functions_of_bytes t (bytes ++ b ∷ [])).0 }
+    ensures unended_at_a_change { (t : Terminal) (bytes : List ℕ) (b : ℕ) → IsTerminal t → AllByRecursion KeepsCoding (reads t bytes).acts →
+        (reads t (bytes ++ b ∷ [])).terminal.unended ≡ (functions_of_bytes t (bytes ++ b ∷ [])).1 }
+    ensures anew_behind_a_change { (t : Terminal) (bytes : List ℕ) (b : ℕ) → IsTerminal t → AllByRecursion KeepsCoding (reads t bytes).acts →
+        ((reads t (bytes ++ b ∷ [])).terminal.screen.state.coding ≡ t.screen.state.coding → ⊥) → (reads t (bytes ++ b ∷ [])).terminal.rest ≡ [] }
 {}
 
 /// What the screen table doesn't list, or lists with values that it doesn't name, changes nothing and answers nothing; so do
@@ -143,9 +162,18 @@ pub fn pages_at_places()
     ensures blank_page { (rows columns line column : ℕ) → place (blank_page rows columns) line column ≡ blank }
 {}
 
-/// The scrollback has the last lines of all that were taken in, the newest first.
+/// The scrollback of a screen has the last ones of all lines that left its page, the newest first, through whatever its terminal
+/// reads and its window writes; so it is from a fresh terminal on, of which no line has left.
 pub fn last_lines_stay()
-    ensures { (keep : ℕ) (lines : Page) → all_taken_in keep lines [] ≡ take keep (reverse lines) }
+    ensures reading { (t : Terminal) (bytes : List ℕ) (lines : Page) → IsTerminal t → KeepsLast lines t.screen →
+        KeepsLast (lines ++ lines_of (reads t bytes).acts) (reads t bytes).terminal.screen }
+    ensures writing { (t : Terminal) (writings : List Writing) (lines : Page) → AllByRecursion IsWriting writings → IsTerminal t →
+        KeepsLast lines t.screen → KeepsLast (all_left lines t writings) (writes_all t writings).terminal.screen }
+    ensures fresh { (rows columns keep : ℕ) (writings : List Writing) → IsGridSize rows columns → AllByRecursion IsWriting writings →
+        let t : Terminal = ready (starting rows columns keep) in
+        KeepsLast (all_left [] t writings) (writes_all t writings).terminal.screen }
+    ensures room { (t : Terminal) (writings : List Writing) → AllByRecursion IsWriting writings → IsTerminal t →
+        (writes_all t writings).terminal.screen.keep ≡ t.screen.keep }
 {}
 
 /// Acts that are discreet and spare are so behind each other, and so are bytes that are their spellings alone.
@@ -157,11 +185,11 @@ pub fn draws_join()
 
 /// The functions that frames are made of beside print are listed, with values that are named.
 pub fn frame_functions_are_listed()
-    ensures cursor { (line column : ℕ) → IsListed (Csi None (line ∷ column ∷ []) [] 0x48) }
-    ensures cells { (n : ℕ) → IsListed (Csi None (n ∷ []) [] 0x58) }
-    ensures line { IsListed (Csi None (0 ∷ []) [] 0x4B) }
-    ensures rendition { (n : ℕ) (a : Action) → rendered n ≡ Some a → IsListed (Csi None (n ∷ []) [] 0x6D) }
-    ensures whole_rendition { (r : Rendition) → IsListed (Csi None (rendition_values r) [] 0x6D) }
-    ensures mode { (on : Bool) (n : ℕ) (a : Action) → private_mode_set on n ≡ Some a → IsListed (Csi (Some 0x3F) (n ∷ []) [] (mode_final on)) }
-    ensures keypad { (on : Bool) → IsListed (Esc [] (keypad_final on)) }
+    ensures cursor { (rows line column : ℕ) → IsListed rows (Csi None (line ∷ column ∷ []) [] 0x48) }
+    ensures cells { (rows n : ℕ) → IsListed rows (Csi None (n ∷ []) [] 0x58) }
+    ensures line { (rows : ℕ) → IsListed rows (Csi None (0 ∷ []) [] 0x4B) }
+    ensures rendition { (rows n : ℕ) (a : Action) → rendered n ≡ Some a → IsListed rows (Csi None (n ∷ []) [] 0x6D) }
+    ensures whole_rendition { (rows : ℕ) (r : Rendition) → IsListed rows (Csi None (rendition_values r) [] 0x6D) }
+    ensures mode { (rows : ℕ) (on : Bool) (n : ℕ) (a : Action) → private_mode_set on n ≡ Some a → IsListed rows (Csi (Some 0x3F) (n ∷ []) [] (mode_final on)) }
+    ensures keypad { (rows : ℕ) (on : Bool) → IsListed rows (Esc [] (keypad_final on)) }
 {}

@@ -9,18 +9,16 @@ mod limits;
 mod report;
 mod rows;
 mod state;
-#[cfg(test)]
-mod tests;
 
 pub use action::{Action, Attribute, Mode, Part};
 pub use laws::{
     draws_join, erased_ones_stand_at_places, frame_functions_are_listed, frames_start_anew,
     frames_start_plain, ignored_ones_change_nothing, last_lines_stay,
     moves_change_the_cursor_alone, pages_at_places, pages_stay_drawable, pieces_are_whole,
-    printed_ones_stand_at_places, renditions_and_modes_change_alone, screens_stay_sound,
-    spelled_ones_act_alone, terminals_stay_terminals,
+    printed_ones_stand_at_places, reading_is_of_the_whole, renditions_and_modes_change_alone,
+    screens_stay_sound, spelled_ones_act_alone, terminals_stay_terminals,
 };
 pub use limits::{MAX_COLUMNS, MAX_KEEP, MAX_ROWS, MIN_COLUMNS, MIN_ROWS, REPORT_BYTES};
 pub use report::Report;
-pub use rows::{coded_rows, edited_rows, printed_rows};
+pub use rows::{coded_rows, drawn_rows, edited_rows, printed_rows};
 pub use state::{Modes, Position, Saved, State};

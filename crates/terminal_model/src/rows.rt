@@ -6,7 +6,12 @@ ghost use Rattle.terminal_model.specs.Screen.{blank_page, starting};
 ghost use Rattle.terminal_model.specs.Table.{resized};
 ghost use Rattle.terminal_model.specs.Reading.{ready};
 ghost use Rattle.terminal_model.specs.Writing.{Output, writes_all};
-ghost use Rattle.terminal_model.specs.Rows.{fresh_reads, letters, protected_letters, wide, seen, shown, shown_keeping, csi, kanji, new_line};
+ghost use Rattle.std.specs.List.{AllByRecursion};
+ghost use Rattle.std.specs.Prelude.{None};
+ghost use Rattle.control_parser.specs.declared.func.Func.TheVariants.{Csi};
+ghost use Rattle.terminal_model.specs.Drawing.{IsDiscreet, IsListed};
+ghost use Rattle.terminal_model.specs.Rows.{fresh_reads, letters, protected_letters, wide, seen, shown, shown_keeping, csi, kanji, new_line, narrowed, wide_page, printed_beside};
+ghost use Rattle.terminal_model.specs.Scrollback.{all_left};
 
 /// What is printed: the pending wrap, wide characters and their halves, marks.
 pub fn printed_rows()
@@ -48,4 +53,15 @@ pub fn edited_rows()
     ensures scrollback_in_margins { shown_keeping 3 5 5 (csi (codes "1;2r") ++ codes "a" ++ new_line ++ codes "b" ++ new_line ++ codes "c") ≡ (record { page = letters (codes "b    ") ∷ letters (codes "c    ") ∷ blank_page 1 5; line = 1; column = 1 }, letters (codes "a    ") ∷ []) }
     ensures deletion_keeps_nothing { shown_keeping 3 5 5 (codes "a" ++ new_line ++ codes "b" ++ csi (codes "H") ++ csi (codes "M")) ≡ (record { page = letters (codes "b    ") ∷ blank_page 2 5; line = 0; column = 0 }, []) }
     ensures smaller { seen (resized 2 4 (fresh_reads 3 6 3 (codes "abc" ++ kanji ++ codes "d" ++ new_line ++ codes "xy")).terminal.screen) ≡ record { page = letters (codes "abc ") ∷ letters (codes "xy  ") ∷ []; line = 1; column = 2 } }
+    ensures scrollback_narrowed { (writes_all (ready (starting 2 5 1)) narrowed).terminal.screen.kept ≡ letters (codes "fg ") ∷ [] }
+    ensures lines_that_left { all_left [] (ready (starting 2 5 1)) narrowed ≡ letters (codes "abc") ∷ letters (codes "fg ") ∷ [] }
+{}
+
+/// What a frame may hold: characters at the places where they stand, and functions whose values are named.
+pub fn drawn_rows()
+    ensures in_place { AllByRecursion (IsDiscreet wide_page) (fresh_reads 2 5 0 (kanji ++ codes "x")).acts }
+    ensures same_page { (fresh_reads 2 5 0 printed_beside).terminal.screen.page ≡ wide_page }
+    ensures out_of_place { AllByRecursion (IsDiscreet wide_page) (fresh_reads 2 5 0 printed_beside).acts → ⊥ }
+    ensures margins { IsListed 2 (Csi None (2 ∷ 2 ∷ []) [] 0x72) → ⊥ }
+    ensures parameter { IsListed 24 (Csi None (1 ∷ []) (0x21 ∷ []) 0x70) → ⊥ }
 {}

@@ -1,24 +1,25 @@
 //! A screen.
 
-ghost use Rattle.std.specs.Prelude.{◌≡◌, ◌<◌, ◌≤◌, ◌↔◌, true, Err, IfOk, OnOk, OnErr, length, map, option_copied, slice_get};
-ghost use Rattle.std.specs.List.{list_all};
+ghost use Rattle.std.specs.Prelude.{◌≡◌, ℕ, ◌<◌, ◌≤◌, ◌↔◌, true, Err, IfOk, OnOk, OnErr, [], false, IsTrue, length, map, option_copied, slice_get, slice_index};
+ghost use Rattle.std.specs.List.{list_all, range_with_len};
 ghost use Rattle.charsets.specs.Units.{is_plain};
-ghost use Rattle.control_parser.specs.declared.func.Func.TheVariants.{Print};
+ghost use Rattle.control_parser.specs.declared.func.Func.TheVariants.{Control, Esc, Print};
 ghost use Rattle.cells.specs.Page.{IsGridSize, line_at};
 ghost use Rattle.cells.specs.Line.{cell_at};
 ghost use Rattle.terminal_model.specs.Screen.{IsSound, starting};
 ghost use Rattle.terminal_model.specs.Table.{effect, resized};
 ghost use Rattle.terminal_model.specs.Reports.{report};
 ghost use Rattle.vt_screen.specs.Effects.{effects};
+ghost use Rattle.vt_screen.specs.Stored.{effect_places, effects_places};
 ghost use Rattle.vt_screen.specs.Sizes.{IsScreenSize};
 
 use cells::{Cell, GridFault};
-use charsets::Coding;
-use control_parser::Func;
+use charsets::{Coding, Unit};
+use control_parser::{Func, Sequence};
 use std::alloc::Global;
 use std::marker::Model;
-use terminal_model::{MAX_KEEP, Modes, Report};
-use vt_screen_actions::acts_of;
+use terminal_model::{Action, MAX_KEEP, Modes, Report};
+use vt_screen_actions::{acts_of, control_action, plain_escape_action, sequence_acts};
 use vt_screen_rows::Display;
 
 /// The screen of a VT220: its page with all that control functions change, and its scrollback. Lines and columns count
@@ -29,12 +30,12 @@ pub struct Screen {
 }
 
 impl Model for Screen {
-    ghost use Rattle.terminal_model.specs.Screen.{Screen};
     ghost use Rattle.vt_screen_rows.specs.Displays.{IsFit, screen_of};
+    ghost use Rattle.vt_screen.specs.Stored.{Stored};
 
-    ghost Value = { Screen };
+    ghost Value = { Stored };
 
-    ghost view = { λ s. screen_of s.display };
+    ghost view = { λ s. record { screen = screen_of s.display; places = s.display.page.places } };
 
     ghost invariant = { λ s. IsFit s.display };
 }
@@ -43,7 +44,8 @@ impl Screen {
     /// A screen as it starts, which keeps at most `keep` of the lines that scroll off its page. It is `BadSize` outside 2
     /// to 200 lines by 2 to 300 columns, and above 2,000 lines to keep.
     pub fn new(alloc: Global, rows: usize, cols: usize, keep: usize) -> Result<Screen, GridFault>
-        ensures ok { IfOk result (λ screen. screen ≡ starting rows cols keep) }
+        ensures ok { IfOk result (λ screen. screen.screen ≡ starting rows cols keep) }
+        ensures places { IfOk result (λ screen. screen.places ≡ range_with_len 0 rows) }
         ensures size { IfOk result (λ _. IsScreenSize rows cols keep) }
         ensures bad_size { (result ≡ Err GridFault.BadSize) ↔ (¬ IsScreenSize rows cols keep) }
     {
@@ -56,8 +58,9 @@ impl Screen {
 
     /// Does a control function, as the screen table says, and gives what is answered. It takes no memory.
     pub fn apply(&mut self, func: &Func) -> Report
-        ensures effect { self.new ≡ effect self.old func.now }
-        ensures report { result ≡ report self.old func.now }
+        ensures effect { self.new.screen ≡ effect self.old.screen func.now }
+        ensures places { self.new.places ≡ effect_places self.old.screen func.now self.old.places }
+        ensures report { result ≡ report self.old.screen func.now }
         ensures few { length result ≤ 12 }
     {
         self.display.perform(acts_of(func))
@@ -66,16 +69,60 @@ impl Screen {
     /// Prints characters 20 to 7E, one after another: `codes` has their code points. It takes no memory.
     pub fn print_run(&mut self, codes: &[u8])
         requires { list_all is_plain codes.now ≡ true }
-        ensures { self.new ≡ effects self.old (map (λ code. Print code) codes.now) }
+        ensures effect { self.new.screen ≡ effects self.old.screen (map (λ code. Print code) codes.now) }
+        ensures places { self.new.places ≡ effects_places self.old.screen (map (λ code. Print code) codes.now) self.old.places }
     {
         self.display.print_run(codes);
+    }
+
+    /// Prints a character from 20 to 7E or from A0 on, as `apply` of it; nothing is answered.
+    pub fn print(&mut self, character: char)
+        ensures effect { self.new.screen ≡ effect self.old.screen (Print character) }
+        ensures places { self.new.places ≡ effect_places self.old.screen (Print character) self.old.places }
+        ensures silent { report self.old.screen (Print character) ≡ [] }
+    {
+        self.display
+            .perform_silently(Some(Action::Print(Unit::Code(character))));
+    }
+
+    /// Does a C0 control, as `apply` of it; nothing is answered.
+    pub fn control(&mut self, control: u8)
+        ensures effect { self.new.screen ≡ effect self.old.screen (Control control) }
+        ensures places { self.new.places ≡ effect_places self.old.screen (Control control) self.old.places }
+        ensures silent { report self.old.screen (Control control) ≡ [] }
+    {
+        self.display.perform_silently(control_action(control));
+    }
+
+    /// Does the escape sequence that has no intermediate and this final byte, as `apply` of it; nothing is answered.
+    pub fn escape(&mut self, last: u8)
+        ensures effect { self.new.screen ≡ effect self.old.screen (Esc [] last) }
+        ensures places { self.new.places ≡ effect_places self.old.screen (Esc [] last) self.old.places }
+        ensures silent { report self.old.screen (Esc [] last) ≡ [] }
+    {
+        self.display.perform_silently(plain_escape_action(last));
+    }
+
+    /// Does a control sequence that isn't answered, as `apply` of it. It gives false where it is answered, and has done nothing
+    /// then.
+    pub fn sequence(&mut self, sequence: &Sequence) -> bool
+        ensures effect { IsTrue result → self.new.screen ≡ effect self.old.screen sequence.now }
+        ensures places { IsTrue result → self.new.places ≡ effect_places self.old.screen sequence.now self.old.places }
+        ensures silent { IsTrue result → report self.old.screen sequence.now ≡ [] }
+        ensures coding { IsTrue result → self.new.screen.state.coding ≡ self.old.screen.state.coding }
+        ensures undone { result ≡ false → self.new ≡ self.old }
+    {
+        let (mark, params, intermediates, last) = sequence.parts();
+        self.display
+            .perform_unanswered(sequence_acts(mark, params, intermediates, last))
     }
 
     /// Takes another size. It keeps the upper left part, of the kept lines too; the cursor and the saved place go to the
     /// nearest place, no wrap is pending, and margins and tab stops start anew. It is `BadSize` outside 2 to 200 lines by
     /// 2 to 300 columns; a refusal leaves everything as it was.
     pub fn resized(&mut self, rows: usize, cols: usize) -> Result<(), GridFault>
-        ensures ok { OnOk result (self.new ≡ resized rows cols self.old) }
+        ensures ok { OnOk result (self.new.screen ≡ resized rows cols self.old.screen) }
+        ensures places { OnOk result (self.new.places ≡ range_with_len 0 rows) }
         ensures size { OnOk result (IsGridSize rows cols) }
         ensures err { OnErr result (self.new ≡ self.old) }
         ensures bad_size { (result ≡ Err GridFault.BadSize) ↔ (¬ IsGridSize rows cols) }
@@ -86,69 +133,79 @@ impl Screen {
 
     /// The number of lines of the page.
     pub fn rows(&self) -> usize
-        ensures value { result ≡ self.now.state.rows }
-        ensures sound { IsSound self.now }
+        ensures value { result ≡ self.now.screen.state.rows }
+        ensures sound { IsSound self.now.screen }
     {
         self.display.state.rows
     }
 
     /// The number of columns.
     pub fn cols(&self) -> usize
-        ensures { result ≡ self.now.state.columns }
+        ensures { result ≡ self.now.screen.state.columns }
     {
         self.display.state.columns
     }
 
     /// The cells of a line of the page.
     pub fn row(&self, line: usize) -> &[Cell]
-        requires { line < self.now.state.rows }
-        ensures cells { result.now ≡ line_at self.now.page line }
-        ensures width { length result.now ≡ self.now.state.columns }
+        requires { line < self.now.screen.state.rows }
+        ensures cells { result.now ≡ line_at self.now.screen.page line }
+        ensures width { length result.now ≡ self.now.screen.state.columns }
     {
         self.display.page.row(line)
     }
 
+    /// The stored line that holds a line of the page: one for each. Under index, RI, IL and DL each line that stays keeps its
+    /// stored line.
+    pub fn place(&self, line: usize) -> usize
+        requires { line < self.now.screen.state.rows }
+        ensures value { result ≡ slice_index self.now.places line }
+        ensures alone { (other : ℕ) → other < self.now.screen.state.rows → slice_index self.now.places other ≡ result → other ≡ line }
+    {
+        self.display.page.place(line)
+    }
+
     /// The number of lines that are kept.
     pub fn kept_count(&self) -> usize
-        ensures value { result ≡ length self.now.kept }
-        ensures sound { IsSound self.now }
+        ensures value { result ≡ length self.now.screen.kept }
+        ensures sound { IsSound self.now.screen }
     {
         self.display.ring.len()
     }
 
     /// The cells of a kept line, of which the newest is line 0.
     pub fn kept(&self, n: usize) -> Option<&[Cell]>
-        ensures { option_copied result ≡ slice_get self.now.kept n }
+        ensures { option_copied result ≡ slice_get self.now.screen.kept n }
     {
         self.display.ring.line(n)
     }
 
     /// The cell of a place of the page.
     pub fn cell(&self, line: usize, column: usize) -> Cell
-        requires line_inside { line < self.now.state.rows }
-        requires column_inside { column < self.now.state.columns }
-        ensures { result ≡ cell_at (line_at self.now.page line) column }
+        requires line_inside { line < self.now.screen.state.rows }
+        requires column_inside { column < self.now.screen.state.columns }
+        ensures { result ≡ cell_at (line_at self.now.screen.page line) column }
     {
         self.row(line)[column]
     }
 
     /// The cursor's line and column.
     pub fn cursor(&self) -> (usize, usize)
-        ensures { result ≡ (self.now.state.line, self.now.state.column) }
+        ensures { result ≡ (self.now.screen.state.line, self.now.screen.state.column) }
     {
         (self.display.state.line, self.display.state.column)
     }
 
     /// The modes as they are set.
     pub fn modes(&self) -> Modes
-        ensures { result ≡ self.now.state.modes }
+        ensures { result ≡ self.now.screen.state.modes }
     {
         self.display.state.modes
     }
 
     /// The coding that the window writes in.
     pub fn coding(&self) -> Coding
-        ensures { result ≡ self.now.state.coding }
+        ensures { result ≡ self.now.screen.state.coding }
     {
         self.display.state.coding
     }

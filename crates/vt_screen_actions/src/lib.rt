@@ -7,6 +7,6 @@ mod sequences;
 mod values;
 
 pub use acts::{Acts, acts_of};
-pub use escapes::{control_action, escape_action};
+pub use escapes::{control_action, escape_action, plain_escape_action};
 pub use sequences::sequence_acts;
 pub use values::Setting;

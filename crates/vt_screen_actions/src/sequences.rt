@@ -10,6 +10,7 @@ use crate::values::Setting;
 use terminal_model::{Action, Part};
 
 /// The actions of a control sequence.
+#[inline(always)]
 pub fn sequence_acts<'a>(
     mark: Option<u8>,
     params: &'a [u16],
@@ -49,6 +50,7 @@ fn intermediate_action(params: &[u16], intermediate: u8, last: u8) -> Option<Act
 }
 
 /// CSI, parameters and a final byte (ECMA-48, 8.3; VT220 Programmer Reference Manual, chapter 4).
+#[inline(always)]
 #[tactic(auto, unfolding(terminal_model::specs::Functions::plain_sequence))]
 fn plain_acts(params: &[u16], last: u8) -> Acts<'_>
     ensures value { actions_in result ≡ plain_sequence params.now last }
@@ -95,6 +97,7 @@ fn private_acts(params: &[u16], last: u8) -> Acts<'_>
 }
 
 /// A parameter; 0 where it is absent.
+#[inline(always)]
 fn value(params: &[u16], index: usize) -> u16
     ensures { result ≡ slice_index_or params.now index 0 }
 {
@@ -102,6 +105,7 @@ fn value(params: &[u16], index: usize) -> u16
 }
 
 /// The first parameter as a count: absent or 0 is 1.
+#[inline(always)]
 fn count(params: &[u16]) -> usize
     ensures { result ≡ count params.now }
 {
@@ -109,6 +113,7 @@ fn count(params: &[u16]) -> usize
 }
 
 /// A parameter as a line or column from 0: absent, 0 and 1 are the first.
+#[inline(always)]
 fn place(params: &[u16], index: usize) -> usize
     ensures { result ≡ slice_index_or params.now index 0 - 1 }
 {

@@ -1,19 +1,21 @@
 -- Scrolls: some stored lines become blank, and the places go round.
 use Rattle.std.proofs.Common.{◌≡◌, ℕ, ◌+◌, ◌-◌, ◌<◌, ◌≤◌, true, false, leb, List, length, get_or, replicate, refl, sym, ap, ◌∙◌, ◌⊎◌, inl, inr, subst, arith, ⊎_elim}
 use Rattle.std.proofs.lemmas.Bool.{cases_lt}
+use Rattle.std.proofs.lemmas.List.{ext_get_or}
+use Rattle.std.proofs.lemmas.List.FromFn.{length-map-range_with_len, get_or-map-range_with_len}
 use Rattle.std.proofs.lemmas.Bool.Decides.{nat_tests}
 use Rattle.cells.specs.declared.cell.Cell.{Cell}
 use Rattle.cells.specs.Line.{blank}
 use Rattle.cells.specs.Page.{line_at, Origin, New, From, line_from, page_from}
 use Rattle.cells.specs.Moves.{scrolled_up, scrolled_down}
 use Rattle.cells.proofs.Pages.{page_from-is, line_from-whole, line_from-blank, IsGrid-page_from}
-use Rattle.vt_screen_page.specs.Store.{lines_in_order, ArePlaces, IsStore, IsTurned}
+use Rattle.vt_screen_page.specs.Store.{lines_in_order, ArePlaces, IsStore, IsTurned, turned_from, turned}
 use Rattle.vt_screen_page.proofs.Stored.{length-lines_in_order, line_at-lines_in_order, IsStore-is}
 
-le-leb' : (a b : ℕ) → a ≤ b → leb a b ≡ true
+pub le-leb' : (a b : ℕ) → a ≤ b → leb a b ≡ true
 le-leb' a b h = grind (arith, nat_tests)
 
-lt-leb' : (a b : ℕ) → b < a → leb a b ≡ false
+pub lt-leb' : (a b : ℕ) → b < a → leb a b ≡ false
 lt-leb' a b h = grind (arith, nat_tests)
 
 -- where a place comes from
@@ -145,3 +147,24 @@ module _ (stored cleared : List (List Cell)) (places turned : List ℕ) (top bot
       (cases_lt k (top + count)))
       (cases_lt bottom k))
       (cases_lt k top))
+
+-- places that went round, as a list
+pub turned_is : (top bottom count : ℕ) (old new : List ℕ) → top ≤ bottom → bottom < length old → count ≤ bottom + 1 - top → IsTurned top bottom count old new → new ≡ turned top bottom count old
+turned_is top bottom count old new order inside room is =
+    let from : ℕ → ℕ = turned_from top bottom count in
+    let n : length (turned top bottom count old) ≡ length old = length-map-range_with_len (λ line. get_or old (from line) 0) 0 (length old) in
+    ext_get_or 0 new (turned top bottom count old) (is.size ∙ sym n) (λ k h'.
+    let h : k < length old = rw is.size at h' in
+    there k h ∙ sym (get_or-map-range_with_len (λ line. get_or old (from line) 0) 0 (length old) k k 0 h (omega arith)))
+  where
+    there : (k : ℕ) → k < length old → get_or new k 0 ≡ get_or old (turned_from top bottom count k) 0
+    there k h = ⊎_elim
+        (λ (above : k < top). rw (lt-leb' top k above) (is.above k above))
+        (λ (past : top ≤ k). ⊎_elim
+        (λ (below : bottom < k). rw (le-leb' top k past, lt-leb' k bottom below) (is.below k below))
+        (λ (here : k ≤ bottom). ⊎_elim
+        (λ (last : bottom < k + count). rw (le-leb' top k past, le-leb' k bottom here, lt-leb' (k + count) bottom last) (is.last k past here last))
+        (λ (risen : k + count ≤ bottom). rw (le-leb' top k past, le-leb' k bottom here, le-leb' (k + count) bottom risen) (is.risen k past risen))
+        (cases_lt bottom (k + count)))
+        (cases_lt bottom k))
+        (cases_lt k top)

@@ -1,12 +1,27 @@
 -- The lines of a page lie in a store in any order: the places say where each line of the page is.
-use Rattle.std.specs.Prelude.{◌≡◌, ◌≢◌, ℕ, ◌+◌, ◌-◌, ◌<◌, ◌≤◌, List, map, length, replicate, slice_index}
+use Rattle.std.specs.Prelude.{◌≡◌, ◌≢◌, ℕ, ◌+◌, ◌-◌, ◌<◌, ◌≤◌, cond, nat_le, List, map, length, replicate, slice_index}
+use Rattle.std.specs.List.{range_with_len}
 use Rattle.cells.specs.declared.cell.Cell.{Cell}
+use Rattle.cells.specs.Moves.{is_between}
 use Rattle.cells.specs.Line.{blank}
 use Rattle.cells.specs.Page.{line_at, IsGrid}
 
 -- the lines in the order of their places
 abbrev pub lines_in_order : List (List Cell) → List ℕ → List (List Cell)
 lines_in_order stored places = map (λ place. line_at stored place) places
+
+-- the lines of a page, and the stored line that holds each
+pub record Placed : Type 0 where
+  pub lines : List (List Cell)
+  pub places : List ℕ
+
+-- the place that a line's place was before: those from top to bottom went round, the first count of them come last
+abbrev pub turned_from : ℕ → ℕ → ℕ → ℕ → ℕ
+turned_from top bottom count line =
+    cond (is_between top bottom line) (cond (nat_le (line + count) bottom) (line + count) (line + count - (bottom + 1 - top))) line
+
+abbrev pub turned : ℕ → ℕ → ℕ → List ℕ → List ℕ
+turned top bottom count places = map (λ line. slice_index places (turned_from top bottom count line)) (range_with_len 0 (length places))
 
 -- places in the store, no two alike
 pub record ArePlaces (size : ℕ) (places : List ℕ) : Type 0 where

@@ -5,6 +5,3 @@ mod page;
 mod store;
 
 pub use page::Page;
-
-#[cfg(test)]
-mod tests;

@@ -1,11 +1,13 @@
 //! The page of a screen.
 
-ghost use Rattle.std.specs.Prelude.{◌≡◌, ◌+◌, ◌-◌, ◌<◌, ◌≤◌, ◌↔◌, [], ◌∷◌, length, replicate, IfOk, OnOk, OnErr, Err, IsTrue};
+ghost use Rattle.std.specs.Prelude.{◌≡◌, ℕ, ◌+◌, ◌-◌, ◌<◌, ◌≤◌, ◌↔◌, [], ◌∷◌, length, replicate, IfOk, OnOk, OnErr, Err, IsTrue, slice_index};
+ghost use Rattle.std.specs.List.{range_with_len};
 ghost use Rattle.cells.specs.Line.{blank, spliced, unprotected_erased, narrow_cells};
 ghost use Rattle.cells.specs.Page.{IsGrid, IsGridSize, line_at, page_from, page_marked, edited};
 ghost use Rattle.cells.specs.Moves.{scrolled_up, scrolled_down, erased_lines, filled};
 ghost use Rattle.cells.specs.Resizing.{page_resized};
 ghost use Rattle.scrollback.specs.Kept.{taken_in, Continues};
+ghost use Rattle.vt_screen_page.specs.Store.{turned};
 
 use crate::store;
 use cells::{Cell, GridFault, Line, Rendition, Shape};
@@ -25,13 +27,11 @@ pub struct Page {
 }
 
 impl Model for Page {
-    ghost use Rattle.std.specs.Prelude.{List};
-    ghost use Rattle.cells.specs.declared.cell.Cell.{Cell};
-    ghost use Rattle.vt_screen_page.specs.Store.{lines_in_order, IsStore};
+    ghost use Rattle.vt_screen_page.specs.Store.{Placed, lines_in_order, IsStore};
 
-    ghost Value = { List (List Cell) };
+    ghost Value = { Placed };
 
-    ghost view = { λ page. lines_in_order page.stored.items page.places.items };
+    ghost view = { λ page. record { lines = lines_in_order page.stored.items page.places.items; places = page.places.items } };
 
     ghost invariant = { λ page. IsStore page.stored.items page.places.items };
 }
@@ -46,7 +46,7 @@ fn is_size(rows: usize, cols: usize) -> bool
 impl Page {
     /// A page of blanks. It is `BadSize` outside 2 to 200 lines by 2 to 300 columns.
     pub fn new(alloc: Global, rows: usize, cols: usize) -> Result<Page, GridFault>
-        ensures ok { IfOk result (λ page. page ≡ replicate rows (replicate cols blank)) }
+        ensures ok { IfOk result (λ page. page ≡ record { lines = replicate rows (replicate cols blank); places = range_with_len 0 rows }) }
         ensures size { IfOk result (λ _. IsGridSize rows cols) }
         ensures bad_size { (result ≡ Err GridFault.BadSize) ↔ (¬ IsGridSize rows cols) }
     {
@@ -61,7 +61,7 @@ impl Page {
 
     fn blank(alloc: Global, rows: usize, cols: usize) -> Result<Page, AllocError>
         requires { IsGridSize rows cols }
-        ensures { IfOk result (λ page. page ≡ replicate rows (replicate cols blank)) }
+        ensures { IfOk result (λ page. page ≡ record { lines = replicate rows (replicate cols blank); places = range_with_len 0 rows }) }
     {
         let stored = store::blank_lines(alloc, rows, cols)?;
         let places = store::places_in_order(alloc, rows)?;
@@ -74,35 +74,45 @@ impl Page {
 
     /// The number of its lines.
     pub fn rows(&self) -> usize
-        ensures value { result ≡ length self.now }
-        ensures grid { IsGrid self.now }
+        ensures value { result ≡ length self.now.lines }
+        ensures grid { IsGrid self.now.lines }
     {
         self.places.len()
     }
 
     /// The number of cells of each line.
     pub fn cols(&self) -> usize
-        ensures { result ≡ length (line_at self.now 0) }
+        ensures { result ≡ length (line_at self.now.lines 0) }
     {
         self.stored[self.places[0]].width()
     }
 
     /// The cells of a line, from the left.
     pub fn row(&self, line: usize) -> &[Cell]
-        requires { line < length self.now }
-        ensures { result.now ≡ line_at self.now line }
+        requires { line < length self.now.lines }
+        ensures { result.now ≡ line_at self.now.lines line }
     {
         self.stored[self.places[line]].cells()
     }
 
+    /// The stored line that holds a line of the page. No memory is taken.
+    pub fn place(&self, line: usize) -> usize
+        requires { line < length self.now.lines }
+        ensures value { result ≡ slice_index self.now.places line }
+        ensures alone { (other : ℕ) → other < length self.now.lines → slice_index self.now.places other ≡ result → other ≡ line }
+    {
+        self.places[line]
+    }
+
     /// Puts blanks into a line, and lets its old cells from `rest` on follow them.
     pub fn splice(&mut self, line: usize, at: usize, count: usize, rest: usize)
-        requires line_inside { line < length self.old }
+        requires line_inside { line < length self.old.lines }
         requires order { at ≤ rest }
-        requires inside { rest ≤ length (line_at self.old line) }
-        requires room { at + count ≤ length (line_at self.old line) }
+        requires inside { rest ≤ length (line_at self.old.lines line) }
+        requires room { at + count ≤ length (line_at self.old.lines line) }
         requires changes { at < rest + count }
-        ensures { self.new ≡ page_from (edited line (spliced at (replicate count blank) rest (length (line_at self.old line)))) self.old }
+        ensures lines { self.new.lines ≡ page_from (edited line (spliced at (replicate count blank) rest (length (line_at self.old.lines line)))) self.old.lines }
+        ensures places { self.new.places ≡ self.old.places }
     {
         let place = self.places[line];
         self.stored[place].splice(at, count, rest);
@@ -110,12 +120,13 @@ impl Page {
 
     /// Puts a cell of width 1 into a line, and lets its old cells from `rest` on follow it.
     pub fn put_narrow(&mut self, line: usize, at: usize, cell: Cell, rest: usize)
-        requires line_inside { line < length self.old }
+        requires line_inside { line < length self.old.lines }
         requires order { at ≤ rest }
-        requires inside { rest ≤ length (line_at self.old line) }
-        requires room { at + 1 ≤ length (line_at self.old line) }
+        requires inside { rest ≤ length (line_at self.old.lines line) }
+        requires room { at + 1 ≤ length (line_at self.old.lines line) }
         requires narrow { cell.shape ≡ Shape.Narrow }
-        ensures { self.new ≡ page_from (edited line (spliced at (cell ∷ []) rest (length (line_at self.old line)))) self.old }
+        ensures lines { self.new.lines ≡ page_from (edited line (spliced at (cell ∷ []) rest (length (line_at self.old.lines line)))) self.old.lines }
+        ensures places { self.new.places ≡ self.old.places }
     {
         let place = self.places[line];
         self.stored[place].put_narrow(at, cell, rest);
@@ -124,13 +135,14 @@ impl Page {
     /// Puts the halves of a wide character into a line, and lets its old cells from `rest` on follow
     /// them.
     pub fn put_wide(&mut self, line: usize, at: usize, left: Cell, right: Cell, rest: usize)
-        requires line_inside { line < length self.old }
+        requires line_inside { line < length self.old.lines }
         requires order { at ≤ rest }
-        requires inside { rest ≤ length (line_at self.old line) }
-        requires room { at + 2 ≤ length (line_at self.old line) }
+        requires inside { rest ≤ length (line_at self.old.lines line) }
+        requires room { at + 2 ≤ length (line_at self.old.lines line) }
         requires left { left.shape ≡ Shape.Left }
         requires right { right.shape ≡ Shape.Right }
-        ensures { self.new ≡ page_from (edited line (spliced at (left ∷ right ∷ []) rest (length (line_at self.old line)))) self.old }
+        ensures lines { self.new.lines ≡ page_from (edited line (spliced at (left ∷ right ∷ []) rest (length (line_at self.old.lines line)))) self.old.lines }
+        ensures places { self.new.places ≡ self.old.places }
     {
         let place = self.places[line];
         self.stored[place].put_wide(at, left, right, rest);
@@ -146,9 +158,10 @@ impl Page {
         rendition: Rendition,
         is_protected: bool,
     )
-        requires line_inside { line < length self.old }
-        requires room { at + length codes.now ≤ length (line_at self.old line) }
-        ensures { self.new ≡ page_from (edited line (spliced at (narrow_cells codes.now rendition is_protected) (at + length codes.now) (length (line_at self.old line)))) self.old }
+        requires line_inside { line < length self.old.lines }
+        requires room { at + length codes.now ≤ length (line_at self.old.lines line) }
+        ensures lines { self.new.lines ≡ page_from (edited line (spliced at (narrow_cells codes.now rendition is_protected) (at + length codes.now) (length (line_at self.old.lines line)))) self.old.lines }
+        ensures places { self.new.places ≡ self.old.places }
     {
         let place = self.places[line];
         self.stored[place].put_run(at, codes, rendition, is_protected);
@@ -156,10 +169,11 @@ impl Page {
 
     /// Erases the cells of a line from `from` on and below `end`, but for protected ones.
     pub fn erase_unprotected(&mut self, line: usize, from: usize, end: usize)
-        requires line_inside { line < length self.old }
+        requires line_inside { line < length self.old.lines }
         requires order { from ≤ end }
-        requires inside { end ≤ length (line_at self.old line) }
-        ensures { self.new ≡ page_from (edited line (unprotected_erased (line_at self.old line) from end)) self.old }
+        requires inside { end ≤ length (line_at self.old.lines line) }
+        ensures lines { self.new.lines ≡ page_from (edited line (unprotected_erased (line_at self.old.lines line) from end)) self.old.lines }
+        ensures places { self.new.places ≡ self.old.places }
     {
         let place = self.places[line];
         self.stored[place].erase_unprotected(from, end);
@@ -167,9 +181,10 @@ impl Page {
 
     /// Lets a mark join the cell of a place, which drops it where it has two.
     pub fn mark(&mut self, line: usize, column: usize, mark: char)
-        requires line_inside { line < length self.old }
-        requires inside { column < length (line_at self.old line) }
-        ensures { self.new ≡ page_marked line column mark self.old }
+        requires line_inside { line < length self.old.lines }
+        requires inside { column < length (line_at self.old.lines line) }
+        ensures lines { self.new.lines ≡ page_marked line column mark self.old.lines }
+        ensures places { self.new.places ≡ self.old.places }
     {
         let place = self.places[line];
         self.stored[place].mark(column, mark);
@@ -178,8 +193,9 @@ impl Page {
     /// Makes the lines from `first` on and below `end` blank.
     pub fn erase_lines(&mut self, first: usize, end: usize)
         requires order { first ≤ end }
-        requires inside { end ≤ length self.old }
-        ensures { self.new ≡ page_from (erased_lines first end) self.old }
+        requires inside { end ≤ length self.old.lines }
+        ensures lines { self.new.lines ≡ page_from (erased_lines first end) self.old.lines }
+        ensures places { self.new.places ≡ self.old.places }
     {
         store::erase_lines(
             self.stored.as_mut_slice(),
@@ -191,7 +207,8 @@ impl Page {
 
     /// Makes the whole page blank.
     pub fn clear(&mut self)
-        ensures { self.new ≡ replicate (length self.old) (replicate (length (line_at self.old 0)) blank) }
+        ensures lines { self.new.lines ≡ replicate (length self.old.lines) (replicate (length (line_at self.old.lines 0)) blank) }
+        ensures places { self.new.places ≡ self.old.places }
     {
         store::fill_all(self.stored.as_mut_slice(), Cell::BLANK);
     }
@@ -199,7 +216,8 @@ impl Page {
     /// Puts the same cell, of width 1, at every place.
     pub fn fill(&mut self, cell: Cell)
         requires narrow { cell.shape ≡ Shape.Narrow }
-        ensures { self.new ≡ page_from (filled cell) self.old }
+        ensures lines { self.new.lines ≡ page_from (filled cell) self.old.lines }
+        ensures places { self.new.places ≡ self.old.places }
     {
         store::fill_all(self.stored.as_mut_slice(), cell);
     }
@@ -207,9 +225,10 @@ impl Page {
     /// Scrolls the lines from `top` to `bottom` up by `count`.
     pub fn scroll_up(&mut self, top: usize, bottom: usize, count: usize)
         requires order { top ≤ bottom }
-        requires inside { bottom < length self.old }
+        requires inside { bottom < length self.old.lines }
         requires room { count ≤ bottom + 1 - top }
-        ensures { self.new ≡ page_from (scrolled_up top bottom count) self.old }
+        ensures lines { self.new.lines ≡ page_from (scrolled_up top bottom count) self.old.lines }
+        ensures places { self.new.places ≡ turned top bottom count self.old.places }
     {
         store::scroll_up(
             self.stored.as_mut_slice(),
@@ -223,9 +242,10 @@ impl Page {
     /// Scrolls the lines from `top` to `bottom` down by `count`.
     pub fn scroll_down(&mut self, top: usize, bottom: usize, count: usize)
         requires order { top ≤ bottom }
-        requires inside { bottom < length self.old }
+        requires inside { bottom < length self.old.lines }
         requires room { count ≤ bottom + 1 - top }
-        ensures { self.new ≡ page_from (scrolled_down top bottom count) self.old }
+        ensures lines { self.new.lines ≡ page_from (scrolled_down top bottom count) self.old.lines }
+        ensures places { self.new.places ≡ turned top bottom (bottom + 1 - top - count) self.old.places }
     {
         store::scroll_down(
             self.stored.as_mut_slice(),
@@ -239,13 +259,15 @@ impl Page {
     /// Scrolls the lines from the first one to `bottom` up by one. The first line goes into the
     /// scrollback.
     pub fn scroll_into(&mut self, ring: &mut Ring, bottom: usize)
-        requires inside { bottom < length self.old }
-        requires width { ring.old.columns ≡ length (line_at self.old 0) }
-        ensures page { self.new ≡ page_from (scrolled_up 0 bottom 1) self.old }
-        ensures kept { ring.new ≡ taken_in ring.old (line_at self.old 0) }
-        ensures stands { Continues ring.old ring.new (line_at self.old 0) }
+        requires inside { bottom < length self.old.lines }
+        requires width { ring.old.columns ≡ length (line_at self.old.lines 0) }
+        ensures lines { self.new.lines ≡ page_from (scrolled_up 0 bottom 1) self.old.lines }
+        ensures places { self.new.places ≡ turned 0 bottom 1 self.old.places }
+        ensures kept { ring.new ≡ taken_in ring.old (line_at self.old.lines 0) }
+        ensures stands { Continues ring.old ring.new (line_at self.old.lines 0) }
     {
         store::scroll_into(
+            self.alloc,
             self.stored.as_mut_slice(),
             self.places.as_mut_slice(),
             ring,
@@ -256,7 +278,7 @@ impl Page {
     /// The page in another size. It keeps the upper left part: what is added is blank, and so is a
     /// half that is cut off from its other half. It is `BadSize` as in `new`.
     pub fn with_size(&self, rows: usize, cols: usize) -> Result<Page, GridFault>
-        ensures ok { IfOk result (λ page. page ≡ page_resized rows cols self.now) }
+        ensures ok { IfOk result (λ page. page ≡ record { lines = page_resized rows cols self.now.lines; places = range_with_len 0 rows }) }
         ensures size { IfOk result (λ _. IsGridSize rows cols) }
         ensures bad_size { (result ≡ Err GridFault.BadSize) ↔ (¬ IsGridSize rows cols) }
     {
@@ -271,7 +293,7 @@ impl Page {
 
     fn in_size(&self, rows: usize, cols: usize) -> Result<Page, AllocError>
         requires { IsGridSize rows cols }
-        ensures { IfOk result (λ page. page ≡ page_resized rows cols self.now) }
+        ensures { IfOk result (λ page. page ≡ record { lines = page_resized rows cols self.now.lines; places = range_with_len 0 rows }) }
     {
         let stored = store::resized_lines(
             self.alloc,
@@ -290,22 +312,12 @@ impl Page {
 
     /// Gives the page another size, as `with_size`. A refusal leaves it as it was.
     pub fn resized(&mut self, rows: usize, cols: usize) -> Result<(), GridFault>
-        ensures ok { OnOk result (self.new ≡ page_resized rows cols self.old) }
+        ensures ok { OnOk result (self.new ≡ record { lines = page_resized rows cols self.old.lines; places = range_with_len 0 rows }) }
         ensures err { OnErr result (self.new ≡ self.old) }
         ensures bad_size { (result ≡ Err GridFault.BadSize) ↔ (¬ IsGridSize rows cols) }
     {
         let page = self.with_size(rows, cols)?;
         *self = page;
         Ok(())
-    }
-}
-
-#[cfg(test)]
-impl Page {
-    /// The stored line that holds a line of the page.
-    pub(crate) fn place(&self, line: usize) -> usize
-        requires { line < length self.now }
-    {
-        self.places[line]
     }
 }

@@ -7,11 +7,12 @@ ghost use Rattle.cells.specs.Page.{line_at, page_from};
 ghost use Rattle.cells.specs.Moves.{scrolled_up, scrolled_down, erased_lines};
 ghost use Rattle.scrollback.specs.Kept.{taken_in, Continues};
 ghost use Rattle.cells.specs.Resizing.{line_resized, page_resized};
-ghost use Rattle.vt_screen_page.specs.Store.{IsStore, IsTurned, AreCleared, lines_in_order};
+ghost use Rattle.vt_screen_page.specs.Store.{IsStore, IsTurned, AreCleared, lines_in_order, turned};
 
 use cells::{Cell, Line, Shape};
 use scrollback::Ring;
 use std::alloc::{AllocError, Global};
+use std::mem;
 
 /// Lets the places from `top` to `bottom` go round, so that the first `count` of them come last.
 pub fn turn(places: &mut [usize], top: usize, bottom: usize, count: usize)
@@ -52,6 +53,7 @@ pub fn scroll_up(stored: &mut [Line], places: &mut [usize], top: usize, bottom: 
     requires room { count ≤ bottom + 1 - top }
     ensures store { IsStore stored.new places.new }
     ensures page { lines_in_order stored.new places.new ≡ page_from (scrolled_up top bottom count) (lines_in_order stored.old places.old) }
+    ensures places { places.new ≡ turned top bottom count places.old }
 {
     clear_lines(stored, &places[top..top + count]);
     turn(places, top, bottom, count);
@@ -71,25 +73,36 @@ pub fn scroll_down(
     requires room { count ≤ bottom + 1 - top }
     ensures store { IsStore stored.new places.new }
     ensures page { lines_in_order stored.new places.new ≡ page_from (scrolled_down top bottom count) (lines_in_order stored.old places.old) }
+    ensures places { places.new ≡ turned top bottom (bottom + 1 - top - count) places.old }
 {
     let kept = bottom + 1 - top - count;
     clear_lines(stored, &places[top + kept..bottom + 1]);
     turn(places, top, bottom, kept);
 }
 
-/// Scrolls the lines of the page from the first one to `bottom` up by one, the first one into a ring.
-pub fn scroll_into(stored: &mut [Line], places: &mut [usize], ring: &mut Ring, bottom: usize)
+/// Scrolls the lines of the page from the first one to `bottom` up by one, the first one into a ring, which
+/// hands a line back that becomes the blank one.
+pub fn scroll_into(
+    alloc: Global,
+    stored: &mut [Line],
+    places: &mut [usize],
+    ring: &mut Ring,
+    bottom: usize,
+)
     requires store { IsStore stored.old places.old }
     requires inside { bottom < length places.old }
     requires width { ring.old.columns ≡ length (line_at (lines_in_order stored.old places.old) 0) }
     ensures store { IsStore stored.new places.new }
     ensures page { lines_in_order stored.new places.new ≡ page_from (scrolled_up 0 bottom 1) (lines_in_order stored.old places.old) }
+    ensures places { places.new ≡ turned 0 bottom 1 places.old }
     ensures kept { ring.new ≡ taken_in ring.old (line_at (lines_in_order stored.old places.old) 0) }
     ensures stands { Continues ring.old ring.new (line_at (lines_in_order stored.old places.old) 0) }
 {
-    let line = &mut stored[places[0]];
-    ring.swap_in(line);
-    line.clear();
+    let place = places[0];
+    let line = mem::replace(&mut stored[place], Line::empty(alloc));
+    let mut blank = ring.take_in(line);
+    blank.clear();
+    stored[place] = blank;
     turn(places, 0, bottom, 1);
 }
 

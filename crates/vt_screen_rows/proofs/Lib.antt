@@ -4,3 +4,4 @@ pub mod Unprotected
 pub mod WideLemmas
 pub mod SizeLemmas
 pub mod RunLemmas
+pub mod RunPlaces

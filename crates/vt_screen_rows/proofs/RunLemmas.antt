@@ -23,7 +23,7 @@ use Rattle.vt_screen_rows.specs.Runs.{TakesRuns, prints, run_placed}
 use Rattle.vt_screen_rows.proofs.SizeLemmas.{acted_columns}
 use Rattle.vt_screen_rows.proofs.Widths.{fit_after}
 
-both : (p q : Bool) → (p && q) ≡ true → (p ≡ true) × (q ≡ true)
+pub both : (p q : Bool) → (p && q) ≡ true → (p ≡ true) × (q ≡ true)
 both true q h = (refl, h)
 both false q h = (h, absurd (cc))
 
@@ -59,7 +59,7 @@ settled-wrapped x true e = refl
 settled-wrapped x false e = e
 
 -- a wrap that is due may be done first
-print_wrapped : (x : Screen) (c : ℕ) → TakesRuns x.state → is_plain c ≡ true → acted (wrapped x.state.is_wrap_pending x) (Print (Code c)) ≡ acted x (Print (Code c))
+pub print_wrapped : (x : Screen) (c : ℕ) → TakesRuns x.state → is_plain c ≡ true → acted (wrapped x.state.is_wrap_pending x) (Print (Code c)) ≡ acted x (Print (Code c))
 print_wrapped x c t h =
     let w : Screen = wrapped x.state.is_wrap_pending x in
     print_is w c (takes-wrapped x x.state.is_wrap_pending t) h
@@ -73,7 +73,7 @@ prints_wrapped x (c ∷ codes) t h some =
     ap (λ (v : Screen). all_acted v (prints codes)) (print_wrapped x c t (both (is_plain c) (list_all is_plain codes) h).0)
 
 -- one character is a run
-print_one : (x : Screen) (c : ℕ) → TakesRuns x.state → x.state.is_wrap_pending ≡ false → is_plain c ≡ true → acted x (Print (Code c)) ≡ run_placed (c ∷ []) x
+pub print_one : (x : Screen) (c : ℕ) → TakesRuns x.state → x.state.is_wrap_pending ≡ false → is_plain c ≡ true → acted x (Print (Code c)) ≡ run_placed (c ∷ []) x
 print_one x c t settled h =
     let s : State = x.state in
     let e : s.column ≡ s.column + 0 = omega arith in
@@ -83,10 +83,10 @@ print_one x c t settled h =
     ∙ ap (λ (n : ℕ). with_page x (advanced (record s { column = n }) 1) (page_from (edited s.line (spliced s.column (narrow_cells (c ∷ []) s.rendition s.is_protecting) (s.column + 1) s.columns)) x.page)) e
 
 -- the state behind a first character that isn't the last one of the line
-abbrev behind_first : State → State
+abbrev pub behind_first : State → State
 behind_first s = record s { column = s.column + 1; is_wrap_pending = false; joining = Some (record { line = s.line; column = s.column }) }
 
-first_state : (s : State) → s.column + 1 < s.columns → advanced (record s { column = s.column + 0 }) 1 ≡ behind_first s
+pub first_state : (s : State) → s.column + 1 < s.columns → advanced (record s { column = s.column + 0 }) 1 ≡ behind_first s
 first_state s room =
     let e : s.column + 0 ≡ s.column = omega arith in
     let fits : ltb (s.column + 1) s.columns ≡ true = lt-ltb (s.column + 1) s.columns room in
@@ -114,10 +114,10 @@ run_first x c codes sound some room =
     ∙ ap (λ page. record x { state = advanced (record s { column = s.column + (suc (length codes) - 1) }) 1; page = page })
     (page_run_more s.rendition s.is_protecting s.rows s.columns s.line s.column c codes x.page sound.sized sound.cursor.0 some room)
 
-behind_settled : (v s : State) → v ≡ behind_first s → v.is_wrap_pending ≡ false
+pub behind_settled : (v s : State) → v ≡ behind_first s → v.is_wrap_pending ≡ false
 behind_settled v s e = ap (λ (u : State). u.is_wrap_pending) e
 
-behind_room : (v s : State) (n : ℕ) → v ≡ behind_first s → s.column + suc n ≤ s.columns → v.column + n ≤ v.columns
+pub behind_room : (v s : State) (n : ℕ) → v ≡ behind_first s → s.column + suc n ≤ s.columns → v.column + n ≤ v.columns
 behind_room v s n e room = rw e (omega arith)
 
 -- characters that have room in the line are a run

@@ -11,10 +11,10 @@ use Rattle.vt_screen_rows.specs.Displays.{IsFit, screen_of}
 use Rattle.vt_screen_rows.proofs.SizeLemmas.{acted_columns}
 
 -- the cursor's line is as wide as the page
-pub line_width : (d : Display) → IsFit d → length (line_at d.page d.state.line) ≡ d.state.columns
+pub line_width : (d : Display) → IsFit d → length (line_at d.page.lines d.state.line) ≡ d.state.columns
 line_width d fit = fit.sound.sized.width d.state.line fit.sound.cursor.0
 
-pub page_height : (d : Display) → IsFit d → length d.page ≡ d.state.rows
+pub page_height : (d : Display) → IsFit d → length d.page.lines ≡ d.state.rows
 page_height d fit = fit.sound.sized.height
 
 -- a display that shows another sound screen of the same width is fit

@@ -9,7 +9,7 @@ use Rattle.vt_screen_rows.specs.declared.display.Display.{Display}
 
 -- the scrollback has its newest line last
 abbrev pub screen_of : Display → Screen
-screen_of d = record { state = d.state; tabs = d.tabs; saved = d.saved; page = d.page; kept = reverse d.ring.lines; keep = d.ring.keep }
+screen_of d = record { state = d.state; tabs = d.tabs; saved = d.saved; page = d.page.lines; kept = reverse d.ring.lines; keep = d.ring.keep }
 
 -- a sound screen, whose kept lines are as wide as the page
 pub record IsFit (d : Display) : Type 0 where

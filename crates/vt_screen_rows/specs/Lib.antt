@@ -1,2 +1,3 @@
 pub mod Displays
 pub mod Runs
+pub mod Places

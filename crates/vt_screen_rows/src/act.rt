@@ -4,6 +4,7 @@ ghost use Rattle.std.specs.Prelude.{◌≡◌, ◌≤◌, length};
 ghost use Rattle.terminal_model.specs.Table.{acted};
 ghost use Rattle.terminal_model.specs.Reports.{answer};
 ghost use Rattle.vt_screen_rows.specs.Displays.{IsFit, screen_of};
+ghost use Rattle.vt_screen_rows.specs.Places.{acted_places};
 ghost use Rattle.vt_screen_actions.specs.Counted.{IsCounted};
 
 use crate::display::Display;
@@ -16,11 +17,13 @@ use vt_screen_state::{
 
 impl Display {
     /// Does one action, and gives what is answered.
+    #[inline(always)]
     pub fn act(&mut self, action: Action) -> Report
         requires fit { IsFit self.old }
         requires counted { IsCounted action }
         ensures screen { screen_of self.new ≡ acted (screen_of self.old) action }
         ensures fit { IsFit self.new }
+        ensures places { self.new.page.places ≡ acted_places self.old.state action self.old.page.places }
         ensures report { result ≡ answer self.old.state action }
         ensures few { length result ≤ 12 }
     {
@@ -30,20 +33,24 @@ impl Display {
     }
 
     /// Does one action: one row of the screen table.
+    #[inline(always)]
     pub fn change(&mut self, action: Action)
         requires fit { IsFit self.old }
         requires counted { IsCounted action }
         ensures screen { screen_of self.new ≡ acted (screen_of self.old) action }
         ensures fit { IsFit self.new }
+        ensures places { self.new.page.places ≡ acted_places self.old.state action self.old.page.places }
     {
         self.dispatch(action);
     }
 
+    #[inline(always)]
     fn dispatch(&mut self, action: Action)
         requires fit { IsFit self.old }
         requires counted { IsCounted action }
         ensures screen { screen_of self.new ≡ acted (screen_of self.old) action }
         ensures width { self.new.ring.columns ≡ self.old.ring.columns }
+        ensures places { self.new.page.places ≡ acted_places self.old.state action self.old.page.places }
     {
         match action {
             Action::Print(unit) => self.print(unit),

@@ -4,6 +4,7 @@ ghost use Rattle.std.specs.Prelude.{◌≡◌, ◌<◌};
 ghost use Rattle.terminal_model.specs.Table.{acted};
 ghost use Rattle.terminal_model.specs.declared.action.Action.TheVariants.{DeleteCells, DeleteLines, InsertCells, InsertLines};
 ghost use Rattle.vt_screen_rows.specs.Displays.{IsFit, screen_of};
+ghost use Rattle.vt_screen_rows.specs.Places.{inserted_places, deleted_places};
 
 use crate::display::Display;
 use vt_screen_state::{end_after, go_to_first_column, is_in_margins, settle};
@@ -15,6 +16,7 @@ impl Display {
         requires some { 0 < count }
         ensures screen { screen_of self.new ≡ acted (screen_of self.old) (InsertCells count) }
         ensures width { self.new.ring.columns ≡ self.old.ring.columns }
+        ensures places { self.new.page.places ≡ self.old.page.places }
     {
         let column = self.state.column;
         let count = count.min(self.state.columns - column);
@@ -28,6 +30,7 @@ impl Display {
         requires some { 0 < count }
         ensures screen { screen_of self.new ≡ acted (screen_of self.old) (DeleteCells count) }
         ensures width { self.new.ring.columns ≡ self.old.ring.columns }
+        ensures places { self.new.page.places ≡ self.old.page.places }
     {
         let rest = end_after(&self.state, count);
         self.page
@@ -41,6 +44,7 @@ impl Display {
         requires { IsFit self.old }
         ensures screen { screen_of self.new ≡ acted (screen_of self.old) (InsertLines count) }
         ensures width { self.new.ring.columns ≡ self.old.ring.columns }
+        ensures places { self.new.page.places ≡ inserted_places count self.old.state self.old.page.places }
     {
         if is_in_margins(&self.state) {
             let line = self.state.line;
@@ -59,6 +63,7 @@ impl Display {
         requires { IsFit self.old }
         ensures screen { screen_of self.new ≡ acted (screen_of self.old) (DeleteLines count) }
         ensures width { self.new.ring.columns ≡ self.old.ring.columns }
+        ensures places { self.new.page.places ≡ deleted_places count self.old.state self.old.page.places }
     {
         if is_in_margins(&self.state) {
             let line = self.state.line;

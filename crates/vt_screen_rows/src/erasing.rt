@@ -17,6 +17,7 @@ impl Display {
         requires { IsFit self.old }
         ensures screen { screen_of self.new ≡ acted (screen_of self.old) (EraseInLine part) }
         ensures width { self.new.ring.columns ≡ self.old.ring.columns }
+        ensures places { self.new.page.places ≡ self.old.page.places }
     {
         erase_part(&mut self.page, &self.state, part);
         settle(&mut self.state);
@@ -27,6 +28,7 @@ impl Display {
         requires { IsFit self.old }
         ensures screen { screen_of self.new ≡ acted (screen_of self.old) (EraseInPage part) }
         ensures width { self.new.ring.columns ≡ self.old.ring.columns }
+        ensures places { self.new.page.places ≡ self.old.page.places }
     {
         erase_part(&mut self.page, &self.state, part);
         let first = first_line(part, &self.state);
@@ -41,6 +43,7 @@ impl Display {
         requires some { 0 < count }
         ensures screen { screen_of self.new ≡ acted (screen_of self.old) (EraseCells count) }
         ensures width { self.new.ring.columns ≡ self.old.ring.columns }
+        ensures places { self.new.page.places ≡ self.old.page.places }
     {
         let from = self.state.column;
         let end = end_after(&self.state, count);
@@ -53,6 +56,7 @@ impl Display {
         requires { IsFit self.old }
         ensures screen { screen_of self.new ≡ acted (screen_of self.old) (EraseUnprotectedInLine part) }
         ensures width { self.new.ring.columns ≡ self.old.ring.columns }
+        ensures places { self.new.page.places ≡ self.old.page.places }
     {
         erase_unprotected_part(&mut self.page, &self.state, part);
         settle(&mut self.state);
@@ -63,6 +67,7 @@ impl Display {
         requires { IsFit self.old }
         ensures screen { screen_of self.new ≡ acted (screen_of self.old) (EraseUnprotectedInPage part) }
         ensures width { self.new.ring.columns ≡ self.old.ring.columns }
+        ensures places { self.new.page.places ≡ self.old.page.places }
     {
         erase_unprotected_part(&mut self.page, &self.state, part);
         let first = first_line(part, &self.state);
@@ -74,22 +79,24 @@ impl Display {
 
 /// Makes the columns from `from` on and below `end` of the cursor's line blank.
 fn erase_columns(page: &mut Page, state: &State, from: usize, end: usize)
-    requires page { IsPage state.now.rows state.now.columns page.old }
+    requires page { IsPage state.now.rows state.now.columns page.old.lines }
     requires line_inside { state.now.line < state.now.rows }
     requires order { from < end }
     requires inside { end ≤ state.now.columns }
-    ensures { page.new ≡ line_erased state.now from end page.old }
+    ensures value { page.new.lines ≡ line_erased state.now from end page.old.lines }
+    ensures places { page.new.places ≡ page.old.places }
 {
     page.splice(state.line, from, end - from, end);
 }
 
 /// Makes a part of the cursor's line blank.
 fn erase_part(page: &mut Page, state: &State, part: Part)
-    requires page { IsPage state.now.rows state.now.columns page.old }
+    requires page { IsPage state.now.rows state.now.columns page.old.lines }
     requires line_inside { state.now.line < state.now.rows }
     requires column_inside { state.now.column < state.now.columns }
-    ensures value { page.new ≡ part_erased state.now part page.old }
-    ensures page { IsPage state.now.rows state.now.columns page.new }
+    ensures value { page.new.lines ≡ part_erased state.now part page.old.lines }
+    ensures page { IsPage state.now.rows state.now.columns page.new.lines }
+    ensures places { page.new.places ≡ page.old.places }
 {
     let from = first_column(part, state);
     let end = end_column(part, state);
@@ -98,11 +105,12 @@ fn erase_part(page: &mut Page, state: &State, part: Part)
 
 /// Makes a part of the cursor's line blank, but for protected cells.
 fn erase_unprotected_part(page: &mut Page, state: &State, part: Part)
-    requires page { IsPage state.now.rows state.now.columns page.old }
+    requires page { IsPage state.now.rows state.now.columns page.old.lines }
     requires line_inside { state.now.line < state.now.rows }
     requires column_inside { state.now.column < state.now.columns }
-    ensures value { page.new ≡ part_unprotected state.now part page.old }
-    ensures page { IsPage state.now.rows state.now.columns page.new }
+    ensures value { page.new.lines ≡ part_unprotected state.now part page.old.lines }
+    ensures page { IsPage state.now.rows state.now.columns page.new.lines }
+    ensures places { page.new.places ≡ page.old.places }
 {
     let from = first_column(part, state);
     let end = end_column(part, state);
@@ -111,10 +119,11 @@ fn erase_unprotected_part(page: &mut Page, state: &State, part: Part)
 
 /// Makes the lines from `first` on and below `end` blank, but for protected cells.
 fn erase_unprotected_lines(page: &mut Page, state: &State, first: usize, end: usize)
-    requires page { IsPage state.now.rows state.now.columns page.old }
+    requires page { IsPage state.now.rows state.now.columns page.old.lines }
     requires order { first ≤ end }
     requires inside { end ≤ state.now.rows }
-    ensures { page.new ≡ page_from (unprotected_lines page.old state.now.columns first end) page.old }
+    ensures value { page.new.lines ≡ page_from (unprotected_lines page.old.lines state.now.columns first end) page.old.lines }
+    ensures places { page.new.places ≡ page.old.places }
 {
     let columns = state.columns;
     for line in first..end {

@@ -4,6 +4,8 @@ ghost use Rattle.std.specs.Prelude.{◌≡◌};
 ghost use Rattle.terminal_model.specs.Table.{acted, indexed, moved_to, reverse_indexed, with_state};
 ghost use Rattle.terminal_model.specs.declared.action.Action.TheVariants.{LineFeed};
 ghost use Rattle.vt_screen_rows.specs.Displays.{IsFit, screen_of, scrolled};
+ghost use Rattle.vt_screen_page.specs.Store.{turned};
+ghost use Rattle.vt_screen_rows.specs.Places.{indexed_places, lowered_places};
 
 use crate::display::Display;
 use vt_screen_state::{go_to_first_column, settle};
@@ -15,6 +17,7 @@ impl Display {
         requires { IsFit self.old }
         ensures screen { screen_of self.new ≡ indexed (screen_of self.old) }
         ensures width { self.new.ring.columns ≡ self.old.ring.columns }
+        ensures places { self.new.page.places ≡ indexed_places self.old.state self.old.page.places }
     {
         if self.state.line == self.state.bottom {
             self.scroll();
@@ -30,6 +33,7 @@ impl Display {
         requires { IsFit self.old }
         ensures screen { screen_of self.new ≡ scrolled (screen_of self.old) }
         ensures width { self.new.ring.columns ≡ self.old.ring.columns }
+        ensures places { self.new.page.places ≡ turned self.old.state.top self.old.state.bottom 1 self.old.page.places }
     {
         if self.state.top == 0 {
             self.page.scroll_into(&mut self.ring, self.state.bottom);
@@ -43,6 +47,7 @@ impl Display {
         requires { IsFit self.old }
         ensures screen { screen_of self.new ≡ indexed (with_state (screen_of self.old) (moved_to self.old.state self.old.state.line 0)) }
         ensures width { self.new.ring.columns ≡ self.old.ring.columns }
+        ensures places { self.new.page.places ≡ indexed_places self.old.state self.old.page.places }
     {
         go_to_first_column(&mut self.state);
         self.index();
@@ -53,6 +58,7 @@ impl Display {
         requires { IsFit self.old }
         ensures screen { screen_of self.new ≡ acted (screen_of self.old) LineFeed }
         ensures width { self.new.ring.columns ≡ self.old.ring.columns }
+        ensures places { self.new.page.places ≡ indexed_places self.old.state self.old.page.places }
     {
         if self.state.modes.starts_lines {
             self.go_to_next_line();
@@ -67,6 +73,7 @@ impl Display {
         requires { IsFit self.old }
         ensures screen { screen_of self.new ≡ reverse_indexed (screen_of self.old) }
         ensures width { self.new.ring.columns ≡ self.old.ring.columns }
+        ensures places { self.new.page.places ≡ lowered_places self.old.state self.old.page.places }
     {
         if self.state.line == self.state.top {
             self.page.scroll_down(self.state.top, self.state.bottom, 1);

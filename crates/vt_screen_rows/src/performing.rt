@@ -1,25 +1,29 @@
 //! All the actions of a control function.
 
-ghost use Rattle.std.specs.Prelude.{◌≡◌, ◌≤◌, [], length};
-ghost use Rattle.terminal_model.specs.Functions.{each};
+ghost use Rattle.std.specs.Prelude.{◌≡◌, ◌≤◌, [], false, length, IfSome, IsTrue};
+ghost use Rattle.terminal_model.specs.Functions.{alone, each};
 ghost use Rattle.terminal_model.specs.Reports.{all_answered};
 ghost use Rattle.terminal_model.specs.Table.{all_acted};
 ghost use Rattle.vt_screen_actions.specs.Acting.{actions_in};
-ghost use Rattle.vt_screen_actions.specs.Counted.{AreCounted};
+ghost use Rattle.vt_screen_actions.specs.Counted.{AreCounted, IsCounted};
 ghost use Rattle.vt_screen_actions.specs.Meanings.{meaning};
+ghost use Rattle.vt_screen_actions.specs.Silent.{IsSilent};
 ghost use Rattle.vt_screen_rows.specs.Displays.{IsFit, screen_of};
+ghost use Rattle.vt_screen_rows.specs.Places.{all_acted_places};
 
 use crate::display::Display;
-use terminal_model::Report;
+use terminal_model::{Action, Report};
 use vt_screen_actions::{Acts, Setting};
 
 impl Display {
     /// Does the actions of a control function, in turn, and gives what is answered.
+    #[inline(always)]
     pub fn perform(&mut self, acts: Acts<'_>) -> Report
         requires fit { IsFit self.old }
         requires counted { AreCounted acts }
         ensures screen { screen_of self.new ≡ all_acted (screen_of self.old) (actions_in acts.entry) }
         ensures fit { IsFit self.new }
+        ensures places { self.new.page.places ≡ all_acted_places (screen_of self.old) (actions_in acts.entry) self.old.page.places }
         ensures report { result ≡ all_answered (screen_of self.old) (actions_in acts.entry) }
         ensures few { length result ≤ 12 }
     {
@@ -33,11 +37,57 @@ impl Display {
         }
     }
 
+    /// Does the action of a control function that has at most one, and is answered by nothing.
+    #[inline(always)]
+    pub fn perform_silently(&mut self, action: Option<Action>)
+        requires fit { IsFit self.old }
+        requires counted { IfSome action IsCounted }
+        requires silent { IfSome action IsSilent }
+        ensures screen { screen_of self.new ≡ all_acted (screen_of self.old) (alone action) }
+        ensures fit { IsFit self.new }
+        ensures places { self.new.page.places ≡ all_acted_places (screen_of self.old) (alone action) self.old.page.places }
+        ensures silent { all_answered (screen_of self.old) (alone action) ≡ [] }
+    {
+        if let Some(action) = action {
+            self.change(action);
+        }
+    }
+
+    /// Does the actions of a control function that isn't answered, in turn. It gives false where it is answered, and has done
+    /// nothing then.
+    #[inline(always)]
+    pub fn perform_unanswered(&mut self, acts: Acts<'_>) -> bool
+        requires fit { IsFit self.old }
+        requires counted { AreCounted acts }
+        ensures screen { IsTrue result → screen_of self.new ≡ all_acted (screen_of self.old) (actions_in acts.entry) }
+        ensures silent { IsTrue result → all_answered (screen_of self.old) (actions_in acts.entry) ≡ [] }
+        ensures places { IsTrue result → self.new.page.places ≡ all_acted_places (screen_of self.old) (actions_in acts.entry) self.old.page.places }
+        ensures undone { result ≡ false → screen_of self.new ≡ screen_of self.old }
+        ensures unturned { result ≡ false → self.new.page.places ≡ self.old.page.places }
+        ensures fit { IsFit self.new }
+    {
+        match acts {
+            Acts::Nothing => true,
+            Acts::One(action) => {
+                if is_answered(&action) {
+                    return false;
+                }
+                self.change(action);
+                true
+            }
+            Acts::Each(setting, values) => {
+                self.set_each(setting, values);
+                true
+            }
+        }
+    }
+
     /// Does the action of each value that is named, in turn; nothing is answered.
     fn set_each(&mut self, setting: Setting, values: &[u16])
         requires { IsFit self.old }
         ensures screen { screen_of self.new ≡ all_acted (screen_of self.old) (each (meaning setting) values.now) }
         ensures fit { IsFit self.new }
+        ensures places { self.new.page.places ≡ all_acted_places (screen_of self.old) (each (meaning setting) values.now) self.old.page.places }
         ensures silent { all_answered (screen_of self.old) (each (meaning setting) values.now) ≡ [] }
     {
         for value in values {
@@ -45,5 +95,20 @@ impl Display {
                 self.change(action);
             }
         }
+    }
+}
+
+/// Whether something is answered to an action: to DSR and DA.
+#[inline(always)]
+fn is_answered(action: &Action) -> bool
+    ensures { result ≡ false → IsSilent action.now }
+{
+    match action {
+        Action::ReportStatus
+        | Action::ReportPlace
+        | Action::ReportPrinter
+        | Action::ReportAttributes
+        | Action::ReportSecondaryAttributes => true,
+        _ => false,
     }
 }

@@ -1,13 +1,15 @@
 //! Print.
 
-ghost use Rattle.std.specs.Prelude.{◌≡◌, ◌<◌, ◌+◌, Some};
-ghost use Rattle.unicode_width.specs.Width.{char_width};
-ghost use Rattle.terminal_model.specs.Table.{acted, columns_of, drawn, drawn_as, marked_at, placed_narrow, placed_wide, printed, printed_as, wide_or_none, widely, wrapped};
+ghost use Rattle.std.specs.Prelude.{◌≡◌, ◌<◌, ◌+◌, ◌&&◌, Some};
+ghost use Rattle.cells.specs.Glyph.{glyph_columns};
+ghost use Rattle.terminal_model.specs.Table.{acted, drawn_as, lacks_room, marked_at, placed_narrow, placed_wide, printed, printed_as, wide_or_none, widely, wrapped};
 ghost use Rattle.terminal_model.specs.declared.action.Action.TheVariants.{Print};
 ghost use Rattle.vt_screen_rows.specs.Displays.{IsFit, screen_of};
+ghost use Rattle.vt_screen_rows.specs.Places.{acted_places, printed_places, wrapped_places};
+ghost use Rattle.terminal_model.specs.Scrollback.{is_wrapped};
 
 use crate::display::Display;
-use cells::{Cell, glyph_width};
+use cells::Cell;
 use charsets::Unit;
 use unicode_width::UnicodeWidthChar;
 use vt_screen_state::{advance, following, lacks_room, needs_line, separate};
@@ -21,6 +23,7 @@ impl Display {
         requires { IsFit self.old }
         ensures screen { screen_of self.new ≡ acted (screen_of self.old) (Print unit) }
         ensures width { self.new.ring.columns ≡ self.old.ring.columns }
+        ensures places { self.new.page.places ≡ acted_places self.old.state (Print unit) self.old.page.places }
     {
         if let Some(character) = self.state.shifts.map(unit) {
             self.print_character(character);
@@ -28,12 +31,15 @@ impl Display {
     }
 
     /// Prints a character by its width.
+    #[tactic(auto, unfolding(terminal_model::specs::Table::columns_of, terminal_model::specs::Table::drawn))]
     fn print_character(&mut self, character: char)
         requires { IsFit self.old }
         ensures screen { screen_of self.new ≡ printed (Some character) (screen_of self.old) }
         ensures width { self.new.ring.columns ≡ self.old.ring.columns }
+        ensures places { self.new.page.places ≡ printed_places (Some character) self.old.state self.old.page.places }
     {
-        self.print_as(columns_of(character), drawn(character));
+        let width = character.width();
+        self.print_as(columns_in(width), drawn_as(width, character));
     }
 
     /// Prints a character in so many columns: none for a mark.
@@ -41,6 +47,7 @@ impl Display {
         requires { IsFit self.old }
         ensures screen { screen_of self.new ≡ printed_as columns character (screen_of self.old) }
         ensures width { self.new.ring.columns ≡ self.old.ring.columns }
+        ensures places { self.new.page.places ≡ wrapped_places (is_wrapped columns self.old.state) self.old.state self.old.page.places }
     {
         if columns == 0 {
             self.join(character);
@@ -59,6 +66,7 @@ impl Display {
         requires { IsFit self.old }
         ensures screen { screen_of self.new ≡ marked_at self.old.state.joining mark (screen_of self.old) }
         ensures width { self.new.ring.columns ≡ self.old.ring.columns }
+        ensures places { self.new.page.places ≡ self.old.page.places }
     {
         if let Some(place) = self.state.joining {
             self.page.mark(place.line, place.column, mark);
@@ -71,6 +79,7 @@ impl Display {
         ensures screen { screen_of self.new ≡ wrapped is_due (screen_of self.old) }
         ensures fit { IsFit self.new }
         ensures width { self.new.ring.columns ≡ self.old.ring.columns }
+        ensures places { self.new.page.places ≡ wrapped_places is_due self.old.state self.old.page.places }
     {
         if is_due {
             self.go_to_next_line();
@@ -81,6 +90,7 @@ impl Display {
         requires { IsFit self.old }
         ensures screen { screen_of self.new ≡ placed_narrow character (screen_of self.old) }
         ensures width { self.new.ring.columns ≡ self.old.ring.columns }
+        ensures places { self.new.page.places ≡ self.old.page.places }
     {
         let state = &self.state;
         let cell = Cell::narrow(character, state.rendition, state.is_protecting);
@@ -95,6 +105,7 @@ impl Display {
         requires { IsFit self.old }
         ensures screen { screen_of self.new ≡ widely character (screen_of self.old) }
         ensures width { self.new.ring.columns ≡ self.old.ring.columns }
+        ensures places { self.new.page.places ≡ wrapped_places (lacks_room self.old.state && self.old.state.modes.wraps) self.old.state self.old.page.places }
     {
         let is_due = needs_line(&self.state);
         self.wrap(is_due);
@@ -110,6 +121,7 @@ impl Display {
         requires room { self.old.state.column + 1 < self.old.state.columns }
         ensures screen { screen_of self.new ≡ placed_wide character (screen_of self.old) }
         ensures width { self.new.ring.columns ≡ self.old.ring.columns }
+        ensures places { self.new.page.places ≡ self.old.page.places }
     {
         let state = &self.state;
         let left = Cell::left(character, state.rendition, state.is_protecting);
@@ -121,22 +133,18 @@ impl Display {
     }
 }
 
-/// The columns that a character takes.
-#[tactic(auto, unfolding(terminal_model::specs::Table::columns_of))]
-fn columns_of(character: char) -> u8
-    ensures { result ≡ columns_of character }
+/// The columns that a character of a width takes.
+fn columns_in(width: Option<usize>) -> u8
+    ensures { result ≡ glyph_columns width }
 {
-    glyph_width(character)
+    match width {
+        Some(2) => 2,
+        Some(0) | None => 0,
+        Some(_) => 1,
+    }
 }
 
-/// What is drawn of a character: U+FFFD where its width is 3.
-#[tactic(auto, unfolding(terminal_model::specs::Table::drawn))]
-fn drawn(character: char) -> char
-    ensures { result ≡ drawn character }
-{
-    drawn_as(character.width(), character)
-}
-
+/// What is drawn of a character of a width: U+FFFD where that is 3.
 fn drawn_as(width: Option<usize>, character: char) -> char
     ensures { result ≡ drawn_as width character }
 {

@@ -17,6 +17,7 @@ impl Display {
         requires { IsFit self.old }
         ensures screen { screen_of self.new ≡ acted (screen_of self.old) Tab }
         ensures width { self.new.ring.columns ≡ self.old.ring.columns }
+        ensures places { self.new.page.places ≡ self.old.page.places }
     {
         let line = self.state.line;
         let column = self.tabs.next(self.state.column);
@@ -28,6 +29,7 @@ impl Display {
         requires { IsFit self.old }
         ensures screen { screen_of self.new ≡ acted (screen_of self.old) SetTab }
         ensures width { self.new.ring.columns ≡ self.old.ring.columns }
+        ensures places { self.new.page.places ≡ self.old.page.places }
     {
         self.tabs.set(self.state.column);
         settle(&mut self.state);
@@ -38,6 +40,7 @@ impl Display {
         requires { IsFit self.old }
         ensures screen { screen_of self.new ≡ acted (screen_of self.old) ClearTab }
         ensures width { self.new.ring.columns ≡ self.old.ring.columns }
+        ensures places { self.new.page.places ≡ self.old.page.places }
     {
         self.tabs.clear(self.state.column);
         settle(&mut self.state);
@@ -48,6 +51,7 @@ impl Display {
         requires { IsFit self.old }
         ensures screen { screen_of self.new ≡ acted (screen_of self.old) ClearTabs }
         ensures width { self.new.ring.columns ≡ self.old.ring.columns }
+        ensures places { self.new.page.places ≡ self.old.page.places }
     {
         self.tabs.clear_all();
         settle(&mut self.state);
@@ -57,6 +61,7 @@ impl Display {
     pub fn save(&mut self)
         ensures screen { screen_of self.new ≡ acted (screen_of self.old) Save }
         ensures width { self.new.ring.columns ≡ self.old.ring.columns }
+        ensures places { self.new.page.places ≡ self.old.page.places }
     {
         self.saved = Some(saved_of(&self.state));
         settle(&mut self.state);
@@ -67,6 +72,7 @@ impl Display {
         requires { IsFit self.old }
         ensures screen { screen_of self.new ≡ acted (screen_of self.old) Restore }
         ensures width { self.new.ring.columns ≡ self.old.ring.columns }
+        ensures places { self.new.page.places ≡ self.old.page.places }
     {
         restore(&mut self.state, self.saved);
     }
@@ -76,6 +82,7 @@ impl Display {
         requires { IsFit self.old }
         ensures screen { screen_of self.new ≡ acted (screen_of self.old) Reset }
         ensures width { self.new.ring.columns ≡ self.old.ring.columns }
+        ensures places { self.new.page.places ≡ self.old.page.places }
     {
         self.state = starting_state(self.state.rows, self.state.columns, self.state.coding);
         self.tabs.start();
@@ -88,6 +95,7 @@ impl Display {
         requires { IsFit self.old }
         ensures screen { screen_of self.new ≡ acted (screen_of self.old) SoftReset }
         ensures width { self.new.ring.columns ≡ self.old.ring.columns }
+        ensures places { self.new.page.places ≡ self.old.page.places }
     {
         soft_reset(&mut self.state);
         self.saved = None;
@@ -98,6 +106,7 @@ impl Display {
         requires { IsFit self.old }
         ensures screen { screen_of self.new ≡ acted (screen_of self.old) Align }
         ensures width { self.new.ring.columns ≡ self.old.ring.columns }
+        ensures places { self.new.page.places ≡ self.old.page.places }
     {
         self.page.fill(Cell::narrow('E', Rendition::PLAIN, false));
         use_whole_page(&mut self.state);
@@ -110,6 +119,7 @@ impl Display {
         requires { IsFit self.old }
         ensures screen { screen_of self.new ≡ acted (screen_of self.old) BlankPage }
         ensures width { self.new.ring.columns ≡ self.old.ring.columns }
+        ensures places { self.new.page.places ≡ self.old.page.places }
     {
         self.page.clear();
         use_whole_page(&mut self.state);

@@ -6,6 +6,7 @@ ghost use Rattle.charsets.specs.Shifts.{set_at};
 ghost use Rattle.charsets.specs.Units.{is_plain};
 ghost use Rattle.terminal_model.specs.Table.{all_acted};
 ghost use Rattle.vt_screen_rows.specs.Displays.{IsFit, screen_of};
+ghost use Rattle.vt_screen_rows.specs.Places.{all_acted_places};
 ghost use Rattle.vt_screen_rows.specs.Runs.{TakesRuns, prints, run_placed};
 
 use crate::display::Display;
@@ -20,6 +21,7 @@ impl Display {
         requires plain { list_all is_plain codes.now ≡ true }
         ensures screen { screen_of self.new ≡ all_acted (screen_of self.old) (prints codes.now) }
         ensures fit { IsFit self.new }
+        ensures places { self.new.page.places ≡ all_acted_places (screen_of self.old) (prints codes.now) self.old.page.places }
     {
         let mut printed = 0;
         while printed < codes.len() {
@@ -34,6 +36,7 @@ impl Display {
         requires some { 0 < length codes.now }
         ensures screen { screen_of self.new ≡ all_acted (screen_of self.old) (prints (take result codes.now)) }
         ensures fit { IsFit self.new }
+        ensures places { self.new.page.places ≡ all_acted_places (screen_of self.old) (prints (take result codes.now)) self.old.page.places }
         ensures some { 0 < result }
         ensures few { result ≤ length codes.now }
     {
@@ -54,6 +57,7 @@ impl Display {
         requires room { self.old.state.column + length codes.now ≤ self.old.state.columns }
         ensures screen { screen_of self.new ≡ run_placed codes.now (screen_of self.old) }
         ensures width { self.new.ring.columns ≡ self.old.ring.columns }
+        ensures places { self.new.page.places ≡ self.old.page.places }
     {
         self.page.put_run(
             self.state.line,

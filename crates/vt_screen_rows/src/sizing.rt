@@ -1,6 +1,7 @@
 //! A new display, and a change of size.
 
 ghost use Rattle.std.specs.Prelude.{◌≡◌, ◌↔◌, Err, IfOk, OnOk, OnErr};
+ghost use Rattle.std.specs.List.{range_with_len};
 ghost use Rattle.cells.specs.Page.{IsGridSize};
 ghost use Rattle.terminal_model.specs.Screen.{starting};
 ghost use Rattle.terminal_model.specs.Table.{resized};
@@ -24,6 +25,7 @@ impl Display {
     ) -> Result<Display, GridFault>
         ensures ok { IfOk result (λ display. screen_of display ≡ starting rows columns keep) }
         ensures width { IfOk result (λ display. display.ring.columns ≡ columns) }
+        ensures places { IfOk result (λ display. display.page.places ≡ range_with_len 0 rows) }
         ensures size { IfOk result (λ _. IsGridSize rows columns) }
         ensures bad_size { (result ≡ Err GridFault.BadSize) ↔ (¬ IsGridSize rows columns) }
     {
@@ -46,6 +48,7 @@ impl Display {
     pub fn resized(&mut self, rows: usize, columns: usize) -> Result<(), GridFault>
         ensures ok { OnOk result (screen_of self.new ≡ resized rows columns (screen_of self.old)) }
         ensures width { OnOk result (self.new.ring.columns ≡ columns) }
+        ensures places { OnOk result (self.new.page.places ≡ range_with_len 0 rows) }
         ensures size { OnOk result (IsGridSize rows columns) }
         ensures err { OnErr result (self.new ≡ self.old) }
         ensures bad_size { (result ≡ Err GridFault.BadSize) ↔ (¬ IsGridSize rows columns) }

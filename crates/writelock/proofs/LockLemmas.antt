@@ -1,12 +1,12 @@
 -- Each act, done to the locks, gives the history with that act in front.
-use Rattle.std.proofs.Common.{◌≡◌, ◌∙◌, ℕ, Bool, true, false, not, ◌==◌, ◌&&◌, ◌||◌, ap, sym, refl, List, ◌∷◌, Option, Some, None, is_none, if◌then◌else◌, true≢false, unwrap_or}
+use Rattle.std.proofs.Common.{[], ◌≡◌, ◌∙◌, ℕ, Bool, true, false, not, ◌==◌, ◌&&◌, ◌||◌, ap, sym, refl, List, ◌∷◌, Option, Some, None, is_none, if◌then◌else◌, true≢false, unwrap_or}
 use Rattle.std.specs.Option.{option_map, option_map_or}
 use Rattle.std.specs.List.{list_any}
 use borrow.Author.Tests.{eqb-true}
 use Rattle.acl.specs.Same.{same_user}
 use Rattle.acl.specs.Slots.{SlotsStandFor}
-use Rattle.acl.specs.History.{History, open_count, may, has, leaders_of, is_open, decided, there, opening, is_known, mask}
-use Rattle.acl.specs.Commands.{MayFollow}
+use Rattle.acl.specs.History.{History, open_count, may, has, leaders_of, is_open, decided, there, opening, is_known, mask, followed_by}
+use Rattle.acl.specs.Commands.{MayFollow, AllMayFollow}
 use Rattle.acl.specs.declared.act.LockMode.{LockMode}
 use Rattle.acl.specs.declared.act.LockMode.TheVariants.{Off, Auto, On}
 use Rattle.acl.specs.Table.{Table, StandsFor}
@@ -22,7 +22,7 @@ use Rattle.acl.specs.declared.act.Act.{Act}
 use Rattle.acl.specs.declared.act.Act.TheVariants.{Known, Gone, Set, Grouped, Masked, Preset, Opened, Closed, Attached, Parted, Entered, Left, Mode, Default}
 use Rattle.writelock.specs.declared.lock.Lock.{Lock}
 use Rattle.writelock.specs.declared.locks.Locks.{Locks}
-use Rattle.writelock.specs.Holding.{default_of, mode_of, holder, ends, given, kept, or_else, is_off, is_auto, is_on, loses_last}
+use Rattle.writelock.specs.Holding.{default_of, mode_of, holder, ends, given, kept, or_else, is_off, is_auto, is_on, loses_last, clients_of}
 use Rattle.writelock.specs.LockTable.{LocksStandFor, AreLocks, lock_of, frees, remaining, with_remaining, lock_by, opened_by, left_by, entered_by, without_holder, has_holder}
 
 -- what an act of a list command leaves to the locks
@@ -396,3 +396,32 @@ slots-rights edition owner (Entered u v) h windows r s = absurd r
 slots-rights edition owner (Left u v) h windows r s = absurd r
 slots-rights edition owner (Mode by v mode) h windows r s = absurd r
 slots-rights edition owner (Default mode) h windows r s = absurd r
+
+-- an act of a list command leaves the clients, the modes and the default
+clients-same : (edition : Edition) (owner : UserId) (h : History) (a : Act) → MayFollow edition owner h a → clients_of (a ∷ h) ≡ clients_of h
+clients-same edition owner h (Known v) m = refl
+clients-same edition owner h (Gone v) m = refl
+clients-same edition owner h (Set v bit object value) m = refl
+clients-same edition owner h (Grouped v leader) m = refl
+clients-same edition owner h (Masked by v bit value) m = refl
+clients-same edition owner h (Preset kind bit value) m = refl
+clients-same edition owner h (Opened by v) m = absurd m
+clients-same edition owner h (Closed v) m = absurd m
+clients-same edition owner h (Attached client user) m = absurd m
+clients-same edition owner h (Parted client) m = absurd m
+clients-same edition owner h (Entered user v) m = absurd m
+clients-same edition owner h (Left user v) m = absurd m
+clients-same edition owner h (Mode by v mode) m = absurd m
+clients-same edition owner h (Default mode) m = absurd m
+
+pub clients-all_same : (edition : Edition) (owner : UserId) (h : History) (acts : List Act) → AllMayFollow edition owner h acts → clients_of (followed_by h acts) ≡ clients_of h
+clients-all_same edition owner h [] m = refl
+clients-all_same edition owner h (a ∷ acts) m = clients-all_same edition owner (a ∷ h) acts m.1 ∙ clients-same edition owner h a m.0
+
+pub mode-all_same : (edition : Edition) (owner : UserId) (h : History) (acts : List Act) → AllMayFollow edition owner h acts → (w : ℕ) → mode_of (followed_by h acts) w ≡ mode_of h w
+mode-all_same edition owner h [] m w = refl
+mode-all_same edition owner h (a ∷ acts) m w = mode-all_same edition owner (a ∷ h) acts m.1 w ∙ (leaves_locks edition owner a h m.0).same_mode w
+
+pub default-all_same : (edition : Edition) (owner : UserId) (h : History) (acts : List Act) → AllMayFollow edition owner h acts → default_of (followed_by h acts) ≡ default_of h
+default-all_same edition owner h [] m = refl
+default-all_same edition owner h (a ∷ acts) m = default-all_same edition owner (a ∷ h) acts m.1 ∙ (leaves_locks edition owner a h m.0).same_default

@@ -1,12 +1,12 @@
 use Rattle.std.proofs.Common.{◌≡◌, ◌⊎◌, inl, inr}
 use Rattle.std.proofs.lemmas.Result.{IfErr-weaker}
-use Rattle.command_lang.specs.Relation.{faults_of, NoneBefore}
 use Rattle.command_lang_table.specs.LineFaults.{no_memory}
+use Rattle.command_lang.specs.Relation.{NoneBefore}
 use Rattle.command_lang.proofs.Places.{least_place}
 use Rattle.command_lang.proofs.reading.parse.Goals as goal
 
 pub returns-clause-least : goal.returns-clause-least
 returns-clause-least c =
     IfErr-weaker c.command_in.result _ _
-    (λ f h. elim h as (λ _. (f ≡ no_memory) ⊎ NoneBefore f.place (faults_of c.args.line.now)) [ inl m ↦ inl m | inr r ↦ inr (least_place c.args.line.now f r) ])
+    (λ f h. elim h as (λ _. (f ≡ no_memory) ⊎ NoneBefore c.args.line.now f) [ inl m ↦ inl m | inr r ↦ inr (least_place c.args.line.now f r) ])
     c.command_in.ensures.err

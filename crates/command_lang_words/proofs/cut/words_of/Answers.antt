@@ -1,21 +1,24 @@
-use Rattle.std.proofs.Common.{arith}
-use Rattle.command_lang_words.proofs.CutLemmas.{words-skip, words-blank, words-pushed, words-end, count-first}
+use Rattle.std.proofs.Common.{◌-◌, ◌∙◌, ap}
+use Rattle.std.specs.Option.{option_map, is_some}
+use Rattle.command_lang_words.proofs.Cutting.{cut-blank, cut-word, cut-less, cut-broken, cut-end}
 use Rattle.command_lang_words.proofs.cut.words_of.Goals as goal
-use Rattle.command_lang_words.proofs.cut.words_of.Goals.{then-skip-gt0, else-skip-gt0+then-c-ne32+in_ok-read+in_ok-push, else-skip-gt0+else-c-ne32}
 
-pub overflow_sub-skip-then-c-ne32 : goal.overflow_sub-skip-then-c-ne32
-overflow_sub-skip-then-c-ne32 c = count-first c.args.cs.now _ _ c.loop-i-test.true c.index-cs-i.is c.if-c-ne32.true _ c.in_ok-read.ensures.1.0
+pub loop-left-preserved-then-c-eq32 : goal.loop-left-preserved-then-c-eq32
+loop-left-preserved-then-c-eq32 c = cut-blank _ _ _ _ c.loop-left.invariant c.in-len1-up.len_at_least c.c-item.is c.if-c-eq32.true
 
-pub loop-i-preserved : goal.loop-i-preserved
-loop-i-preserved c = (
-  elim c.if-skip-gt0.branch [
-    | then-skip-gt0 w ↦ rw (w.out-is, w.skip-is, c.len_utf8-place.ensures.value) (words-skip c.args.cs.now _ _ _ _ _ c.loop-i.invariant.0 c.loop-i-test.true c.index-cs-i.is w.if-skip-gt0.true)
-    | else-skip-gt0+then-c-ne32+in_ok-read+in_ok-push w ↦ rw (w.out-is, w.skip-is, c.len_utf8-place.ensures.value)
-        (words-pushed c.args.cs.now _ _ _ _ _ _ c.loop-i.invariant.0 c.loop-i-test.true c.index-cs-i.is w.if-skip-gt0.false w.if-c-ne32.true _ _ w.in_ok-read.read w.new-text.ensures.bytes w.in_ok-read.ensures _ w.new.ensures w.in_ok-push.ensures.items)
-    | else-skip-gt0+else-c-ne32 w ↦ rw (w.out-is, w.skip-is, c.len_utf8-place.ensures.value) (words-blank c.args.cs.now _ _ _ _ _ c.loop-i.invariant.0 c.loop-i-test.true c.index-cs-i.is w.if-skip-gt0.false w.if-c-ne32.false)
-  ],
-  omega (arith, c.loop-i.invariant.1, c.len_utf8-place.ensures.upper_bound),
-)
+pub returns-in_default-behind : goal.returns-in_default-behind
+returns-in_default-behind c =
+    cut-broken _ _ _ _ c.loop-left.invariant c.in-len1-up.len_at_least c.c-item.is c.if-c-eq32.false _ _ _ c.new-text.ensures.bytes c.in_ok-behind.ensures
+    (ap (option_map (λ l. l.now)) c.in_default-behind.is) _ (λ j. c.byte_count-end.ensures j - c.byte_count.ensures j) _ c.new.ensures _ (c.is_some.ensures ∙ ap is_some c.in_default-behind.is) _ c.in_ok-push.ensures.items
+
+pub loop-left-smaller : goal.loop-left-smaller
+loop-left-smaller c =
+    cut-less _ _ c.in-len1-up.len_at_least c.c-item.is c.if-c-eq32.false _ _ _ c.new-text.ensures.bytes c.in_ok-behind.ensures _ (ap (option_map (λ l. l.now)) c.in-Some.is)
+
+pub loop-left-preserved : goal.loop-left-preserved
+loop-left-preserved c =
+    cut-word _ _ _ _ c.loop-left.invariant c.in-len1-up.len_at_least c.c-item.is c.if-c-eq32.false _ _ _ c.new-text.ensures.bytes c.in_ok-behind.ensures
+    _ (ap (option_map (λ l. l.now)) c.in-Some.is) _ (λ j. c.byte_count-end.ensures j - c.byte_count.ensures j) _ c.new.ensures _ (c.is_some.ensures ∙ ap is_some c.in-Some.is) _ c.in_ok-push.ensures.items
 
 pub returns : goal.returns
-returns c = words-end c.args.cs.now _ _ _ _ c.loop-i.invariant.0 c.loop-i-test.false
+returns c = cut-end _ _ _ c.loop-left.invariant c.in_default.len_below

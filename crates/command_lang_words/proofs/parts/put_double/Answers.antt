@@ -1,16 +1,21 @@
-use Rattle.std.proofs.Common.{refl}
-use Rattle.command_lang_words.proofs.Runs.{double-close, double-more, double-skip, double-end}
+use Rattle.std.proofs.Common.{ap}
+use Rattle.std.specs.Option.{option_map}
+use Rattle.command_lang_words.proofs.Steps.{double-closes, double-goes, double-breaks, double-ends, less-behind-character}
 use Rattle.command_lang_words.proofs.parts.put_double.Goals as goal
-use Rattle.command_lang_words.proofs.parts.put_double.Goals.{then-skip-gt0, else-skip-gt0+else-c-eq34+in_ok-read}
 
 pub returns-then-c-eq34 : goal.returns-then-c-eq34
-returns-then-c-eq34 c = double-close _ _ _ _ _ _ _ _ c.loop-i.invariant c.loop-i-test.true c.if-skip-gt0.false c.index-after-i.is c.if-c-eq34.true _ refl refl
+returns-then-c-eq34 c = double-closes _ _ _ _ _ c.loop-left.invariant c.in-len1-up.len_at_least c.c-item.is c.if-c-eq34.true
 
-pub loop-i-preserved : goal.loop-i-preserved
-loop-i-preserved c = elim c.if-skip-gt0.branch [
-  | then-skip-gt0 w ↦ rw (w.out-is, w.skip-is, w.whole-is) (double-skip c.args.after.now _ _ _ _ _ _ c.loop-i.invariant c.loop-i-test.true w.if-skip-gt0.true)
-  | else-skip-gt0+else-c-eq34+in_ok-read w ↦ rw (w.out-is, w.skip-is, w.whole-is, w.both-whole.ensures) (double-more c.args.after.now _ _ _ _ _ _ _ _ c.loop-i.invariant c.loop-i-test.true w.if-skip-gt0.false c.index-after-i.is w.if-c-eq34.false _ w.in_ok-read.ensures)
-]
+pub returns-in_default-2 : goal.returns-in_default-2
+returns-in_default-2 c =
+    double-breaks _ _ _ _ _ _ _ c.loop-left.invariant c.in-len1-up.len_at_least c.c-item.is c.if-c-eq34.false c.in_ok-behind.ensures (ap (option_map (λ l. l.now)) c.in_default-2.is)
+
+pub loop-left-smaller : goal.loop-left-smaller
+loop-left-smaller c = less-behind-character _ _ _ _ _ _ c.in-len1-up.len_at_least c.c-item.is c.in_ok-behind.ensures (ap (option_map (λ l. l.now)) c.in-Some.is)
+
+pub loop-left-preserved : goal.loop-left-preserved
+loop-left-preserved c =
+    double-goes _ _ _ _ _ _ _ _ c.loop-left.invariant c.in-len1-up.len_at_least c.c-item.is c.if-c-eq34.false c.in_ok-behind.ensures (ap (option_map (λ l. l.now)) c.in-Some.is)
 
 pub returns : goal.returns
-returns c = double-end _ _ _ _ _ _ _ c.loop-i.invariant c.loop-i.auto.i-end c.loop-i-test.false _ refl refl
+returns c = double-ends _ _ _ _ c.loop-left.invariant c.in_default.len_below

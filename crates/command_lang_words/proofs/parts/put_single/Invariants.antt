@@ -1,8 +1,11 @@
-use Rattle.std.proofs.Common.{true, drop}
+use Rattle.std.proofs.Common.{length}
 use Rattle.std.specs.String.{string_bytes}
-use Rattle.command_lang_words.specs.Parts.{in_single}
-use Rattle.command_lang_words.specs.Reading.{IsAhead}
+use Rattle.command_lang_words.specs.Grammar.{Single}
+use Rattle.command_lang_words.proofs.Fronts.{IsAhead}
 use Rattle.command_lang_words.proofs.parts.put_single.Given as goal
 
-abbrev pub invariant-loop-i : goal.invariant-loop-i
-invariant-loop-i l = IsAhead (string_bytes l.fn.out) (string_bytes l.out) l.i true (in_single l.after) (in_single (drop l.i l.after))
+abbrev pub invariant-loop-left : goal.invariant-loop-left
+invariant-loop-left l = IsAhead Single l.fn.left (string_bytes l.fn.out) (string_bytes l.out) l.left
+
+abbrev pub decreases-loop-left : goal.decreases-loop-left
+decreases-loop-left l = length l.left

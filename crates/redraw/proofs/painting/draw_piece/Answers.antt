@@ -1,9 +1,12 @@
-use Rattle.std.proofs.Common.{◌≡◌, ◌+◌, ◌<◌, ◌≤◌, ℕ, length, List, arith, refl, sym, ap, ◌∙◌, subst}
+use Rattle.std.proofs.Common.{◌≡◌, ◌+◌, ◌<◌, ◌≤◌, ℕ, length, false, get_or, List, arith, refl, sym, ap, ◌∙◌, subst}
 use Rattle.cells.specs.declared.cell.Cell.{Cell}
-use Rattle.cells.specs.Line.{cell_at, is_right}
+use Rattle.std.proofs.lemmas.List.{get_or_default}
+use Rattle.cells.specs.declared.cell.Shape.TheVariants.{Narrow}
+use Rattle.cells.specs.declared.cell.Marks.TheVariants.{Bare}
+use Rattle.cells.specs.Line.{blank, plain, cell_at, is_right}
 use Rattle.terminal_model.specs.Drawable.{IsDrawableCell}
 use Rattle.redraw.specs.Drawing.{width_of}
-use Rattle.redraw.proofs.Pieces.{blank_piece, cell_piece, cell_fits}
+use Rattle.redraw.proofs.Pieces.{blank_piece, cell_piece, cell_fits, cell_stands}
 use Rattle.redraw.proofs.painting.draw_piece.Goals.{then-column-erased, else-column-erased}
 use Rattle.redraw.proofs.painting.draw_piece.Goals as goal
 
@@ -30,12 +33,13 @@ returns-then-erased-fewest-clause-draws c old new rows before lh rh lines whole 
 pub returns-clause-draws : goal.returns-clause-draws
 returns-clause-draws c old new rows before lh rh lines whole differs =
     let cells : List Cell = c.args.after.now in
-    let cell : Cell = c.nth-cell.result in
-    let here : cell ≡ cell_at cells c.args.column = c.nth-cell.ensures in
     let inside : c.args.column < length cells = omega (arith, c.requires.inside, c.requires.end) in
+    let none : Cell = record { character = 0; marks = Bare; rendition = plain; shape = Narrow; is_protected = false } in
+    let cell : Cell = get_or cells c.args.column none in
+    let here : cell ≡ cell_at cells c.args.column = get_or_default cells c.args.column none blank inside in
     let fits : c.args.column + width_of cell.shape ≤ length cells = rw here (cell_fits cells c.args.column lines.new_paired inside) in
     let width = c.columns_of.ensures.value in
     cell_piece old new rows c.args.pen.now c.put_cell.new.self c.args.line c.args.column (c.args.column + c.columns_of.result) cell cells c.args.out.now.items c.put_cell.new.out.items
     here lines.new_is lines.new_paired lines.new_drawable whole inside (ap (λ k. c.args.column + k) width)
     (c.in_ok-put_cell.ensures.takes old new rows (length cells) lh rh fits (omega (arith, c.requires.few)) (subst IsDrawableCell (sym here) (lines.new_drawable.printed c.args.column inside))
-    (ap (λ (z : Cell). is_right z.shape) here ∙ whole) (ap (λ (l : List Cell). cell_at l c.args.column) lines.new_is ∙ sym here) differs)
+    (ap (λ (z : Cell). is_right z.shape) here ∙ whole) (cell_stands old new c.args.line before cells lines c.args.column cell here) differs)

@@ -1,7 +1,7 @@
 use Rattle.std.proofs.Common.{ℕ, ◌+◌, ◌-◌, ◌≤◌, refl, length, inl, inr, ⊎_elim, arith}
 use Rattle.cells.specs.Moves.{scrolled_down}
 use Rattle.vt_screen_page.proofs.Clearing.{part_blanked, part_stays}
-use Rattle.vt_screen_page.proofs.Turning.{scrolled_down_is, turned_store}
+use Rattle.vt_screen_page.proofs.Turning.{turned_is, scrolled_down_is, turned_store}
 use Rattle.vt_screen_page.proofs.store.scroll_down.Goals as goal
 
 pub returns-clause-page : goal.returns-clause-page
@@ -18,3 +18,6 @@ pub returns-clause-store : goal.returns-clause-store
 returns-clause-store c =
     turned_store c.args.stored.now c.clear_lines.new.stored c.args.places.now c.turn.new.places c.args.top c.args.bottom c.requires.store c.requires.order c.requires.inside c.clear_lines.ensures.size
     (c.args.bottom + 1 - c.args.top - c.args.count) (omega arith) c.turn.ensures (scrolled_down c.args.top c.args.bottom c.args.count) (returns-clause-page c)
+
+pub returns-clause-places : goal.returns-clause-places
+returns-clause-places c = turned_is c.args.top c.args.bottom (c.args.bottom + 1 - c.args.top - c.args.count) c.args.places.now c.turn.new.places (omega (arith, c.requires)) (omega (arith, c.requires)) (omega (arith, c.requires)) c.turn.ensures

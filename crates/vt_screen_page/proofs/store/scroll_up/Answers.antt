@@ -1,7 +1,7 @@
 use Rattle.std.proofs.Common.{◌+◌, ◌≤◌, refl, length, arith}
 use Rattle.cells.specs.Moves.{scrolled_up}
 use Rattle.vt_screen_page.proofs.Clearing.{part_inside, part_blanked, part_stays}
-use Rattle.vt_screen_page.proofs.Turning.{scrolled_up_is, turned_store}
+use Rattle.vt_screen_page.proofs.Turning.{turned_is, scrolled_up_is, turned_store}
 use Rattle.vt_screen_page.proofs.store.scroll_up.Goals as goal
 
 pub clear_lines-requires : goal.clear_lines-requires
@@ -19,3 +19,6 @@ pub returns-clause-store : goal.returns-clause-store
 returns-clause-store c =
     turned_store c.args.stored.now c.clear_lines.new.stored c.args.places.now c.turn.new.places c.args.top c.args.bottom c.requires.store c.requires.order c.requires.inside c.clear_lines.ensures.size
     c.args.count c.requires.room c.turn.ensures (scrolled_up c.args.top c.args.bottom c.args.count) (returns-clause-page c)
+
+pub returns-clause-places : goal.returns-clause-places
+returns-clause-places c = turned_is c.args.top c.args.bottom c.args.count c.args.places.now c.turn.new.places (omega (arith, c.requires)) (omega (arith, c.requires)) (omega (arith, c.requires)) c.turn.ensures

@@ -5,12 +5,12 @@ use Rattle.cells.proofs.Pages.{IsPage-page_from}
 use Rattle.vt_screen_rows.proofs.erasing.erase_part.Goals as goal
 
 pub returns-clause-value : goal.returns-clause-value
-returns-clause-value c = rw (c.erase_columns.ensures, c.first_column-from.ensures, c.end_column-end.ensures) refl
+returns-clause-value c = rw (c.erase_columns.ensures.value, c.first_column-from.ensures, c.end_column-end.ensures) refl
 
 pub returns-clause-page : goal.returns-clause-page
 returns-clause-page c =
     let s = c.args.state.now in
     let from = c.first_column-from.result in
     let end = c.end_column-end.result in
-    rw c.erase_columns.ensures
-    (IsPage-page_from (edited s.line (spliced from (replicate (end - from) blank) end s.columns)) s.rows s.columns c.args.page.now c.requires.page)
+    rw c.erase_columns.ensures.value
+    (IsPage-page_from (edited s.line (spliced from (replicate (end - from) blank) end s.columns)) s.rows s.columns c.args.page.now.lines c.requires.page)

@@ -4,4 +4,7 @@ use Rattle.terminal_model.specs.Table.{unprotected_lines}
 use Rattle.vt_screen_rows.proofs.erasing.erase_unprotected_lines.Given as goal
 
 abbrev pub invariant-loop-line : goal.invariant-loop-line
-invariant-loop-line l = l.page ≡ page_from (unprotected_lines l.fn.page l.columns l.first l.line) l.fn.page
+invariant-loop-line l = record {
+  lines : l.page.lines ≡ page_from (unprotected_lines l.fn.page.lines l.columns l.first l.line) l.fn.page.lines;
+  places : l.page.places ≡ l.fn.page.places;
+}

@@ -8,7 +8,7 @@ pub returns-clause-done : goal.returns-clause-done
 returns-clause-done g c =
     let e = c.conclude.ensures in
     on_ok_all c.conclude.result e.acts e.stands e.follower e.ok
-    (λ same stands follower planned edition owner h s all.
+    (λ same stands follower planned edition owner h s.
     let t = subst (λ t. StandsFor t edition owner h) (sym c.self.view_is) s in
     let given = IfOk-at_ok _ planned c.plan_masks-planned.ensures.ok in
     is_done _ _ c.len-start.result c.args.acts.now.items _ _ _ (g.F.Follower.follows c.args.follower.now) (g.F.Follower.follows c.conclude.new.follower)

@@ -1,33 +1,18 @@
-use Rattle.std.proofs.Common.{◌++◌, map, take, ap, sym, ◌∙◌, arith, IsOk}
-use Rattle.std.proofs.lemmas.List.{append-nil}
-use Rattle.control_parser.specs.declared.func.Func.TheVariants.{Print}
+use Rattle.std.proofs.Common.{◌≡◌, ◌++◌, ap, ◌∙◌, subst, arith, take, List, ℕ}
 use Rattle.terminal_model.specs.Reading.{reads}
-use Rattle.vt_screen.specs.Effects.{effects}
-use Rattle.emulator.specs.Standing.{Parts}
-use Rattle.emulator.proofs.Feeding.{nothing-has-read, has-read-more, none-said, when_ok}
-use Rattle.emulator.proofs.RunLemmas.{run-has-read}
+use Rattle.emulator.specs.Standing.{HasRead}
+use Rattle.emulator.proofs.Feeding.{has-read-more}
 use Rattle.emulator.proofs.emulator.Emulator.feed_some.Goals as goal
 
-pub returns-then-run-gt0-clause-ok : goal.returns-then-run-gt0-clause-ok
-returns-then-run-gt0-clause-ok c = λ t h.
-    run-has-read c.args.self.now _ t (take c.run_of-run.result c.args.bytes.now) c.args.out.now.items h (c.run_of-run.ensures.whole c.if-run-gt0.true) (c.run_of-run.ensures.idle c.if-run-gt0.true)
-    c.run_of-run.ensures.plain
-    (c.print_run.ensures ∙ ap (λ (e : Parts). effects e.screen (map (λ b. Print b) (take c.run_of-run.result c.args.bytes.now))) c.self.view_is)
-    (ap (λ (e : Parts). e.decoding) c.self.view_is) (ap (λ (e : Parts). e.parsing) c.self.view_is)
-
-pub returns-then-is_empty-clause-ok : goal.returns-then-is_empty-clause-ok
-unfolding reads
-returns-then-is_empty-clause-ok c = λ t h.
-    has-read-more t c.args.bytes.now 0 _ c.args.out.now.items c.args.out.now.items c.feed-report.result c.reserve.new.self.items c.args.self.now _ c.requires (nothing-has-read t c.args.self.now c.args.out.now.items h)
-    (c.feed-report.ensures.stands t h) (c.feed-report.ensures.reports t h)
-    (c.reserve.ensures.items ∙ sym (ap (λ v. c.args.out.now.items ++ v) (none-said c.feed-report.result (sym c.is_empty.ensures ∙ c.if-is_empty.true)) ∙ append-nil c.args.out.now.items))
+pub returns-then-count-gt0-clause-ok : goal.returns-then-count-gt0-clause-ok
+returns-then-count-gt0-clause-ok c = λ t h.
+    subst (λ (said : List ℕ). HasRead t (take c.take_wholes-count.result c.args.bytes.now) said c.take_wholes-count.new.self c.reserve.new.self.items) c.reserve.ensures.items (c.take_wholes-count.ensures.taken c.reserve.new.self.items t h)
 
 pub returns-clause-ok : goal.returns-clause-ok
 unfolding reads
-returns-clause-ok c =
-    let ok : IsOk c.extend_from_slice.result = c.extend_from_slice.ensures.succeeds (omega (arith, c.in_ok-reserve.ensures.ok)) in
-    λ t h.
-    has-read-more t c.args.bytes.now 0 _ c.args.out.now.items c.args.out.now.items c.feed-report.result _ c.args.self.now _ c.requires (nothing-has-read t c.args.self.now c.args.out.now.items h)
-    (c.feed-report.ensures.stands t h) (c.feed-report.ensures.reports t h)
-    (c.extend_from_slice.ensures.items ∙ when_ok c.extend_from_slice.result _ _ ok
-    ∙ ap (λ v. v ++ c.as_slice.result.now) c.reserve.ensures.items ∙ ap (λ v. c.args.out.now.items ++ v) c.as_slice.ensures.items)
+returns-clause-ok c = λ t h.
+    let none : c.take_wholes-count.result ≡ 0 = omega arith in
+    let said = subst (λ (v : List ℕ). HasRead t (take c.take_wholes-count.result c.args.bytes.now) v c.take_wholes-count.new.self c.reserve.new.self.items) c.reserve.ensures.items (c.take_wholes-count.ensures.taken c.reserve.new.self.items t h) in
+    let k = subst (λ (n : ℕ). HasRead t (take n c.args.bytes.now) c.args.out.now.items c.take_wholes-count.new.self c.reserve.new.self.items) none said in
+    has-read-more t c.args.bytes.now 0 _ c.args.out.now.items c.reserve.new.self.items c.feed-report.result c.append.new.out.items c.take_wholes-count.new.self c.feed-report.new.self c.requires k
+    (c.feed-report.ensures.stands t k.stands) (c.feed-report.ensures.reports t k.stands) c.append.ensures.items

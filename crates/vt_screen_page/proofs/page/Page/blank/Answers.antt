@@ -1,4 +1,6 @@
-use Rattle.std.proofs.Common.{replicate}
+use Rattle.std.proofs.Common.{List, replicate, ap}
+use Rattle.std.specs.List.{range_with_len}
+use Rattle.cells.specs.declared.cell.Cell.{Cell}
 use Rattle.std.proofs.lemmas.List.{length-replicate}
 use Rattle.cells.specs.Line.{blank}
 use Rattle.vt_screen_page.proofs.Sizes.{in_order, IsStore-in_order, IsGrid-blanks}
@@ -10,4 +12,4 @@ invariant_of-result c = rw (c.in_ok-stored.ensures, c.in_ok-places.ensures)
 
 pub returns : goal.returns
 returns c = rw (c.in_ok-stored.ensures, c.in_ok-places.ensures)
-    (in_order c.args.rows (replicate c.args.rows (replicate c.args.cols blank)) (length-replicate c.args.rows _))
+    (ap (λ (l : List (List Cell)). record { lines = l; places = range_with_len 0 c.args.rows }) (in_order c.args.rows (replicate c.args.rows (replicate c.args.cols blank)) (length-replicate c.args.rows _)))

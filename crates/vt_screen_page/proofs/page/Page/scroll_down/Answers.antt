@@ -1,8 +1,9 @@
-use Rattle.std.proofs.Common.{ℕ, List, ap, ◌∙◌}
+use Rattle.std.proofs.lemmas.List.{take_at}
+use Rattle.std.proofs.Common.{◌+◌, ◌-◌, length, drop, ℕ, List, ap, ◌∙◌}
 use Rattle.cells.specs.declared.cell.Cell.{Cell}
 use Rattle.cells.specs.Page.{page_from}
 use Rattle.cells.specs.Moves.{scrolled_down}
-use Rattle.vt_screen_page.specs.Store.{lines_in_order}
+use Rattle.vt_screen_page.specs.Store.{Placed, turned, lines_in_order}
 use Rattle.vt_screen_page.proofs.Sizes.{kept_both, kept_page}
 use Rattle.vt_screen_page.proofs.page.Page.scroll_down.Goals as goal
 
@@ -10,9 +11,15 @@ pub invariant_of-self : goal.invariant_of-self
 invariant_of-self c = kept_both c.scroll_down.new.stored c.self.inside.stored.items c.self.inside.stored.len c.scroll_down.new.places c.self.inside.places.items c.self.inside.places.len
     (c.scroll_down.auto.stored ∙ c.as_mut_slice.ensures.len) (c.scroll_down.auto.places ∙ c.as_mut_slice-2.ensures.len) c.scroll_down.ensures.store
 
-pub returns : goal.returns
-returns c = kept_page c.scroll_down.new.stored c.self.inside.stored.items _ c.self.inside.stored.len c.scroll_down.new.places c.self.inside.places.items c.self.inside.places.len
+pub returns-clause-lines : goal.returns-clause-lines
+returns-clause-lines c = kept_page c.scroll_down.new.stored c.self.inside.stored.items _ c.self.inside.stored.len c.scroll_down.new.places c.self.inside.places.items c.self.inside.places.len
     (c.scroll_down.auto.stored ∙ c.as_mut_slice.ensures.len) (c.scroll_down.auto.places ∙ c.as_mut_slice-2.ensures.len) c.scroll_down.ensures.page
     ∙ ap (λ (s : List (List Cell)). page_from (scrolled_down c.args.top c.args.bottom c.args.count) (lines_in_order s c.as_mut_slice-2.result.now)) c.as_mut_slice.ensures.value
     ∙ ap (λ (p : List ℕ). page_from (scrolled_down c.args.top c.args.bottom c.args.count) (lines_in_order c.self.inside.stored.items p)) c.as_mut_slice-2.ensures.value
-    ∙ ap (page_from (scrolled_down c.args.top c.args.bottom c.args.count)) c.self.view_is
+    ∙ ap (page_from (scrolled_down c.args.top c.args.bottom c.args.count)) (ap (λ (v : Placed). v.lines) c.self.view_is)
+
+pub returns-clause-places : goal.returns-clause-places
+returns-clause-places c =
+    take_at c.scroll_down.new.places (drop (length c.scroll_down.new.places) c.self.inside.places.items) c.self.inside.places.len (c.scroll_down.auto.places ∙ c.as_mut_slice-2.ensures.len)
+    ∙ c.scroll_down.ensures.places
+    ∙ ap (turned c.args.top c.args.bottom (c.args.bottom + 1 - c.args.top - c.args.count)) (c.as_mut_slice-2.ensures.value ∙ ap (λ (v : Placed). v.places) c.self.view_is)

@@ -4,4 +4,4 @@ use Rattle.vt_screen_rows.proofs.display.Display.erase_cells.Goals as goal
 
 pub returns-clause-screen : goal.returns-clause-screen
 unfolding acted_from
-returns-clause-screen c = rw (c.settle.ensures, c.erase_columns.ensures, c.end_after-end.ensures) refl
+returns-clause-screen c = rw (c.settle.ensures, c.erase_columns.ensures.value, c.end_after-end.ensures) refl

@@ -9,6 +9,7 @@ use Rattle.vt_screen_rows.specs.Displays.{screen_of}
 use Rattle.vt_screen_rows.specs.Runs.{TakesRuns, prints, run_placed}
 use Rattle.vt_screen_rows.proofs.Widths.{acted_fit}
 use Rattle.vt_screen_rows.proofs.RunLemmas.{all_acted_fit, list_all-take, prints_wrapped, run_is, settled-wrapped, takes-wrapped}
+use Rattle.vt_screen_rows.proofs.RunPlaces.{prints_places}
 use Rattle.vt_screen_rows.proofs.display.Display.print_some.Goals as goal
 
 pub returns-then-not-takes_runs-clause-fit : goal.returns-then-not-takes_runs-clause-fit
@@ -34,3 +35,18 @@ returns-clause-screen c =
 
 pub returns-clause-fit : goal.returns-clause-fit
 returns-clause-fit c = all_acted_fit c.args.self.now c.place_run.new.self (prints (take c.min-count.result c.args.codes.now)) c.requires.fit (returns-clause-screen c) (c.place_run.ensures.width ∙ c.wrap.ensures.width)
+
+pub returns-clause-places : goal.returns-clause-places
+returns-clause-places c =
+    let x : Screen = screen_of c.args.self.now in
+    let codes : List ℕ = take c.min-count.result c.args.codes.now in
+    let takes : TakesRuns x.state = c.takes_runs.ensures.0 c.if-not-takes_runs.false in
+    let w : Screen = wrapped x.state.is_wrap_pending x in
+    let sound : IsSound w = subst IsSound c.wrap.ensures.screen c.wrap.ensures.fit.sound in
+    let column : c.wrap.new.self.state.column ≡ w.state.column = ap (λ (v : Screen). v.state.column) c.wrap.ensures.screen in
+    let columns : c.wrap.new.self.state.columns ≡ w.state.columns = ap (λ (v : Screen). v.state.columns) c.wrap.ensures.screen in
+    let inside : w.state.column < w.state.columns = sound.cursor.1 in
+    let plain : list_all is_plain codes ≡ true = list_all-take is_plain c.min-count.result c.args.codes.now c.requires.plain in
+    let n : length codes ≡ min c.min-count.result (length c.args.codes.now) = length-take c.min-count.result c.args.codes.now in
+    let some : 0 < length codes = omega (arith, c.requires.some) in
+    c.place_run.ensures.places ∙ c.wrap.ensures.places ∙ sym (prints_places x codes c.args.self.now.page.places takes plain some sound (omega arith))

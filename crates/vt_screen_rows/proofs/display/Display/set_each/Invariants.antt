@@ -4,11 +4,13 @@ use Rattle.terminal_model.specs.Reports.{all_answered}
 use Rattle.terminal_model.specs.Table.{all_acted}
 use Rattle.vt_screen_actions.specs.Meanings.{meaning}
 use Rattle.vt_screen_rows.specs.Displays.{IsFit, screen_of}
+use Rattle.vt_screen_rows.specs.Places.{all_acted_places}
 use Rattle.vt_screen_rows.proofs.display.Display.set_each.Given as goal
 
 abbrev pub invariant-loop-value : goal.invariant-loop-value
 invariant-loop-value l = record {
   fit : IsFit l.self;
   screen : all_acted (screen_of l.self) (each (meaning l.setting) (drop l.value-index l.values)) ≡ all_acted (screen_of l.fn.self) (each (meaning l.setting) l.values);
+  places : all_acted_places (screen_of l.self) (each (meaning l.setting) (drop l.value-index l.values)) l.self.page.places ≡ all_acted_places (screen_of l.fn.self) (each (meaning l.setting) l.values) l.fn.self.page.places;
   answers : all_answered (screen_of l.self) (each (meaning l.setting) (drop l.value-index l.values)) ≡ all_answered (screen_of l.fn.self) (each (meaning l.setting) l.values);
 }

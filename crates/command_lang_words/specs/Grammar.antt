@@ -1,0 +1,93 @@
+-- How the characters of a line are cut into words, as in the GNU Screen manual, chapter Customizing Screen, section The
+-- .screenrc File: a line is blanks and words, a word is parts, and a part is a text in ', a text in ", a backslash with
+-- what it stands for, or a plain character. Octal from 000 to 177 is this project's choice.
+--
+-- Each relation has the characters that a thing begins with, the characters that it gives, and what follows it: none where
+-- the line ends inside.
+use Rattle.std.specs.Prelude.{◌≡◌, ◌≢◌, ℕ, ◌+◌, ◌-◌, ◌*◌, Bool, true, false, ◌&&◌, nat_lt, if◌then◌else◌, drop, List, [], ◌∷◌, ◌++◌, length, Option, Some, None}
+use Rattle.std.specs.Str.{encode_utf8_all}
+use Rattle.command_lang_words.specs.declared.word.Word.{Word}
+
+abbrev pub is_octal : ℕ → Bool
+is_octal c = nat_lt 0x2F c && nat_lt c 0x38
+
+-- the character of three octal digits of value at most 177, if the characters begin with them
+abbrev pub octal_front : List ℕ → Option ℕ
+octal_front (a ∷ b ∷ c ∷ cs) =
+    if (is_octal a && nat_lt a 0x32) && (is_octal b && is_octal c) then Some (((a - 0x30) * 8 + (b - 0x30)) * 8 + (c - 0x30)) else None
+octal_front _ = None
+
+-- Behind a backslash: three octal digits stand for the character of their value, else one character for itself.
+pub data Escaped : List ℕ → List ℕ → Option (List ℕ) → Type 0 where
+  octal : {cs : List ℕ} {c : ℕ} → octal_front cs ≡ Some c → Escaped cs (c ∷ []) (Some (drop 3 cs))
+  itself : {c : ℕ} {rest : List ℕ} → octal_front (c ∷ rest) ≡ None
+      → Escaped (c ∷ rest) (c ∷ []) (Some rest)
+  unended : Escaped [] [] None
+
+-- A character, where ' and " mean nothing.
+pub data Character : List ℕ → List ℕ → Option (List ℕ) → Type 0 where
+  plain : {c : ℕ} {rest : List ℕ} → c ≢ 0x5C → Character (c ∷ rest) (c ∷ []) (Some rest)
+  escape : {cs text : List ℕ} {end : Option (List ℕ)} → Escaped cs text end
+      → Character (0x5C ∷ cs) text end
+
+-- Behind ', up to the next one: each character stands for itself.
+pub data Single : List ℕ → List ℕ → Option (List ℕ) → Type 0 where
+  closed : {rest : List ℕ} → Single (0x27 ∷ rest) [] (Some rest)
+  more : {c : ℕ} {cs text : List ℕ} {end : Option (List ℕ)} → c ≢ 0x27
+      → Single cs text end
+      → Single (c ∷ cs) (c ∷ text) end
+  unended : Single [] [] None
+
+-- Behind ", up to the next one: characters.
+pub data Double : List ℕ → List ℕ → Option (List ℕ) → Type 0 where
+  closed : {rest : List ℕ} → Double (0x22 ∷ rest) [] (Some rest)
+  more : {c : ℕ} {cs first behind text : List ℕ} {end : Option (List ℕ)} → c ≢ 0x22
+      → Character (c ∷ cs) first (Some behind) → Double behind text end
+      → Double (c ∷ cs) (first ++ text) end
+  broken : {c : ℕ} {cs text : List ℕ} → c ≢ 0x22
+      → Character (c ∷ cs) text None
+      → Double (c ∷ cs) text None
+  unended : Double [] [] None
+
+-- A part of a word.
+pub data Part : List ℕ → List ℕ → Option (List ℕ) → Type 0 where
+  single : {cs text : List ℕ} {end : Option (List ℕ)} → Single cs text end → Part (0x27 ∷ cs) text end
+  double : {cs text : List ℕ} {end : Option (List ℕ)} → Double cs text end → Part (0x22 ∷ cs) text end
+  character : {c : ℕ} {cs text : List ℕ} {end : Option (List ℕ)} → c ≢ 0x27 → c ≢ 0x22
+      → Character (c ∷ cs) text end
+      → Part (c ∷ cs) text end
+
+-- Parts up to a blank, or to the end of the line.
+pub data Parts : List ℕ → List ℕ → Option (List ℕ) → Type 0 where
+  last : Parts [] [] (Some [])
+  blank : {rest : List ℕ} → Parts (0x20 ∷ rest) [] (Some (0x20 ∷ rest))
+  more : {c : ℕ} {cs first behind text : List ℕ} {end : Option (List ℕ)} → c ≢ 0x20
+      → Part (c ∷ cs) first (Some behind) → Parts behind text end
+      → Parts (c ∷ cs) (first ++ text) end
+  broken : {c : ℕ} {cs text : List ℕ} → c ≢ 0x20
+      → Part (c ∷ cs) text None
+      → Parts (c ∷ cs) text None
+
+-- the bytes of characters in UTF-8
+abbrev pub size : List ℕ → ℕ
+size cs = length (encode_utf8_all cs)
+
+-- a word that is closed, or inside which the line ends
+abbrev pub word_at : ℕ → List ℕ → Bool → Word
+word_at place text is_closed = record { place = place; text = encode_utf8_all text; is_closed = is_closed }
+
+-- The words of the characters at the end of a line of that length: the place of a word is that of its first byte. A word has
+-- at least one part, which may be empty.
+pub data Line (end : ℕ) : List ℕ → List Word → Type 0 where
+  last : Line end [] []
+  blank : {cs : List ℕ} {ws : List Word} → Line end cs ws → Line end (0x20 ∷ cs) ws
+  word : {c : ℕ} {cs text rest : List ℕ} {ws : List Word} → c ≢ 0x20
+      → Parts (c ∷ cs) text (Some rest) → Line end rest ws
+      → Line end (c ∷ cs) (word_at (end - size (c ∷ cs)) text true ∷ ws)
+  broken : {c : ℕ} {cs text : List ℕ} → c ≢ 0x20
+      → Parts (c ∷ cs) text None
+      → Line end (c ∷ cs) (word_at (end - size (c ∷ cs)) text false ∷ [])
+
+-- the words of a line's characters
+abbrev pub IsCut : List ℕ → List Word → Type 0
+IsCut cs ws = Line (size cs) cs ws

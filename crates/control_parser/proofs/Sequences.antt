@@ -1,0 +1,95 @@
+-- A control sequence that stands whole.
+use Rattle.std.proofs.Common.{◌≡◌, ℕ, ◌+◌, ◌-◌, ◌<◌, Bool, true, false, cond, arith, List, [], ◌∷◌, ◌++◌, length, take, get_or, Some, refl, sym, ap, ◌∙◌, subst}
+use Rattle.std.specs.List.{list_all}
+use Rattle.std.proofs.lemmas.List.{take_more}
+use Rattle.charsets.specs.declared.unit.Coding.TheVariants.{Utf8}
+use Rattle.control_parser.specs.declared.func.Func.TheVariants.{Csi}
+use Rattle.control_parser.specs.declared.state.Text.{Text}
+use Rattle.control_parser.specs.Grammar.{is_sequence_text, nothing}
+use Rattle.control_parser.specs.Steps.{text_grown, no_text, valued, TakesDigits}
+use Rattle.control_parser.specs.Kept.{parts}
+use Rattle.control_parser.specs.Spelling.{ReadsAs}
+use Rattle.control_parser.specs.Text.{fields, is_intermediate, is_digit, longer, last_value, with_last, digit_added}
+use Rattle.std.specs.Prelude.{◌==◌}
+use Rattle.std.proofs.lemmas.Bool.Decides.{nat_tests}
+use Rattle.control_parser.proofs.Digits.{digit-last, last-stays}
+use Rattle.control_parser.proofs.Machine.{machine}
+use Rattle.control_parser.proofs.Texts.{grown, parts-push}
+use Rattle.control_parser.proofs.Keeping.{control_of-parts}
+use Rattle.control_parser.proofs.Spelled.{all_more, all-append, control_run, last_low, reads_low}
+
+pub no-text : parts [] ≡ Some no_text
+unfolding parts fields
+no-text = refl
+
+-- the text with one more byte
+pub text-more : (bytes : List ℕ) (at : ℕ) (text next : Text) → at < length bytes → parts (take at bytes) ≡ Some text
+    → text_grown text (get_or bytes at 0) ≡ Some next → parts (take (at + 1) bytes) ≡ Some next
+text-more bytes at text next l h g =
+    ap parts (take_more bytes at 0 l) ∙ parts-push (take at bytes) (get_or bytes at 0)
+    ∙ ap (λ o. grown o (get_or bytes at 0)) h ∙ g
+
+pub inside-more : (bytes : List ℕ) (at : ℕ) → at < length bytes → list_all is_sequence_text (take at bytes) ≡ true
+    → is_sequence_text (get_or bytes at 0) ≡ true → list_all is_sequence_text (take (at + 1) bytes) ≡ true
+inside-more bytes at l h g =
+    ap (list_all is_sequence_text) (take_more bytes at 0 l)
+    ∙ all-append is_sequence_text (take at bytes) (get_or bytes at 0 ∷ []) h (all_more is_sequence_text (get_or bytes at 0) [] g refl)
+
+-- the text and a final
+whole-text : (text : List ℕ) (t : Text) (last : ℕ) → list_all is_sequence_text text ≡ true → parts text ≡ Some t → 0x3F < last → last < 0x7F
+    → ReadsAs Utf8 (0x1B ∷ 0x5B ∷ (text ++ last ∷ [])) (Csi t.mark t.params t.intermediates last ∷ [])
+unfolding machine
+whole-text text t last h p above below =
+    reads_low (0x1B ∷ 0x5B ∷ (text ++ last ∷ [])) (Csi t.mark t.params t.intermediates last ∷ []) (last_low text last h below)
+    (control_run [] text last h above below ∙ ap (λ l. (l, nothing)) (control_of-parts text last (Some t) p))
+
+pub sequence-whole : (bytes : List ℕ) (at : ℕ) (t : Text) → at < length bytes → list_all is_sequence_text (take at bytes) ≡ true → parts (take at bytes) ≡ Some t
+    → 0x3F < get_or bytes at 0 → get_or bytes at 0 < 0x7F
+    → ReadsAs Utf8 (0x1B ∷ 0x5B ∷ take (at + 1) bytes) (Csi t.mark t.params t.intermediates (get_or bytes at 0) ∷ [])
+sequence-whole bytes at t l h p above below =
+    subst (λ (v : List ℕ). ReadsAs Utf8 (0x1B ∷ 0x5B ∷ v) (Csi t.mark t.params t.intermediates (get_or bytes at 0) ∷ [])) (sym (take_more bytes at 0 l))
+    (whole-text (take at bytes) t (get_or bytes at 0) h p above below)
+
+-- the text with one digit more, which isn't written down yet
+pub digit-grown : (t : Text) (value c : ℕ) → TakesDigits t → is_digit c ≡ true → text_grown (valued t value) c ≡ Some (valued (record t { begun = true }) (longer value (c - 0x30)))
+digit-grown t value c takes d =
+    let a : is_intermediate c ≡ false = grind (arith, nat_tests) in
+    let e : (length t.intermediates == 0) ≡ true = ap (λ (v : List ℕ). length v == 0) takes.inside in
+    rw (a, e, d)
+    (ap (λ (b : Bool). Some (record t { begun = true; params = cond b (with_last t.params value) (digit_added (with_last t.params value) (c - 0x30)) })) takes.few
+    ∙ ap (λ (v : List ℕ). Some (record t { begun = true; params = v })) (digit-last t.params value (c - 0x30)))
+
+-- the text whose last parameter is written down
+pub valued-stays : (t : Text) → Some (valued t (last_value t.params)) ≡ Some t
+valued-stays t = ap (λ (v : List ℕ). Some (record t { params = v })) (last-stays t.params)
+
+pub no-digits : TakesDigits no_text
+no-digits = record { few = refl; inside = refl }
+
+-- the bytes so far are the text, but for the value of its last parameter
+pub record IsRead (bytes : List ℕ) (at : ℕ) (t : Text) (value : ℕ) (takes_digits : Bool) : Type 0 where
+  pub inside : list_all is_sequence_text (take at bytes) ≡ true
+  pub text : parts (take at bytes) ≡ Some (valued t value)
+  pub digits : takes_digits ≡ true → TakesDigits t
+
+pub digit-read : (bytes : List ℕ) (at : ℕ) (t : Text) (value next : ℕ) (takes : Bool) → at < length bytes → IsRead bytes at t value takes → takes ≡ true
+    → is_digit (get_or bytes at 0) ≡ true → next ≡ longer value (get_or bytes at 0 - 0x30) → IsRead bytes (at + 1) (record t { begun = true }) next takes
+digit-read bytes at t value next takes l r on d n =
+    let c : ℕ = get_or bytes at 0 in
+    let is : is_sequence_text c ≡ true = grind (arith, nat_tests) in
+    let k = r.digits on in
+    record {
+      inside = inside-more bytes at l r.inside is;
+      text = text-more bytes at (valued t value) _ l r.text (digit-grown t value c k d) ∙ ap (λ (v : ℕ). Some (valued (record t { begun = true }) v)) (sym n);
+      digits = λ y. record { few = k.few; inside = k.inside };
+    }
+
+pub other-read : (bytes : List ℕ) (at : ℕ) (t whole grown-text : Text) (value next : ℕ) (takes takes' : Bool) → at < length bytes → IsRead bytes at t value takes
+    → is_sequence_text (get_or bytes at 0) ≡ true → whole ≡ valued t value → text_grown whole (get_or bytes at 0) ≡ Some grown-text → next ≡ last_value grown-text.params
+    → (takes' ≡ true → TakesDigits grown-text) → IsRead bytes (at + 1) grown-text next takes'
+other-read bytes at t whole grown-text value next takes takes' l r is w g n y = record {
+  inside = inside-more bytes at l r.inside is;
+  text = text-more bytes at (valued t value) grown-text l r.text (ap (λ (v : Text). text_grown v (get_or bytes at 0)) (sym w) ∙ g)
+      ∙ sym (valued-stays grown-text) ∙ ap (λ (v : ℕ). Some (valued grown-text v)) (sym n);
+  digits = y;
+}

@@ -1,0 +1,3 @@
+pub mod EntriesComputed
+pub mod LockingComputed
+pub mod OpeningComputed

@@ -1,0 +1,4 @@
+pub mod Setup
+pub mod Entries
+pub mod Locking
+pub mod Opening
