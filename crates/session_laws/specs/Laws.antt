@@ -24,7 +24,8 @@ StepsKeepPromise = (t : Tables) (e : Entry) → IsStep t e → KeepsPromise t e
 abbrev pub RunsKeepPromise : Type 0
 RunsKeepPromise = (h : Trace) → IsRun h → KeepsPromises h
 
--- serials rise and are never given again, numbers differ, and there are no more windows and clients than may be
+-- serials rise and are never given again, numbers differ, and there are no more windows and
+-- clients than may be
 abbrev pub TablesStaySound : Type 0
 TablesStaySound = (t : Tables) (e : Entry) → AreSound t → AreSound (after t e)
 

@@ -1,15 +1,17 @@
-//! What holds of every step and of every run of a session, by its definitions alone. Each function here is a
-//! law: it does nothing, and its contract says what holds.
+//! What holds of every step and of every run of a session, by its definitions alone. Each
+//! function here is a law: it does nothing, and its contract says what holds.
 #![tactic(auto)]
 
 ghost use Rattle.session_laws.specs.Entries.{ClientsAreRemembered};
-ghost use Rattle.session_laws.specs.Laws.{StepsKeepPromise, RunsKeepPromise, TablesStaySound, RunsAreSound};
+ghost use Rattle.session_laws.specs.Laws.{StepsKeepPromise, RunsKeepPromise, TablesStaySound};
+ghost use Rattle.session_laws.specs.Laws.{RunsAreSound};
 ghost use Rattle.session_laws.specs.Laws.{StepsAreFew, StepsSayOnce, CommandsDoTheirRows};
 ghost use Rattle.session_laws.specs.Laws.{ActsAreNoted, ActsStayAgreed, RunsAgree};
 
-/// Each step, whatever the tables, keeps the promise: typed bytes reach windows exactly by rights and locks, and
-/// else it is told why; commands act exactly where x is granted; draws show the granted view by frames; denials name
-/// their entries and holders; what is refused changes nothing; and there is no other effect.
+/// Each step, whatever the tables, keeps the promise: typed bytes reach windows exactly by rights
+/// and locks, and else it is told why; commands act exactly where x is granted; draws show the
+/// granted view by frames; denials name their entries and holders; what is refused changes
+/// nothing; and there is no other effect.
 pub fn steps_keep_promise()
     ensures { StepsKeepPromise }
 {}
@@ -19,8 +21,8 @@ pub fn runs_keep_promise()
     ensures { RunsKeepPromise }
 {}
 
-/// Windows and clients stay in the order of their serials, which were all given and are never given again; numbers of
-/// windows differ; there are at most 40 windows and 64 clients.
+/// Windows and clients stay in the order of their serials, which were all given and are never
+/// given again; numbers of windows differ; there are at most 40 windows and 64 clients.
 pub fn tables_stay_sound()
     ensures step { TablesStaySound }
     ensures run { RunsAreSound }
@@ -36,21 +38,22 @@ pub fn steps_say_once()
     ensures { StepsSayOnce }
 {}
 
-/// The acts of the tables are those that the steps noted; by them the same windows are open and the same clients
-/// attached.
+/// The acts of the tables are those that the steps noted; by them the same windows are open and
+/// the same clients attached.
 pub fn acts_agree()
     ensures noted { ActsAreNoted }
     ensures step { ActsStayAgreed }
     ensures run { RunsAgree }
 {}
 
-/// A Command event that isn't refused is granted, and its command did its row: its acts, effects, text and tables.
+/// A Command event that isn't refused is granted, and its command did its row: its acts, effects,
+/// text and tables.
 pub fn commands_do_their_rows()
     ensures { CommandsDoTheirRows }
 {}
 
-/// The keys of each client, and what was delivered to it since it attached or last changed its size, are those that
-/// the entries of the run say.
+/// The keys of each client, and what was delivered to it since it attached or last changed its
+/// size, are those that the entries of the run say.
 pub fn clients_are_remembered()
     ensures { ClientsAreRemembered }
 {}

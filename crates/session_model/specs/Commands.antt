@@ -37,7 +37,8 @@ use Rattle.session_model.specs.declared.verdict.Verdict.{Verdict}
 use Rattle.session_model.specs.Tables.{Window, Client, Tables, window_at, client_at, with_window}
 use Rattle.session_model.specs.Tables.{known_users}
 use Rattle.session_model.specs.Rights.{leaders_in, add_acts_in, group_fault_in}
-use Rattle.session_model.specs.Naming.{with_number, window_named, window_after, window_before, is_title}
+use Rattle.session_model.specs.Naming.{with_number, window_named, window_after, window_before}
+use Rattle.session_model.specs.Naming.{is_title}
 use Rattle.session_model.specs.Naming.{names_of, objects_of, every_window, every_command}
 use Rattle.session_model.specs.Naming.{new_leader_of, entries_of}
 use Rattle.session_model.specs.Texts.{windows_text, clients_text, group_text}

@@ -3,7 +3,8 @@
 use Rattle.std.specs.Prelude.{ℕ, ◌+◌, Bool, true, false, List, [], ◌∷◌, ◌++◌, Option, Some, None}
 use Rattle.std.specs.Prelude.{length, take, drop, find, unwrap_or}
 use Rattle.std.specs.List.{list_any, flat_map, range_with_len}
-use Rattle.keys.specs.Grammar.{Item, typed, bound, line, Rest, prompt, items}
+pub use Rattle.keys.specs.Grammar.{open_line}
+use Rattle.keys.specs.Grammar.{Item, typed, bound, line, items}
 use Rattle.session_model.specs.Tables.{Client}
 
 -- the items that more keys complete behind the keys before them
@@ -39,8 +40,3 @@ typed_bytes given = flat_map typed_byte given
 -- the command or the line among them
 abbrev pub command_item : List Item → Option Item
 command_item given = find is_command given
-
--- the line of the prompt, while it is open
-abbrev pub open_line : Rest → Option (List ℕ)
-open_line (prompt bytes) = Some bytes
-open_line _ = None

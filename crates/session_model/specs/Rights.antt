@@ -1,5 +1,5 @@
--- Who may do what in a session: the rules of its lists and locks, at its owner, its edition of groups
--- and the acts of all its steps.
+-- Who may do what in a session: the rules of its lists and locks, at its owner, its edition of
+-- groups and the acts of all its steps.
 use Rattle.std.specs.Prelude.{ℕ, Bool, List, Option}
 use Rattle.acl.specs.declared.user_id.UserId.{UserId}
 use Rattle.acl.specs.declared.bits.Bit.{Bit}
@@ -12,7 +12,8 @@ use Rattle.acl.specs.Commands.{add_acts, group_fault}
 use Rattle.writelock.specs.Holding.{holder}
 use Rattle.session_model.specs.Tables.{Tables, known_users}
 
--- a user has a bit on an object: he is the owner, or an entry of his own or of a leader of his gives it
+-- a user has a bit on an object: he is the owner, or an entry of his own or of a leader of his
+-- gives it
 abbrev pub may_in : Tables → UserId → Bit → Object → Bool
 may_in t user bit object = may t.edition t.owner t.acts user bit object
 

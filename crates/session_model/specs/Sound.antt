@@ -21,8 +21,8 @@ abbrev pub NumbersDiffer : List Window → Type 0
 NumbersDiffer [] = Unit {0}
 NumbersDiffer (w ∷ windows) = (with_number windows w.number ≡ None) × NumbersDiffer windows
 
--- Windows and clients rise by their serials, each of which was given; the numbers of windows differ;
--- and there are at most 40 windows and 64 clients.
+-- Windows and clients rise by their serials, each of which was given; the numbers of windows
+-- differ; and there are at most 40 windows and 64 clients.
 pub record AreSoundRows
     (windows : List Window) (clients : List Client) (next_window next_client : ℕ)
     : Type 0 where

@@ -1,5 +1,6 @@
-//! Worked rows of a session, computed from its definitions: what four users get who type, change lists, take
-//! locks and open windows. Each function here does nothing; its contract has the rows.
+//! Worked rows of a session, computed from its definitions: what four users get who type, change
+//! lists, take locks and open windows. Each function here does nothing; its contract has the
+//! rows.
 #![tactic(auto)]
 
 ghost use Rattle.worked_rows.specs.Entries as entries;
