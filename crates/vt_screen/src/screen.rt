@@ -69,7 +69,7 @@ impl Screen {
 
     /// Whether characters 20 to 7E are printed as themselves: GL is ASCII, and no single shift waits.
     pub fn prints_ascii(&self) -> bool
-        ensures { IsTrue result ↔ PrintsAscii self.now.state }
+        ensures { IsTrue result ↔ PrintsAscii self.now.screen.state }
     {
         prints_ascii(&self.display.state)
     }
