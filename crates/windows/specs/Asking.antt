@@ -1,5 +1,5 @@
 -- What is asked of a table of windows.
-use Rattle.std.specs.Prelude.{ℕ, ◌≡◌, ◌++◌, List, Option, Some, Result, OnOk}
+use Rattle.std.specs.Prelude.{ℕ, ◌≡◌, ◌++◌, ◌∷◌, [], List, Option, Some, Result, OnOk}
 use Rattle.std.specs.Option.{option_map}
 use Rattle.terminal_model.specs.Reading.{reads}
 use Rattle.session_model.specs.Tables as model
@@ -33,6 +33,10 @@ IsFree ws n = (rows : List model.Window) → StandFor rows ws → free_number ro
 abbrev pub Opens : {A : Type 0} →
     ℕ → ℕ → ℕ → ℕ → List ℕ → List Window → Result A Refusal → List Window → Type 0
 Opens s rows columns keep title = AnswersIfRoom (opened s rows columns keep title)
+
+-- one window more, behind the others
+abbrev pub IsOneMore : List Window → List Window → Type 0
+IsOneMore old new = (w : Window) × (new ≡ old ++ w ∷ [])
 
 -- what the terminal of a window answers to these bytes stands behind what was there
 abbrev pub AnswersReports : ℕ → List ℕ → List Window → List ℕ → List ℕ → Type 0

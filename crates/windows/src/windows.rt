@@ -1,6 +1,6 @@
 //! The open windows.
 
-ghost use Rattle.std.specs.Prelude.{◌≡◌, [], List, Some, length, option_copied};
+ghost use Rattle.std.specs.Prelude.{◌≡◌, ◌∷◌, ◌++◌, [], List, Some, length, option_copied};
 ghost use Rattle.std.specs.Prelude.{IfOk, OnOk, OnErr};
 ghost use Rattle.terminal_model.specs.Writing.{Clear, Reset, Encoding};
 
@@ -38,7 +38,8 @@ impl Windows {
     ghost use Rattle.windows.specs.Standing.{StandFor, Finds, Answers, AnswersIfRoom, at_serial};
     ghost use Rattle.windows.specs.Standing.{written_in, fed_in, resized_in, retitled_in};
     ghost use Rattle.windows.specs.Standing.{renumbered, closed};
-    ghost use Rattle.windows.specs.Asking.{FindsAfter, FindsBefore, Opens, IsFree, Reports};
+    ghost use Rattle.windows.specs.Asking.{FindsAfter, FindsBefore, Opens, IsFree, IsOneMore};
+    ghost use Rattle.windows.specs.Asking.{Reports};
 
     /// No window.
     pub fn new(alloc: Global) -> Windows
@@ -132,6 +133,7 @@ impl Windows {
     ) -> Result<u8, Refusal>
         ensures answer { Opens serial rows cols keep title.now self.old result self.new }
         ensures number { IfOk result (IsFree self.old) }
+        ensures last { OnOk result (IsOneMore self.old self.new) }
         ensures err { OnErr result (self.new ≡ self.old) }
     {
         if !is_window_size(rows, cols, keep) {
@@ -148,6 +150,13 @@ impl Windows {
         Ok(number)
     }
 
+    /// Takes back the window that was opened last, as if it had never been opened.
+    pub fn take_back(&mut self)
+        ensures { (ws : List Window) (w : Window) → self.old ≡ ws ++ w ∷ [] → self.new ≡ ws }
+    {
+        let _window = self.rows.pop();
+    }
+
     /// Closes the window of a serial.
     pub fn close(&mut self, serial: u32) -> Result<(), Refusal>
         ensures answer { Answers (closed serial) self.old result self.new }
@@ -158,6 +167,13 @@ impl Windows {
         };
         self.rows.remove(serial);
         Ok(())
+    }
+
+    /// Closes all windows.
+    pub fn close_all(&mut self)
+        ensures { self.new ≡ [] }
+    {
+        self.rows.clear();
     }
 
     /// Gives the window of a serial another number, unless another window has it.
