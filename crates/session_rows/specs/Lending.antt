@@ -9,7 +9,8 @@ abbrev pub over : {A : Type 0} → List A → List A → List A
 over old rows = take (length old) (rows ++ drop (length rows) old)
 
 -- the first row of a serial
-abbrev pub LendsRow : (R : RattleType) → (R.Denot → ℕ) → MutBor (List R.Denot) → ℕ → Option (MutBor R.Denot) → Fml
+abbrev pub LendsRow : (R : RattleType) →
+    (R.Denot → ℕ) → MutBor (List R.Denot) → ℕ → Option (MutBor R.Denot) → Fml
 LendsRow R serial_of s serial r =
     LendsSo (the_row R) R s r (λ rows row. OnSome r (rows ≡ with_row serial_of s.now serial row))
     (λ rows. rows ≡ s.now)

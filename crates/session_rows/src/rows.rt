@@ -1,6 +1,6 @@
 //! Rows by rising serials.
 
-ghost use Rattle.std.specs.Prelude.{◌≡◌, ◌++◌, ◌∷◌, ◌==◌, ◌<◌, [], length, filter, not};
+ghost use Rattle.std.specs.Prelude.{◌≡◌, ◌++◌, ◌∷◌, ◌==◌, ◌<◌, [], length, filter, not, take, ◌-◌};
 ghost use Rattle.std.specs.Prelude.{option_copied, option_to_list, OnOk, OnErr, IfSome};
 ghost use Rattle.std.specs.List.{position};
 ghost use Rattle.std.specs.List.Retain.{IsFiltered};
@@ -124,8 +124,16 @@ impl<R: Serial + Drop> Rows<R> {
 
     /// Takes back the row that was added last.
     pub fn pop(&mut self) -> Option<R>
-        ensures { self.old ≡ self.new ++ option_to_list result }
+        ensures row { self.old ≡ self.new ++ option_to_list result }
+        ensures rest { self.new ≡ take (length self.old - 1) self.old }
     {
         self.items.pop()
+    }
+
+    /// Removes all rows.
+    pub fn clear(&mut self)
+        ensures { self.new ≡ [] }
+    {
+        self.items.clear();
     }
 }

@@ -1,26 +1,23 @@
 -- The answers of a table.
-use Rattle.std.proofs.Common.{◌≡◌, ℕ, List, [], ◌∷◌, ◌++◌, Option, Some, None, Ok, Err, filter, not, refl, ap, sym, subst, ◌∙◌, Bool, true, false, is_some, inl, inr, MutBor}
-use Rattle.std.specs.Prelude.{Result, OnSome, OnOk, OnErr, IfErr, ◌==◌, ◌⊎◌, if◌then◌else◌}
+use Rattle.std.proofs.Common.{◌≡◌, ℕ, List, [], ◌∷◌, ◌++◌, Option, Some, None, Ok, Err, filter, not, refl, ap, sym, subst, ◌∙◌, true, false, inl, inr, MutBor}
+use Rattle.std.specs.Prelude.{Result, OnSome, OnOk, OnErr, IfErr, ◌==◌, if◌then◌else◌}
 use Rattle.std.specs.Option.{option_copied_mut}
 use Rattle.session_model.specs.declared.refusal.Refusal.{Refusal}
-use Rattle.session_model.specs.declared.refusal.Refusal.TheVariants.{NoWindow, NoMemory, BadSize, Windows}
-use Rattle.session_model.specs.declared.refusal.WindowsFault.TheVariants.{Full, NumberTaken, BadTitle}
+use Rattle.session_model.specs.declared.refusal.Refusal.TheVariants.{NoWindow, NoMemory, Windows}
+use Rattle.session_model.specs.declared.refusal.WindowsFault.TheVariants.{NumberTaken}
 use Rattle.session_model.specs.Tables as model
 use Rattle.session_model.specs.Tables.{row_of, with_row}
 use Rattle.session_model.specs.Naming.{free_number, is_title}
 use Rattle.session_model.specs.Events.{is_window_size}
-use Rattle.session_model.specs.Terminals.{terminal_of}
-use Rattle.terminal_model.specs.Reading.{reads}
 use Rattle.terminal_model.specs.Writing.{Output}
-use Rattle.session_rows.specs.Matched.{Matched, BothOrNone}
 use Rattle.session_rows.proofs.Serials.{if_true, if_false, with_back, serial_is}
 use Rattle.session_rows.proofs.Matching.{none_back, rows_match, with_match, row_back, row_there, without_match, push_match}
 use Rattle.windows.specs.declared.window.Window.{Window}
 use Rattle.windows.specs.Among.{taken_by_other}
 use Rattle.windows.specs.Asking.{AnswersReports}
-use Rattle.windows.specs.Standing.{WindowStands, StandFor, Answered, AnsweredIfRoom, Answers, AnswersIfRoom, serial, written, written_to, in_place, in_row, changed, without, closed, is_taken, renumbered, numbered, opened, new_row}
-use Rattle.windows.specs.Writing.{Became, Becomes, HasFed}
-use Rattle.windows.proofs.Nearest.{taken_both, free_both}
+use Rattle.windows.specs.Standing.{WindowStands, StandFor, Answers, AnswersIfRoom, serial, written, written_to, in_place, in_row, changed, without, closed, is_taken, renumbered, numbered, opened, new_row}
+use Rattle.windows.specs.Writing.{Becomes, HasFed}
+use Rattle.windows.proofs.Nearest.{taken_both}
 
 abbrev pub own : Window → ℕ
 own w = w.serial

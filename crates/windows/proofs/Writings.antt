@@ -1,11 +1,8 @@
 -- What is written to one window.
-use Rattle.std.proofs.Common.{◌≡◌, ℕ, Bool, true, false, List, [], ◌∷◌, ◌++◌, refl, ap, sym, subst, ◌∙◌, Ok, Err, arith}
-use Rattle.std.specs.Prelude.{if◌then◌else◌, nat_le, ◌&&◌, ◌≤◌}
-use Rattle.std.proofs.lemmas.Bool.Decides.{nat_tests}
+use Rattle.std.proofs.Common.{◌≡◌, ℕ, true, false, List, [], ◌∷◌, refl, ap, sym, subst, ◌∙◌, Ok, Err}
 use Rattle.std.specs.String.{string_bytes}
-use Rattle.cells.specs.Page.{IsGridSize}
 use Rattle.terminal_model.specs.Screen.{starting}
-use Rattle.terminal_model.specs.Reading.{Terminal, ready, nothing_read, IsTerminal, reads}
+use Rattle.terminal_model.specs.Reading.{Terminal, ready, nothing_read, IsTerminal}
 use Rattle.terminal_model.specs.Writing.{Writing, Output, Size, IsWriting, writes, writes_all}
 use Rattle.terminal_model.specs.Drawable.{IsDrawableScreen}
 use Rattle.terminal_model.proofs.Readings.{writes_all-append}

@@ -1,5 +1,6 @@
 -- Windows among others.
-use Rattle.std.specs.Prelude.{ℕ, ◌==◌, Bool, true, false, not, nat_lt, List, [], ◌∷◌, Option, Some, None, if◌then◌else◌, find}
+use Rattle.std.specs.Prelude.{ℕ, ◌==◌, Bool, true, false, not, nat_lt, List, [], ◌∷◌}
+use Rattle.std.specs.Prelude.{Option, Some, None, if◌then◌else◌, find}
 use Rattle.std.specs.List.{list_any, range_with_len}
 use Rattle.std.specs.Option.{option_map_or}
 use Rattle.std.specs.Str.{bytes_eq}
@@ -38,7 +39,8 @@ numbered ws n = find (has_number n) ws
 
 -- whether a window of another serial has the number
 abbrev pub taken_by_other : List Window → ℕ → ℕ → Bool
-taken_by_other ws serial n = option_map_or (λ (v : Window). not (v.serial == serial)) (numbered ws n) false
+taken_by_other ws serial n =
+    option_map_or (λ (v : Window). not (v.serial == serial)) (numbered ws n) false
 
 -- the lowest number from 0 to 39 that none has
 abbrev pub first_free : List Window → Option ℕ

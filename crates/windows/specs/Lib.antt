@@ -1,4 +1,5 @@
 pub mod Among
 pub mod Asking
+pub mod Showing
 pub mod Standing
 pub mod Writing

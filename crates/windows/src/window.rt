@@ -1,8 +1,7 @@
 //! One window.
 
-ghost use Rattle.std.specs.Prelude.{◌≡◌, ◌++◌, true, false, List, Ok, Err, map, IfOk, IfErr, OnOk, OnErr};
-ghost use Rattle.terminal_model.specs.Writing as written;
-ghost use Rattle.terminal_model.specs.Reading.{reads};
+ghost use Rattle.std.specs.Prelude.{◌≡◌, true, IfOk, IfErr, OnOk, OnErr};
+ghost use Rattle.terminal_model.specs.Writing.{Clear, Reset, Encoding};
 ghost use Rattle.session_model.specs.Events.{is_window_size};
 
 use crate::titles::is_title;
@@ -41,12 +40,9 @@ pub fn is_window_size(rows: u16, cols: u16, keep: u16) -> bool
 }
 
 impl Window {
-    ghost use Rattle.view.specs.Granted.{window_of};
-    ghost use Rattle.session_model.specs.Tables as model;
-    ghost use Rattle.session_model.specs.Terminals.{terminal_of};
-    ghost use Rattle.session_model.specs.Granted.{moved_back, window_read};
     ghost use Rattle.session_model.specs.declared.refusal.Refusal.TheVariants.{NoMemory};
     ghost use Rattle.windows.specs.Standing.{WindowStands, new_row};
+    ghost use Rattle.windows.specs.Showing.{AreLines, Shows};
     ghost use Rattle.windows.specs.Writing.{Writes, Retitles, Resizes, HasFed};
 
     /// A window that opens, with a blank screen.
@@ -60,7 +56,7 @@ impl Window {
         title: &str,
     ) -> Result<Window, Refusal>
         requires { is_window_size rows cols keep ≡ true }
-        ensures ok { IfOk result (λ w. WindowStands (new_row serial number rows cols keep title.now) w) }
+        ensures ok { IfOk result (WindowStands (new_row serial number rows cols keep title.now)) }
         ensures err { IfErr result (λ refusal. refusal ≡ NoMemory) }
     {
         let emulator = match Emulator::new(alloc, rows as usize, cols as usize, keep as usize) {
@@ -78,17 +74,17 @@ impl Window {
     }
 
     /// Reads output of its program, and appends what is answered. A refusal leaves all as it was.
-    pub(crate) fn feed_all(&mut self, bytes: &[u8], reports: &mut Vec<u8>) -> Result<(), Refusal>
-        ensures ok { OnOk result (HasFed self.old bytes.now reports.old.items reports.new.items self.new) }
+    pub(crate) fn feed_all(&mut self, bytes: &[u8], out: &mut Vec<u8>) -> Result<(), Refusal>
+        ensures ok { OnOk result (HasFed self.old bytes.now out.old.items out.new.items self.new) }
         ensures err { IfErr result (λ refusal. refusal ≡ NoMemory) }
         ensures window { OnErr result (self.new ≡ self.old) }
-        ensures reports { OnErr result (reports.new.items ≡ reports.old.items) }
+        ensures reports { OnErr result (out.new.items ≡ out.old.items) }
     {
         let Some(room) = bytes.len().checked_mul(REPORT_BYTES) else {
             return Err(Refusal::NoMemory);
         };
-        reports.reserve(room)?;
-        match self.emulator.feed_all(bytes, reports) {
+        out.reserve(room)?;
+        match self.emulator.feed_all(bytes, out) {
             Ok(()) => Ok(()),
             Err(_) => Err(Refusal::NoMemory),
         }
@@ -122,28 +118,28 @@ impl Window {
 
     /// Erases its page and goes home.
     pub(crate) fn clear(&mut self)
-        ensures { Writes written.Clear self.old self.new }
+        ensures { Writes Clear self.old self.new }
     {
         self.emulator.clear();
     }
 
     /// Takes all starting values.
     pub(crate) fn reset(&mut self)
-        ensures { Writes written.Reset self.old self.new }
+        ensures { Writes Reset self.old self.new }
     {
         self.emulator.reset();
     }
 
     /// Reads in a coding from here on.
     pub(crate) fn encode(&mut self, coding: Coding)
-        ensures { Writes (written.Encoding coding) self.old self.new }
+        ensures { Writes (Encoding coding) self.old self.new }
     {
         self.emulator.set_encoding(coding);
     }
 
     /// The lines of the page, moved back by so many kept lines, or by all where they are fewer.
     pub fn lines(&self, alloc: Global, back: usize) -> Result<Vec<&[Cell]>, AllocError>
-        ensures { IfOk result (λ lines. map (λ line. line.now) lines.items ≡ moved_back back self.now.emulator.screen) }
+        ensures { IfOk result (λ lines. AreLines back self.now lines.items) }
     {
         let page = self.emulator.page(back);
         let mut lines = Vec::with_capacity(alloc, page.rows())?;
@@ -155,8 +151,7 @@ impl Window {
 
     /// What a region shows of the window, whose lines these are, moved back so far.
     pub fn contents<'a>(&'a self, back: usize, lines: &'a [&'a [Cell]]) -> Contents<'a>
-        ensures { (m : model.Window) → WindowStands m self.now → map (λ line. line.now) lines.now ≡ moved_back back (terminal_of m).screen →
-            window_of result ≡ window_read m back (terminal_of m).screen }
+        ensures { Shows back self.now lines.now result }
     {
         let modes = self.emulator.modes();
         Contents {

@@ -1,8 +1,8 @@
 //! The open windows.
 
-ghost use Rattle.std.specs.Prelude.{◌≡◌, [], List, Some, length, option_copied};
+ghost use Rattle.std.specs.Prelude.{◌≡◌, ◌∷◌, ◌++◌, [], List, Some, length, option_copied};
 ghost use Rattle.std.specs.Prelude.{IfOk, OnOk, OnErr};
-ghost use Rattle.terminal_model.specs.Writing as terminal;
+ghost use Rattle.terminal_model.specs.Writing.{Clear, Reset, Encoding};
 
 use crate::among::{Among, End, nearest};
 use crate::numbers::{first_free, is_taken, numbered, numbered_by};
@@ -35,10 +35,11 @@ impl Windows {
     ghost use Rattle.session_model.specs.Naming.{with_number, window_named, lowest, free_number};
     ghost use Rattle.session_model.specs.declared.refusal.Refusal.TheVariants.{NoMemory};
     ghost use Rattle.windows.specs.declared.window.Window.{Window};
-    ghost use Rattle.windows.specs.Standing.{StandFor, Finds, Answers, AnswersIfRoom};
-    ghost use Rattle.windows.specs.Standing.{serial as model_serial, written, resized, retitled};
-    ghost use Rattle.windows.specs.Standing.{changed, renumbered, opened, closed};
-    ghost use Rattle.windows.specs.Asking.{FindsAfter, FindsBefore, AnswersReports};
+    ghost use Rattle.windows.specs.Standing.{StandFor, Finds, Answers, AnswersIfRoom, at_serial};
+    ghost use Rattle.windows.specs.Standing.{written_in, fed_in, resized_in, retitled_in};
+    ghost use Rattle.windows.specs.Standing.{renumbered, closed};
+    ghost use Rattle.windows.specs.Asking.{FindsAfter, FindsBefore, Opens, IsFree, IsOneMore};
+    ghost use Rattle.windows.specs.Asking.{Reports};
 
     /// No window.
     pub fn new(alloc: Global) -> Windows
@@ -65,7 +66,7 @@ impl Windows {
     /// The window of a serial.
     pub fn get(&self, serial: u32) -> Option<&Window>
         ensures row { option_copied result ≡ row_of (λ (w : Window). w.serial) self.now serial }
-        ensures finds { Finds (λ rows. row_of model_serial rows serial) self.now (option_copied result) }
+        ensures finds { Finds (at_serial serial) self.now (option_copied result) }
     {
         self.rows.get(serial)
     }
@@ -77,8 +78,8 @@ impl Windows {
         numbered(self.rows.as_slice(), number)
     }
 
-    /// The window that a word names: by its number, else by its title, the one of the lowest number among
-    /// equal titles.
+    /// The window that a word names: by its number, else by its title, the one of the lowest number
+    /// among equal titles.
     pub fn by_name(&self, word: &str) -> Option<&Window>
         ensures { Finds (λ rows. window_named rows word.now) self.now (option_copied result) }
     {
@@ -94,7 +95,7 @@ impl Windows {
         nearest(self.rows.as_slice(), End::Lowest, Among::All)
     }
 
-    /// The window of the next higher number, cyclically; of the lowest one where there is no number.
+    /// The window of the next higher number, cyclically; of the lowest one without a number.
     pub fn after(&self, number: Option<u8>) -> Option<&Window>
         ensures { FindsAfter number self.now (option_copied result) }
     {
@@ -103,7 +104,7 @@ impl Windows {
         nearest(rows, End::Lowest, Among::Above(number)).or(lowest)
     }
 
-    /// The window of the next lower number, cyclically; of the highest one where there is no number.
+    /// The window of the next lower number, cyclically; of the highest one without a number.
     pub fn before(&self, number: Option<u8>) -> Option<&Window>
         ensures { FindsBefore number self.now (option_copied result) }
     {
@@ -119,8 +120,8 @@ impl Windows {
         first_free(self.rows.as_slice())
     }
 
-    /// Opens a window with the lowest free number, and gives that. It is `BadSize` for a size that no
-    /// window has, then `Full` with 40 windows, then `BadTitle`. A refusal leaves all as it was.
+    /// Opens a window with the lowest free number, and gives that. It is `BadSize` for a size that
+    /// no window has, then `Full` with 40 windows, then `BadTitle`. A refusal leaves all as it was.
     pub fn open(
         &mut self,
         alloc: Global,
@@ -130,8 +131,9 @@ impl Windows {
         keep: u16,
         title: &str,
     ) -> Result<u8, Refusal>
-        ensures answer { AnswersIfRoom (opened serial rows cols keep title.now) self.old result self.new }
-        ensures number { IfOk result (λ number. (rows : List model.Window) → StandFor rows self.old → free_number rows ≡ Some number) }
+        ensures answer { Opens serial rows cols keep title.now self.old result self.new }
+        ensures number { IfOk result (IsFree self.old) }
+        ensures last { OnOk result (IsOneMore self.old self.new) }
         ensures err { OnErr result (self.new ≡ self.old) }
     {
         if !is_window_size(rows, cols, keep) {
@@ -148,6 +150,13 @@ impl Windows {
         Ok(number)
     }
 
+    /// Takes back the window that was opened last, as if it had never been opened.
+    pub fn take_back(&mut self)
+        ensures { (ws : List Window) (w : Window) → self.old ≡ ws ++ w ∷ [] → self.new ≡ ws }
+    {
+        let _window = self.rows.pop();
+    }
+
     /// Closes the window of a serial.
     pub fn close(&mut self, serial: u32) -> Result<(), Refusal>
         ensures answer { Answers (closed serial) self.old result self.new }
@@ -158,6 +167,13 @@ impl Windows {
         };
         self.rows.remove(serial);
         Ok(())
+    }
+
+    /// Closes all windows.
+    pub fn close_all(&mut self)
+        ensures { self.new ≡ [] }
+    {
+        self.rows.clear();
     }
 
     /// Gives the window of a serial another number, unless another window has it.
@@ -178,7 +194,7 @@ impl Windows {
 
     /// Gives the window of a serial another title. A refusal leaves all as it was.
     pub fn retitle(&mut self, alloc: Global, serial: u32, title: &str) -> Result<(), Refusal>
-        ensures answer { AnswersIfRoom (changed serial (retitled title.now)) self.old result self.new }
+        ensures answer { AnswersIfRoom (retitled_in serial title.now) self.old result self.new }
         ensures err { OnErr result (self.new ≡ self.old) }
     {
         let Some(window) = self.rows.get_mut(serial) else {
@@ -187,27 +203,22 @@ impl Windows {
         window.retitle(alloc, title)
     }
 
-    /// Feeds output to the window of a serial, and appends what is answered. A refusal leaves all as it
-    /// was.
-    pub fn feed_all(
-        &mut self,
-        serial: u32,
-        bytes: &[u8],
-        reports: &mut Vec<u8>,
-    ) -> Result<(), Refusal>
-        ensures answer { AnswersIfRoom (changed serial (written (terminal.Output bytes.now))) self.old result self.new }
-        ensures reports { OnOk result (AnswersReports serial bytes.now self.old reports.old.items reports.new.items) }
-        ensures err { OnErr result ((self.new ≡ self.old) × (reports.new.items ≡ reports.old.items)) }
+    /// Feeds output to the window of a serial, and appends what is answered. A refusal leaves all
+    /// as it was.
+    pub fn feed_all(&mut self, serial: u32, bytes: &[u8], out: &mut Vec<u8>) -> Result<(), Refusal>
+        ensures answer { AnswersIfRoom (fed_in serial bytes.now) self.old result self.new }
+        ensures reports { Reports serial bytes.now self.old result out.old.items out.new.items }
+        ensures err { OnErr result ((self.new ≡ self.old) × (out.new.items ≡ out.old.items)) }
     {
         let Some(window) = self.rows.get_mut(serial) else {
             return Err(Refusal::NoWindow);
         };
-        window.feed_all(bytes, reports)
+        window.feed_all(bytes, out)
     }
 
     /// Gives the window of a serial another size. A refusal leaves all as it was.
     pub fn resize(&mut self, serial: u32, rows: u16, cols: u16) -> Result<(), Refusal>
-        ensures answer { AnswersIfRoom (changed serial (resized rows cols)) self.old result self.new }
+        ensures answer { AnswersIfRoom (resized_in serial rows cols) self.old result self.new }
         ensures err { OnErr result (self.new ≡ self.old) }
     {
         let Some(window) = self.rows.get_mut(serial) else {
@@ -218,7 +229,7 @@ impl Windows {
 
     /// Erases the page of the window of a serial, and goes home there.
     pub fn clear(&mut self, serial: u32) -> Result<(), Refusal>
-        ensures answer { Answers (changed serial (written terminal.Clear)) self.old result self.new }
+        ensures answer { Answers (written_in serial Clear) self.old result self.new }
         ensures err { OnErr result (self.new ≡ self.old) }
     {
         let Some(window) = self.rows.get_mut(serial) else {
@@ -230,7 +241,7 @@ impl Windows {
 
     /// Gives the window of a serial all starting values.
     pub fn reset(&mut self, serial: u32) -> Result<(), Refusal>
-        ensures answer { Answers (changed serial (written terminal.Reset)) self.old result self.new }
+        ensures answer { Answers (written_in serial Reset) self.old result self.new }
         ensures err { OnErr result (self.new ≡ self.old) }
     {
         let Some(window) = self.rows.get_mut(serial) else {
@@ -242,7 +253,7 @@ impl Windows {
 
     /// Has the window of a serial read in a coding from here on.
     pub fn encode(&mut self, serial: u32, coding: Coding) -> Result<(), Refusal>
-        ensures answer { Answers (changed serial (written (terminal.Encoding coding))) self.old result self.new }
+        ensures answer { Answers (written_in serial (Encoding coding)) self.old result self.new }
         ensures err { OnErr result (self.new ≡ self.old) }
     {
         let Some(window) = self.rows.get_mut(serial) else {

@@ -1,5 +1,3 @@
-use Rattle.std.proofs.Common.{subst, sym}
-use Rattle.windows.specs.Writing.{HasFed}
 use Rattle.windows.proofs.Writings.{fed}
 use Rattle.windows.proofs.window.Window.feed_all.Goals as goal
 

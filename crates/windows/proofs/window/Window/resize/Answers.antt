@@ -1,4 +1,4 @@
-use Rattle.std.proofs.Common.{refl, Bool, true, ◌≡◌, sym, ◌∙◌}
+use Rattle.std.proofs.Common.{true, ◌≡◌, sym, ◌∙◌}
 use Rattle.session_model.specs.Events.{is_window_size}
 use Rattle.session_model.specs.Terminals.{terminal_of}
 use Rattle.terminal_model.specs.Writing.{Size}

@@ -15,13 +15,13 @@ returns-clause-answer c =
     let at = lent c.get_mut.result c.in-Some.window c.self.inside.rows c.args.self.now c.args.serial c.in-Some.is c.get_mut.ensures.value c.self.view_is in
     let put = put_back c.get_mut.result c.in-Some.window c.self.inside.rows c.args.self.now (c.get_mut.follows.lender made) c.args.serial made c.in-Some.is (c.get_mut.follows.holds made) c.self.view_is in
     row_became c.args.self.now (c.get_mut.follows.lender made) c.args.serial (written (Output c.args.bytes.now)) c.in-Some.window.now made at c.feed_all.result put
-    (fed_becomes c.feed_all.result c.in-Some.window.now made c.args.bytes.now c.args.reports.now.items c.feed_all.new.reports.items c.feed_all.ensures.ok c.feed_all.ensures.err)
+    (fed_becomes c.feed_all.result c.in-Some.window.now made c.args.bytes.now c.args.out.now.items c.feed_all.new.out.items c.feed_all.ensures.ok c.feed_all.ensures.err)
 
 pub returns-clause-reports : goal.returns-clause-reports
 returns-clause-reports c =
     let made : Window = c.feed_all.new.self in
     let at = lent c.get_mut.result c.in-Some.window c.self.inside.rows c.args.self.now c.args.serial c.in-Some.is c.get_mut.ensures.value c.self.view_is in
-    fed_answers c.feed_all.result c.args.self.now c.args.serial c.in-Some.window.now made c.args.bytes.now c.args.reports.now.items c.feed_all.new.reports.items at c.feed_all.ensures.ok
+    fed_answers c.feed_all.result c.args.self.now c.args.serial c.in-Some.window.now made c.args.bytes.now c.args.out.now.items c.feed_all.new.out.items at c.feed_all.ensures.ok
 
 pub returns-clause-err : goal.returns-clause-err
 returns-clause-err c =

@@ -12,3 +12,6 @@ returns-clause-answer c =
     one_opened c.in-Some.number c.args.self.now c.push.new.self c.args.serial c.in-Some.number c.args.rows c.args.cols c.args.keep c.args.title.now c.in_ok-window.window good
     (λ ms st. sym (c.in-Some.ensures ms st)) named c.in_ok-window.ensures.ok
     (c.in_ok-push.ensures.ok ∙ ap (λ (ws : List Window). ws ++ c.in_ok-window.window ∷ []) c.self.view_is)
+
+pub returns-clause-last : goal.returns-clause-last
+returns-clause-last c = (c.in_ok-window.window, c.in_ok-push.ensures.ok ∙ ap (λ (ws : List Window). ws ++ c.in_ok-window.window ∷ []) c.self.view_is)

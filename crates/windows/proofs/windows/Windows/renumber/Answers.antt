@@ -1,4 +1,4 @@
-use Rattle.std.proofs.Common.{◌≡◌, ◌∙◌, Bool, true, false, sym, ap, List}
+use Rattle.std.proofs.Common.{◌≡◌, ◌∙◌, true, false, sym, ap, List}
 use Rattle.session_rows.proofs.Serials.{with_back}
 use Rattle.windows.specs.Among.{taken_by_other}
 use Rattle.windows.specs.declared.window.Window.{Window}
