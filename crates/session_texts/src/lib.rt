@@ -7,7 +7,10 @@ ghost use Rattle.acl.specs.Names.{name_of};
 ghost use Rattle.session_model.specs.Texts.{behind, leaders_text, group_text};
 ghost use Rattle.session_texts.specs.Items.{separator, window_line, number_or_dash, client_line};
 
+mod laws;
+
 use acl::UserId;
+pub use laws::order_by_numbers;
 use session_model::push_decimal;
 use std::alloc::AllocError;
 
