@@ -1,3 +1,4 @@
 pub mod Answering
+pub mod Callers
 pub mod Nearest
 pub mod Writings
