@@ -52,7 +52,8 @@ impl Clients {
     ghost use Rattle.session_clients.specs.Exchanges.{Exchanged, HasReadMore, PutsBack};
     ghost use Rattle.session_clients.specs.Draws.{Draws};
     ghost use Rattle.session_clients.specs.Stands.{Attaches, Keeps, Changes, ChangesAll, Finds};
-    ghost use Rattle.session_clients.specs.Stands.{AreClients, IsFaultOf, IsRemoval};
+    ghost use Rattle.session_clients.specs.Stands.{AreClients, ClientStands, IsFaultOf, IsRemoval};
+    ghost use Rattle.session_rows.specs.Matched.{BothOrNone};
 
     /// No client.
     pub fn new(alloc: Global) -> Clients
@@ -78,7 +79,9 @@ impl Clients {
 
     /// The client of a serial.
     pub fn get(&self, serial: u32) -> Option<&Client>
-        ensures { option_copied result ≡ row_of (λ (c : Client). c.serial) self.now serial }
+        ensures row { option_copied result ≡ row_of (λ (c : Client). c.serial) self.now serial }
+        ensures stands { (rows : List model.Client) → AreClients rows self.now → BothOrNone
+            ClientStands (row_of (λ (m : model.Client). m.serial) rows serial) (option_copied result) }
     {
         self.rows.get(serial)
     }
