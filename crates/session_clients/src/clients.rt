@@ -81,7 +81,8 @@ impl Clients {
     pub fn get(&self, serial: u32) -> Option<&Client>
         ensures row { option_copied result ≡ row_of (λ (c : Client). c.serial) self.now serial }
         ensures stands { (rows : List model.Client) → AreClients rows self.now → BothOrNone
-            ClientStands (row_of (λ (m : model.Client). m.serial) rows serial) (option_copied result) }
+            ClientStands (row_of (λ (m : model.Client). m.serial) rows serial)
+            (option_copied result) }
     {
         self.rows.get(serial)
     }
