@@ -12,7 +12,7 @@ use Rattle.session_rows.proofs.Serials.{with_back}
 use Rattle.session_clients.specs.declared.client.Client.{Client}
 use Rattle.session_clients.specs.Stands.{ClientStands, AreClients, Changes, ChangesAll, Keeps, Finds}
 
-serials : (m : model.Client) (c : Client) → ClientStands m c → c.serial ≡ m.serial
+pub serials : (m : model.Client) (c : Client) → ClientStands m c → c.serial ≡ m.serial
 serials m c st = st.serial_is
 
 abbrev pub model_serial : model.Client → ℕ

@@ -1,7 +1,7 @@
 //! A client.
 
 ghost use Rattle.std.specs.Prelude.{ℕ, ◌≡◌, true, false, IfOk, OnOk, OnErr};
-ghost use Rattle.std.specs.Prelude.{slice_set, slice_get, unwrap_or, if◌then◌else◌};
+ghost use Rattle.std.specs.Prelude.{slice_set, slice_get, unwrap_or};
 ghost use Rattle.regions.specs.Layouts.{empty, split_focused, remove_focused, next_focus};
 ghost use Rattle.regions.specs.Layouts.{kept_alone, split_fault};
 ghost use Rattle.regions.specs.Pages.{has_room};

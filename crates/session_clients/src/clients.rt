@@ -1,15 +1,15 @@
 //! The clients of a session.
 
-ghost use Rattle.std.specs.Prelude.{◌≡◌, ◌++◌, ◌∷◌, ◌==◌, ◌<◌, ◌↔◌, ◌+◌, [], ℕ, List, Option};
-ghost use Rattle.std.specs.Prelude.{true, false, not, Some, None, length, map, filter, replicate};
-ghost use Rattle.std.specs.Prelude.{OnOk, OnErr, IfOk, IfErr, IsOk, option_copied, unwrap_or};
+ghost use Rattle.std.specs.Prelude.{◌≡◌, ◌==◌, ◌<◌, ◌+◌, [], ℕ, List, Option};
+ghost use Rattle.std.specs.Prelude.{true, false, not, Some, length, map, replicate};
+ghost use Rattle.std.specs.Prelude.{OnOk, OnErr, IfOk, option_copied};
 ghost use Rattle.regions.specs.Layouts.{split_focused, remove_focused, next_focus, kept_alone};
 ghost use Rattle.regions.specs.Layouts.{split_fault};
 ghost use Rattle.session_model.specs.declared.message.Message.{Message as What};
 ghost use Rattle.session_model.specs.declared.message.Message.TheVariants as what;
 ghost use Rattle.session_model.specs.declared.event.Effect.TheVariants as effect;
 ghost use Rattle.session_model.specs.Tables as model;
-ghost use Rattle.session_model.specs.Tables.{row_of, with_row, with_layout};
+ghost use Rattle.session_model.specs.Tables.{row_of, with_layout};
 ghost use Rattle.session_model.specs.Deeds.{hearing, showing, shown_in_focus, is_of};
 ghost use Rattle.session_model.specs.Deeds.{without_window};
 ghost use Rattle.session_model.specs.Events.{resized, reading, is_client_size};
@@ -52,7 +52,8 @@ impl Clients {
     ghost use Rattle.session_clients.specs.Exchanges.{Exchanged, HasReadMore, PutsBack};
     ghost use Rattle.session_clients.specs.Draws.{Draws};
     ghost use Rattle.session_clients.specs.Stands.{Attaches, Keeps, Changes, ChangesAll, Finds};
-    ghost use Rattle.session_clients.specs.Stands.{AreClients, IsFaultOf, IsRemoval};
+    ghost use Rattle.session_clients.specs.Stands.{AreClients, ClientStands, IsFaultOf, IsRemoval};
+    ghost use Rattle.session_rows.specs.Matched.{BothOrNone};
 
     /// No client.
     pub fn new(alloc: Global) -> Clients
@@ -78,7 +79,10 @@ impl Clients {
 
     /// The client of a serial.
     pub fn get(&self, serial: u32) -> Option<&Client>
-        ensures { option_copied result ≡ row_of (λ (c : Client). c.serial) self.now serial }
+        ensures row { option_copied result ≡ row_of (λ (c : Client). c.serial) self.now serial }
+        ensures stands { (rows : List model.Client) → AreClients rows self.now → BothOrNone
+            ClientStands (row_of (λ (m : model.Client). m.serial) rows serial)
+            (option_copied result) }
     {
         self.rows.get(serial)
     }
