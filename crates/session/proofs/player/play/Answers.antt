@@ -7,10 +7,10 @@ pub returns-then-not-shows-clause-whole : goal.returns-then-not-shows-clause-who
 returns-then-not-shows-clause-whole g c =
     if_known (g.R.Read.remaining c.args.reader) (λ script. PlaysAll c.args.owner c.args.shows script (g.W.Write.contents c.args.writer.now) (g.W.Write.contents c.play_lines.new.writer)) (λ script known.
     plays_quietly c.args.owner c.args.shows script c.play_lines.new.session (g.W.Write.contents c.args.writer.now) (g.W.Write.contents c.play_lines.new.writer) c.if-not-shows.true
-    (c.in_ok-play_lines.ensures.whole script known (start c.args.owner) c.in_ok-session.ensures))
+    (c.in_ok-play_lines.ensures.whole script known (start c.args.owner) c.in_ok-session.ensures.ok))
 
 pub returns-clause-whole : goal.returns-clause-whole
 returns-clause-whole g c =
     if_known (g.R.Read.remaining c.args.reader) (λ script. PlaysAll c.args.owner c.args.shows script (g.W.Write.contents c.args.writer.now) (g.W.Write.contents c.show.new.writer)) (λ script known.
     plays_shown c.args.owner c.args.shows script c.play_lines.new.session (g.W.Write.contents c.args.writer.now) (g.W.Write.contents c.play_lines.new.writer) (g.W.Write.contents c.show.new.writer) c.if-not-shows.false
-    (c.in_ok-play_lines.ensures.whole script known (start c.args.owner) c.in_ok-session.ensures) c.in_ok-show.ensures.shown)
+    (c.in_ok-play_lines.ensures.whole script known (start c.args.owner) c.in_ok-session.ensures.ok) c.in_ok-show.ensures.shown)
