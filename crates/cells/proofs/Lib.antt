@@ -7,3 +7,4 @@ pub mod Erasing
 pub mod Putting
 pub mod Grids
 pub mod Runs
+pub mod Used

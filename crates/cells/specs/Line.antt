@@ -1,15 +1,29 @@
-use Rattle.std.specs.Prelude.{◌≡◌, ℕ, zero, suc, ◌+◌, ◌-◌, Bool, true, false, ◌&&◌, ◌==◌, nat_lt, nat_le, not, cond, List, map, length, slice_index_or, slice_set}
+use Rattle.std.specs.Prelude.{◌≡◌, ℕ, zero, suc, ◌+◌, ◌-◌, ◌≤◌, Bool, true, false, ◌&&◌, ◌==◌, nat_lt, nat_le, not, cond, List, map, length, slice_index_or, slice_set, Option, Some, None}
 use Rattle.std.specs.List.{range_with_len}
 use Rattle.cells.specs.declared.cell.Shape.{Shape}
 use Rattle.cells.specs.declared.cell.Shape.TheVariants.{Narrow, Left, Right}
 use Rattle.cells.specs.declared.cell.Marks.{Marks}
 use Rattle.cells.specs.declared.cell.Marks.TheVariants.{Bare, One, Two}
+use Rattle.cells.specs.declared.cell.Colour.{Colour}
+use Rattle.cells.specs.declared.cell.Colour.TheVariants.{Default, Black, Red, Green, Yellow, Blue, Magenta, Cyan, White}
 use Rattle.cells.specs.declared.cell.Rendition.{Rendition}
 use Rattle.cells.specs.declared.cell.Cell.{Cell}
 
 -- no rendition (ECMA-48, 8.3.117: SGR 0)
 abbrev pub plain : Rendition
-plain = record { is_bold = false; is_underlined = false; is_blinking = false; is_reversed = false }
+plain = record { is_bold = false; is_underlined = false; is_blinking = false; is_reversed = false; fore = Default; back = Default }
+
+-- the number of a colour; none is the terminal's own
+abbrev pub colour_number : Colour → Option ℕ
+colour_number Default = None
+colour_number Black = Some 0
+colour_number Red = Some 1
+colour_number Green = Some 2
+colour_number Yellow = Some 3
+colour_number Blue = Some 4
+colour_number Magenta = Some 5
+colour_number Cyan = Some 6
+colour_number White = Some 7
 
 -- a space without rendition, marks or protection
 abbrev pub blank : Cell
@@ -61,6 +75,16 @@ is_right Right = true
 pub record IsPaired (cells : List Cell) : Type 0 where
   pub first : is_right (cell_at cells 0).shape ≡ false
   pub next : (column : ℕ) → is_left (cell_at cells column).shape ≡ is_right (cell_at cells (suc column)).shape
+
+-- the cells from a column on are blank
+abbrev pub IsBlankFrom : ℕ → List Cell → Type 0
+IsBlankFrom used cells = (column : ℕ) → used ≤ column → cell_at cells column ≡ blank
+
+-- a line in which halves are paired, and which is blank from a column on
+pub record IsUsed (used : ℕ) (cells : List Cell) : Type 0 where
+  pub paired : IsPaired cells
+  pub inside : used ≤ length cells
+  pub blank : IsBlankFrom used cells
 
 -- what a column gets: a new cell, or the old cell of a column
 pub data Source : Type 0 where

@@ -1,7 +1,7 @@
 //! What stands at a place of a line.
 
 ghost use Rattle.std.specs.Prelude.{◌≡◌, ◌↔◌, IsTrue};
-ghost use Rattle.cells.specs.Line.{blank, joined, unprotected, narrow_cell, left_cell, right_cell};
+ghost use Rattle.cells.specs.Line.{blank, colour_number, joined, unprotected, narrow_cell, left_cell, right_cell};
 
 /// The part of its character that a cell holds (UAX #11, section 5).
 #[derive(Clone, Copy, Debug, PartialEq, Eq)]
@@ -23,6 +23,21 @@ pub enum Marks {
     Two(char, char),
 }
 
+/// A colour (ECMA-48, 8.3.117, SGR): the terminal's own, or one of eight, in the order of their
+/// numbers.
+#[derive(Clone, Copy, Debug, PartialEq, Eq)]
+pub enum Colour {
+    Default,
+    Black,
+    Red,
+    Green,
+    Yellow,
+    Blue,
+    Magenta,
+    Cyan,
+    White,
+}
+
 /// How a character is shown (ECMA-48, 8.3.117, SGR).
 #[derive(Clone, Copy, Debug, PartialEq, Eq)]
 pub struct Rendition {
@@ -30,6 +45,10 @@ pub struct Rendition {
     pub is_underlined: bool,
     pub is_blinking: bool,
     pub is_reversed: bool,
+    /// The foreground.
+    pub fore: Colour,
+    /// The background.
+    pub back: Colour,
 }
 
 /// A place of a line: a character of width 1, or half of one of width 2. Both halves hold the
@@ -57,6 +76,25 @@ impl Marks {
     }
 }
 
+impl Colour {
+    /// Its number, 0 to 7; None for the terminal's own.
+    pub fn number(self) -> Option<u8>
+        ensures { result ≡ colour_number self }
+    {
+        match self {
+            Colour::Default => None,
+            Colour::Black => Some(0),
+            Colour::Red => Some(1),
+            Colour::Green => Some(2),
+            Colour::Yellow => Some(3),
+            Colour::Blue => Some(4),
+            Colour::Magenta => Some(5),
+            Colour::Cyan => Some(6),
+            Colour::White => Some(7),
+        }
+    }
+}
+
 impl Rendition {
     /// No rendition (SGR 0).
     pub const PLAIN: Rendition = Rendition {
@@ -64,6 +102,8 @@ impl Rendition {
         is_underlined: false,
         is_blinking: false,
         is_reversed: false,
+        fore: Colour::Default,
+        back: Colour::Default,
     };
 }
 
@@ -130,6 +170,20 @@ impl Cell {
         ensures { result ≡ self.now.rendition }
     {
         self.rendition
+    }
+
+    /// The number of its foreground's colour, 0 to 7; None for the terminal's own.
+    pub fn fore(&self) -> Option<u8>
+        ensures { result ≡ colour_number self.now.rendition.fore }
+    {
+        self.rendition.fore.number()
+    }
+
+    /// The number of its background's colour, 0 to 7; None for the terminal's own.
+    pub fn back(&self) -> Option<u8>
+        ensures { result ≡ colour_number self.now.rendition.back }
+    {
+        self.rendition.back.number()
     }
 
     /// Whether a selective erasure spares it.
@@ -210,10 +264,21 @@ fn is_same_shape(a: Shape, b: Shape) -> bool
     a == b
 }
 
-fn is_same_rendition(a: Rendition, b: Rendition) -> bool
+fn is_same_colour(a: Colour, b: Colour) -> bool
     ensures { IsTrue result ↔ (a ≡ b) }
 {
     a == b
+}
+
+fn is_same_rendition(a: Rendition, b: Rendition) -> bool
+    ensures { IsTrue result ↔ (a ≡ b) }
+{
+    a.is_bold == b.is_bold
+        && a.is_underlined == b.is_underlined
+        && a.is_blinking == b.is_blinking
+        && a.is_reversed == b.is_reversed
+        && is_same_colour(a.fore, b.fore)
+        && is_same_colour(a.back, b.back)
 }
 
 fn is_same_marks(a: Marks, b: Marks) -> bool

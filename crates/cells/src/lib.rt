@@ -8,7 +8,7 @@ mod grid;
 mod line;
 mod unlike;
 
-pub use cell::{Cell, Marks, Rendition, Shape};
+pub use cell::{Cell, Colour, Marks, Rendition, Shape};
 pub use glyph::glyph_width;
 pub use grid::{Grid, GridFault};
 pub use line::Line;

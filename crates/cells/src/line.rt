@@ -1,7 +1,7 @@
 //! A line of cells.
 
-ghost use Rattle.std.specs.Prelude.{◌≡◌, ◌+◌, ◌<◌, ◌≤◌, [], ◌∷◌, length, replicate, IfOk, slice_set};
-ghost use Rattle.cells.specs.Line.{cells_from, cell_at, marked, IsPaired, spliced, blank, unprotected_erased, narrow_cells};
+ghost use Rattle.std.specs.Prelude.{◌≡◌, ◌+◌, ◌-◌, ◌<◌, ◌≤◌, min, [], ◌∷◌, length, replicate, IfOk, slice_set};
+ghost use Rattle.cells.specs.Line.{cells_from, cell_at, marked, IsPaired, IsBlankFrom, spliced, blank, unprotected_erased, narrow_cells};
 ghost use Rattle.cells.specs.Resizing.{line_resized};
 
 use crate::cell::{Cell, Rendition, Shape};
@@ -12,34 +12,44 @@ use std::marker::Model;
 /// As many blanks as a line of a page has at most: they are copied at once.
 static BLANKS: [Cell; 300] = [Cell::BLANK; 300];
 
-/// Makes every cell a blank.
-fn clear_all(cells: &mut [Cell])
+/// Makes every cell a blank, where those from `used` on are blank already.
+fn clear_used(cells: &mut [Cell], used: usize)
+    requires inside { used ≤ length cells.old }
+    requires blank { IsBlankFrom used cells.old }
     ensures { cells.new ≡ replicate (length cells.old) blank }
 {
-    let width = cells.len();
-    if width > BLANKS.len() {
+    if used > BLANKS.len() {
         cells.fill(Cell::BLANK);
         return;
     }
-    cells.copy_from_slice(&BLANKS[..width]);
+    cells[..used].copy_from_slice(&BLANKS[..used]);
+}
+
+/// Where the used cells of a line end, once those from `rest` on begin at `start`.
+fn used_after(used: usize, start: usize, rest: usize, width: usize) -> usize
+    ensures { result ≡ min (used - rest + start) width }
+{
+    used.saturating_sub(rest).saturating_add(start).min(width)
 }
 
 /// A line of cells, in which the halves of wide characters are paired. Its width stays.
 #[derive(Drop)]
 pub struct Line {
     cells: Vec<Cell>,
+    /// The cells from this column on are blank, so that `clear` needn't touch them.
+    used: usize,
 }
 
 impl Model for Line {
     ghost use Rattle.std.specs.Prelude.{List};
     ghost use Rattle.cells.specs.declared.cell.Cell.{Cell};
-    ghost use Rattle.cells.specs.Line.{IsPaired};
+    ghost use Rattle.cells.specs.Line.{IsUsed};
 
     ghost Value = { List Cell };
 
     ghost view = { λ line. line.cells.items };
 
-    ghost invariant = { λ line. IsPaired line.cells.items };
+    ghost invariant = { λ line. IsUsed line.used line.cells.items };
 }
 
 impl Line {
@@ -48,7 +58,7 @@ impl Line {
         ensures { IfOk result (λ line. line ≡ replicate width blank) }
     {
         let cells = vec![in alloc; Cell::BLANK; width]?;
-        Ok(Line { cells })
+        Ok(Line { cells, used: 0 })
     }
 
     /// A line of no cell. No memory is taken.
@@ -57,6 +67,7 @@ impl Line {
     {
         Line {
             cells: Vec::new(alloc),
+            used: 0,
         }
     }
 
@@ -79,7 +90,8 @@ impl Line {
     pub fn clear(&mut self)
         ensures { self.new ≡ replicate (length self.old) blank }
     {
-        clear_all(self.cells.as_mut_slice());
+        clear_used(self.cells.as_mut_slice(), self.used);
+        self.used = 0;
     }
 
     /// Makes every cell the same one, of width 1.
@@ -88,6 +100,7 @@ impl Line {
         ensures { self.new ≡ replicate (length self.old) cell }
     {
         self.cells.as_mut_slice().fill(cell);
+        self.used = self.cells.len();
     }
 
     /// Keeps the cells before `at`, puts in `count` blanks, and lets the old cells from `rest` on
@@ -100,6 +113,7 @@ impl Line {
         ensures { self.new ≡ cells_from (spliced at (replicate count blank) rest (length self.old)) self.old }
     {
         edits::splice(self.cells.as_mut_slice(), at, count, rest);
+        self.used = used_after(self.used, at + count, rest, self.cells.len());
     }
 
     /// Puts a cell of width 1 in at `at`, and lets the old cells from `rest` on follow it.
@@ -111,6 +125,7 @@ impl Line {
         ensures { self.new ≡ cells_from (spliced at (cell ∷ []) rest (length self.old)) self.old }
     {
         edits::put_narrow(self.cells.as_mut_slice(), at, cell, rest);
+        self.used = used_after(self.used, at + 1, rest, self.cells.len());
     }
 
     /// Puts the halves of a wide character in at `at`, and lets the old cells from `rest` on follow
@@ -124,6 +139,7 @@ impl Line {
         ensures { self.new ≡ cells_from (spliced at (left ∷ right ∷ []) rest (length self.old)) self.old }
     {
         edits::put_wide(self.cells.as_mut_slice(), at, left, right, rest);
+        self.used = used_after(self.used, at + 2, rest, self.cells.len());
     }
 
     /// Puts new cells in place of as many old ones. What is torn at either end becomes blank, and so
@@ -133,6 +149,7 @@ impl Line {
         ensures { self.new ≡ cells_from (spliced at fresh.now (at + length fresh.now) (length self.old)) self.old }
     {
         edits::put(self.cells.as_mut_slice(), at, fresh);
+        self.used = self.used.max(at + fresh.len());
     }
 
     /// Puts a run of characters of width 1 in place of as many old cells: `codes` has their code points.
@@ -148,6 +165,7 @@ impl Line {
             rendition,
             is_protected,
         );
+        self.used = self.used.max(at + codes.len());
     }
 
     /// Erases the cells from `from` on and below `end`, but for protected ones.
@@ -166,6 +184,7 @@ impl Line {
     {
         let marks = self.cells[column].marks;
         self.cells[column].marks = marks.joined(mark);
+        self.used = self.used.max(column + 1);
     }
 
     /// A line of another width with the same cells: what is added is blank, and so is a half that is

@@ -7,3 +7,4 @@ pub mod Spelled
 pub mod ReadBack
 pub mod Places
 pub mod OneReading
+pub mod Numbers

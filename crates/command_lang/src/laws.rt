@@ -1,7 +1,8 @@
 //! Laws of lines and commands.
 
-ghost use Rattle.std.specs.Prelude.{◌≡◌, ◌⊎◌, ◌↔◌, ℕ, List, Ok, Err};
+ghost use Rattle.std.specs.Prelude.{◌≡◌, ◌<◌, ◌⊎◌, ◌↔◌, ℕ, List, Ok, Err};
 ghost use Rattle.command_lang_table.specs.declared.command.Command.{Command};
+ghost use Rattle.command_lang_table.specs.declared.command.Command.TheVariants as command;
 ghost use Rattle.command_lang_table.specs.declared.fault.ParseFault.{ParseFault};
 ghost use Rattle.command_lang.specs.Relation.{Relates, Refuses, read_line};
 
@@ -11,4 +12,9 @@ pub fn each_line_is_a_command_or_faulty()
     ensures not_both { (line : List ℕ) (c : Command) (f : ParseFault) → Relates line c → Refuses line f → ⊥ }
     ensures command { (line : List ℕ) (c : Command) → Relates line c ↔ (read_line line ≡ Ok c) }
     ensures fault { (line : List ℕ) (f : ParseFault) → Refuses line f ↔ (read_line line ≡ Err f) }
+{}
+
+/// A line that gives a window a number gives it one below 40.
+pub fn numbers_are_below_40()
+    ensures { (line : List ℕ) (n : ℕ) → Relates line (command.Number n) → n < 40 }
 {}

@@ -10,6 +10,6 @@ pub use command_lang_table::{
     name_text,
 };
 pub use command_lang_words::{Items, Text, Texts, each_line_is_cut_once};
-pub use laws::each_line_is_a_command_or_faulty;
+pub use laws::{each_line_is_a_command_or_faulty, numbers_are_below_40};
 pub use printing::print;
 pub use reading::{LONGEST_LINE, parse};

@@ -14,7 +14,10 @@ use Rattle.terminal_model.proofs.Further.{spelled-one}
 use Rattle.redraw.specs.declared.command.Command.{Command}
 use Rattle.redraw.specs.declared.command.Command.TheVariants.{Glyph, MoveTo, NextLine, Forward, Render, EraseCells, EraseToEnd, Arrows, ShowCursor, Keypad}
 use Rattle.redraw.specs.Commands.{func_of, IsCommand}
+use Rattle.redraw.specs.Renditions.{rendition_params}
 use Rattle.redraw.specs.Drawing.{Leads}
+use Rattle.terminal_model.proofs.Renditions.{values-quiet}
+use Rattle.redraw.proofs.Renditions.{AreGiven, params-given, params-listed, all-small}
 
 -- THE FUNCTIONS
 
@@ -24,25 +27,7 @@ no_report x (Glyph c) = refl
 no_report x (MoveTo line column) = refl
 no_report x NextLine = refl
 no_report x (Forward n) = refl
-no_report x (Render r) = render_quiet r.is_bold r.is_underlined r.is_blinking r.is_reversed
-  where
-    render_quiet : (a b c d : Bool) → report x (func_of (Render (record { is_bold = a; is_underlined = b; is_blinking = c; is_reversed = d }))) ≡ []
-    render_quiet true true true true = refl
-    render_quiet true true true false = refl
-    render_quiet true true false true = refl
-    render_quiet true true false false = refl
-    render_quiet true false true true = refl
-    render_quiet true false true false = refl
-    render_quiet true false false true = refl
-    render_quiet true false false false = refl
-    render_quiet false true true true = refl
-    render_quiet false true true false = refl
-    render_quiet false true false true = refl
-    render_quiet false true false false = refl
-    render_quiet false false true true = refl
-    render_quiet false false true false = refl
-    render_quiet false false false true = refl
-    render_quiet false false false false = refl
+no_report x (Render known r) = values-quiet x (rendition_params known r)
 no_report x (EraseCells n) = refl
 no_report x EraseToEnd = refl
 no_report x (Arrows true) = refl
@@ -63,25 +48,9 @@ given (MoveTo line column) h = ⊎_elim
     (cases_Bool (eqb column 0))
 given NextLine h = (refl, omega arith, omega arith, refl)
 given (Forward n) h = (tt, omega arith, omega arith, rw (small n (omega arith)) refl, refl, omega arith, omega arith)
-given (Render r) h = render_given r.is_bold r.is_underlined r.is_blinking r.is_reversed
-  where
-    render_given : (a b c d : Bool) → IsGiven (func_of (Render (record { is_bold = a; is_underlined = b; is_blinking = c; is_reversed = d })))
-    render_given true true true true = (tt, omega arith, omega arith, refl, refl, omega arith, omega arith)
-    render_given true true true false = (tt, omega arith, omega arith, refl, refl, omega arith, omega arith)
-    render_given true true false true = (tt, omega arith, omega arith, refl, refl, omega arith, omega arith)
-    render_given true true false false = (tt, omega arith, omega arith, refl, refl, omega arith, omega arith)
-    render_given true false true true = (tt, omega arith, omega arith, refl, refl, omega arith, omega arith)
-    render_given true false true false = (tt, omega arith, omega arith, refl, refl, omega arith, omega arith)
-    render_given true false false true = (tt, omega arith, omega arith, refl, refl, omega arith, omega arith)
-    render_given true false false false = (tt, omega arith, omega arith, refl, refl, omega arith, omega arith)
-    render_given false true true true = (tt, omega arith, omega arith, refl, refl, omega arith, omega arith)
-    render_given false true true false = (tt, omega arith, omega arith, refl, refl, omega arith, omega arith)
-    render_given false true false true = (tt, omega arith, omega arith, refl, refl, omega arith, omega arith)
-    render_given false true false false = (tt, omega arith, omega arith, refl, refl, omega arith, omega arith)
-    render_given false false true true = (tt, omega arith, omega arith, refl, refl, omega arith, omega arith)
-    render_given false false true false = (tt, omega arith, omega arith, refl, refl, omega arith, omega arith)
-    render_given false false false true = (tt, omega arith, omega arith, refl, refl, omega arith, omega arith)
-    render_given false false false false = (tt, omega arith, omega arith, refl, refl, omega arith, omega arith)
+given (Render known r) h =
+    let are : AreGiven (rendition_params known r) = params-given known r in
+    (tt, are.some, are.few, all-small (rendition_params known r) are.named, refl, omega arith, omega arith)
 given (EraseCells n) h = (tt, omega arith, omega arith, rw (small n (omega arith)) refl, refl, omega arith, omega arith)
 given EraseToEnd h = (tt, omega arith, omega arith, refl, refl, omega arith, omega arith)
 given (Arrows true) h = (refl, omega arith, omega arith, refl, refl, omega arith, omega arith)
@@ -96,7 +65,7 @@ utf8_read (Glyph c) = refl
 utf8_read (MoveTo line column) = refl
 utf8_read NextLine = refl
 utf8_read (Forward n) = refl
-utf8_read (Render r) = refl
+utf8_read (Render known r) = refl
 utf8_read (EraseCells n) = refl
 utf8_read EraseToEnd = refl
 utf8_read (Arrows on) = refl
@@ -108,25 +77,6 @@ abbrev pub PrintsNone : Command → Type 0
 PrintsNone (Glyph c) = ⊥
 PrintsNone other = Prim.Unit {0}
 
-listed_render : (rows : ℕ) (a b c d : Bool) → IsListed rows (func_of (Render (record { is_bold = a; is_underlined = b; is_blinking = c; is_reversed = d })))
-unfolding plain_sequence
-listed_render rows true true true true = record { acts = omega arith; named = refl; in_order = refl }
-listed_render rows true true true false = record { acts = omega arith; named = refl; in_order = refl }
-listed_render rows true true false true = record { acts = omega arith; named = refl; in_order = refl }
-listed_render rows true true false false = record { acts = omega arith; named = refl; in_order = refl }
-listed_render rows true false true true = record { acts = omega arith; named = refl; in_order = refl }
-listed_render rows true false true false = record { acts = omega arith; named = refl; in_order = refl }
-listed_render rows true false false true = record { acts = omega arith; named = refl; in_order = refl }
-listed_render rows true false false false = record { acts = omega arith; named = refl; in_order = refl }
-listed_render rows false true true true = record { acts = omega arith; named = refl; in_order = refl }
-listed_render rows false true true false = record { acts = omega arith; named = refl; in_order = refl }
-listed_render rows false true false true = record { acts = omega arith; named = refl; in_order = refl }
-listed_render rows false true false false = record { acts = omega arith; named = refl; in_order = refl }
-listed_render rows false false true true = record { acts = omega arith; named = refl; in_order = refl }
-listed_render rows false false true false = record { acts = omega arith; named = refl; in_order = refl }
-listed_render rows false false false true = record { acts = omega arith; named = refl; in_order = refl }
-listed_render rows false false false false = record { acts = omega arith; named = refl; in_order = refl }
-
 listed : (rows : ℕ) (c : Command) → PrintsNone c → IsListed rows (func_of c)
 unfolding plain_sequence private_sequence
 listed rows (Glyph c) h = absurd h
@@ -137,7 +87,7 @@ listed rows (MoveTo line column) h = record {
 }
 listed rows NextLine h = record { acts = omega arith; named = refl; in_order = refl }
 listed rows (Forward n) h = record { acts = omega arith; named = refl; in_order = refl }
-listed rows (Render r) h = listed_render rows r.is_bold r.is_underlined r.is_blinking r.is_reversed
+listed rows (Render known r) h = params-listed rows (rendition_params known r) (params-given known r)
 listed rows (EraseCells n) h = record { acts = omega arith; named = refl; in_order = refl }
 listed rows EraseToEnd h = record { acts = omega arith; named = refl; in_order = refl }
 listed rows (Arrows true) h = record { acts = omega arith; named = refl; in_order = refl }
@@ -152,7 +102,7 @@ discreet_one page x (Glyph c) h = absurd h
 discreet_one page x (MoveTo line column) h = listed x.state.rows (MoveTo line column) h
 discreet_one page x NextLine h = listed x.state.rows NextLine h
 discreet_one page x (Forward n) h = listed x.state.rows (Forward n) h
-discreet_one page x (Render r) h = listed x.state.rows (Render r) h
+discreet_one page x (Render known r) h = listed x.state.rows (Render known r) h
 discreet_one page x (EraseCells n) h = listed x.state.rows (EraseCells n) h
 discreet_one page x EraseToEnd h = listed x.state.rows EraseToEnd h
 discreet_one page x (Arrows on) h = listed x.state.rows (Arrows on) h
@@ -164,7 +114,7 @@ spare_one old page x (Glyph c) h = absurd h
 spare_one old page x (MoveTo line column) h = tt
 spare_one old page x NextLine h = tt
 spare_one old page x (Forward n) h = tt
-spare_one old page x (Render r) h = tt
+spare_one old page x (Render known r) h = tt
 spare_one old page x (EraseCells n) h = tt
 spare_one old page x EraseToEnd h = tt
 spare_one old page x (Arrows on) h = tt

@@ -8,3 +8,4 @@ pub mod Inking
 pub mod Pieces
 pub mod Stages
 pub mod Ends
+pub mod Renditions

@@ -17,6 +17,7 @@ use Rattle.redraw.specs.declared.command.Command.TheVariants.{Glyph, MoveTo, Nex
 use Rattle.redraw.specs.Commands.{func_of, place_params}
 use Rattle.redraw.specs.Drawing.{Drawing, Leads, Keeps, IsWay}
 use Rattle.redraw.proofs.Effects.{silent_leads}
+use Rattle.redraw.proofs.Renditions.{with_rendition, params-made}
 
 -- THE STATE that frames keep
 
@@ -154,38 +155,15 @@ module _ (rows columns : ℕ) where
           },
         )
 
-    -- no rendition but these
-    abbrev with_rendition : Rendition → Screen
-    with_rendition r = with_state x (apart (record x.state { rendition = r }))
-
-    rendered_is : (a b c e : Bool) → effect x (func_of (Render (record { is_bold = a; is_underlined = b; is_blinking = c; is_reversed = e }))) ≡ with_rendition (record { is_bold = a; is_underlined = b; is_blinking = c; is_reversed = e })
-    unfolding acted_from plain_sequence
-    rendered_is true true true true = refl
-    rendered_is true true true false = refl
-    rendered_is true true false true = refl
-    rendered_is true true false false = refl
-    rendered_is true false true true = refl
-    rendered_is true false true false = refl
-    rendered_is true false false true = refl
-    rendered_is true false false false = refl
-    rendered_is false true true true = refl
-    rendered_is false true true false = refl
-    rendered_is false true false true = refl
-    rendered_is false true false false = refl
-    rendered_is false false true true = refl
-    rendered_is false false true false = refl
-    rendered_is false false false true = refl
-    rendered_is false false false false = refl
-
-    pub render_leads : (r : Rendition) → LeadsTo old new x (spelling (func_of (Render r))) (Keeps rows columns (record pen { rendition = Some r }) x)
+    pub render_leads : (r : Rendition) → LeadsTo old new x (spelling (func_of (Render pen.rendition r))) (Keeps rows columns (record pen { rendition = Some r }) x)
     render_leads r =
-        let is : effect x (func_of (Render r)) ≡ with_rendition r = rendered_is r.is_bold r.is_underlined r.is_blinking r.is_reversed in
-        let leads = silent_leads old new x (Render r) (utf8 pen x d) tt tt in (
-          with_rendition r,
-          subst (Leads old new x (spelling (func_of (Render r)))) is leads,
+        let is : effect x (func_of (Render pen.rendition r)) ≡ with_rendition x r = params-made x pen.rendition r d.rendition_is in
+        let leads = silent_leads old new x (Render pen.rendition r) (utf8 pen x d) tt tt in (
+          with_rendition x r,
+          subst (Leads old new x (spelling (func_of (Render pen.rendition r)))) is leads,
           record {
             drawing = record {
-              sound = subst IsSound is (IsSound-effect x (func_of (Render r)) d.sound);
+              sound = subst IsSound is (IsSound-effect x (func_of (Render pen.rendition r)) d.sound);
               rows_are = d.rows_are;
               columns_are = d.columns_are;
               state_is = rendered_drawn x.state r d.state_is;
@@ -212,7 +190,7 @@ module _ (rows columns : ℕ) where
         subst (λ k. LeadsTo old new x (spelling (func_of (Forward n))) (Keeps rows columns (pen_at pen k column) x)) is.0
         (subst (λ k. LeadsTo old new x (spelling (func_of (Forward n))) (Keeps rows columns (pen_at pen pen.line k) x)) is.1 (forward_leads n (omega (arith, is.0)) (omega (arith, is.1)) is.2 (omega (arith, is.1))))
     way_leads line column (Glyph c) lh rh ch cl is = absurd is
-    way_leads line column (Render r) lh rh ch cl is = absurd is
+    way_leads line column (Render known r) lh rh ch cl is = absurd is
     way_leads line column (EraseCells n) lh rh ch cl is = absurd is
     way_leads line column EraseToEnd lh rh ch cl is = absurd is
     way_leads line column (Arrows on) lh rh ch cl is = absurd is

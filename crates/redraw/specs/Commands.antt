@@ -1,20 +1,11 @@
 -- The control functions that frames are made of.
-use Rattle.std.specs.Prelude.{ℕ, ◌+◌, ◌==◌, ◌<◌, Bool, true, false, if◌then◌else◌, List, [], ◌∷◌, ◌++◌, Some, None}
-use Rattle.cells.specs.declared.cell.Rendition.{Rendition}
+use Rattle.std.specs.Prelude.{ℕ, ◌+◌, ◌==◌, ◌<◌, Bool, if◌then◌else◌, List, [], ◌∷◌, Some, None}
 use Rattle.control_parser.specs.declared.func.Func.{Func}
 use Rattle.control_parser.specs.declared.func.Func.TheVariants.{Print, Esc, Csi}
 use Rattle.control_parser.specs.Spelling.{IsGiven}
+use Rattle.redraw.specs.Renditions.{rendition_params}
 use Rattle.redraw.specs.declared.command.Command.{Command}
 use Rattle.redraw.specs.declared.command.Command.TheVariants.{Glyph, MoveTo, NextLine, Forward, Render, EraseCells, EraseToEnd, Arrows, ShowCursor, Keypad}
-
-abbrev pub switched : Bool → ℕ → List ℕ
-switched true n = n ∷ []
-switched false n = []
-
--- SGR: 0, and then what is on (ECMA-48, 8.3.117)
-abbrev pub rendition_params : Rendition → List ℕ
-rendition_params r =
-    (((0 ∷ [] ++ switched r.is_bold 1) ++ switched r.is_underlined 4) ++ switched r.is_blinking 5) ++ switched r.is_reversed 7
 
 -- CUP: the line, and the column where it isn't the first one (ECMA-48, 8.3.21)
 abbrev pub place_params : ℕ → ℕ → List ℕ
@@ -29,7 +20,7 @@ func_of (Glyph c) = Print c
 func_of (MoveTo line column) = Csi None (place_params line column) [] 0x48
 func_of NextLine = Esc [] 0x45
 func_of (Forward n) = Csi None (n ∷ []) [] 0x43
-func_of (Render r) = Csi None (rendition_params r) [] 0x6D
+func_of (Render known r) = Csi None (rendition_params known r) [] 0x6D
 func_of (EraseCells n) = Csi None (n ∷ []) [] 0x58
 func_of EraseToEnd = Csi None (0 ∷ []) [] 0x4B
 func_of (Arrows on) = switch 1 on

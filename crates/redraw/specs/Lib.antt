@@ -1,4 +1,5 @@
 pub mod Shadow
+pub mod Renditions
 pub mod Commands
 pub mod Drawing
 pub mod Frames

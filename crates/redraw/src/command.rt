@@ -1,10 +1,11 @@
 //! The control functions that frames are made of.
 
-ghost use Rattle.std.specs.Prelude.{◌≡◌, ◌<◌, ◌≤◌, ◌+◌, ◌++◌, [], length, OnOk};
+ghost use Rattle.std.specs.Prelude.{◌≡◌, ◌<◌, ◌++◌, [], OnOk};
 ghost use Rattle.control_parser.specs.declared.func.Func.TheVariants.{Csi, Esc};
 ghost use Rattle.control_parser.specs.Spelling.{spelling};
-ghost use Rattle.redraw.specs.Commands.{switched, rendition_params, place_params, switch, func_of, IsPlaced};
+ghost use Rattle.redraw.specs.Commands.{place_params, switch, func_of, IsPlaced};
 
+use crate::rendition::sgr;
 use cells::Rendition;
 use control_parser::{Func, Intermediates, Params, spell};
 use std::alloc::AllocError;
@@ -15,13 +16,19 @@ pub enum Command {
     /// A character of a cell, or a mark.
     Glyph(char),
     /// CUP, to a line and column from 0.
-    MoveTo { line: u16, column: u16 },
+    MoveTo {
+        line: u16,
+        column: u16,
+    },
     /// NEL.
     NextLine,
     /// CUF.
     Forward(u16),
-    /// SGR, none but these.
-    Render(Rendition),
+    /// SGR, from a rendition that is known, or from any.
+    Render {
+        known: Option<Rendition>,
+        rendition: Rendition,
+    },
     /// ECH.
     EraseCells(u16),
     /// EL, to the end.
@@ -61,28 +68,6 @@ fn switch_mode(mode: u16, on: bool) -> Func
     csi(Some(b'?'), Params::one(mode), if on { b'h' } else { b'l' })
 }
 
-fn push_if(params: &mut Params, on: bool, value: u16)
-    requires { length params.old < 16 }
-    ensures params { params.new ≡ params.old ++ switched on value }
-    ensures few { length params.new ≤ length params.old + 1 }
-{
-    if on {
-        params.push(value);
-    }
-}
-
-/// The parameters of SGR: 0, and then what is on.
-fn sgr(rendition: Rendition) -> Params
-    ensures { result ≡ rendition_params rendition }
-{
-    let mut params = Params::one(0);
-    push_if(&mut params, rendition.is_bold, 1);
-    push_if(&mut params, rendition.is_underlined, 4);
-    push_if(&mut params, rendition.is_blinking, 5);
-    push_if(&mut params, rendition.is_reversed, 7);
-    params
-}
-
 /// The parameters of CUP.
 fn place(line: u16, column: u16) -> Params
     requires { (line < 9999) × (column < 9999) }
@@ -106,7 +91,7 @@ impl Command {
             Command::MoveTo { line, column } => csi(None, place(line, column), b'H'),
             Command::NextLine => escape(b'E'),
             Command::Forward(count) => csi(None, Params::one(count), b'C'),
-            Command::Render(rendition) => csi(None, sgr(rendition), b'm'),
+            Command::Render { known, rendition } => csi(None, sgr(known, rendition), b'm'),
             Command::EraseCells(count) => csi(None, Params::one(count), b'X'),
             Command::EraseToEnd => csi(None, Params::one(0), b'K'),
             Command::Arrows(on) => switch_mode(1, on),

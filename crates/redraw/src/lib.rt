@@ -5,6 +5,7 @@ mod command;
 mod frames;
 mod painting;
 mod pen;
+mod rendition;
 mod shadow;
 
 pub use frames::frame;

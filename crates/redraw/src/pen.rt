@@ -1,6 +1,6 @@
 //! What is known of a terminal's cursor and rendition while a frame is made.
 
-ghost use Rattle.std.specs.Prelude.{◌≡◌, ◌<◌, ◌≤◌, ◌+◌, ◌++◌, ℕ, false, Some, OnOk};
+ghost use Rattle.std.specs.Prelude.{◌≡◌, ◌↔◌, ◌<◌, ◌≤◌, ◌+◌, ◌++◌, ℕ, false, Some, OnOk, IsTrue};
 ghost use Rattle.cells.specs.Line.{blank, is_right};
 ghost use Rattle.terminal_model.specs.Screen.{Page};
 ghost use Rattle.terminal_model.specs.Drawing.{Differs};
@@ -54,16 +54,30 @@ impl Pen {
         Ok(())
     }
 
+    /// Whether this is known to be the present rendition: blanks in both look alike.
+    fn has(&self, rendition: Rendition) -> bool
+        ensures { IsTrue result ↔ (self.now.rendition ≡ Some rendition) }
+    {
+        match self.rendition {
+            Some(known) => {
+                let present = Cell::narrow(' ', known, false);
+                present.is_like(&Cell::narrow(' ', rendition, false))
+            }
+            None => false,
+        }
+    }
+
     /// Takes up a rendition, if it isn't the present one.
     pub fn render(&mut self, rendition: Rendition, out: &mut Vec<u8>) -> Result<(), AllocError>
         ensures place { OnOk result (self.new ≡ record self.old { rendition = Some rendition }) }
         ensures takes { OnOk result ((old new : Page) (rows columns : ℕ) →
             Takes old new (Drawing rows columns self.old) (Keeps rows columns self.new) out.old.items out.new.items) }
     {
-        if self.rendition == Some(rendition) {
+        if self.has(rendition) {
             return Ok(());
         }
-        Command::Render(rendition).put(out)?;
+        let known = self.rendition;
+        Command::Render { known, rendition }.put(out)?;
         self.rendition = Some(rendition);
         Ok(())
     }

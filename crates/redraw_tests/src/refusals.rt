@@ -30,7 +30,7 @@ const LETTERS: [Cell; 3] = [
 ];
 
 /// A view of one line in one region.
-fn view_of(alloc: Global, cells: &[Cell]) -> Result<View, AllocError>
+pub fn view_of(alloc: Global, cells: &[Cell]) -> Result<View, AllocError>
     ensures { IfOk result (HasSize 4 20) }
 {
     let rects = Rects::lone(alloc, 4, 20)?;

@@ -16,7 +16,7 @@ pub const ROWS: u16 = 10;
 pub const COLS: u16 = 24;
 
 /// What windows print: text, wide characters, marks, erasures, shifts, renditions and modes.
-const PRINTED: [&[u8]; 32] = [
+const PRINTED: [&[u8]; 38] = [
     b"hello, world",
     b"\xE6\xBC\xA2\xE5\xAD\x97",
     b"e\xCC\x81\xCC\x80x",
@@ -40,6 +40,12 @@ const PRINTED: [&[u8]; 32] = [
     b"\x1b[4;5m",
     b"\x1b[7m",
     b"\x1b[m",
+    b"\x1b[31m",
+    b"\x1b[44m",
+    b"\x1b[39m",
+    b"\x1b[1;33;45m",
+    b"\x1b[32;49m",
+    b"\x1b[22;27;37m",
     b"\x1b[?5h",
     b"\x1b[?5l",
     b"\x1b[?25l",
@@ -54,7 +60,7 @@ const PRINTED: [&[u8]; 32] = [
 /// What may have stood in a terminal before its first frame.
 const STATES: [&[u8]; 4] = [
     b"",
-    b"x\xE6\xBC\xA2y\x1b[2;3r\x1b[?1;5;6h\x1b[4;20h\x1b[1;4;7m\x1b7\x1b[?25l\x1b=\x1b)0\x0e\x1b%@\x1bPtext",
+    b"x\xE6\xBC\xA2y\x1b[2;3r\x1b[?1;5;6h\x1b[4;20h\x1b[1;4;7;31;42m\x1b7\x1b[?25l\x1b=\x1b)0\x0e\x1b%@\x1bPtext",
     b"\x1b#8\x1b[1\"q\x1b[5;9H\x1b[31",
     b"\x1b]0;title\xE6\xBC",
 ];

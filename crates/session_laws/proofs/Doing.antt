@@ -148,7 +148,7 @@ show_done : (t : Tables) (k : Caller) (c : Order) (o : Client → Option Window)
     → Either (HasDone t k c) (on_client t k (λ c. given (o c) r (λ w. Ok (selects t c w))))
 show_done t k c o r is = by_shown (HasDone t k c) t k o r is (λ d w at there. still t k c _ refl refl)
 
-caller_is : (t : Tables) (o : Option ℕ) (c : Client) → option_and_then (client_at t) o ≡ Some c → o ≡ Some c.serial
+pub caller_is : (t : Tables) (o : Option ℕ) (c : Client) → option_and_then (client_at t) o ≡ Some c → o ≡ Some c.serial
 caller_is t None c is = absurd (cc (is))
 caller_is t (Some n) c is = ap Some (sym (row_serial (λ (x : Client). x.serial) t.clients n c is))
 

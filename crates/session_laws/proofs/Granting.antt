@@ -104,7 +104,7 @@ pub record Acts (t : Tables) (event : Happening) (o : Outcome) (g : Given) : Typ
   pub tables : has_x t g ≡ false → OnlyRead t o.tables
   pub effects : has_x t g ≡ false → AllByRecursion (λ f. is_answer_to event f ≡ true) o.effects
 
-same_tables : (t : Tables) → OnlyRead t t
+pub same_tables : (t : Tables) → OnlyRead t t
 same_tables t = record { owner = refl; edition = refl; next_window = refl; next_client = refl; acts = refl; multiuser = refl; windows = refl; clients = refl }
 
 command_acts : (t : Tables) (event : Happening) (k : Caller) (c : Order) → Acts t event (commanded t (ruling t k c)) (record { caller = k; order = c })
@@ -126,7 +126,7 @@ line_acts t event k true (Err f) = tt
 line_acts t event k true (Ok c) = (command_acts t event k c, tt)
 
 -- a message changes nothing else
-told_read : (t v : Tables) (client : ℕ) (m : Message) → OnlyRead t v → OnlyRead t (told v client m)
+pub told_read : (t v : Tables) (client : ℕ) (m : Message) → OnlyRead t v → OnlyRead t (told v client m)
 told_read t v client m all = on (client_at v client) refl where
   on : (o : Option Client) → client_at v client ≡ o → OnlyRead t (elim o as (λ _. Tables) [ None ↦ v | Some c ↦ with_client v (hearing m c) ])
   on None is = all

@@ -28,3 +28,11 @@ pub mod Rowing
 pub mod Keeping
 pub mod Past
 pub mod Remembering
+pub mod Small
+pub mod Fitting
+pub mod Staying
+pub mod Keyed
+pub mod Written
+pub mod Recalling
+pub mod Focusing
+pub mod Entering

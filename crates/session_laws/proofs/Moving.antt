@@ -17,7 +17,7 @@ use Rattle.acl.specs.Commands.{change_acts, name_acts, user_acts, sets, sets_on,
 use Rattle.session_model.specs.Tables.{Tables, Client, row_of, with_row}
 use Rattle.session_model.specs.Deeds.{Deed, acting, listing}
 use Rattle.session_model.specs.Sound.{NumbersDiffer}
-use Rattle.session_laws.proofs.Lists.{filter_all}
+use Rattle.session_laws.proofs.Lists.{filter_all, all_weaken}
 use Rattle.session_laws.proofs.Numbers.{serial_of, Differ}
 
 -- ---- acts that say nothing of which windows and clients there are
@@ -36,61 +36,87 @@ pub aside_append : (a b : List Act) → AllAside a → AllAside b → AllAside (
 aside_append [] b p q = q
 aside_append (x ∷ a) b p q = (p.0, aside_append a b p.1 q)
 
-sets_on_aside : (u : UserId) (bits : List BitChange) (o : Object) → AllAside (sets_on u bits o)
-sets_on_aside u [] o = tt
-sets_on_aside u (b ∷ bits) o = (refl, sets_on_aside u bits o)
+-- acts on rights alone
+abbrev pub is_right : Act → Bool
+is_right (act.Opened by window) = false
+is_right (act.Closed window) = false
+is_right (act.Attached client user) = false
+is_right (act.Parted client) = false
+is_right (act.Entered user window) = false
+is_right (act.Left user window) = false
+is_right _ = true
 
-sets_aside : (u : UserId) (bits : List BitChange) (objects : List Object) → AllAside (sets u bits objects)
-sets_aside u bits [] = tt
-sets_aside u bits (o ∷ objects) = aside_append (sets_on u bits o) (sets u bits objects) (sets_on_aside u bits o) (sets_aside u bits objects)
+abbrev pub AllRights : List Act → Type 0
+AllRights acts = AllByRecursion (λ a. is_right a ≡ true) acts
 
-user_aside : (known : Bool) (u : UserId) (bits : List BitChange) (objects : List Object) → AllAside (user_acts known u bits objects)
-user_aside true u bits objects = sets_aside u bits objects
-user_aside false u bits objects = (refl, sets_aside u bits objects)
+pub right_aside : (acts : List Act) → AllRights acts → AllAside acts
+right_aside acts all = all_weaken (λ a. is_right a ≡ true) (λ a. is_aside a ≡ true) acts one all where
+  one : (a : Act) → is_right a ≡ true → is_aside a ≡ true
+  one (act.Opened by window) is = absurd (cc (is))
+  one (act.Closed window) is = absurd (cc (is))
+  one (act.Attached client user) is = absurd (cc (is))
+  one (act.Parted client) is = absurd (cc (is))
+  one a is = refl
 
-name_aside : (users : List UserId) (name : Option UserId) (bits : List BitChange) (objects : List Object) → AllAside (name_acts users name bits objects)
-name_aside users None bits objects = tt
-name_aside users (Some u) bits objects = user_aside (among users u) u bits objects
+rights_append : (a b : List Act) → AllRights a → AllRights b → AllRights (a ++ b)
+rights_append [] b p q = q
+rights_append (x ∷ a) b p q = (p.0, rights_append a b p.1 q)
 
-pub change_aside : (users : List UserId) (names : List (Option UserId)) (bits : List BitChange) (objects : List Object) → AllAside (change_acts users names bits objects)
-change_aside users [] bits objects = tt
-change_aside users (name ∷ names) bits objects =
-    aside_append (name_acts users name bits objects) (change_acts (with_name users name) names bits objects) (name_aside users name bits objects) (change_aside (with_name users name) names bits objects)
+sets_on_rights : (u : UserId) (bits : List BitChange) (o : Object) → AllRights (sets_on u bits o)
+sets_on_rights u [] o = tt
+sets_on_rights u (b ∷ bits) o = (refl, sets_on_rights u bits o)
 
-new_aside : (users : List UserId) (name : Option UserId) → AllAside (new_acts users name)
-new_aside users None = tt
-new_aside users (Some u) = on (among users u) where
-  on : (b : Bool) → AllAside (if b then [] else act.Known u ∷ [])
+sets_rights : (u : UserId) (bits : List BitChange) (objects : List Object) → AllRights (sets u bits objects)
+sets_rights u bits [] = tt
+sets_rights u bits (o ∷ objects) = rights_append (sets_on u bits o) (sets u bits objects) (sets_on_rights u bits o) (sets_rights u bits objects)
+
+user_rights : (known : Bool) (u : UserId) (bits : List BitChange) (objects : List Object) → AllRights (user_acts known u bits objects)
+user_rights true u bits objects = sets_rights u bits objects
+user_rights false u bits objects = (refl, sets_rights u bits objects)
+
+name_rights : (users : List UserId) (name : Option UserId) (bits : List BitChange) (objects : List Object) → AllRights (name_acts users name bits objects)
+name_rights users None bits objects = tt
+name_rights users (Some u) bits objects = user_rights (among users u) u bits objects
+
+pub change_rights : (users : List UserId) (names : List (Option UserId)) (bits : List BitChange) (objects : List Object) → AllRights (change_acts users names bits objects)
+change_rights users [] bits objects = tt
+change_rights users (name ∷ names) bits objects =
+    rights_append (name_acts users name bits objects) (change_acts (with_name users name) names bits objects) (name_rights users name bits objects) (change_rights (with_name users name) names bits objects)
+
+new_rights : (users : List UserId) (name : Option UserId) → AllRights (new_acts users name)
+new_rights users None = tt
+new_rights users (Some u) = on (among users u) where
+  on : (b : Bool) → AllRights (if b then [] else act.Known u ∷ [])
   on true = tt
   on false = (refl, tt)
 
-known_aside : (users : List UserId) (names : List (Option UserId)) → AllAside (known_acts users names)
-known_aside users [] = tt
-known_aside users (name ∷ names) = aside_append (new_acts users name) (known_acts (with_name users name) names) (new_aside users name) (known_aside (with_name users name) names)
+known_rights : (users : List UserId) (names : List (Option UserId)) → AllRights (known_acts users names)
+known_rights users [] = tt
+known_rights users (name ∷ names) = rights_append (new_acts users name) (known_acts (with_name users name) names) (new_rights users name) (known_rights (with_name users name) names)
 
-name_sets_aside : (bits : List BitChange) (objects : List Object) (name : Option UserId) → AllAside (name_sets bits objects name)
-name_sets_aside bits objects None = tt
-name_sets_aside bits objects (Some u) = sets_aside u bits objects
+name_sets_rights : (bits : List BitChange) (objects : List Object) (name : Option UserId) → AllRights (name_sets bits objects name)
+name_sets_rights bits objects None = tt
+name_sets_rights bits objects (Some u) = sets_rights u bits objects
 
-names_sets_aside : (objects : List Object) (names : List (Option UserId)) → AllAside (names_sets objects names)
-names_sets_aside objects [] = tt
-names_sets_aside objects (name ∷ names) = aside_append (name_sets added objects name) (names_sets objects names) (name_sets_aside added objects name) (names_sets_aside objects names)
+names_sets_rights : (objects : List Object) (names : List (Option UserId)) → AllRights (names_sets objects names)
+names_sets_rights objects [] = tt
+names_sets_rights objects (name ∷ names) = rights_append (name_sets added objects name) (names_sets objects names) (name_sets_rights added objects name) (names_sets_rights objects names)
 
-pub add_aside : (users : List UserId) (names : List (Option UserId)) (objects : List Object) → AllAside (add_acts users names objects)
-add_aside users names objects = aside_append (known_acts users names) (names_sets objects names) (known_aside users names) (names_sets_aside objects names)
+pub add_rights : (users : List UserId) (names : List (Option UserId)) (objects : List Object) → AllRights (add_acts users names objects)
+add_rights users names objects = rights_append (known_acts users names) (names_sets objects names) (known_rights users names) (names_sets_rights objects names)
 
-pub group_aside : (name : Option UserId) (leader : NewLeader) → AllAside (group_acts name leader)
-group_aside None leader = tt
-group_aside (Some u) leader = (refl, tt)
+pub group_rights : (name : Option UserId) (leader : NewLeader) → AllRights (group_acts name leader)
+group_rights None leader = tt
+group_rights (Some u) leader = (refl, tt)
 
-scope_aside : (by : UserId) (s : MaskScope) (bit : Bit) (value : Bool) → AllAside (scope_acts by s bit value)
-scope_aside by (scope.Preset kind) bit value = (refl, tt)
-scope_aside by (scope.User None) bit value = tt
-scope_aside by (scope.User (Some u)) bit value = (refl, tt)
+scope_rights : (by : UserId) (s : MaskScope) (bit : Bit) (value : Bool) → AllRights (scope_acts by s bit value)
+scope_rights by (scope.Preset kind) bit value = (refl, tt)
+scope_rights by (scope.User None) bit value = tt
+scope_rights by (scope.User (Some u)) bit value = (refl, tt)
 
-pub mask_aside : (by : UserId) (entries : List MaskEntry) → AllAside (mask_acts by entries)
-mask_aside by [] = tt
-mask_aside by (e ∷ entries) = aside_append (scope_acts by e.scope e.bit e.value) (mask_acts by entries) (scope_aside by e.scope e.bit e.value) (mask_aside by entries)
+pub mask_rights : (by : UserId) (entries : List MaskEntry) → AllRights (mask_acts by entries)
+mask_rights by [] = tt
+mask_rights by (e ∷ entries) = rights_append (scope_acts by e.scope e.bit e.value) (mask_acts by entries) (scope_rights by e.scope e.bit e.value) (mask_rights by entries)
 
 -- ---- what a command moves
 

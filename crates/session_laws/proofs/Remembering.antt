@@ -289,7 +289,7 @@ pub record Remembers (t : Tables) (past : List Entry) : Type 0 where
   pub rows : AllByRecursion (λ (c : Client). (c.keys ≡ all_keys past c.serial) × (c.delivered ≡ all_delivered past c.serial)) t.clients
   pub later : (n : ℕ) → t.next_client ≤ n → (all_keys past n ≡ []) × (all_delivered past n ≡ [])
 
-some_elim : {A : Type 0} (P Q : A → Type 0) (R : Type 0) (xs : List A) → ((x : A) → P x → Q x → R) → SomeOf P xs → AllByRecursion Q xs → R
+pub some_elim : {A : Type 0} (P Q : A → Type 0) (R : Type 0) (xs : List A) → ((x : A) → P x → Q x → R) → SomeOf P xs → AllByRecursion Q xs → R
 some_elim P Q R [] on some all = absurd some
 some_elim P Q R (x ∷ xs) on some all = ⊎_elim (λ (here : P x). on x here all.0) (λ later. some_elim P Q R xs on later all.1) some
 

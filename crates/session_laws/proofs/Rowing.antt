@@ -1,5 +1,5 @@
 -- A command of a line that isn't refused did its row.
-use Rattle.std.proofs.Common.{◌≡◌, ℕ, true, List, [], ◌++◌, Option, Ok, Err, refl, ap, sym, ◌∙◌, subst, inl}
+use Rattle.std.proofs.Common.{◌≡◌, ℕ, Bool, true, false, List, [], ◌++◌, Option, Some, Result, Ok, Err, refl, ap, sym, ◌∙◌, subst, inl}
 use Rattle.std.specs.Prelude.{if◌then◌else◌}
 use Rattle.acl.specs.declared.user_id.UserId.{UserId}
 use Rattle.acl.specs.declared.act.Act.{Act}
@@ -7,17 +7,21 @@ use Rattle.acl.specs.History.{followed_by}
 use Rattle.session_model.specs.declared.event.Effect.{Effect}
 use Rattle.session_model.specs.declared.event.Done.{Done}
 use Rattle.session_model.specs.declared.verdict.Verdict.{Verdict}
+use Rattle.session_model.specs.declared.refusal.Refusal.{Refusal}
+use Rattle.session_model.specs.declared.refusal.Refusal.TheVariants.{UnknownUser, Line}
+use Rattle.command_lang.specs.command.Command.{Command as Order}
+use Rattle.command_lang.specs.fault.ParseFault.{ParseFault}
 use Rattle.session_model.specs.Trace.{Happening, Command, Reply, Entry}
 use Rattle.session_model.specs.Tables.{Tables, is_known}
 use Rattle.session_model.specs.Lines.{Caller, line_caller, read_line}
 use Rattle.session_model.specs.Checks.{checks, verdicts}
-use Rattle.session_model.specs.Deeds.{Deed}
-use Rattle.session_model.specs.Commands.{does}
-use Rattle.session_model.specs.Events.{Outcome, outcome, finished, reply_of, left_acts}
+use Rattle.session_model.specs.Deeds.{Deed, Answer}
+use Rattle.session_model.specs.Commands.{does, ruling}
+use Rattle.session_model.specs.Events.{Outcome, outcome, finished, reply_of, left_acts, refused, answered, commanded, line_ruling}
 use Rattle.session_model.specs.Given.{Given, commands_of, has_x, with_order, ok_of}
 use Rattle.session_model.specs.Promises.{SomeOf}
 use Rattle.session_model.specs.Run.{IsStep}
-use Rattle.session_laws.specs.Laws.{DidItsRow, LineDidItsRow}
+use Rattle.session_laws.specs.Laws.{DidItsRow, LineDidItsRow, refusal_in, IsRefusedSo}
 use Rattle.session_laws.proofs.Lists.{some_weaken}
 use Rattle.session_laws.proofs.Passing.{passed_has_x}
 use Rattle.session_laws.proofs.Asking.{line_given}
@@ -72,3 +76,21 @@ rows_done t (Command user number bytes) (Ok done) acts vs effects step = some (c
   some gs all = some_weaken (Did t (outcome t (Command user number bytes)) done) (DidItsRow t (record { event = Command user number bytes; reply = Ok done; acts = acts; verdicts = vs; effects = effects }) done) gs one all
 rows_done t (Command user number bytes) (Err r) acts vs effects step = tt
 rows_done t event reply acts vs effects step = tt
+
+-- ---- refusals
+
+answer_refused : (t : Tables) (vs : List Verdict) (a : Answer) → refusal_in (answered t vs a).reply ≡ refusal_in a
+answer_refused t vs (Ok d) = refl
+answer_refused t vs (Err r) = refl
+
+line_refused : (t : Tables) (k : Caller) (b : Bool) (r : Result Order ParseFault)
+    → refusal_in (if b then commanded t (line_ruling t k r) else refused t [] UnknownUser).reply
+    ≡ (if b then elim r as (λ _. Option Refusal) [ Err f ↦ Some (Line f) | Ok order ↦ refusal_in (ruling t k order).answer ] else Some UnknownUser)
+line_refused t k true (Ok order) = answer_refused t (verdicts t (checks t k order)) (ruling t k order).answer
+line_refused t k true (Err f) = refl
+line_refused t k false r = refl
+
+pub refused_so : (t : Tables) (event : Happening) (reply : Reply) (acts : List Act) (vs : List Verdict) (effects : List Effect)
+    → let e : Entry = record { event = event; reply = reply; acts = acts; verdicts = vs; effects = effects } in IsStep t e → IsRefusedSo t e event
+refused_so t (Command user number bytes) reply acts vs effects step = ap refusal_in step.reply ∙ line_refused t (line_caller t user number) (is_known t user) (read_line bytes)
+refused_so t event reply acts vs effects step = tt

@@ -35,7 +35,7 @@ use Rattle.session_laws.proofs.Lists.{equal, filter_all, row_serial}
 use Rattle.session_laws.proofs.Numbers.{serial_of, IsFree, with_numbers, fewer_numbers, own_number}
 use Rattle.session_laws.proofs.Doing.{Either, by_given, by_unless, by_refused, by_fault, by_shown}
 use Rattle.session_laws.proofs.Unread.{row_at}
-use Rattle.session_laws.proofs.Moving.{AllAside, DeedMoves, id_of, ids, serials, closed, parted, filter_map, stays, acts_only, lists_only, map_with_row, filter_none, change_aside, add_aside, group_aside, mask_aside}
+use Rattle.session_laws.proofs.Moving.{AllAside, DeedMoves, id_of, ids, serials, closed, parted, filter_map, stays, acts_only, lists_only, map_with_row, filter_none, right_aside, change_rights, add_rights, group_rights, mask_rights}
 
 pub length_map : {A B : Type 0} (f : A → B) (xs : List A) → length (map f xs) ≡ length xs
 length_map f [] = refl
@@ -238,12 +238,12 @@ single_user t = let all = only_parts t (λ p. not (same_user p.1 t.owner)) Singl
 }
 
 pub moves : (t : Tables) (k : Caller) → ((w : Window) → k.window ≡ Some w → window_at t w.serial ≡ Some w) → (c : Order) → Either (DeedMoves t) (does t k c)
-moves t k row (command.Acladd names) = fault_moves t (change_fault t.owner (known_users t) (names_of t names)) _ _ (λ all. add_aside (known_users t) (names_of t names) all)
-moves t k row (command.Aclchg names bits list) = fault_moves t (change_fault t.owner (known_users t) (names_of t names)) _ _ (λ all. change_aside (known_users t) (names_of t names) bits all)
+moves t k row (command.Acladd names) = fault_moves t (change_fault t.owner (known_users t) (names_of t names)) _ _ (λ all. right_aside _ (add_rights (known_users t) (names_of t names) all))
+moves t k row (command.Aclchg names bits list) = fault_moves t (change_fault t.owner (known_users t) (names_of t names)) _ _ (λ all. right_aside _ (change_rights (known_users t) (names_of t names) bits all))
 moves t k row (command.Acldel word) = by_unless (DeedMoves t) _ _ _ (λ f. refl) (removal_moves t (named_by word))
 moves t k row (command.Aclgrp word None) = by_unless (DeedMoves t) _ _ _ (λ f. refl) (lists_only t [])
-moves t k row (command.Aclgrp word (Some leader)) = by_unless (DeedMoves t) _ _ _ (λ f. refl) (acts_only t _ (group_aside (named_by word) _))
-moves t k row (command.Aclumask masks) = by_unless (DeedMoves t) _ _ _ (λ f. refl) (acts_only t _ (mask_aside k.user (mask_entries t masks)))
+moves t k row (command.Aclgrp word (Some leader)) = by_unless (DeedMoves t) _ _ _ (λ f. refl) (acts_only t _ (right_aside _ (group_rights (named_by word) _)))
+moves t k row (command.Aclumask masks) = by_unless (DeedMoves t) _ _ _ (λ f. refl) (acts_only t _ (right_aside _ (mask_rights k.user (mask_entries t masks))))
 moves t k row (command.Multiuser true) = stays t (record t { is_multiuser = true }) [] 0 tt refl refl refl refl (omega arith) (λ differ numbers. numbers)
 moves t k row (command.Multiuser false) = single_user t
 moves t k row (command.Writelock mode) = by_given (DeedMoves t) k.window _ _ refl (λ w is. acts_only t _ (refl, tt))

@@ -75,6 +75,17 @@ unsaid_told said to bytes = on (list_any (says_same (Say to bytes)) said) refl w
   on true is = some_left (λ f. f ≡ Say to bytes) said [] (said_there to bytes said is)
   on false is = some_right (λ f. f ≡ Say to bytes) said (Say to bytes ∷ []) (inl refl)
 
+pub unsaid_listed : (said : List Effect) (es : List Effect) (to : ℕ) (bytes : List ℕ) → Says to bytes (said ++ unsaid said (es ++ Say to bytes ∷ []))
+unsaid_listed said [] to bytes = unsaid_told said to bytes
+unsaid_listed said (e ∷ es) to bytes = on (list_any (says_same e) said) (unsaid_listed said es to bytes) where
+  between : (xs : List Effect) (ys : List Effect) → Says to bytes (xs ++ ys) → Says to bytes (xs ++ e ∷ ys)
+  between [] ys some = inr some
+  between (x ∷ xs) ys some = ⊎_elim (λ (here : x ≡ Say to bytes). inl here) (λ later. inr (between xs ys later)) some
+
+  on : (b : Bool) → Says to bytes (said ++ unsaid said (es ++ Say to bytes ∷ [])) → Says to bytes (said ++ (if not b then e ∷ unsaid said (es ++ Say to bytes ∷ []) else unsaid said (es ++ Say to bytes ∷ [])))
+  on true rest = rest
+  on false rest = between said (unsaid said (es ++ Say to bytes ∷ [])) rest
+
 -- ---- typed bytes
 
 abbrev Why : ℕ → List Effect → Option Refusal → Type 0

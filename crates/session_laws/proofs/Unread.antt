@@ -85,6 +85,10 @@ left_same (c ∷ before) a b same = ap (λ acts. acts ++ left_acts before a) (on
   one None = refl
   one (Some w) = ap (λ x. if is_in_focus before c.user w || x then (let none : List Act = [] in none) else Left c.user w ∷ []) (same c.user w)
 
+-- whoever reads keys leaves nothing
+pub left_unread : (before a b : List Client) → map unread a ≡ map unread b → left_acts before a ≡ left_acts before b
+left_unread before a b is = left_same before a b (λ user w. focus_unread a user w ∙ ap (λ cs. is_in_focus cs user w) is ∙ sym (focus_unread b user w))
+
 pub nobody_left : (before a : List Client) → map unread a ≡ map unread before → left_acts before a ≡ []
 nobody_left before a is = left_same before a before (λ user w. focus_unread a user w ∙ ap (λ cs. is_in_focus cs user w) is ∙ sym (focus_unread before user w)) ∙ none_left before
 

@@ -1,13 +1,18 @@
 -- What holds of every step and of every run of a session.
-use Rattle.std.specs.Prelude.{◌≡◌, ◌≤◌, true, List, [], ◌∷◌, ◌++◌, length, Ok}
+use Rattle.std.specs.Prelude.{◌≡◌, ◌≤◌, ℕ, true, List, [], ◌∷◌, ◌++◌, length, Result, Ok, Err}
+use Rattle.std.specs.Prelude.{Option, Some, None, if◌then◌else◌}
 use Rattle.std.specs.List.{AllByRecursion}
+use Rattle.acl.specs.declared.user_id.UserId.{UserId}
 use Rattle.session_model.specs.declared.event.Effect.{Effect}
 use Rattle.session_model.specs.declared.event.Effect.TheVariants.{Say}
 use Rattle.session_model.specs.declared.event.Done.{Done}
+use Rattle.session_model.specs.declared.refusal.Refusal.{Refusal}
+use Rattle.session_model.specs.declared.refusal.Refusal.TheVariants.{UnknownUser, Line}
 use Rattle.session_model.specs.Trace.{Happening, Command, Reply, Entry, Trace}
-use Rattle.session_model.specs.Tables.{Tables}
+use Rattle.session_model.specs.Tables.{Tables, is_known}
+use Rattle.session_model.specs.Lines.{read_line, line_caller}
 use Rattle.session_model.specs.Deeds.{Deed}
-use Rattle.session_model.specs.Commands.{does}
+use Rattle.session_model.specs.Commands.{does, ruling}
 use Rattle.session_model.specs.Events.{left_acts}
 use Rattle.session_model.specs.Given.{Given, commands_of, has_x}
 use Rattle.session_model.specs.Promises.{SomeOf}
@@ -79,3 +84,25 @@ LineDidItsRow t e _ _ = Unit {0}
 -- a Command that isn't refused is granted, and did its row
 abbrev pub CommandsDoTheirRows : Type 0
 CommandsDoTheirRows = (t : Tables) (e : Entry) → IsStep t e → LineDidItsRow t e e.event e.reply
+
+-- a refusal, if it is one
+abbrev pub refusal_in : {X : Type 0} → Result X Refusal → Option Refusal
+refusal_in (Ok x) = None
+refusal_in (Err r) = Some r
+
+-- why a Command is refused: its user isn't known, its line is no command, or by its row
+abbrev pub why_refused : Tables → UserId → Option ℕ → List ℕ → Option Refusal
+why_refused t user number line =
+    if is_known t user then elim (read_line line) [
+      | Err f ↦ Some (Line f)
+      | Ok order ↦ refusal_in (ruling t (line_caller t user number) order).answer
+    ] else Some UnknownUser
+
+abbrev pub IsRefusedSo : Tables → Entry → Happening → Type 0
+IsRefusedSo t e (Command user number line) =
+    refusal_in e.reply ≡ why_refused t user number line
+IsRefusedSo t e event = Unit {0}
+
+-- it is refused exactly so
+abbrev pub CommandsAreRefusedSo : Type 0
+CommandsAreRefusedSo = (t : Tables) (e : Entry) → IsStep t e → IsRefusedSo t e e.event

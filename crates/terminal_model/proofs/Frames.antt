@@ -118,11 +118,11 @@ cursor-moved x line column m l c =
     ∙ ap (λ k. with_state x (moved_to x.state line k)) e
 
 -- values in turn
-all_acted-append : (x : Screen) (a b : List Action) → all_acted x (a ++ b) ≡ all_acted (all_acted x a) b
+pub all_acted-append : (x : Screen) (a b : List Action) → all_acted x (a ++ b) ≡ all_acted (all_acted x a) b
 all_acted-append x [] b = refl
 all_acted-append x (f ∷ a) b = all_acted-append (acted x f) a b
 
-each-append : (meaning : ℕ → Option Action) (a b : List ℕ) → each meaning (a ++ b) ≡ each meaning a ++ each meaning b
+pub each-append : (meaning : ℕ → Option Action) (a b : List ℕ) → each meaning (a ++ b) ≡ each meaning a ++ each meaning b
 each-append meaning [] b = refl
 each-append meaning (n ∷ a) b = ap (λ v. option_to_list (meaning n) ++ v) (each-append meaning a b) ∙ sym (append_assoc (option_to_list (meaning n)) (each meaning a) (each meaning b))
 

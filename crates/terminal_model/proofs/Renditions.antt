@@ -1,6 +1,9 @@
 -- SGR: a rendition is made of any other, and nothing is answered.
-use Rattle.std.proofs.Common.{◌≡◌, ℕ, Bool, true, false, List, [], ◌∷◌, ◌++◌, Option, Some, None, refl, ◌∙◌, arith}
-use Rattle.std.specs.Prelude.{if◌then◌else◌, option_to_list}
+use Rattle.std.proofs.Common.{◌≡◌, ℕ, ◌<◌, Bool, true, false, ◌&&◌, List, [], ◌∷◌, ◌++◌, length, Option, Some, None, refl, ap, ◌∙◌, arith}
+use Rattle.std.specs.Prelude.{if◌then◌else◌, option_to_list, is_some}
+use Rattle.std.specs.List.{list_all}
+use Rattle.cells.specs.declared.cell.Colour.{Colour}
+use Rattle.cells.specs.declared.cell.Colour.TheVariants.{Default, Black, Red, Green, Yellow, Blue, Magenta, Cyan, White}
 use Rattle.cells.specs.declared.cell.Rendition.{Rendition}
 use Rattle.control_parser.specs.declared.func.Func.TheVariants.{Csi}
 use Rattle.terminal_model.specs.declared.action.Action.{Action}
@@ -8,54 +11,133 @@ use Rattle.terminal_model.specs.declared.action.Action.TheVariants.{Render}
 use Rattle.terminal_model.specs.declared.action.Attribute.{Attribute}
 use Rattle.terminal_model.specs.Screen.{Screen}
 use Rattle.terminal_model.specs.Functions.{plain_sequence, each, rendered}
-use Rattle.terminal_model.specs.Table.{acted_from, acted, effect, with_state, apart}
+use Rattle.terminal_model.specs.Table.{acted_from, acted, all_acted, effect, with_state, apart}
 use Rattle.terminal_model.specs.Reports.{all_answered, report}
 use Rattle.terminal_model.specs.Drawing.{IsListed}
-use Rattle.terminal_model.specs.Places.{rendition_values}
+use Rattle.terminal_model.specs.Places.{value_if, value_of_colour, colour_values, rendition_values}
+use Rattle.terminal_model.proofs.Frames.{all_acted-append, each-append}
 
-rendition-made : (x : Screen) (b u k v : Bool) → effect x (Csi None (rendition_values (record { is_bold = b; is_underlined = u; is_blinking = k; is_reversed = v })) [] 0x6D) ≡ with_state x (apart (record x.state { rendition = record { is_bold = b; is_underlined = u; is_blinking = k; is_reversed = v } }))
+-- what SGR leaves of a screen, with a rendition
+abbrev with_rendition : Screen → Rendition → Screen
+with_rendition x r = with_state x (apart (record x.state { rendition = r }))
+
+-- without colours, and then those that come
+begun : (x : Screen) (b u k v : Bool) (later : List ℕ) → effect x (Csi None (0 ∷ (value_if b 1 ++ (value_if u 4 ++ (value_if k 5 ++ (value_if v 7 ++ later))))) [] 0x6D)
+    ≡ all_acted (with_rendition x (record { is_bold = b; is_underlined = u; is_blinking = k; is_reversed = v; fore = Default; back = Default })) (each rendered later)
 unfolding acted_from plain_sequence
-rendition-made x true true true true = refl
-rendition-made x true true true false = refl
-rendition-made x true true false true = refl
-rendition-made x true true false false = refl
-rendition-made x true false true true = refl
-rendition-made x true false true false = refl
-rendition-made x true false false true = refl
-rendition-made x true false false false = refl
-rendition-made x false true true true = refl
-rendition-made x false true true false = refl
-rendition-made x false true false true = refl
-rendition-made x false true false false = refl
-rendition-made x false false true true = refl
-rendition-made x false false true false = refl
-rendition-made x false false false true = refl
-rendition-made x false false false false = refl
+begun x true true true true later = refl
+begun x true true true false later = refl
+begun x true true false true later = refl
+begun x true true false false later = refl
+begun x true false true true later = refl
+begun x true false true false later = refl
+begun x true false false true later = refl
+begun x true false false false later = refl
+begun x false true true true later = refl
+begun x false true true false later = refl
+begun x false true false true later = refl
+begun x false true false false later = refl
+begun x false false true true later = refl
+begun x false false true false later = refl
+begun x false false false true later = refl
+begun x false false false false later = refl
+
+fore-set : (x : Screen) (r : Rendition) (c : Colour) → all_acted (with_rendition x (record r { fore = Default })) (each rendered (value_of_colour 30 c)) ≡ with_rendition x (record r { fore = c })
+unfolding acted_from
+fore-set x r Default = refl
+fore-set x r Black = refl
+fore-set x r Red = refl
+fore-set x r Green = refl
+fore-set x r Yellow = refl
+fore-set x r Blue = refl
+fore-set x r Magenta = refl
+fore-set x r Cyan = refl
+fore-set x r White = refl
+
+back-set : (x : Screen) (r : Rendition) (c : Colour) → all_acted (with_rendition x (record r { back = Default })) (each rendered (value_of_colour 40 c)) ≡ with_rendition x (record r { back = c })
+unfolding acted_from
+back-set x r Default = refl
+back-set x r Black = refl
+back-set x r Red = refl
+back-set x r Green = refl
+back-set x r Yellow = refl
+back-set x r Blue = refl
+back-set x r Magenta = refl
+back-set x r Cyan = refl
+back-set x r White = refl
+
+colours-set : (x : Screen) (r : Rendition) → all_acted (with_rendition x (record r { fore = Default; back = Default })) (each rendered (colour_values r)) ≡ with_rendition x r
+colours-set x r =
+    let start : Screen = with_rendition x (record r { fore = Default; back = Default }) in
+    ap (all_acted start) (each-append rendered (value_of_colour 30 r.fore) (value_of_colour 40 r.back))
+    ∙ all_acted-append start (each rendered (value_of_colour 30 r.fore)) (each rendered (value_of_colour 40 r.back))
+    ∙ ap (λ y. all_acted y (each rendered (value_of_colour 40 r.back))) (fore-set x (record r { back = Default }) r.fore)
+    ∙ back-set x r r.back
 
 pub rendition-is : (x : Screen) (r : Rendition) → effect x (Csi None (rendition_values r) [] 0x6D) ≡ with_state x (apart (record x.state { rendition = r }))
-rendition-is x r = rendition-made x r.is_bold r.is_underlined r.is_blinking r.is_reversed
+rendition-is x r = begun x r.is_bold r.is_underlined r.is_blinking r.is_reversed (colour_values r) ∙ colours-set x r
 
-rendition-listed : (rows : ℕ) (b u k v : Bool) → IsListed rows (Csi None (rendition_values (record { is_bold = b; is_underlined = u; is_blinking = k; is_reversed = v })) [] 0x6D)
+-- VALUES THAT ARE NAMED
+both-more : (p q r : Bool) → p && q ≡ true → (q ≡ true → r ≡ true) → p && r ≡ true
+both-more true q r h f = f h
+both-more false q r h f = h
+
+all-append : (p : ℕ → Bool) (a b : List ℕ) → list_all p a ≡ true → list_all p b ≡ true → list_all p (a ++ b) ≡ true
+all-append p [] b h k = k
+all-append p (n ∷ a) b h k = both-more (p n) (list_all p a) (list_all p (a ++ b)) h (λ more. all-append p a b more k)
+
+abbrev pub is_named : ℕ → Bool
+is_named n = is_some (rendered n)
+
+value-named : (b : Bool) (n : ℕ) → is_named n ≡ true → list_all is_named (value_if b n) ≡ true
+value-named true n h = rw h refl
+value-named false n h = refl
+
+fore-named : (c : Colour) → list_all is_named (value_of_colour 30 c) ≡ true
+fore-named Default = refl
+fore-named Black = refl
+fore-named Red = refl
+fore-named Green = refl
+fore-named Yellow = refl
+fore-named Blue = refl
+fore-named Magenta = refl
+fore-named Cyan = refl
+fore-named White = refl
+
+back-named : (c : Colour) → list_all is_named (value_of_colour 40 c) ≡ true
+back-named Default = refl
+back-named Black = refl
+back-named Red = refl
+back-named Green = refl
+back-named Yellow = refl
+back-named Blue = refl
+back-named Magenta = refl
+back-named Cyan = refl
+back-named White = refl
+
+values-named : (r : Rendition) → list_all is_named (rendition_values r) ≡ true
+values-named r =
+    all-append is_named (value_if r.is_bold 1) _ (value-named r.is_bold 1 refl) (
+    all-append is_named (value_if r.is_underlined 4) _ (value-named r.is_underlined 4 refl) (
+    all-append is_named (value_if r.is_blinking 5) _ (value-named r.is_blinking 5 refl) (
+    all-append is_named (value_if r.is_reversed 7) _ (value-named r.is_reversed 7 refl) (
+    all-append is_named (value_of_colour 30 r.fore) _ (fore-named r.fore) (back-named r.back)))))
+
+and-left : (p q : Bool) → p && q ≡ true → p ≡ true
+and-left true q h = refl
+and-left false q h = h
+
+-- a list of values that begins with one that is named
+pub named-listed : (rows n : ℕ) (values : List ℕ) → list_all is_named (n ∷ values) ≡ true → IsListed rows (Csi None (n ∷ values) [] 0x6D)
 unfolding plain_sequence
-rendition-listed rows true true true true = record { acts = omega arith; named = refl; in_order = refl }
-rendition-listed rows true true true false = record { acts = omega arith; named = refl; in_order = refl }
-rendition-listed rows true true false true = record { acts = omega arith; named = refl; in_order = refl }
-rendition-listed rows true true false false = record { acts = omega arith; named = refl; in_order = refl }
-rendition-listed rows true false true true = record { acts = omega arith; named = refl; in_order = refl }
-rendition-listed rows true false true false = record { acts = omega arith; named = refl; in_order = refl }
-rendition-listed rows true false false true = record { acts = omega arith; named = refl; in_order = refl }
-rendition-listed rows true false false false = record { acts = omega arith; named = refl; in_order = refl }
-rendition-listed rows false true true true = record { acts = omega arith; named = refl; in_order = refl }
-rendition-listed rows false true true false = record { acts = omega arith; named = refl; in_order = refl }
-rendition-listed rows false true false true = record { acts = omega arith; named = refl; in_order = refl }
-rendition-listed rows false true false false = record { acts = omega arith; named = refl; in_order = refl }
-rendition-listed rows false false true true = record { acts = omega arith; named = refl; in_order = refl }
-rendition-listed rows false false true false = record { acts = omega arith; named = refl; in_order = refl }
-rendition-listed rows false false false true = record { acts = omega arith; named = refl; in_order = refl }
-rendition-listed rows false false false false = record { acts = omega arith; named = refl; in_order = refl }
+named-listed rows n values h = record { acts = some (rendered n) (and-left (is_named n) (list_all is_named values) h); named = ap (λ b. b && true) h; in_order = refl }
+  where
+    some : (o : Option Action) → is_some o ≡ true → 0 < length (option_to_list o ++ each rendered values)
+    some None e = cc
+    some (Some a) e = omega arith
 
 pub values-listed : (rows : ℕ) (r : Rendition) → IsListed rows (Csi None (rendition_values r) [] 0x6D)
-values-listed rows r = rendition-listed rows r.is_bold r.is_underlined r.is_blinking r.is_reversed
+values-listed rows r = named-listed rows 0 _ (values-named r)
 
 -- a value of SGR answers nothing
 record IsRendering (o : Option Action) : Type 0 where

@@ -12,7 +12,8 @@ use Rattle.control_parser.specs.declared.func.Func.{Func}
 use Rattle.control_parser.specs.declared.func.Func.TheVariants as funcs
 use Rattle.terminal_model.specs.declared.action.Part.{Part}
 use Rattle.terminal_model.specs.declared.action.Part.TheVariants.{ToEnd, ToStart, All}
-use Rattle.terminal_model.specs.declared.action.Attribute.TheVariants.{Plain, Bold, Underlined, Blinking, Reversed}
+use Rattle.cells.specs.declared.cell.Colour.TheVariants.{Default, Black, Red, Green, Yellow, Blue, Magenta, Cyan, White}
+use Rattle.terminal_model.specs.declared.action.Attribute.TheVariants.{Plain, Bold, Underlined, Blinking, Reversed, Foreground, Background}
 use Rattle.terminal_model.specs.declared.action.Mode.TheVariants as modes
 use Rattle.terminal_model.specs.declared.action.Action.{Action}
 use Rattle.terminal_model.specs.declared.action.Action.TheVariants.{Print, Backspace, Tab, LineFeed, CarriageReturn, Shift, Designate, SetCoding, Index, NextLine, ReverseIndex, SetTab, Save, Restore, SetEightBitReports, SetApplicationKeypad, Reset, Align, Up, Down, Right, Left, MoveTo, SetMargins, ClearTab, ClearTabs, EraseInPage, EraseInLine, EraseCells, EraseUnprotectedInPage, EraseUnprotectedInLine, InsertCells, DeleteCells, InsertLines, DeleteLines, Protect, Render, SetMode, BlankPage, SoftReset, ReportStatus, ReportPlace, ReportPrinter, ReportAttributes, ReportSecondaryAttributes}
@@ -112,6 +113,29 @@ part_of n =
     else (if n == 2 then Some All
     else None))
 
+-- the values of SGR that name a colour: of the foreground, and of the background
+abbrev pub coloured : ℕ → Option Action
+coloured n =
+    if n == 30 then Some (Render (Foreground Black))
+    else (if n == 31 then Some (Render (Foreground Red))
+    else (if n == 32 then Some (Render (Foreground Green))
+    else (if n == 33 then Some (Render (Foreground Yellow))
+    else (if n == 34 then Some (Render (Foreground Blue))
+    else (if n == 35 then Some (Render (Foreground Magenta))
+    else (if n == 36 then Some (Render (Foreground Cyan))
+    else (if n == 37 then Some (Render (Foreground White))
+    else (if n == 39 then Some (Render (Foreground Default))
+    else (if n == 40 then Some (Render (Background Black))
+    else (if n == 41 then Some (Render (Background Red))
+    else (if n == 42 then Some (Render (Background Green))
+    else (if n == 43 then Some (Render (Background Yellow))
+    else (if n == 44 then Some (Render (Background Blue))
+    else (if n == 45 then Some (Render (Background Magenta))
+    else (if n == 46 then Some (Render (Background Cyan))
+    else (if n == 47 then Some (Render (Background White))
+    else (if n == 49 then Some (Render (Background Default))
+    else None)))))))))))))))))
+
 -- one value of SGR; other values are ignored
 abbrev pub rendered : ℕ → Option Action
 rendered n =
@@ -124,7 +148,7 @@ rendered n =
     else (if n == 24 then Some (Render (Underlined false))
     else (if n == 25 then Some (Render (Blinking false))
     else (if n == 27 then Some (Render (Reversed false))
-    else None))))))))
+    else coloured n))))))))
 
 -- one value of SM or RM
 abbrev pub mode_set : Bool → ℕ → Option Action

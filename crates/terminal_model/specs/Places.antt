@@ -3,6 +3,8 @@ use Rattle.std.specs.Prelude.{◌≡◌, ℕ, ◌+◌, ◌-◌, ◌==◌, Bool, 
 use Rattle.charsets.specs.declared.sets.CharacterSet.TheVariants.{Ascii}
 use Rattle.charsets.specs.Shifts.{set_at}
 use Rattle.cells.specs.declared.cell.Cell.{Cell}
+use Rattle.cells.specs.declared.cell.Colour.{Colour}
+use Rattle.cells.specs.declared.cell.Colour.TheVariants.{Default, Black, Red, Green, Yellow, Blue, Magenta, Cyan, White}
 use Rattle.cells.specs.declared.cell.Rendition.{Rendition}
 use Rattle.cells.specs.Line.{blank, cell_at, is_left, is_right, marked, narrow_cell, left_cell, right_cell}
 use Rattle.cells.specs.Page.{line_at}
@@ -67,9 +69,25 @@ abbrev pub keypad_final : Bool → ℕ
 keypad_final true = 0x3D
 keypad_final false = 0x3E
 
--- the values of SGR that make a rendition of any other: 0, and what is on
+-- the values of SGR that make a rendition of any other: 0, what is on, and the colours
 abbrev pub value_if : Bool → ℕ → List ℕ
 value_if b n = cond b (n ∷ []) []
 
+-- the value of a colour, from that of colour 0 on
+abbrev pub value_of_colour : ℕ → Colour → List ℕ
+value_of_colour base Default = []
+value_of_colour base Black = base ∷ []
+value_of_colour base Red = (base + 1) ∷ []
+value_of_colour base Green = (base + 2) ∷ []
+value_of_colour base Yellow = (base + 3) ∷ []
+value_of_colour base Blue = (base + 4) ∷ []
+value_of_colour base Magenta = (base + 5) ∷ []
+value_of_colour base Cyan = (base + 6) ∷ []
+value_of_colour base White = (base + 7) ∷ []
+
+abbrev pub colour_values : Rendition → List ℕ
+colour_values r = value_of_colour 30 r.fore ++ value_of_colour 40 r.back
+
 abbrev pub rendition_values : Rendition → List ℕ
-rendition_values r = 0 ∷ (value_if r.is_bold 1 ++ (value_if r.is_underlined 4 ++ (value_if r.is_blinking 5 ++ value_if r.is_reversed 7)))
+rendition_values r =
+    0 ∷ (value_if r.is_bold 1 ++ (value_if r.is_underlined 4 ++ (value_if r.is_blinking 5 ++ (value_if r.is_reversed 7 ++ colour_values r))))

@@ -1,6 +1,7 @@
 -- Worked rows: what a fresh window shows when it has read some bytes.
 use Rattle.std.specs.Prelude.{ℕ, true, false, List, [], ◌∷◌, ◌++◌, map, codes}
 use Rattle.cells.specs.declared.cell.Cell.{Cell}
+use Rattle.cells.specs.declared.cell.Colour.{Colour}
 use Rattle.cells.specs.Line.{plain, narrow_cell, left_cell, right_cell}
 use Rattle.terminal_model.specs.Screen.{Page, Screen, blank_page, starting}
 use Rattle.terminal_model.specs.Reading.{ready, Read, reads}
@@ -18,6 +19,13 @@ protected_letters text = map (λ c. narrow_cell c plain true) text
 
 abbrev pub wide : ℕ → List Cell
 wide c = left_cell c plain false ∷ right_cell c plain false ∷ []
+
+-- letters in two colours; a wide character in a foreground
+abbrev pub coloured : Colour → Colour → List ℕ → List Cell
+coloured fore back text = map (λ c. narrow_cell c (record plain { fore = fore; back = back }) false) text
+
+abbrev pub coloured_wide : Colour → ℕ → List Cell
+coloured_wide colour c = left_cell c (record plain { fore = colour }) false ∷ right_cell c (record plain { fore = colour }) false ∷ []
 
 -- what is seen of a screen: its page, and its cursor, from 0
 pub record Seen : Type 0 where

@@ -19,7 +19,7 @@ use Rattle.terminal_model.specs.declared.state.Saved.{Saved}
 use Rattle.terminal_model.specs.declared.action.Part.{Part}
 use Rattle.terminal_model.specs.declared.action.Part.TheVariants.{ToEnd, ToStart, All}
 use Rattle.terminal_model.specs.declared.action.Attribute.{Attribute}
-use Rattle.terminal_model.specs.declared.action.Attribute.TheVariants.{Plain, Bold, Underlined, Blinking, Reversed}
+use Rattle.terminal_model.specs.declared.action.Attribute.TheVariants.{Plain, Bold, Underlined, Blinking, Reversed, Foreground, Background}
 use Rattle.terminal_model.specs.declared.action.Mode.{Mode}
 use Rattle.terminal_model.specs.declared.action.Mode.TheVariants as modes
 use Rattle.terminal_model.specs.declared.action.Action.{Action}
@@ -311,6 +311,8 @@ rendition_with r (Bold on) = record r { is_bold = on }
 rendition_with r (Underlined on) = record r { is_underlined = on }
 rendition_with r (Blinking on) = record r { is_blinking = on }
 rendition_with r (Reversed on) = record r { is_reversed = on }
+rendition_with r (Foreground colour) = record r { fore = colour }
+rendition_with r (Background colour) = record r { back = colour }
 
 abbrev pub modes_with : Modes → Mode → Bool → Modes
 modes_with m modes.Insert on = record m { inserts = on }

@@ -1,5 +1,6 @@
 //! The rows of the screen table, with their arguments.
 
+use cells::Colour;
 use charsets::{CharacterSet, Coding, Place, Shift, Unit};
 
 /// Which part of a line or of the page an erasure takes: from the cursor on, up to the cursor, or all.
@@ -18,6 +19,8 @@ pub enum Attribute {
     Underlined(bool),
     Blinking(bool),
     Reversed(bool),
+    Foreground(Colour),
+    Background(Colour),
 }
 
 /// A mode that one value of SM, RM, DECSM or DECRM names.

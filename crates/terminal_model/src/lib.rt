@@ -20,5 +20,5 @@ pub use laws::{
 };
 pub use limits::{MAX_COLUMNS, MAX_KEEP, MAX_ROWS, MIN_COLUMNS, MIN_ROWS, REPORT_BYTES};
 pub use report::Report;
-pub use rows::{coded_rows, drawn_rows, edited_rows, printed_rows};
+pub use rows::{coded_rows, coloured_rows, drawn_rows, edited_rows, printed_rows};
 pub use state::{Modes, Position, Saved, State};

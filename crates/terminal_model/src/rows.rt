@@ -1,7 +1,8 @@
 //! Worked rows: what a fresh window shows when it has read some bytes, computed from the definitions.
 
-ghost use Rattle.std.specs.Prelude.{◌≡◌, false, List, [], ◌∷◌, ◌++◌, codes};
+ghost use Rattle.std.specs.Prelude.{◌≡◌, true, false, List, [], ◌∷◌, ◌++◌, codes};
 ghost use Rattle.cells.specs.Line.{plain, narrow_cell, marked};
+ghost use Rattle.cells.specs.declared.cell.Colour.TheVariants.{Default, Black, Red, Yellow, Blue, Cyan, White};
 ghost use Rattle.terminal_model.specs.Screen.{blank_page, starting};
 ghost use Rattle.terminal_model.specs.Table.{resized};
 ghost use Rattle.terminal_model.specs.Reading.{ready};
@@ -10,7 +11,7 @@ ghost use Rattle.std.specs.List.{AllByRecursion};
 ghost use Rattle.std.specs.Prelude.{None};
 ghost use Rattle.control_parser.specs.declared.func.Func.TheVariants.{Csi};
 ghost use Rattle.terminal_model.specs.Drawing.{IsDiscreet, IsListed};
-ghost use Rattle.terminal_model.specs.Rows.{fresh_reads, letters, protected_letters, wide, seen, shown, shown_keeping, csi, kanji, new_line, narrowed, wide_page, printed_beside};
+ghost use Rattle.terminal_model.specs.Rows.{fresh_reads, letters, protected_letters, coloured, coloured_wide, wide, seen, shown, shown_keeping, csi, kanji, new_line, narrowed, wide_page, printed_beside};
 ghost use Rattle.terminal_model.specs.Scrollback.{all_left};
 
 /// What is printed: the pending wrap, wide characters and their halves, marks.
@@ -55,6 +56,20 @@ pub fn edited_rows()
     ensures smaller { seen (resized 2 4 (fresh_reads 3 6 3 (codes "abc" ++ kanji ++ codes "d" ++ new_line ++ codes "xy")).terminal.screen) ≡ record { page = letters (codes "abc ") ∷ letters (codes "xy  ") ∷ []; line = 1; column = 2 } }
     ensures scrollback_narrowed { (writes_all (ready (starting 2 5 1)) narrowed).terminal.screen.kept ≡ letters (codes "fg ") ∷ [] }
     ensures lines_that_left { all_left [] (ready (starting 2 5 1)) narrowed ≡ letters (codes "abc") ∷ letters (codes "fg ") ∷ [] }
+{}
+
+/// Colours: one after another, with what is saved, on wide characters; blanks have none.
+pub fn coloured_rows()
+    ensures in_turn { shown 2 5 (csi (codes "31;44m") ++ codes "a" ++ csi (codes "39m") ++ codes "b" ++ csi (codes "0m") ++ codes "c") ≡ record { page = (coloured Red Blue (codes "a") ++ coloured Default Blue (codes "b") ++ letters (codes "c  ")) ∷ blank_page 1 5; line = 0; column = 3 } }
+    ensures each_by_itself { shown 2 5 (csi (codes "38;5;1m") ++ codes "a") ≡ record { page = (narrow_cell 0x61 (record plain { is_bold = true; is_blinking = true }) false ∷ letters (codes "    ")) ∷ blank_page 1 5; line = 0; column = 1 } }
+    ensures blank { shown 2 5 (csi (codes "42m") ++ csi (codes "2J")) ≡ record { page = blank_page 2 5; line = 0; column = 0 } }
+    ensures saved { shown 2 5 (csi (codes "33m") ++ 0x1B ∷ codes "7" ++ csi (codes "m") ++ 0x1B ∷ codes "8a") ≡ record { page = (coloured Yellow Default (codes "a") ++ letters (codes "    ")) ∷ blank_page 1 5; line = 0; column = 1 } }
+    ensures soft_reset { shown 2 5 (csi (codes "32;43m") ++ csi (codes "!p") ++ codes "a") ≡ record { page = letters (codes "a    ") ∷ blank_page 1 5; line = 0; column = 1 } }
+    ensures wide_cut { shown 2 5 (csi (codes "36m") ++ kanji ++ kanji ++ csi (codes "2H") ++ csi (codes "1;2H") ++ codes "x") ≡ record { page = (letters (codes " ") ++ coloured Cyan Default (codes "x") ++ coloured_wide Cyan 0x6F22 ++ letters (codes " ")) ∷ blank_page 1 5; line = 0; column = 2 } }
+    ensures insertion { shown 2 5 (csi (codes "41m") ++ codes "ab" ++ csi (codes "1;2H") ++ csi (codes "2@")) ≡ record { page = (coloured Default Red (codes "a") ++ letters (codes "  ") ++ coloured Default Red (codes "b") ++ letters (codes " ")) ∷ blank_page 1 5; line = 0; column = 1 } }
+    ensures deletion { shown 2 5 (csi (codes "47m") ++ codes "a" ++ new_line ++ codes "b" ++ csi (codes "H") ++ csi (codes "M")) ≡ record { page = (coloured Default White (codes "b") ++ letters (codes "    ")) ∷ blank_page 1 5; line = 0; column = 0 } }
+    ensures smaller { seen (resized 2 3 (fresh_reads 2 5 0 (csi (codes "30m") ++ codes "ab" ++ kanji)).terminal.screen) ≡ record { page = (coloured Black Default (codes "ab") ++ letters (codes " ")) ∷ blank_page 1 3; line = 0; column = 2 } }
+    ensures strings { shown 2 5 (csi (codes "34m") ++ 0x1B ∷ codes "P$qm" ++ 0x1B ∷ codes "\\a") ≡ record { page = (coloured Blue Default (codes "a") ++ letters (codes "    ")) ∷ blank_page 1 5; line = 0; column = 1 } }
 {}
 
 /// What a frame may hold: characters at the places where they stand, and functions whose values are named.

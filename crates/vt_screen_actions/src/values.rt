@@ -1,11 +1,12 @@
 //! The functions that name several values.
 
 ghost use Rattle.std.specs.Prelude.{◌≡◌, IfSome};
-ghost use Rattle.terminal_model.specs.Functions.{mode_set, private_mode_set, rendered};
+ghost use Rattle.terminal_model.specs.Functions.{coloured, mode_set, private_mode_set, rendered};
 ghost use Rattle.vt_screen_actions.specs.Meanings.{meaning};
 ghost use Rattle.vt_screen_actions.specs.Counted.{IsCounted};
 ghost use Rattle.vt_screen_actions.specs.Silent.{IsSilent};
 
+use cells::Colour;
 use terminal_model::{Action, Attribute, Mode};
 
 /// A function that does one action for each of its values that is named.
@@ -50,6 +51,35 @@ fn rendition_action(value: u16) -> Option<Action>
         24 => Some(Action::Render(Attribute::Underlined(false))),
         25 => Some(Action::Render(Attribute::Blinking(false))),
         27 => Some(Action::Render(Attribute::Reversed(false))),
+        _ => colour_action(value),
+    }
+}
+
+/// A value of SGR that names a colour.
+fn colour_action(value: u16) -> Option<Action>
+    ensures value { result ≡ coloured value }
+    ensures counted { IfSome result IsCounted }
+    ensures silent { IfSome result IsSilent }
+{
+    match value {
+        30 => Some(Action::Render(Attribute::Foreground(Colour::Black))),
+        31 => Some(Action::Render(Attribute::Foreground(Colour::Red))),
+        32 => Some(Action::Render(Attribute::Foreground(Colour::Green))),
+        33 => Some(Action::Render(Attribute::Foreground(Colour::Yellow))),
+        34 => Some(Action::Render(Attribute::Foreground(Colour::Blue))),
+        35 => Some(Action::Render(Attribute::Foreground(Colour::Magenta))),
+        36 => Some(Action::Render(Attribute::Foreground(Colour::Cyan))),
+        37 => Some(Action::Render(Attribute::Foreground(Colour::White))),
+        39 => Some(Action::Render(Attribute::Foreground(Colour::Default))),
+        40 => Some(Action::Render(Attribute::Background(Colour::Black))),
+        41 => Some(Action::Render(Attribute::Background(Colour::Red))),
+        42 => Some(Action::Render(Attribute::Background(Colour::Green))),
+        43 => Some(Action::Render(Attribute::Background(Colour::Yellow))),
+        44 => Some(Action::Render(Attribute::Background(Colour::Blue))),
+        45 => Some(Action::Render(Attribute::Background(Colour::Magenta))),
+        46 => Some(Action::Render(Attribute::Background(Colour::Cyan))),
+        47 => Some(Action::Render(Attribute::Background(Colour::White))),
+        49 => Some(Action::Render(Attribute::Background(Colour::Default))),
         _ => None,
     }
 }

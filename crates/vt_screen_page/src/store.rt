@@ -21,6 +21,12 @@ pub fn turn(places: &mut [usize], top: usize, bottom: usize, count: usize)
     requires room { count ≤ bottom + 1 - top }
     ensures { IsTurned top bottom count places.old places.new }
 {
+    if count == 1 {
+        let first = places[top];
+        places.copy_within(top + 1..bottom + 1, top);
+        places[bottom] = first;
+        return;
+    }
     places[top..bottom + 1].rotate_left(count);
 }
 

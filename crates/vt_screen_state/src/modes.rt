@@ -91,6 +91,8 @@ fn rendition_after(rendition: Rendition, attribute: Attribute) -> Rendition
             is_reversed,
             ..rendition
         },
+        Attribute::Foreground(fore) => Rendition { fore, ..rendition },
+        Attribute::Background(back) => Rendition { back, ..rendition },
     }
 }
 

@@ -1,3 +1,4 @@
 pub mod EntriesComputed
 pub mod LockingComputed
 pub mod OpeningComputed
+pub mod Drawn

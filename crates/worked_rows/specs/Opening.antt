@@ -1,10 +1,10 @@
 -- Windows and clients.
-use Rattle.std.specs.Prelude.{◌≡◌, ◌<◌, ℕ, true, false, List, [], ◌∷◌, ◌++◌, Option, Some, None}
+use Rattle.std.specs.Prelude.{◌≡◌, false, [], ◌∷◌, Some, None}
 use Rattle.std.specs.Prelude.{Err, codes, map}
 use Rattle.std.specs.List.{range_with_len}
 use Rattle.acl.specs.declared.edition.Edition.TheVariants.{Second}
 use Rattle.command_lang.specs.command.Command.TheVariants as command
-use Rattle.session_model.specs.declared.event.Effect.TheVariants.{Input, Say, Size, GoneWindow}
+use Rattle.session_model.specs.declared.event.Effect.TheVariants.{Input, Say, GoneWindow}
 use Rattle.session_model.specs.declared.event.Effect.TheVariants.{GoneClient}
 use Rattle.session_model.specs.declared.event.Reason.TheVariants as reason
 use Rattle.session_model.specs.declared.refusal.Refusal.TheVariants.{NotMultiuser, UnknownUser}

@@ -3,6 +3,7 @@
 //! rows.
 #![tactic(auto)]
 
+ghost use Rattle.worked_rows.specs.Drawing as drawing;
 ghost use Rattle.worked_rows.specs.Entries as entries;
 ghost use Rattle.worked_rows.specs.Locking as locking;
 ghost use Rattle.worked_rows.specs.Opening as opening;
@@ -61,4 +62,13 @@ pub fn windows_and_clients()
     ensures too_small { opening.TooSmall }
     ensures wall { opening.Wall }
     ensures stuff { opening.Stuff }
+{}
+
+/// What a client sees: a window that it may read, and no more of it once r is taken; after another
+/// size, and where nothing has changed.
+pub fn draws_of_clients()
+    ensures readable { drawing.Readable }
+    ensures revoked { drawing.Revoked }
+    ensures begins_anew { drawing.BeginsAnew }
+    ensures drawn_once { drawing.DrawnOnce }
 {}

@@ -2,10 +2,11 @@ use Rattle.std.proofs.Common.{ap, ◌∙◌}
 use Rattle.std.proofs.lemmas.List.{get_or_default}
 use Rattle.cells.specs.declared.cell.Cell.{Cell}
 use Rattle.cells.specs.Line.{blank}
-use Rattle.cells.proofs.Putting.{IsPaired-set}
+use Rattle.cells.proofs.Used.{IsUsed-set}
 use Rattle.cells.proofs.line.Line.mark.Goals as goal
 
 pub invariant_of-self : goal.invariant_of-self
-invariant_of-self c = IsPaired-set c.self.inside.cells.items c.args.column _
+invariant_of-self c =
+    rw c.max-self-inside.ensures (IsUsed-set c.self.inside.cells.items c.self.inside.used c.args.column _ (rw c.self.view_is c.requires.inside)
     (ap (λ (x : Cell). x.shape) (c.index_mut.ensures.value ∙ get_or_default c.self.inside.cells.items c.args.column _ blank (rw c.self.view_is c.requires.inside)))
-    c.self.invariant
+    c.self.invariant)

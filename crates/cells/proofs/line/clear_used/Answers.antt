@@ -1,0 +1,9 @@
+use Rattle.std.proofs.Common.{drop, ◌++◌, ◌∙◌, ap, arith}
+use Rattle.std.proofs.lemmas.List.{take-replicate}
+use Rattle.cells.specs.Line.{blank}
+use Rattle.cells.proofs.Used.{cleared_is}
+use Rattle.cells.proofs.line.clear_used.Goals as goal
+
+pub returns : goal.returns
+returns c = ap (λ front. front ++ drop c.args.used c.args.cells.now) (c.copy_from_slice.ensures.after ∙ take-replicate c.args.used 300 blank (omega arith))
+    ∙ cleared_is c.args.used c.args.cells.now c.requires.inside c.requires.blank

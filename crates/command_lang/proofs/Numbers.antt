@@ -1,0 +1,97 @@
+-- A command that gives a window a number gives it one below 40.
+use Rattle.std.proofs.Common.{◌≡◌, ℕ, ◌<◌, Bool, true, false, List, [], ◌∷◌, Option, Some, None, refl, ap, sym, ◌∙◌, arith}
+use Rattle.std.specs.Prelude.{nat_lt, nat_le, ◌&&◌, if◌then◌else◌}
+use Rattle.std.specs.Option.{option_map, option_map_or, option_and_then}
+use Rattle.std.proofs.lemmas.Bool.Decides.{nat_tests}
+use Rattle.acl.specs.declared.command_name.CommandName.{CommandName}
+use Rattle.acl.specs.declared.command_name.CommandName.TheVariants as name
+use Rattle.command_lang_words.specs.declared.word.Word.{Word}
+use Rattle.command_lang_table.specs.declared.command.Command.{Command}
+use Rattle.command_lang_table.specs.declared.command.Command.TheVariants as command
+use Rattle.command_lang_table.specs.Names.{command_named}
+use Rattle.command_lang_table.specs.Values.{number_in, number_after, is_number, is_vertical, lock_mode_in, switch_in, coding_in}
+use Rattle.command_lang_table.specs.Meaning.{bare, with_word, with_words, command_of, texts_of, line_command}
+use Rattle.command_lang.specs.Relation.{Relates}
+
+abbrev pub is_small : Command → Bool
+is_small (command.Number n) = nat_lt n 40
+is_small c = true
+
+-- it is small, if there is one
+abbrev pub AreSmall : Option Command → Type 0
+AreSmall o = option_map_or is_small o true ≡ true
+
+mapped : {A : Type 0} (f : A → Command) (o : Option A) → ((a : A) → is_small (f a) ≡ true) → AreSmall (option_map f o)
+mapped f None all = refl
+mapped f (Some a) all = all a
+
+numbered : (text : List ℕ) → AreSmall (option_map command.Number (number_in 39 text))
+numbered text = on (is_number 39 text) refl where
+  second : (a b : Bool) → (a && b) ≡ true → b ≡ true
+  second true b is = is
+  second false b is = absurd (cc (is))
+
+  small : (n : ℕ) → nat_le n 39 ≡ true → nat_lt n 40 ≡ true
+  small n le = grind (arith, nat_tests, le)
+
+  on : (b : Bool) → is_number 39 text ≡ b → AreSmall (option_map command.Number (if b then Some (number_after 0 text) else None))
+  on true is = small (number_after 0 text) (second _ (nat_le (number_after 0 text) 39) is)
+  on false is = refl
+
+split_small : (b : Bool) → AreSmall (if b then Some (command.Split true) else None)
+split_small true = refl
+split_small false = refl
+
+bare_small : (n : CommandName) → AreSmall (bare n)
+bare_small name.Detach = refl
+bare_small name.Next = refl
+bare_small name.Prev = refl
+bare_small name.Other = refl
+bare_small name.Kill = refl
+bare_small name.Screen = refl
+bare_small name.Split = refl
+bare_small name.Focus = refl
+bare_small name.Remove = refl
+bare_small name.Only = refl
+bare_small name.Fit = refl
+bare_small name.Clear = refl
+bare_small name.Reset = refl
+bare_small name.Windows = refl
+bare_small name.Displays = refl
+bare_small name.Quit = refl
+bare_small n = refl
+
+word_small : (n : CommandName) (text : List ℕ) → AreSmall (with_word n text)
+word_small name.Writelock text = mapped command.Writelock (lock_mode_in text) (λ mode. refl)
+word_small name.Defwritelock text = mapped command.Defwritelock (lock_mode_in text) (λ mode. refl)
+word_small name.Multiuser text = mapped command.Multiuser (switch_in text) (λ is_on. refl)
+word_small name.Number text = numbered text
+word_small name.Split text = split_small (is_vertical text)
+word_small name.Scrollview text = mapped command.Scrollview (number_in 2000 text) (λ n. refl)
+word_small name.Encoding text = mapped command.Encoding (coding_in text) (λ coding. refl)
+word_small n text = refl
+
+words_small : (n : CommandName) (texts : List (List ℕ)) → AreSmall (with_words n texts)
+words_small name.Aclgrp (user ∷ leader ∷ []) = refl
+words_small name.Aclchg (users ∷ bits ∷ list ∷ []) = refl
+words_small name.Aclumask texts = refl
+words_small n texts = refl
+
+command_small : (n : CommandName) (texts : List (List ℕ)) → AreSmall (command_of n texts)
+command_small n [] = bare_small n
+command_small n (text ∷ []) = word_small n text
+command_small n (text ∷ next ∷ texts) = words_small n (text ∷ next ∷ texts)
+
+named_small : (o : Option CommandName) (texts : List (List ℕ)) → AreSmall (option_and_then (λ n. command_of n texts) o)
+named_small None texts = refl
+named_small (Some n) texts = command_small n texts
+
+pub line_small : (ws : List Word) → AreSmall (line_command ws)
+line_small [] = refl
+line_small (w ∷ ws) = named_small (command_named w.text) (texts_of ws)
+
+pub small_below : (n : ℕ) → nat_lt n 40 ≡ true → n < 40
+small_below n is = grind (arith, nat_tests, is)
+
+pub below_40 : (line : List ℕ) (n : ℕ) → Relates line (command.Number n) → n < 40
+below_40 line n r = small_below n (ap (λ o. option_map_or is_small o true) (sym r.means) ∙ line_small r.words)

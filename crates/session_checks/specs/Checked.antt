@@ -1,0 +1,80 @@
+-- Checks that were made.
+use Rattle.std.specs.Prelude.{ℕ, ◌≡◌, ◌⊎◌, ◌++◌, true, false, List, [], ◌∷◌}
+use Rattle.std.specs.Prelude.{Option, Some, None, Result, Ok, Err, if◌then◌else◌, Bool}
+use Rattle.std.specs.Prelude.{nat_lt, ◌&&◌, ◌^◌, length}
+use Rattle.std.specs.Option.{option_map}
+use Rattle.acl.specs.declared.user_id.UserId.{UserId}
+use Rattle.acl.specs.declared.bits.Bit.TheVariants.{Write, Execute}
+use Rattle.acl.specs.declared.act.Object.TheVariants as object
+use Rattle.acl.specs.History.{there}
+use Rattle.session_model.specs.declared.check.Check.{Check}
+use Rattle.session_model.specs.declared.check.Check.TheVariants.{Right, Unlocked, Must}
+use Rattle.session_model.specs.declared.refusal.Refusal.{Refusal}
+use Rattle.session_model.specs.declared.refusal.Refusal.TheVariants.{NoMemory, NoWindow}
+use Rattle.session_model.specs.declared.verdict.Verdict.{Verdict}
+use Rattle.session_model.specs.Tables.{Window, Tables}
+use Rattle.session_model.specs.Checks.{verdicts, first_fault}
+use Rattle.session_state.specs.declared.caller.Caller.{Caller}
+use Rattle.session_state.specs.Doing.{caller_in}
+
+-- they pass, and their verdicts stand behind those before
+pub record Passed (t : Tables) (cs : List Check) (before after : List Verdict) : Type 0 where
+  pub none : first_fault t cs ≡ None
+  pub noted : after ≡ before ++ verdicts t cs
+
+-- the first that fails is the answer, and the verdicts up to that one stand behind those before
+pub record Failed
+    (t : Tables) (cs : List Check) (r : Refusal) (before after : List Verdict)
+    : Type 0 where
+  pub first : first_fault t cs ≡ Some r
+  pub noted : after ≡ before ++ verdicts t cs
+
+-- so they were made, or memory was wanting
+abbrev pub Checked : {X : Type 0} →
+    Tables → List Check → Result X Refusal → List Verdict → List Verdict → Type 0
+Checked t cs (Ok x) before after = Passed t cs before after
+Checked t cs (Err r) before after = (r ≡ NoMemory) ⊎ Failed t cs r before after
+
+-- a right is asked on a command, or on a window that is open
+abbrev pub IsMade : Tables → Check → Type 0
+IsMade t (Right user bit object) = there t.acts object ≡ true
+IsMade t _ = Unit {0}
+
+abbrev pub AllMade : Tables → List Check → Type 0
+AllMade t [] = Unit {0}
+AllMade t (c ∷ cs) = IsMade t c × AllMade t cs
+
+-- those that there are
+abbrev pub listed : List (Option Check) → List Check
+listed [] = []
+listed (None ∷ cs) = listed cs
+listed (Some c ∷ cs) = c ∷ listed cs
+
+-- the serial of the window that a caller's command acts on
+abbrev pub row_of_caller : Tables → Caller → Option ℕ
+row_of_caller t k = option_map (λ (w : Window). w.serial) (caller_in t k).window
+
+-- x on a window, or that there is none
+abbrev pub access : UserId → Option ℕ → Check
+access user None = Must false NoWindow
+access user (Some w) = Right user Execute (object.Window w)
+
+-- w on a window, or that there is none
+abbrev pub writing : UserId → Option ℕ → Check
+writing user None = Must false NoWindow
+writing user (Some w) = Right user Write (object.Window w)
+
+abbrev pub writing_on : UserId → Option ℕ → Option Check
+writing_on user window = option_map (λ w. Right user Write (object.Window w)) window
+
+-- the lock of a window, if there is one
+abbrev pub lock_on : UserId → Option ℕ → Option Check
+lock_on user window = option_map (λ w. Unlocked user w) window
+
+-- a check, where it is needed
+abbrev pub only_if : Bool → Option Check → Option Check
+only_if needed check = if needed then check else None
+
+-- one client more has a place, and a serial
+abbrev pub has_seat : Tables → Bool
+has_seat t = nat_lt (length t.clients) 64 && nat_lt t.next_client (2 ^ 32)

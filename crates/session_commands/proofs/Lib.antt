@@ -1,0 +1,4 @@
+pub mod Passing
+pub mod Doing
+pub mod Changing
+pub mod Locking

@@ -1,0 +1,48 @@
+use Rattle.std.proofs.Common.{◌∷◌, ◌++◌, [], List, refl, ap, sym, ◌∙◌, append-nil}
+use Rattle.command_lang.specs.command.Command.TheVariants as command
+use Rattle.session_model.specs.declared.event.Effect.{Effect}
+use Rattle.session_model.specs.declared.event.Effect.TheVariants.{Input}
+use Rattle.session_model.specs.Deeds.{changing, input_of}
+use Rattle.session_commands.proofs.Passing.{acted_on}
+use Rattle.session_commands.proofs.Doing.{no_input, some_input, stuff_row}
+use Rattle.session_commands.proofs.window.stuff.Goals as goal
+
+pub returns-then-is_empty-clause-answer : goal.returns-then-is_empty-clause-answer
+returns-then-is_empty-clause-answer c = λ t st fit passed.
+    let k = c.args.caller in
+    let s = c.in-Some.window in
+    let bytes = c.args.bytes.now in
+    let found = acted_on t k (command.Stuff bytes) s c.in-Some.is refl passed in (
+      record (changing t) { effects = input_of s bytes },
+      stuff_row t k s found.0 bytes found.1,
+      refl,
+      record {
+        stands = st;
+        acts = sym (append-nil _);
+        effects =
+            sym (append-nil _)
+            ∙ ap (λ (es : List Effect). c.args.made.now.effects.items ++ es)
+            (sym (no_input s bytes (sym c.is_empty.ensures ∙ c.if-is_empty.true)));
+      },
+    )
+
+pub returns-clause-answer : goal.returns-clause-answer
+returns-clause-answer c = λ t st fit passed.
+    let k = c.args.caller in
+    let s = c.in-Some.window in
+    let bytes = c.args.bytes.now in
+    let before = c.args.made.now.effects.items in
+    let found = acted_on t k (command.Stuff bytes) s c.in-Some.is refl passed in (
+      record (changing t) { effects = input_of s bytes },
+      stuff_row t k s found.0 bytes found.1,
+      refl,
+      record {
+        stands = st;
+        acts = sym (append-nil _);
+        effects =
+            c.in_ok-push.ensures.items
+            ∙ (ap (λ bs. before ++ Input s bs ∷ []) c.in_ok-typed.ensures
+            ∙ ap (λ (es : List Effect). before ++ es)
+            (sym (some_input s bytes (sym c.is_empty.ensures ∙ c.if-is_empty.false))));
+      },
+    )

@@ -1,0 +1,45 @@
+//! Messages to all clients.
+
+ghost use Rattle.std.specs.Prelude.{◌≡◌, None, ◌++◌, codes, IfOk, OnOk, OnErr};
+ghost use Rattle.acl.specs.Names.{name_of};
+ghost use Rattle.command_lang.specs.command.Command.TheVariants as command;
+ghost use Rattle.session_state.specs.Doing.{Does, IsAsBefore, HasRoom};
+
+use acl::UserId;
+use session_clients::messages_of;
+use session_model::{Bytes, Refusal};
+use session_state::{Caller, Made, State};
+use std::alloc::{AllocError, Global};
+
+/// What a user says to all: `USER: TEXT`.
+fn said_by(alloc: Global, user: UserId, text: &[u8]) -> Result<Vec<u8>, AllocError>
+    ensures { IfOk result (λ said. said.items ≡ name_of user ++ (codes ": " ++ text.now)) }
+{
+    let mut said = Vec::new(alloc);
+    said.extend_from_slice(user.as_bytes())?;
+    said.extend_from_slice(b": ")?;
+    said.extend_from_slice(text)?;
+    Ok(said)
+}
+
+/// `wall`: every client is told what the caller says.
+pub fn wall(
+    state: &mut State,
+    caller: Caller,
+    text: &[u8],
+    made: &mut Made,
+) -> Result<Option<Bytes>, Refusal>
+    requires { HasRoom 256 made.old }
+    ensures answer { Does caller (command.Wall text.now) state.old result state.new
+        made.old made.new }
+    ensures silent { IfOk result (λ lists. lists ≡ None) }
+    ensures err { OnErr result (IsAsBefore state.old state.new made.old made.new) }
+    ensures room { OnOk result (HasRoom 64 made.new) }
+{
+    let said = said_by(state.alloc, caller.user, text)?;
+    let mut messages = messages_of(state.alloc, &said, state.clients.len())?;
+    let mut says = state.clients.says(state.alloc, &said)?;
+    made.effects.append(&mut says)?;
+    state.clients.hear_all(&mut messages);
+    Ok(None)
+}

@@ -1,0 +1,77 @@
+-- A window whose program writes.
+use Rattle.std.proofs.Common.{◌≡◌, ℕ, true, false, List, [], ◌∷◌, ◌++◌, length, Some, Ok, Err}
+use Rattle.std.proofs.Common.{ap, sym, subst, ◌∙◌, append-nil, ◌⊎◌, inl, inr}
+use Rattle.std.proofs.Common.{is_ok}
+use Rattle.std.specs.Prelude.{◌==◌, if◌then◌else◌, Result}
+use Rattle.terminal_model.specs.Writing.{Output}
+use Rattle.terminal_model.specs.Reading.{reads}
+use Rattle.session_model.specs.declared.event.Effect.TheVariants.{Input}
+use Rattle.session_model.specs.declared.refusal.Refusal.{Refusal}
+use Rattle.session_model.specs.declared.refusal.Refusal.TheVariants.{NoMemory}
+use Rattle.session_model.specs.Tables.{Tables, Window, window_at, with_row}
+use Rattle.session_model.specs.Terminals.{terminal_of}
+use Rattle.session_model.specs.Deeds.{input_of}
+use Rattle.session_model.specs.Events.{outputs}
+use Rattle.windows.specs.declared.window.Window.{Window as Row}
+use Rattle.windows.specs.Standing.{StandFor, AnsweredIfRoom, serial, written, written_to, fed_in}
+use Rattle.windows.proofs.Callers.{row_done, row_refused_as}
+use Rattle.session_rows.proofs.Serials.{serial_is, if_true, if_false}
+use Rattle.session_state.specs.declared.made.Made.{Made}
+use Rattle.session_state.specs.declared.state.State.{State}
+use Rattle.session_state.specs.Stands.{Stands}
+use Rattle.session_state.specs.Doing.{HasDone}
+
+-- bytes for a window's program
+pub no_input : (w : ℕ) (bytes : List ℕ) → (length bytes == 0) ≡ true → input_of w bytes ≡ []
+no_input w bytes is = if_true (length bytes == 0) [] (Input w bytes ∷ []) is
+
+pub some_input : (w : ℕ) (bytes : List ℕ) → (length bytes == 0) ≡ false
+    → input_of w bytes ≡ Input w bytes ∷ []
+some_input w bytes is = if_false (length bytes == 0) [] (Input w bytes ∷ []) is
+
+-- what a push that can't fail leaves
+pub pushed : {A B E : Type 0} (r : Result B E) (b : B) (items more old : List A) → r ≡ Ok b
+    → items ≡ (if is_ok r then more else old) → items ≡ more
+pushed r b items more old is made = made ∙ ap (λ x. if is_ok x then more else old) is
+
+module _ (t : Tables) (window : ℕ) (w : Window) (bytes : List ℕ)
+    (here : window_at t window ≡ Some w) where
+  serial_of_row : w.serial ≡ window
+  serial_of_row = serial_is (λ (v : Window). v.serial) t.windows window w here
+
+  pub fed_done : {A : Type 0} (a : A) (s : State) (ws : List Row) (before after : Made)
+      → Stands t s → AnsweredIfRoom (fed_in window bytes t.windows) (Ok a) ws
+      → after.acts.items ≡ before.acts.items
+      → after.effects.items
+      ≡ before.effects.items ++ input_of window (reads (terminal_of w) bytes).reports
+      → HasDone t (outputs t w bytes) (record s { windows = ws }) before after
+  fed_done a s ws before after st by quiet told =
+      let row = row_done t.windows window (written (Output bytes)) w here a ws by in
+      let same : row.0 ≡ written_to (Output bytes) w = sym (cc (row.1)) in
+      let on : StandFor (with_row serial t.windows window (written_to (Output bytes) w)) ws =
+      subst (λ (n : Window). StandFor (with_row serial t.windows window n) ws) same row.2 in
+      record {
+        stands = record {
+          acl = st.acl;
+          locks = st.locks;
+          multiuser_is = st.multiuser_is;
+          windows =
+              subst (λ n. StandFor (with_row serial t.windows n (written_to (Output bytes) w)) ws)
+              (sym serial_of_row) on;
+          clients = st.clients;
+          next_window_is = st.next_window_is;
+          next_client_is = st.next_client_is;
+        };
+        acts = quiet ∙ sym (append-nil _);
+        effects =
+            told
+            ∙ ap (λ n. before.effects.items ++ input_of n (reads (terminal_of w) bytes).reports)
+            (sym serial_of_row);
+      }
+
+  -- or memory was wanting
+  pub unfed : (r : Refusal) → (r ≡ NoMemory) ⊎ (fed_in window bytes t.windows ≡ Err r)
+      → r ≡ NoMemory
+  unfed r (inl full) = full
+  unfed r (inr by) =
+      absurd (cc (row_refused_as t.windows window (written (Output bytes)) w here r by))

@@ -1,0 +1,5 @@
+pub mod Passing
+pub mod Finding
+pub mod NewClients
+pub mod NewWindows
+pub mod Feeding

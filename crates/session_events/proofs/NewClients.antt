@@ -1,0 +1,118 @@
+-- A client that attaches.
+use Rattle.std.proofs.Common.{◌≡◌, ℕ, ◌+◌, List, [], ◌∷◌, ◌++◌, Option, Some, None}
+use Rattle.std.proofs.Common.{ap, sym, subst, ◌∙◌, append_assoc, append-nil}
+use Rattle.std.specs.Option.{option_map}
+use Rattle.acl.specs.declared.user_id.UserId.{UserId}
+use Rattle.acl.specs.declared.act.Act.{Act}
+use Rattle.acl.specs.declared.act.Act.TheVariants as act
+use Rattle.acl.proofs.AsideLemmas.{StandsFor-aside}
+use Rattle.writelock.proofs.LockLemmas.{LocksStandFor-Attached}
+use Rattle.session_model.specs.declared.event.Effect.{Effect}
+use Rattle.session_model.specs.Tables.{Tables, Window, Client, with_client, with_row}
+use Rattle.session_model.specs.Tables.{client_at}
+use Rattle.session_model.specs.Naming.{lowest}
+use Rattle.session_model.specs.Deeds.{acting, changing, entering}
+use Rattle.session_model.specs.Events.{new_client, attaches, resized}
+use Rattle.session_clients.specs.declared.client.Client.{Client as Row}
+use Rattle.session_clients.specs.Moves.{attached}
+use Rattle.session_clients.specs.Stands as clients
+use Rattle.session_clients.specs.Stands.{AreClients}
+use Rattle.session_rows.proofs.Serials.{serial_is as serial_at}
+use Rattle.session_state.specs.declared.made.Made.{Made}
+use Rattle.session_state.specs.declared.state.State.{State}
+use Rattle.session_state.specs.Stands.{Stands}
+use Rattle.session_state.specs.Fit.{AreFit}
+use Rattle.session_state.specs.Doing.{HasDone}
+use Rattle.session_events.specs.Events.{IsOpenIn}
+use Rattle.session_events.proofs.Finding.{lowest_open}
+
+-- the window that a client shows that attaches
+abbrev pub first_of : Tables → Option ℕ
+first_of t = option_map (λ (w : Window). w.serial) (lowest t.windows)
+
+module _ (t : Tables) (user : UserId) (rows columns : ℕ) where
+  -- the tables with it, before its user enters the window
+  abbrev pub with_new : Tables
+  with_new = record t {
+    clients = t.clients ++ new_client t user rows columns ∷ [];
+    next_client = t.next_client + 1;
+    acts = act.Attached t.next_client user ∷ t.acts;
+  }
+
+  module _ (s : State) (st : Stands t s) (serial : ℕ) (window : Option ℕ) (cs : List Row)
+      (serial_is : serial ≡ t.next_client) (window_is : window ≡ first_of t)
+      (on : clients.Attaches (attached serial user rows columns window) s.clients cs) where
+    pub stands_new : Stands with_new (record s { clients = cs; next_client = s.next_client + 1 })
+    stands_new =
+        let same : attached serial user rows columns window ≡ new_client t user rows columns =
+        ap (λ n. attached n user rows columns window) serial_is
+        ∙ ap (λ w. attached t.next_client user rows columns w) window_is in
+        record {
+          acl =
+              StandsFor-aside s.acl t.edition t.owner t.acts (act.Attached t.next_client user) tt
+              st.acl;
+          locks =
+              LocksStandFor-Attached s.locks t.edition t.owner t.acts t.next_client user st.locks;
+          multiuser_is = st.multiuser_is;
+          windows = st.windows;
+          clients =
+              subst (λ (m : Client). AreClients (t.clients ++ m ∷ []) cs) same
+              (on.attached t.clients st.clients);
+          next_window_is = st.next_window_is;
+          next_client_is = ap (λ n. n + 1) st.next_client_is;
+        }
+
+    -- and then he enters it
+    pub attached_done : (new : State) (before middle after : Made) → AreFit t
+        → middle.acts.items ≡ before.acts.items ++ act.Attached serial user ∷ []
+        → middle.effects.items ≡ before.effects.items
+        → ((u : Tables) → Stands u (record s { clients = cs; next_client = s.next_client + 1 })
+        → IsOpenIn u.acts window → HasDone u (acting u (entering user window)) new middle after)
+        → HasDone t (attaches t (new_client t user rows columns)) new before after
+    attached_done new before middle after fit noted quiet entered =
+        let done =
+        entered with_new stands_new
+        (subst (λ w. IsOpenIn with_new.acts w) (sym window_is) (open_still (lowest_open t fit))) in
+        let all : HasDone with_new (acting with_new (entering user (first_of t))) new middle after =
+        subst (λ w. HasDone with_new (acting with_new (entering user w)) new middle after)
+        window_is done in
+        record {
+          stands = all.stands;
+          acts =
+              all.acts
+              ∙ (ap (λ (acts : List Act). acts ++ entering user (first_of t)) noted
+              ∙ (append_assoc before.acts.items (act.Attached serial user ∷ []) _
+              ∙ ap (λ n. before.acts.items ++ (act.Attached n user ∷ entering user (first_of t)))
+              serial_is));
+          effects = all.effects ∙ ap (λ (es : List Effect). es ++ []) quiet;
+        } where
+          open_still : IsOpenIn t.acts (first_of t) → IsOpenIn with_new.acts (first_of t)
+          open_still is = by (first_of t) is where
+            by : (o : Option ℕ) → IsOpenIn t.acts o → IsOpenIn with_new.acts o
+            by None is = tt
+            by (Some w) is = is
+
+-- ---- a client whose terminal has another size
+
+pub resized_done : (t : Tables) (s : State) (client rows columns : ℕ) (c : Client) (cs : List Row)
+    (made : Made) → Stands t s → client_at t client ≡ Some c
+    → clients.Changes (resized rows columns) client s.clients cs
+    → HasDone t (changing (with_client t (resized rows columns c))) (record s { clients = cs }) made
+    made
+resized_done t s client rows columns c cs made st at by =
+    let same : c.serial ≡ client = serial_at (λ (d : Client). d.serial) t.clients client c at in
+    record {
+      stands = record {
+        acl = st.acl;
+        locks = st.locks;
+        multiuser_is = st.multiuser_is;
+        windows = st.windows;
+        clients =
+            subst (λ n. AreClients (with_row (λ (d : Client). d.serial) t.clients n
+            (resized rows columns c)) cs) (sym same) (by t.clients c st.clients at);
+        next_window_is = st.next_window_is;
+        next_client_is = st.next_client_is;
+      };
+      acts = sym (append-nil _);
+      effects = sym (append-nil _);
+    }

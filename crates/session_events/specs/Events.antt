@@ -1,0 +1,64 @@
+-- What an event does to a session's state, whichever tables that stands for.
+use Rattle.std.specs.Prelude.{ℕ, ◌≡◌, ◌∷◌, ◌^◌, [], true, List, Option, Some, None, Result, Ok, Err}
+use Rattle.std.specs.Prelude.{nat_lt, if◌then◌else◌}
+use Rattle.acl.specs.declared.user_id.UserId.{UserId}
+use Rattle.acl.specs.History.{History, is_open}
+use Rattle.session_model.specs.declared.check.Check.TheVariants.{Must as must}
+use Rattle.session_model.specs.declared.refusal.Refusal.{Refusal}
+use Rattle.session_model.specs.declared.refusal.Refusal.TheVariants.{NoMemory, BadSize}
+use Rattle.session_model.specs.Tables.{Window, Client, Tables, window_at, client_at, with_client}
+use Rattle.session_model.specs.Checks.{first_fault}
+use Rattle.session_model.specs.Deeds.{Deed, changing}
+use Rattle.session_model.specs.Events.{is_client_size, attach_checks, new_client, attaches}
+use Rattle.session_model.specs.Events.{open_checks, new_window, opens, resized, outputs}
+use Rattle.session_state.specs.declared.made.Made.{Made}
+use Rattle.session_state.specs.declared.state.State.{State}
+use Rattle.session_state.specs.Stands.{Stands}
+use Rattle.session_state.specs.Fit.{AreFit}
+use Rattle.session_state.specs.Doing.{HasDone}
+
+-- the serial that comes next, unless all are given
+abbrev pub serial_from : ℕ → Option ℕ
+serial_from next = if nat_lt next (2 ^ 32) then Some next else None
+
+-- a window that is open after these acts, if it is one
+abbrev pub IsOpenIn : History → Option ℕ → Type 0
+IsOpenIn h None = Unit {0}
+IsOpenIn h (Some window) = is_open h window ≡ true
+
+-- an event's deed was done, with this for an answer; or it was refused for want of memory
+abbrev pub Happens : {A : Type 0} →
+    Tables → Deed → A → Result A Refusal → State → Made → Made → Type 0
+Happens t d answer (Ok a) new before after = (a ≡ answer) × HasDone t d new before after
+Happens t d answer (Err r) new before after = r ≡ NoMemory
+
+-- a client attaches where its checks have passed, and its serial is the answer
+abbrev pub Attaches :
+    UserId → ℕ → ℕ → State → Result ℕ Refusal → State → Made → Made → Type 0
+Attaches user rows columns old result new before after =
+    (t : Tables) → Stands t old → AreFit t
+    → first_fault t (attach_checks t user rows columns) ≡ None
+    → Happens t (attaches t (new_client t user rows columns)) t.next_client result new before after
+
+-- a window opens where its checks have passed, and its serial and its number are the answer
+abbrev pub Opens : UserId → ℕ → ℕ → ℕ → List ℕ → State → Result (ℕ × ℕ) Refusal →
+    State → Made → Made → Type 0
+Opens user rows columns keep title old result new before after =
+    (t : Tables) → Stands t old → AreFit t
+    → first_fault t (open_checks t user rows columns keep title) ≡ None
+    → let w : Window = new_window t rows columns keep title in
+    Happens t (opens t user w) (w.serial, w.number) result new before after
+
+-- a client's page has another size where its check has passed
+abbrev pub Resizes : ℕ → ℕ → ℕ → State → State → Made → Made → Type 0
+Resizes client rows columns old new before after =
+    (t : Tables) (c : Client) → Stands t old → AreFit t → client_at t client ≡ Some c
+    → first_fault t (must (is_client_size rows columns) BadSize ∷ []) ≡ None
+    → HasDone t (changing (with_client t (resized rows columns c))) new before after
+
+-- the program of an open window writes
+abbrev pub Outputs :
+    ℕ → List ℕ → State → Result (Unit {0}) Refusal → State → Made → Made → Type 0
+Outputs window bytes old result new before after =
+    (t : Tables) (w : Window) → Stands t old → AreFit t → window_at t window ≡ Some w
+    → Happens t (outputs t w bytes) (tt {0}) result new before after

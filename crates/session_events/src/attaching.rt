@@ -1,0 +1,96 @@
+//! Clients that attach, and their sizes.
+
+ghost use Rattle.std.specs.Prelude.{◌≡◌, false, OnOk, OnErr};
+ghost use Rattle.std.specs.Option.{option_map};
+ghost use Rattle.session_model.specs.Tables.{Tables, Window};
+ghost use Rattle.session_model.specs.Naming.{lowest};
+ghost use Rattle.session_model.specs.Deeds.{acting, entering};
+ghost use Rattle.session_model.specs.Events.{is_client_size};
+ghost use Rattle.session_state.specs.Stands.{Stands};
+ghost use Rattle.session_state.specs.Doing.{HasDone, IsAsBefore, HasRoom};
+ghost use Rattle.session_events.specs.Events.{IsOpenIn, Attaches, Resizes};
+
+use crate::serials::serial_from;
+use acl::{Act, Bit, Object, UserId};
+use session_model::Refusal;
+use session_state::{Made, State};
+
+/// Whether a client's terminal may have so many lines and columns: 4 to 200 by 20 to 300.
+fn is_client_size(rows: u16, cols: u16) -> bool
+    ensures { result ≡ is_client_size rows cols }
+{
+    4 <= rows && rows <= 200 && 20 <= cols && cols <= 300
+}
+
+/// The window of the lowest number.
+fn first_window(state: &State) -> Option<u32>
+    ensures { (t : Tables) → Stands t state.now
+        → result ≡ option_map (λ (w : Window). w.serial) (lowest t.windows) }
+{
+    match state.windows.lowest() {
+        Some(window) => Some(window.serial),
+        None => None,
+    }
+}
+
+/// A user enters the window that he sees, if he sees one.
+fn enter(state: &mut State, user: UserId, window: Option<u32>, made: &mut Made)
+    requires { HasRoom 255 made.old }
+    ensures done { (t : Tables) → Stands t state.old → IsOpenIn t.acts window
+        → HasDone t (acting t (entering user window)) state.new made.old made.new }
+    ensures room { HasRoom 254 made.new }
+{
+    let Some(window) = window else {
+        return;
+    };
+    made.acts.push(Act::Entered { user, window }).unwrap();
+    let may_write = state
+        .acl
+        .may(user, Bit::Write, Object::Window(window))
+        .is_ok();
+    state.locks.entered(user, window, may_write);
+}
+
+/// A client of a user attaches, whose checks have passed, and gets the next serial. Its one region
+/// shows the window of the lowest number, which its user enters.
+pub fn attach(
+    state: &mut State,
+    user: UserId,
+    rows: u16,
+    cols: u16,
+    made: &mut Made,
+) -> Result<u32, Refusal>
+    requires { HasRoom 256 made.old }
+    ensures answer { Attaches user rows cols state.old result state.new made.old made.new }
+    ensures err { OnErr result (IsAsBefore state.old state.new made.old made.new) }
+    ensures room { OnOk result (HasRoom 64 made.new) }
+{
+    if !is_client_size(rows, cols) {
+        return Err(Refusal::BadSize);
+    }
+    let Some(client) = serial_from(state.next_client) else {
+        return Err(Refusal::TooManyClients);
+    };
+    let window = first_window(state);
+    state
+        .clients
+        .attach(state.alloc, client, user, rows, cols, window)?;
+    state.next_client += 1;
+    made.acts.push(Act::Attached { client, user }).unwrap();
+    enter(state, user, window, made);
+    Ok(client)
+}
+
+/// A client's terminal has another size, whose check has passed. No other size changes anything.
+pub fn resize(state: &mut State, client: u32, rows: u16, cols: u16, made: &mut Made)
+    requires { HasRoom 256 made.old }
+    ensures answer { Resizes client rows cols state.old state.new made.old made.new }
+    ensures kept { is_client_size rows cols ≡ false
+        → IsAsBefore state.old state.new made.old made.new }
+    ensures room { HasRoom 64 made.new }
+{
+    if !is_client_size(rows, cols) {
+        return;
+    }
+    state.clients.resize(client, rows, cols);
+}

@@ -1,0 +1,40 @@
+//! Windows that open.
+
+ghost use Rattle.std.specs.Prelude.{OnOk, OnErr};
+ghost use Rattle.session_state.specs.Doing.{IsAsBefore, HasRoom};
+ghost use Rattle.session_events.specs.Events.{Opens};
+
+use crate::serials::serial_from;
+use acl::{Act, UserId};
+use session_model::{Refusal, WindowsFault};
+use session_state::{Made, State};
+
+/// A user opens a window, whose checks have passed; it gets the next serial and the lowest number
+/// that is free. Gives both.
+pub fn open(
+    state: &mut State,
+    user: UserId,
+    rows: u16,
+    cols: u16,
+    keep: u16,
+    title: &str,
+    made: &mut Made,
+) -> Result<(u32, u8), Refusal>
+    requires { HasRoom 256 made.old }
+    ensures answer { Opens user rows cols keep title.now state.old result state.new
+        made.old made.new }
+    ensures err { OnErr result (IsAsBefore state.old state.new made.old made.new) }
+    ensures room { OnOk result (HasRoom 64 made.new) }
+{
+    let Some(window) = serial_from(state.next_window) else {
+        return Err(Refusal::Windows(WindowsFault::Full));
+    };
+    let number = state
+        .windows
+        .open(state.alloc, window, rows, cols, keep, title)?;
+    state.next_window += 1;
+    made.acts.push(Act::Opened { by: user, window }).unwrap();
+    state.acl.window_opened(user, window);
+    state.locks.opened(user, window);
+    Ok((window, number))
+}

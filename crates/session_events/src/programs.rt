@@ -1,0 +1,27 @@
+//! What programs of windows write.
+
+ghost use Rattle.std.specs.Prelude.{OnOk, OnErr};
+ghost use Rattle.session_state.specs.Doing.{IsAsBefore, HasRoom};
+ghost use Rattle.session_events.specs.Events.{Outputs};
+
+use session_model::{Bytes, Effect, Refusal};
+use session_state::{Made, State};
+
+/// The program of a window that is open writes: its terminal reads that, and what it answers is
+/// input for the program.
+pub fn output(state: &mut State, window: u32, bytes: &[u8], made: &mut Made) -> Result<(), Refusal>
+    requires { HasRoom 256 made.old }
+    ensures answer { Outputs window bytes.now state.old result state.new made.old made.new }
+    ensures err { OnErr result (IsAsBefore state.old state.new made.old made.new) }
+    ensures room { OnOk result (HasRoom 64 made.new) }
+{
+    made.effects.reserve(1)?;
+    let mut reports = Vec::new(state.alloc);
+    state.windows.feed_all(window, bytes, &mut reports)?;
+    let input = Bytes::from_vec(reports);
+    if input.is_empty() {
+        return Ok(());
+    }
+    made.effects.push(Effect::Input(window, input)).unwrap();
+    Ok(())
+}

@@ -1,0 +1,18 @@
+//! Serials.
+
+ghost use Rattle.std.specs.Prelude.{◌≡◌};
+ghost use Rattle.session_events.specs.Events.{serial_from};
+
+/// How many serials there are.
+const SERIALS: u64 = 1 << 32;
+
+/// The serial that comes next, unless all are given.
+pub(crate) fn serial_from(next: u64) -> Option<u32>
+    ensures { result ≡ serial_from next }
+{
+    if next < SERIALS {
+        Some(next as u32)
+    } else {
+        None
+    }
+}

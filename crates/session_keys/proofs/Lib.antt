@@ -1,0 +1,5 @@
+pub mod Reading
+pub mod Telling
+pub mod Inputs
+pub mod Orders
+pub mod Parts

@@ -1,0 +1,61 @@
+-- Clients that are told something.
+use Rattle.std.proofs.Common.{◌≡◌, ℕ, List, [], ◌∷◌, ◌++◌, Option, Some, None, refl, ap, sym, subst}
+use Rattle.std.proofs.Common.{◌∙◌, append-nil}
+use Rattle.session_model.specs.declared.event.Effect.{Effect}
+use Rattle.session_model.specs.declared.event.Effect.TheVariants.{Say}
+use Rattle.session_model.specs.declared.message.Message.{Message}
+use Rattle.session_model.specs.Tables as model
+use Rattle.session_model.specs.Tables.{Tables, client_at, with_client, row_of, with_row}
+use Rattle.session_model.specs.Deeds.{Deed, changing, hearing}
+use Rattle.session_model.specs.Events.{told, says}
+use Rattle.session_rows.proofs.Serials.{serial_is}
+use Rattle.session_clients.specs.declared.client.Client.{Client}
+use Rattle.session_clients.specs.Stands.{AreClients, Changes}
+use Rattle.session_state.specs.declared.made.Made.{Made}
+use Rattle.session_state.specs.declared.state.State.{State}
+use Rattle.session_state.specs.Stands.{Stands}
+use Rattle.session_state.specs.Doing.{HasDone, did}
+
+abbrev serial : model.Client → ℕ
+serial c = c.serial
+
+-- a client's row changes
+pub stands_client : (t : Tables) (s : State) (n : ℕ) (d : model.Client) (cs : List Client)
+    → d.serial ≡ n → AreClients (with_row serial t.clients n d) cs → Stands t s
+    → Stands (with_client t d) (record s { clients = cs })
+stands_client t s n d cs same are st = record {
+  acl = st.acl;
+  locks = st.locks;
+  multiuser_is = st.multiuser_is;
+  windows = st.windows;
+  clients = subst (λ (k : ℕ). AreClients (with_row serial t.clients k d) cs) (sym same) are;
+  next_window_is = st.next_window_is;
+  next_client_is = st.next_client_is;
+}
+
+-- a client that is there is told
+pub told_there : (t : Tables) (n : ℕ) (m : Message) (c : model.Client) → client_at t n ≡ Some c
+    → told t n m ≡ with_client t (hearing m c)
+told_there t n m c at =
+    ap (λ (o : Option model.Client). elim o as (λ _. Tables) [
+      | None ↦ t
+      | Some d ↦ with_client t (hearing m d)
+    ]) at
+
+abbrev saying : Tables → ℕ → List ℕ → Deed
+saying u n text = record (changing u) { effects = Say n text ∷ [] }
+
+pub said_done : (t : Tables) (s : State) (n : ℕ) (m : Message) (text : List ℕ) (c : model.Client)
+    (cs : List Client) (before after : Made) → client_at t n ≡ Some c
+    → Changes (hearing m) n s.clients cs → Stands t s
+    → after.effects.items ≡ before.effects.items ++ Say n text ∷ []
+    → after.acts.items ≡ before.acts.items
+    → HasDone t (says t n m text) (record s { clients = cs }) before after
+said_done t s n m text c cs before after at changes st effects acts =
+    let there : c.serial ≡ n = serial_is serial t.clients n c at in
+    subst (λ (u : Tables). HasDone t (saying u n text) (record s { clients = cs }) before after)
+    (sym (told_there t n m c at)) (record {
+      stands = stands_client t s n (hearing m c) cs there (changes t.clients c st.clients at) st;
+      acts = acts ∙ sym (append-nil before.acts.items);
+      effects = effects;
+    })

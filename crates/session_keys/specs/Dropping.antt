@@ -1,0 +1,24 @@
+-- What was said in a step isn't said again.
+use Rattle.std.specs.Prelude.{ℕ, ◌≡◌, ◌++◌, Bool, true, List, ◌∷◌, length}
+use Rattle.std.specs.List.{list_any}
+use Rattle.session_model.specs.declared.event.Effect.{Effect}
+use Rattle.session_model.specs.Events.{says_same, unsaid}
+
+-- whether the same was said to the same client before
+abbrev pub is_said : List Effect → Effect → Bool
+is_said said effect = list_any (says_same effect) said
+
+-- whether the effect at a place says the same as one between these places
+abbrev pub SaysAgain : List Effect → ℕ → ℕ → ℕ → Bool → Type 0
+SaysAgain effects start end place result =
+    (past said more front rest : List Effect) (e : Effect) → effects ≡ past ++ (said ++ more)
+    → length past ≡ start → length (past ++ said) ≡ end
+    → effects ≡ front ++ e ∷ rest → length front ≡ place
+    → result ≡ is_said said e
+
+-- behind these places those that say the same as one between them are taken away
+abbrev pub DropsSaid : ℕ → ℕ → List Effect → List Effect → Type 0
+DropsSaid start end old new =
+    (past said more : List Effect) → old ≡ past ++ (said ++ more)
+    → length past ≡ start → length (past ++ said) ≡ end
+    → new ≡ past ++ (said ++ unsaid said more)

@@ -1,0 +1,5 @@
+pub mod Dropping
+pub mod Given
+pub mod Obeying
+pub mod Said
+pub mod Typing

@@ -1,0 +1,48 @@
+-- Bytes that a client's keys type.
+use Rattle.std.specs.Prelude.{ℕ, ◌≡◌, ◌++◌, List, [], ◌∷◌, Option, Some, None}
+use Rattle.std.specs.Option.{option_map_or}
+use Rattle.session_model.specs.declared.event.Effect.{Effect}
+use Rattle.session_model.specs.declared.event.Effect.TheVariants.{Input}
+use Rattle.session_model.specs.declared.message.Message.{Message}
+use Rattle.session_model.specs.declared.message.Message.TheVariants.{Silence, Text}
+use Rattle.session_model.specs.declared.verdict.Verdict.{Verdict}
+use Rattle.session_model.specs.Tables.{Tables, Client, client_at, focused, focused_window}
+use Rattle.session_model.specs.Checks.{first_fault, typing_checks}
+use Rattle.session_model.specs.Events.{types, typing_verdicts}
+use Rattle.session_model.specs.Texts.{text_of}
+use Rattle.session_state.specs.declared.caller.Caller.{Caller}
+use Rattle.session_state.specs.declared.made.Made.{Made}
+use Rattle.session_state.specs.declared.state.State.{State}
+use Rattle.session_state.specs.Stands.{Stands}
+use Rattle.session_state.specs.Fit.{AreFit}
+
+-- a client that gives keys, for the window in focus
+abbrev pub caller_by : ℕ → Client → Caller
+caller_by serial c = record { user = c.user; client = Some serial; window = focused c }
+
+-- bytes for the program of a window, if there is one
+abbrev pub input_to : Option ℕ → List ℕ → List Effect
+input_to window typed = option_map_or (λ w. Input w typed ∷ []) window []
+
+-- what its status line says then
+abbrev pub message_after : Tables → Client → List ℕ → Message
+message_after t c [] = Silence
+message_after t c (b ∷ bytes) =
+    elim (first_fault t (typing_checks c.user (focused_window t c))) [
+      | None ↦ Silence
+      | Some r ↦ Text (text_of r)
+    ]
+
+-- they are typed: this is the effect, and the verdicts are noted
+pub record Typed (t : Tables) (c : Client) (typed : List ℕ) (message : Message)
+    (before after : Made) (old noted : List Verdict) : Type 0 where
+  pub message_is : message ≡ message_after t c typed
+  pub effects : after.effects.items ≡ before.effects.items ++ (types t c typed).effects
+  pub verdicts : noted ≡ old ++ typing_verdicts t c typed
+
+-- whichever tables the state stands for
+abbrev pub Types : Caller → ℕ → List ℕ → State → Message → Made → Made → List Verdict →
+    List Verdict → Type 0
+Types k client typed s message before after old noted =
+    (t : Tables) (c : Client) → Stands t s → AreFit t → client_at t client ≡ Some c
+    → k ≡ caller_by client c → Typed t c typed message before after old noted

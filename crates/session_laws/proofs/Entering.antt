@@ -1,0 +1,279 @@
+-- The focus of a client shows what its own steps entered last.
+use Rattle.std.proofs.Common.{◌≡◌, ℕ, ◌+◌, ◌<◌, ◌≤◌, Bool, true, false, not, List, [], ◌∷◌, ◌++◌, Option, Some, None, Ok, Err, Result, refl, ap, sym, ◌∙◌, subst, map, take, inl, inr, ⊎_elim, arith}
+use Rattle.std.specs.Prelude.{◌⊎◌, if◌then◌else◌, ◌==◌, ◌||◌}
+use Rattle.std.specs.List.{AllByRecursion}
+use Rattle.std.specs.Option.{option_or}
+use Rattle.std.proofs.lemmas.Bool.Decides.{nat_tests}
+use Rattle.acl.specs.declared.edition.Edition.{Edition}
+use Rattle.acl.specs.declared.user_id.UserId.{UserId}
+use Rattle.acl.specs.declared.act.Act.{Act}
+use Rattle.acl.specs.declared.act.Act.TheVariants as act
+use Rattle.command_lang.specs.command.Command.{Command as Order}
+use Rattle.command_lang.specs.fault.ParseFault.{ParseFault}
+use Rattle.keys.specs.Grammar.{Item, typed, bound, line}
+use Rattle.regions.specs.Layouts.{Arrangement, kept_alone}
+use Rattle.regions.specs.Pages.{has_room}
+use Rattle.terminal_model.specs.Shows.{View}
+use Rattle.session_model.specs.declared.event.Effect.{Effect}
+use Rattle.session_model.specs.declared.event.Reason.TheVariants as reason
+use Rattle.session_model.specs.declared.check.Check.TheVariants.{Must as must}
+use Rattle.session_model.specs.declared.message.Message.{Message}
+use Rattle.session_model.specs.declared.message.Message.TheVariants.{Text}
+use Rattle.session_model.specs.declared.refusal.Refusal.{Refusal}
+use Rattle.session_model.specs.declared.refusal.Refusal.TheVariants.{BadSize, Line}
+use Rattle.session_model.specs.Trace.{Happening, Attach, Detach, Keys, Command, Resize, Open, Output, Closed, Draw, Reply, Entry, Trace}
+use Rattle.session_model.specs.Tables.{Tables, Window, Client, fresh, row_of, with_row, window_at, client_at, with_client, focused, is_in_focus, is_known}
+use Rattle.session_model.specs.Texts.{text_of}
+use Rattle.session_model.specs.Lines.{Caller, caller_of, line_caller, read_line}
+use Rattle.session_model.specs.Checks.{checks, first_fault, verdicts}
+use Rattle.session_model.specs.Deeds.{Deed, Answer, changing, parts, closes, entering, hearing}
+use Rattle.session_model.specs.Commands.{does}
+use Rattle.session_model.specs.Keying.{taken, step_items, typed_bytes, command_item}
+use Rattle.session_model.specs.Events.{outcome, Outcome, finished, done, where_passed, left_by, left_acts, attach_checks, attaches, new_client, open_checks, opens, new_window, reply_of, is_client_size, resized, outputs, reading, types, told, ordered, keyed, with_listed, message_of, keys_outcome, by_line}
+use Rattle.session_model.specs.Granted.{granted_view}
+use Rattle.session_model.specs.Promises.{SomeOf, unread}
+use Rattle.session_model.specs.Run.{drawn, drawn_on, with_drawn, after, IsStep, IsRun, IsRunFrom, tables_from, tables_of}
+use Rattle.session_model.specs.Sound.{Rises, AreSound, client_serials}
+use Rattle.session_laws.specs.Focus.{entered_by, entered_in, last_entered}
+use Rattle.session_laws.proofs.Lists.{all_weaken, all_append, some_map, some_mapped, some_row, row_serial, itself}
+use Rattle.session_laws.proofs.Doing.{Either}
+use Rattle.session_laws.proofs.Unread.{SameClients, typing_clients, row_at}
+use Rattle.session_laws.proofs.Settling.{told_same, ids_same}
+use Rattle.session_laws.proofs.Lasting.{client_firsts, firsts}
+use Rattle.session_laws.proofs.Sounding.{run_sound, fresh_sound}
+use Rattle.session_laws.proofs.Remembering.{some_elim}
+use Rattle.session_laws.proofs.Fitting.{some_has, all_row}
+use Rattle.session_laws.proofs.Focusing.{GoesOn, AllGoOn, alike, Same, Kept, kept_same, kept_fewer, kept_go, without_kept, row_goes, entered_of, HasGone, none_if, gone}
+use Rattle.session_laws.proofs.Focusing as focusing
+use Rattle.session_laws.proofs.Outcomes as outcomes
+
+-- ---- who leaves enters nothing
+
+enter_front : (xs ys : List Act) → entered_by ys ≡ None → entered_by (xs ++ ys) ≡ entered_by xs
+enter_front [] ys none = none
+enter_front (act.Entered user window ∷ xs) ys none = refl
+enter_front (x ∷ xs) ys none = enter_front xs ys none
+
+left_enter : (before after : List Client) → entered_by (left_acts before after) ≡ None
+left_enter [] after = refl
+left_enter (c ∷ before) after = one (focused c) (left_enter before after) where
+  on : (b : Bool) (w : ℕ) → entered_by ((if b then (let none : List Act = [] in none) else act.Left c.user w ∷ []) ++ left_acts before after) ≡ entered_by (left_acts before after)
+  on true w = refl
+  on false w = refl
+
+  one : (o : Option ℕ) → entered_by (left_acts before after) ≡ None → entered_by (left_by c o before after ++ left_acts before after) ≡ None
+  one None rest = rest
+  one (Some w) rest = on (is_in_focus before c.user w || is_in_focus after c.user w) w ∙ rest
+
+-- ---- messages
+
+told_go : (cs : List Client) (f : ℕ → Option (UserId × ℕ)) (u : Tables) (client : ℕ) (m : Message) → AllGoOn cs f u.clients → AllGoOn cs f (told u client m).clients
+told_go cs f u client m all = told_same (λ v. AllGoOn cs f v.clients) u client m all
+    (λ c is. all_row (λ d. SomeOf (λ q. GoesOn f q d) cs) (λ (d : Client). d.serial) u.clients c.serial (hearing m c)
+    (some_has (λ d. SomeOf (λ q. GoesOn f q d) cs) c u.clients (some_row (λ (d : Client). d.serial) u.clients client c is) all) all)
+
+-- ---- keys
+
+module _ (t : Tables) (c : Client) (read : List ℕ) (s : AreSound t) (cs : List Client) (same : SameClients t cs) where
+  abbrev v : Tables
+  v = record t { clients = cs }
+
+  -- what a deed enters is by the client of the keys
+  abbrev InDeed : Deed → Type 0
+  InDeed d = AllGoOn cs (entered_of (caller_of t c) d.acts) d.tables.clients
+
+  rises : Rises (client_serials cs) t.next_client
+  rises = subst (λ ns. Rises ns t.next_client) (client_firsts t.clients ∙ sym (ap firsts (ids_same t cs same)) ∙ sym (client_firsts cs)) s.clients_rise
+
+  none : (n : ℕ) → entered_of (caller_of t c) [] n ≡ None
+  none n = none_if (c.serial == n)
+
+  nothing_gone : InDeed (changing v)
+  nothing_gone = kept_go cs cs (entered_of (caller_of t c) []) none (kept_same cs)
+
+  keyed_gone : (client : ℕ) (m : List ℕ → Message) (a : Answer) → Either (HasGone v (caller_of t c)) a → InDeed (keyed v client m a)
+  keyed_gone client m (Err r) plain = told_go cs (entered_of (caller_of t c) []) v client (Text (text_of r)) nothing_gone
+  keyed_gone client m (Ok d) h = on d.lists where
+    on : (o : Option (List ℕ)) → InDeed (with_listed client m o d)
+    on None = h.all
+    on (Some bytes) = told_go cs (entered_of (caller_of t c) d.acts) d.tables client (m bytes) h.all
+
+  order_gone : (order : Order) → InDeed (by_line v (reading read c) (Ok order)).deed
+  order_gone order = on (first_fault t (checks t (caller_of t c) order)) where
+    on : (o : Option Refusal) → InDeed (keyed v c.serial (message_of order) (elim o as (λ _. Answer) [ Some r ↦ Err r | None ↦ does v (caller_of t c) order ]))
+    on (Some r) = told_go cs (entered_of (caller_of t c) []) v c.serial (Text (text_of r)) nothing_gone
+    on None = keyed_gone c.serial (message_of order) (does v (caller_of t c) order) (gone v (caller_of t c) rises order)
+
+  read_gone : (r : Result Order ParseFault) → InDeed (by_line v (reading read c) r).deed
+  read_gone (Err f) = told_go cs (entered_of (caller_of t c) []) v c.serial (Text (text_of (Line f))) nothing_gone
+  read_gone (Ok order) = order_gone order
+
+  item_gone : (item : Option Item) → InDeed (ordered v (reading read c) item).deed
+  item_gone None = nothing_gone
+  item_gone (Some (typed b)) = nothing_gone
+  item_gone (Some (bound order)) = order_gone order
+  item_gone (Some (line [])) = nothing_gone
+  item_gone (Some (line (b ∷ bs))) = read_gone (read_line (b ∷ bs))
+
+  -- the clients before keys were read have the same focus
+  before_read : (f : ℕ → Option (UserId × ℕ)) (ds : List Client) → AllGoOn cs f ds → AllGoOn t.clients f ds
+  before_read f ds all = all_weaken (λ d. SomeOf (λ q. GoesOn f q d) cs) (λ d. SomeOf (λ q. GoesOn f q d) t.clients) ds
+      (λ d some. some_mapped (λ q. GoesOn f q d) unread t.clients (subst (SomeOf (λ q. GoesOn f q d)) same (some_map (λ q. GoesOn f q d) unread cs some))) all
+
+keys_gone : (t : Tables) (client : ℕ) (bytes : List ℕ) (c : Client) → client_at t client ≡ Some c → AreSound t
+    → let o : Outcome = keys_outcome t c (take (taken c.keys bytes) bytes) in AllGoOn t.clients (λ n. if client == n then entered_by o.acts else None) o.tables.clients
+keys_gone t client bytes c is s =
+    let read : List ℕ = take (taken c.keys bytes) bytes in
+    let d : Client = reading read c in
+    let item : Option Item = command_item (step_items c bytes) in
+    let before : Deed = types (with_client t d) d (typed_bytes (step_items c bytes)) in
+    let order : Deed = (ordered before.tables d item).deed in
+    let left : List Act = left_acts t.clients order.tables.clients in
+    alike t.clients (λ n. entered_of (caller_of t c) order.acts n) (λ n. if client == n then entered_by (order.acts ++ left) else None) order.tables.clients
+    (λ n. ap (λ o. if client == n then o else None) (enter_front order.acts left (left_enter t.clients order.tables.clients))
+    ∙ ap (λ m. if m == n then entered_by order.acts else None) (sym (row_serial (λ (x : Client). x.serial) t.clients client c is)))
+    (typing_clients (λ v. let e : Deed = (ordered v d item).deed in AllGoOn t.clients (λ n. entered_of (caller_of t c) e.acts n) e.tables.clients) t client c d (typed_bytes (step_items c bytes)) is refl refl
+    (λ cs same. let e : Deed = (ordered (record t { clients = cs }) d item).deed in before_read t c read s cs same (λ n. entered_of (caller_of t c) e.acts n) e.tables.clients (item_gone t c read s cs same item)))
+
+-- ---- the events
+
+-- a client that has just attached
+abbrev IsNew : Tables → (ℕ → Option (UserId × ℕ)) → Client → Type 0
+IsNew t f d = (d.serial ≡ t.next_client) × ((w : ℕ) → focused d ≡ Some w → f t.next_client ≡ Some (d.user, w))
+
+abbrev Rows : Tables → (ℕ → Option (UserId × ℕ)) → List Client → Type 0
+Rows t f ds = AllByRecursion (λ d. SomeOf (λ c. GoesOn f c d) t.clients ⊎ IsNew t f d) ds
+
+old_rows : (t : Tables) (f : ℕ → Option (UserId × ℕ)) (ds : List Client) → AllGoOn t.clients f ds → Rows t f ds
+old_rows t f ds all = all_weaken (λ d. SomeOf (λ c. GoesOn f c d) t.clients) (λ d. SomeOf (λ c. GoesOn f c d) t.clients ⊎ IsNew t f d) ds (λ d some. inl some) all
+
+kept_rows : (t : Tables) (ds : List Client) → Kept t.clients ds → Rows t (λ n. None) ds
+kept_rows t ds kept = old_rows t (λ n. None) ds (kept_go t.clients ds (λ n. None) (λ n. refl) kept)
+
+still : (t : Tables) → Rows t (λ n. None) t.clients
+still t = kept_rows t t.clients (kept_same t.clients)
+
+-- where it was entered by a client that wasn't there
+below_rows : (f : ℕ → Option (UserId × ℕ)) (cs : List Client) (next : ℕ) → Rises (client_serials cs) next → ((n : ℕ) → n < next → f n ≡ None) → AllGoOn cs f cs
+below_rows f [] next rise none = tt
+below_rows f (c ∷ cs) next rise none = (
+  inl (refl, refl, λ w is. inr (none c.serial rise.0, is)),
+  all_weaken (λ d. SomeOf (λ q. GoesOn f q d) cs) (λ d. SomeOf (λ q. GoesOn f q d) (c ∷ cs)) cs (λ d some. inr some) (below_rows f cs next rise.2 none),
+)
+
+abbrev InOutcome : Tables → Happening → Outcome → Type 0
+InOutcome t event o = Rows t (entered_in event o.reply o.acts) o.tables.clients
+
+attached : (t : Tables) (user : UserId) (rows columns : ℕ) → AreSound t → let c : Client = new_client t user rows columns in let left : List Act = left_acts t.clients (t.clients ++ c ∷ []) in
+    Rows t (λ n. if t.next_client == n then entered_by (entering user (focused c) ++ left) else None) (t.clients ++ c ∷ [])
+attached t user rows columns s =
+    let c : Client = new_client t user rows columns in
+    let left : List Act = left_acts t.clients (t.clients ++ c ∷ []) in
+    let f : ℕ → Option (UserId × ℕ) = λ n. if t.next_client == n then entered_by (entering user (focused c) ++ left) else None in
+    all_append (λ d. SomeOf (λ q. GoesOn f q d) t.clients ⊎ IsNew t f d) t.clients (c ∷ [])
+    (old_rows t f t.clients (below_rows f t.clients t.next_client s.clients_rise (λ n lt. ap (λ (b : Bool). if b then entered_by (entering user (focused c) ++ left) else None) (off n t.next_client lt))))
+    (inr (refl, λ w is. ap (λ (b : Bool). if b then entered_by (entering user (focused c) ++ left) else None) (itself t.next_client) ∙ ap (λ o. entered_by (entering user o ++ left)) is), tt) where
+      off : (n next : ℕ) → n < next → (next == n) ≡ false
+      off n next lt = grind (arith, nat_tests, lt)
+
+deed_gone : (t : Tables) (k : Caller) (a : Answer) (d : Deed) → a ≡ Ok d → Either (HasGone t k) a → HasGone t k d
+deed_gone t k (Ok e) d is h = let same : e ≡ d = cc (is) in subst (HasGone t k) same h
+deed_gone t k (Err r) d is h = absurd (cc (is))
+
+resized_row : (t : Tables) (rows columns : ℕ) (c : Client) → client_at t c.serial ≡ Some c → AreSound t → Rows t (λ n. None) (with_client t (resized rows columns c)).clients
+resized_row t rows columns c at s = old_rows t (λ n. None) (with_row (λ (r : Client). r.serial) t.clients c.serial (resized rows columns c))
+    (row_goes (λ n. None) c (resized rows columns c) (refl, refl, λ w is. inr (refl, on (has_room c.layout.shape rows columns) w is)) (λ n off. refl) t.clients t.next_client s.clients_rise at) where
+      on : (b : Bool) (w : ℕ) → (let l : Arrangement = if b then c.layout else kept_alone c.layout in Rattle.std.specs.Option.option_and_then (λ (x : Rattle.regions.specs.declared.shown.Shown.Shown). x.window) (Rattle.std.specs.Prelude.slice_get l.shown l.focus)) ≡ Some w → focused c ≡ Some w
+      on true w is = is
+      on false w is = focusing.alone_place (Rattle.std.specs.Prelude.slice_get c.layout.shown c.layout.focus) w is
+
+outcome_gone : (t : Tables) (event : Happening) → AreSound t → InOutcome t event (outcome t event)
+outcome_gone t (Attach user rows columns) s =
+    outcomes.passed (InOutcome t (Attach user rows columns)) t (verdicts t (attach_checks t user rows columns)) (first_fault t (attach_checks t user rows columns)) (reply_of 0 t.next_client 0 None) (attaches t (new_client t user rows columns))
+    (λ r is. still t) (λ is. attached t user rows columns s)
+outcome_gone t (Detach client) s =
+    outcomes.found (InOutcome t (Detach client)) t (λ c. finished t [] done (parts (λ d. d.serial == client) reason.Detached t)) (client_at t client) (still t)
+    (λ c is. kept_rows t _ (kept_fewer (λ d. not (d.serial == client)) t.clients t.clients (kept_same t.clients)))
+outcome_gone t (Keys client bytes) s =
+    outcomes.found (InOutcome t (Keys client bytes)) t (λ c. keys_outcome t c (take (taken c.keys bytes) bytes)) (client_at t client)
+    (old_rows t _ t.clients (kept_go t.clients t.clients _ (λ n. none_if (client == n)) (kept_same t.clients)))
+    (λ c is. old_rows t _ _ (keys_gone t client bytes c is s))
+outcome_gone t (Command user number bytes) s =
+    outcomes.by_line (InOutcome t (Command user number bytes)) t (line_caller t user number) (is_known t user) (read_line bytes) (λ vs f. still t)
+    (λ c d known read passes is. old_rows t (λ n. None) d.tables.clients (deed_gone t (line_caller t user number) (does t (line_caller t user number) c) d is (gone t (line_caller t user number) s.clients_rise c)).all)
+outcome_gone t (Resize client rows columns) s =
+    outcomes.found (InOutcome t (Resize client rows columns)) t (λ c. where_passed t (must (is_client_size rows columns) BadSize ∷ []) done (changing (with_client t (resized rows columns c)))) (client_at t client) (still t)
+    (λ c is. outcomes.passed (InOutcome t (Resize client rows columns)) t (verdicts t (must (is_client_size rows columns) BadSize ∷ [])) (first_fault t (must (is_client_size rows columns) BadSize ∷ [])) done (changing (with_client t (resized rows columns c)))
+    (λ r at. still t) (λ at. resized_row t rows columns c (row_at t client c is) s))
+outcome_gone t (Open user rows columns keep title) s =
+    let v : Window = new_window t rows columns keep title in
+    outcomes.passed (InOutcome t (Open user rows columns keep title)) t (verdicts t (open_checks t user rows columns keep title)) (first_fault t (open_checks t user rows columns keep title)) (reply_of 0 v.serial v.number None) (opens t user v) (λ r is. still t) (λ is. still t)
+outcome_gone t (Output window bytes) s =
+    outcomes.found (InOutcome t (Output window bytes)) t (λ v. finished t [] done (outputs t v bytes)) (window_at t window) (still t) (λ v is. still t)
+outcome_gone t (Closed window) s =
+    outcomes.found (InOutcome t (Closed window)) t (λ v. finished t [] done (closes (λ x. x.serial == window) reason.Detached t)) (window_at t window) (still t)
+    (λ v is. kept_rows t _ (without_kept t.clients (Rattle.std.proofs.Common.filter (λ (x : Window). x.serial == window) t.windows) t.clients (kept_same t.clients)))
+outcome_gone t (Draw client) s =
+    outcomes.found (InOutcome t (Draw client)) t (λ c. finished t [] done (changing t)) (client_at t client) (still t) (λ c is. still t)
+
+-- ---- steps
+
+drawn_row : (effects : List Effect) (v : View) (c : Client) → Same c (with_drawn effects v c)
+drawn_row [] v c = (refl, refl, λ w is. is)
+drawn_row (f ∷ effects) v c = (refl, refl, λ w is. is)
+
+drawn_serial : (effects : List Effect) (v : View) (c : Client) → (with_drawn effects v c).serial ≡ c.serial
+drawn_serial [] v c = refl
+drawn_serial (f ∷ effects) v c = refl
+
+quiet_draw : (t : Tables) (client : ℕ) → (outcome t (Draw client)).tables.clients ≡ t.clients
+quiet_draw t client = outcomes.found (λ o. o.tables.clients ≡ t.clients) t (λ c. finished t [] done (changing t)) (client_at t client) refl (λ c is. refl)
+
+drawn_rows : (t u : Tables) (client : ℕ) (effects : List Effect) (o : Option Client) → u.clients ≡ t.clients → client_at u client ≡ o → AreSound t → Rows t (λ n. None) (drawn_on o effects u).clients
+drawn_rows t u client effects None same at s = subst (Rows t (λ n. None)) (sym same) (still t)
+drawn_rows t u client effects (Some c) same at s =
+    let v : View = granted_view u c in
+    let x : Client = with_drawn effects v c in
+    let there : client_at t client ≡ Some c = ap (λ cs. row_of (λ (r : Client). r.serial) cs client) (sym same) ∙ at in
+    let row : Same c x = drawn_row effects v c in
+    subst (λ cs. Rows t (λ n. None) (with_row (λ (r : Client). r.serial) cs x.serial x)) (sym same)
+    (subst (λ n. Rows t (λ n. None) (with_row (λ (r : Client). r.serial) t.clients n x)) (sym (drawn_serial effects v c))
+    (old_rows t (λ n. None) (with_row (λ (r : Client). r.serial) t.clients c.serial x)
+    (row_goes (λ n. None) c x (row.0, row.1, λ w is. inr (refl, row.2 w is)) (λ n off. refl) t.clients t.next_client s.clients_rise (row_at t client c there))))
+
+step_gone : (t : Tables) (event : Happening) (reply : Reply) (acts : List Act) (effects : List Effect) → AreSound t → reply ≡ (outcome t event).reply → acts ≡ (outcome t event).acts
+    → Rows t (entered_in event reply acts) (drawn event effects (outcome t event).tables).clients
+step_gone t (Draw client) reply acts effects s r a =
+    let u : Tables = (outcome t (Draw client)).tables in
+    drawn_rows t u client effects (client_at u client) (quiet_draw t client) refl s
+step_gone t event reply acts effects s r a =
+    subst (λ x. Rows t (entered_in event x acts) (outcome t event).tables.clients) (sym r) (subst (λ x. Rows t (entered_in event (outcome t event).reply x) (outcome t event).tables.clients) (sym a) (outcome_gone t event s))
+
+-- ---- runs
+
+abbrev Recalls : Tables → (ℕ → Option (UserId × ℕ)) → Type 0
+Recalls t last = AllByRecursion (λ (c : Client). (w : ℕ) → focused c ≡ Some w → last c.serial ≡ Some (c.user, w)) t.clients
+
+recalls : (t : Tables) (last : ℕ → Option (UserId × ℕ)) (e : Entry) → AreSound t → IsStep t e → Recalls t last → Recalls (after t e) (λ n. option_or (entered_in e.event e.reply e.acts n) (last n))
+recalls t last e s step m = all_weaken (λ d. SomeOf (λ c. GoesOn f c d) t.clients ⊎ IsNew t f d) (λ (d : Client). (w : ℕ) → focused d ≡ Some w → option_or (f d.serial) (last d.serial) ≡ Some (d.user, w)) (after t e).clients one
+    (step_gone t e.event e.reply e.acts e.effects s step.reply step.acts) where
+      f : ℕ → Option (UserId × ℕ)
+      f n = entered_in e.event e.reply e.acts n
+
+      one : (d : Client) → SomeOf (λ c. GoesOn f c d) t.clients ⊎ IsNew t f d → (w : ℕ) → focused d ≡ Some w → option_or (f d.serial) (last d.serial) ≡ Some (d.user, w)
+      one d row w is = ⊎_elim
+          (λ (old : SomeOf (λ c. GoesOn f c d) t.clients). some_elim (λ c. GoesOn f c d) (λ (c : Client). (w : ℕ) → focused c ≡ Some w → last c.serial ≡ Some (c.user, w)) (option_or (f d.serial) (last d.serial) ≡ Some (d.user, w)) t.clients
+          (λ c go was. ap (λ n. option_or (f n) (last n)) go.0 ∙ ⊎_elim
+          (λ (here : f c.serial ≡ Some (c.user, w)). ap (λ o. option_or o (last c.serial)) here)
+          (λ before. ap (λ o. option_or o (last c.serial)) before.0 ∙ was w before.1) (go.2 w is) ∙ ap (λ (u : UserId). Some (u, w)) (sym go.1)) old m)
+          (λ (new : IsNew t f d). ap (λ n. option_or (f n) (last n)) new.0 ∙ ap (λ o. option_or o (last t.next_client)) (new.1 w is)) row
+
+run_recalls : (edition : Edition) (owner : UserId) (entries : List Entry) → IsRunFrom (fresh edition owner) entries → Recalls (tables_from (fresh edition owner) entries) (last_entered entries)
+run_recalls edition owner [] run = tt
+run_recalls edition owner (e ∷ past) run =
+    recalls (tables_from (fresh edition owner) past) (last_entered past) e (run_sound (fresh edition owner) past (fresh_sound edition owner)) run.1 (run_recalls edition owner past run.0)
+
+pub recalled : (h : Trace) → IsRun h → (n : ℕ) (c : Client) → client_at (tables_of h) n ≡ Some c → (w : ℕ) → focused c ≡ Some w → last_entered h.entries n ≡ Some (c.user, w)
+recalled h run n c is w at =
+    ap (last_entered h.entries) (sym (row_serial (λ (r : Client). r.serial) (tables_of h).clients n c is))
+    ∙ some_has (λ (c : Client). (w : ℕ) → focused c ≡ Some w → last_entered h.entries c.serial ≡ Some (c.user, w)) c (tables_of h).clients (some_row (λ (r : Client). r.serial) (tables_of h).clients n c is) (run_recalls h.edition h.owner h.entries run) w at

@@ -1,0 +1,281 @@
+-- How each command moves the focus of clients: one row a command.
+use Rattle.std.proofs.Common.{◌≡◌, ℕ, zero, suc, ◌+◌, ◌<◌, Bool, true, false, not, List, [], ◌∷◌, ◌++◌, Option, Some, None, Ok, Err, refl, ap, sym, ◌∙◌, subst, map, filter, take, drop, inl, inr, ⊎_elim, arith}
+use Rattle.std.specs.Prelude.{◌⊎◌, if◌then◌else◌, ◌==◌, slice_get, slice_set, unwrap_or}
+use Rattle.std.specs.List.{AllByRecursion, insert}
+use Rattle.std.specs.Option.{option_and_then}
+use Rattle.std.proofs.lemmas.Bool.Decides.{nat_tests}
+use Rattle.acl.specs.declared.user_id.UserId.{UserId}
+use Rattle.acl.specs.declared.faults.AclFault.{AclFault}
+use Rattle.acl.specs.declared.act.Act.{Act}
+use Rattle.acl.specs.declared.act.Act.TheVariants as act
+use Rattle.acl.specs.declared.act.Object.{Object}
+use Rattle.acl.specs.Names.{named_by}
+use Rattle.acl.specs.Commands.{change_fault}
+use Rattle.command_lang.specs.command.Command.{Command as Order}
+use Rattle.command_lang.specs.command.Command.TheVariants as command
+use Rattle.regions.specs.declared.shown.Shown.{Shown}
+use Rattle.regions.specs.Layouts.{Arrangement, empty, emptied}
+use Rattle.session_model.specs.declared.event.Reason.{Reason}
+use Rattle.session_model.specs.declared.event.Reason.TheVariants.{Detached, Killed, Quit, SingleUser}
+use Rattle.session_model.specs.declared.message.Message.TheVariants as message
+use Rattle.session_model.specs.declared.refusal.Refusal.{Refusal}
+use Rattle.session_model.specs.declared.refusal.Refusal.TheVariants.{Acl, Windows, NoWindow}
+use Rattle.session_model.specs.declared.refusal.WindowsFault.TheVariants.{NoSuchWindow}
+use Rattle.session_model.specs.Tables.{Tables, Window, Client, row_of, with_row, window_at, client_at, with_layout, focused, known_users}
+use Rattle.session_model.specs.Naming.{names_of, window_named, window_after, window_before}
+use Rattle.session_model.specs.Lines.{Caller}
+use Rattle.session_model.specs.Deeds as deeds
+use Rattle.session_model.specs.Deeds.{Deed, Answer, given, removes, parts, closes, is_of, without_window, without_windows, selects, enters, arranges, entering, former_of, shown_in_focus, showing, hearing}
+use Rattle.session_model.specs.Commands.{does, caller_client, on_client, mask_entries}
+use Rattle.session_model.specs.Promises.{SomeOf}
+use Rattle.session_model.specs.Sound.{Rises, client_serials}
+use Rattle.session_laws.specs.Focus.{entered_by}
+use Rattle.session_laws.proofs.Lists.{all_weaken, all_filter, all_map, members, some_weaken, equal, itself}
+use Rattle.session_laws.proofs.Doing.{Either, is_plain, by_given, by_unless, by_refused, by_fault, by_shown, caller_is}
+use Rattle.session_laws.proofs.Unread.{row_at}
+use Rattle.session_laws.proofs.Moving.{AllRights, change_rights, add_rights, group_rights, mask_rights}
+
+-- ---- acts that enter no window
+
+pub rights_enter : (acts : List Act) → AllRights acts → entered_by acts ≡ None
+rights_enter [] all = refl
+rights_enter (act.Entered user window ∷ acts) all = absurd (let is : false ≡ true = all.0 in cc (is))
+rights_enter (act.Opened by window ∷ acts) all = absurd (let is : false ≡ true = all.0 in cc (is))
+rights_enter (a ∷ acts) all = rights_enter acts all.1
+
+parted_enter : (cs : List Client) (more : List Act) → entered_by (map (λ (c : Client). act.Parted c.serial) cs ++ more) ≡ entered_by more
+parted_enter [] more = refl
+parted_enter (c ∷ cs) more = parted_enter cs more
+
+closed_enter : (ws : List Window) (more : List Act) → entered_by (map (λ (w : Window). act.Closed w.serial) ws ++ more) ≡ entered_by more
+closed_enter [] more = refl
+closed_enter (w ∷ ws) more = closed_enter ws more
+
+-- ---- how a client's row goes on
+
+-- what its focus shows was in its focus, or was entered so
+abbrev pub GoesOn : (ℕ → Option (UserId × ℕ)) → Client → Client → Type 0
+GoesOn f c d =
+    (d.serial ≡ c.serial) × (d.user ≡ c.user)
+    × ((w : ℕ) → focused d ≡ Some w → (f c.serial ≡ Some (c.user, w)) ⊎ ((f c.serial ≡ None) × (focused c ≡ Some w)))
+
+abbrev pub AllGoOn : List Client → (ℕ → Option (UserId × ℕ)) → List Client → Type 0
+AllGoOn cs f ds = AllByRecursion (λ d. SomeOf (λ c. GoesOn f c d) cs) ds
+
+pub alike : (cs : List Client) (f g : ℕ → Option (UserId × ℕ)) (ds : List Client) → ((n : ℕ) → g n ≡ f n) → AllGoOn cs f ds → AllGoOn cs g ds
+alike cs f g ds same all = all_weaken (λ d. SomeOf (λ c. GoesOn f c d) cs) (λ d. SomeOf (λ c. GoesOn g c d) cs) ds
+    (λ d some. some_weaken (λ c. GoesOn f c d) (λ c. GoesOn g c d) cs (λ c go. (
+      go.0,
+      go.1,
+      λ w is. ⊎_elim
+          (λ (here : f c.serial ≡ Some (c.user, w)). inl (same c.serial ∙ here)) (λ old. inr (same c.serial ∙ old.0, old.1)) (go.2 w is),
+    )) some) all
+
+-- its focus shows the same, or nothing
+abbrev pub Same : Client → Client → Type 0
+Same c d = (d.serial ≡ c.serial) × (d.user ≡ c.user) × ((w : ℕ) → focused d ≡ Some w → focused c ≡ Some w)
+
+abbrev pub Kept : List Client → List Client → Type 0
+Kept cs ds = AllByRecursion (λ d. SomeOf (λ c. Same c d) cs) ds
+
+pub kept_same : (cs : List Client) → Kept cs cs
+kept_same cs = all_weaken (λ d. SomeOf (λ c. c ≡ d) cs) (λ d. SomeOf (λ c. Same c d) cs) cs
+    (λ d some. some_weaken (λ c. c ≡ d) (λ c. Same c d) cs (λ c e. (sym (ap (λ (x : Client). x.serial) e), sym (ap (λ (x : Client). x.user) e), λ w is. ap focused e ∙ is)) some) (members cs)
+
+pub kept_fewer : (p : Client → Bool) (cs ds : List Client) → Kept cs ds → Kept cs (filter p ds)
+kept_fewer p cs ds all = all_filter (λ d. SomeOf (λ c. Same c d) cs) p ds all
+
+pub kept_map : (g : Client → Client) (cs ds : List Client) → ((d : Client) → Same d (g d)) → Kept cs ds → Kept cs (map g ds)
+kept_map g cs ds same all = all_map (λ d. SomeOf (λ c. Same c d) cs) g ds
+    (all_weaken (λ d. SomeOf (λ c. Same c d) cs) (λ d. SomeOf (λ c. Same c (g d)) cs) ds
+    (λ d some. some_weaken (λ c. Same c d) (λ c. Same c (g d)) cs (λ c s. let t = same d in (t.0 ∙ s.0, t.1 ∙ s.1, λ w is. s.2 w (t.2 w is))) some) all)
+
+pub kept_go : (cs ds : List Client) (f : ℕ → Option (UserId × ℕ)) → ((n : ℕ) → f n ≡ None) → Kept cs ds → AllGoOn cs f ds
+kept_go cs ds f none all = all_weaken (λ d. SomeOf (λ c. Same c d) cs) (λ d. SomeOf (λ c. GoesOn f c d) cs) ds
+    (λ d some. some_weaken (λ c. Same c d) (λ c. GoesOn f c d) cs (λ c s. (s.0, s.1, λ w is. inr (none c.serial, s.2 w is))) some) all
+
+-- ---- windows that are closed
+
+emptied_window : (serial : ℕ) (o : Option ℕ) (back w : ℕ) → (emptied serial (record { window = o; back = back })).window ≡ Some w → o ≡ Some w
+emptied_window serial None back w is = is
+emptied_window serial (Some n) back w is = on (n == serial) is where
+  on : (b : Bool) → (let s : Shown = if b then record { window = None; back = back } else record { window = Some n; back = back } in s).window ≡ Some w → Some n ≡ Some w
+  on true is = absurd (cc (is))
+  on false is = is
+
+-- the window that a region shows
+abbrev at_place : List Shown → ℕ → Option ℕ
+at_place shown n = option_and_then (λ (s : Shown). s.window) (slice_get shown n)
+
+emptied_place : (serial : ℕ) (shown : List Shown) (n w : ℕ) → at_place (map (emptied serial) shown) n ≡ Some w → at_place shown n ≡ Some w
+emptied_place serial [] n w is = is
+emptied_place serial (s ∷ shown) zero w is = emptied_window serial s.window s.back w is
+emptied_place serial (s ∷ shown) (suc n) w is = emptied_place serial shown n w is
+
+pub without_kept : (cs : List Client) (ws : List Window) (ds : List Client) → Kept cs ds → Kept cs (without_windows ws ds)
+without_kept cs [] ds all = all
+without_kept cs (w ∷ ws) ds all = without_kept cs ws (map (without_window w.serial) ds) (kept_map (without_window w.serial) cs ds (λ d. (refl, refl, λ v is. emptied_place w.serial d.layout.shown d.layout.focus v is)) all)
+
+-- ---- a page that changes
+
+insert_place : (shown : List Shown) (n w : ℕ) → at_place (take (suc n) shown ++ empty ∷ drop (suc n) shown) n ≡ Some w → at_place shown n ≡ Some w
+insert_place [] zero w is = absurd (cc (is))
+insert_place [] (suc n) w is = is
+insert_place (s ∷ shown) zero w is = is
+insert_place (s ∷ shown) (suc n) w is = insert_place shown n w is
+
+split_place : (shown : List Shown) (n w : ℕ) → at_place (insert shown (n + 1) empty) n ≡ Some w → at_place shown n ≡ Some w
+split_place shown n w is = let e : n + 1 ≡ suc n = omega arith in insert_place shown n w (ap (λ m. at_place (insert shown m empty) n) (sym e) ∙ is)
+
+pub alone_place : (o : Option Shown) (w : ℕ) → (unwrap_or o empty).window ≡ Some w → option_and_then (λ (s : Shown). s.window) o ≡ Some w
+alone_place None w is = is
+alone_place (Some s) w is = is
+
+scrolled_place : (shown : List Shown) (n back w : ℕ) → at_place (slice_set shown n (record (unwrap_or (slice_get shown n) empty) { back = back })) n ≡ Some w → at_place shown n ≡ Some w
+scrolled_place [] n back w is = is
+scrolled_place (s ∷ shown) zero back w is = is
+scrolled_place (s ∷ shown) (suc n) back w is = scrolled_place shown n back w is
+
+module _ (f : ℕ → Option (UserId × ℕ)) (c x : Client) (own : GoesOn f c x) (others : (n : ℕ) → (c.serial == n) ≡ false → f n ≡ None) where
+  goes_same : (r : Client) → (c.serial == r.serial) ≡ false → GoesOn f r r
+  goes_same r off = (refl, refl, λ w is. inr (others r.serial off, is))
+
+  later_rows : (cs : List Client) → AllByRecursion (λ m. c.serial < m) (client_serials cs) → AllByRecursion (λ d. SomeOf (λ r. GoesOn f r d) cs) cs
+  later_rows [] above = tt
+  later_rows (r ∷ cs) above =
+      let lt : c.serial < r.serial = above.0 in
+      let off : (c.serial == r.serial) ≡ false = grind (arith, nat_tests, lt) in
+      (inl (goes_same r off), all_weaken (λ d. SomeOf (λ q. GoesOn f q d) cs) (λ d. SomeOf (λ q. GoesOn f q d) (r ∷ cs)) cs (λ d some. inr some) (later_rows cs above.1))
+
+  other : (a b : ℕ) → (a == b) ≡ false → (b == a) ≡ false
+  other a b is = grind (arith, nat_tests, is)
+
+  pub row_goes : (cs : List Client) (next : ℕ) → Rises (client_serials cs) next → row_of (λ (r : Client). r.serial) cs c.serial ≡ Some c → AllGoOn cs f (with_row (λ (r : Client). r.serial) cs c.serial x)
+  row_goes [] next rise is = absurd (cc (is))
+  row_goes (r ∷ cs) next rise is = on (r.serial == c.serial) refl is (row_goes cs next rise.2) where
+    on : (b : Bool) → (r.serial == c.serial) ≡ b → (if b then Some r else row_of (λ (q : Client). q.serial) cs c.serial) ≡ Some c
+        → (row_of (λ (q : Client). q.serial) cs c.serial ≡ Some c → AllGoOn cs f (with_row (λ (q : Client). q.serial) cs c.serial x))
+        → AllGoOn (r ∷ cs) f (if b then x ∷ cs else r ∷ with_row (λ (q : Client). q.serial) cs c.serial x)
+    on true at is rest =
+        let e : r ≡ c = cc (is) in (
+          inl (subst (λ (q : Client). GoesOn f q x) (sym e) own),
+          all_weaken (λ d. SomeOf (λ q. GoesOn f q d) cs) (λ d. SomeOf (λ q. GoesOn f q d) (r ∷ cs)) cs (λ d some. inr some)
+              (later_rows cs (subst (λ n. AllByRecursion (λ m. n < m) (client_serials cs)) (equal r.serial c.serial at) rise.1)),
+        )
+    on false at is rest = (
+      inl (goes_same r (other r.serial c.serial at)),
+      all_weaken (λ d. SomeOf (λ q. GoesOn f q d) cs) (λ d. SomeOf (λ q. GoesOn f q d) (r ∷ cs)) (with_row (λ (q : Client). q.serial) cs c.serial x) (λ d some. inr some) (rest is),
+    )
+
+-- ---- the rows
+
+abbrev pub is_mine : Option ℕ → ℕ → Bool
+is_mine None n = false
+is_mine (Some m) n = m == n
+
+abbrev pub entered_of : Caller → List Act → ℕ → Option (UserId × ℕ)
+entered_of k acts n = if is_mine k.client n then entered_by acts else None
+
+pub record HasGone (t : Tables) (k : Caller) (d : Deed) : Type 0 where
+  pub all : AllGoOn t.clients (entered_of k d.acts) d.tables.clients
+
+pub none_if : {A : Type 0} (b : Bool) → (if b then (let none : Option A = None in none) else None) ≡ None
+none_if true = refl
+none_if false = refl
+
+calm : (t : Tables) (k : Caller) (d : Deed) → entered_by d.acts ≡ None → Kept t.clients d.tables.clients → HasGone t k d
+calm t k d none kept = record { all = kept_go t.clients d.tables.clients (entered_of k d.acts) (λ n. ap (λ o. if is_mine k.client n then o else None) none ∙ none_if (is_mine k.client n)) kept }
+
+rights : (t : Tables) (k : Caller) (acts : List Act) → AllRights acts → HasGone t k (deeds.acting t acts)
+rights t k acts all = calm t k (deeds.acting t acts) (rights_enter acts all) (kept_same t.clients)
+
+lists : (t : Tables) (k : Caller) (bytes : List ℕ) → HasGone t k (deeds.listing t bytes)
+lists t k bytes = calm t k (deeds.listing t bytes) refl (kept_same t.clients)
+
+caller_row : (t : Tables) (o : Option ℕ) (c : Client) → option_and_then (client_at t) o ≡ Some c → client_at t c.serial ≡ Some c
+caller_row t None c is = absurd (cc (is))
+caller_row t (Some n) c is = row_at t n c is
+
+parts_gone : (t : Tables) (k : Caller) (p : Client → Bool) (why : Reason) → HasGone t k (parts p why t)
+parts_gone t k p why = calm t k (parts p why t) (sym (ap entered_by (Rattle.session_laws.proofs.Inputs.append_nil (parts p why t).acts)) ∙ parted_enter (filter p t.clients) []) (kept_fewer (λ c. not (p c)) t.clients t.clients (kept_same t.clients))
+
+removal_gone : (t : Tables) (k : Caller) (o : Option UserId) → HasGone t k (removes o t)
+removal_gone t k None = calm t k (removes None t) refl (kept_same t.clients)
+removal_gone t k (Some u) = calm t k (removes (Some u) t) (parted_enter (filter (is_of u) t.clients) (act.Gone u ∷ [])) (kept_fewer (λ c. not (is_of u c)) t.clients t.clients (kept_same t.clients))
+
+closes_gone : (t : Tables) (k : Caller) (p : Window → Bool) (why : Reason) → HasGone t k (closes p why t)
+closes_gone t k p why = calm t k (closes p why t) (sym (ap entered_by (Rattle.session_laws.proofs.Inputs.append_nil (closes p why t).acts)) ∙ closed_enter (filter p t.windows) []) (without_kept t.clients (filter p t.windows) t.clients (kept_same t.clients))
+
+quit_gone : (t : Tables) (k : Caller) → HasGone t k (deeds.both (closes (λ w. true) Quit t) (parts (λ c. true) Quit))
+quit_gone t k =
+    let first : Deed = closes (λ w. true) Quit t in
+    let second : Deed = parts (λ c. true) Quit first.tables in
+    calm t k (deeds.both first (parts (λ c. true) Quit))
+    (closed_enter (filter (λ (w : Window). true) t.windows) second.acts ∙ sym (ap entered_by (Rattle.session_laws.proofs.Inputs.append_nil second.acts)) ∙ parted_enter (filter (λ (c : Client). true) first.tables.clients) [])
+    (kept_fewer (λ c. not true) t.clients first.tables.clients (without_kept t.clients (filter (λ (w : Window). true) t.windows) t.clients (kept_same t.clients)))
+
+fault_gone : (t : Tables) (k : Caller) (f : Option AclFault) (objects : Option (List Object)) (acts : List Object → List Act) → ((all : List Object) → AllRights (acts all))
+    → Either (HasGone t k) (elim f [ Some f ↦ Err (Acl f) | None ↦ given objects (Windows NoSuchWindow) (λ all. Ok (deeds.acting t (acts all))) ])
+fault_gone t k f objects acts all = by_fault (HasGone t k) t f objects acts (λ os. rights t k (acts os) (all os))
+
+module _ (t : Tables) (k : Caller) (s : Rises (client_serials t.clients) t.next_client) where
+  mine_here : (c : Client) → caller_client t k ≡ Some c → is_mine k.client c.serial ≡ true
+  mine_here c is = ap (λ o. is_mine o c.serial) (caller_is t k.client c is) ∙ itself c.serial
+
+  mine_off : (c : Client) (n : ℕ) → caller_client t k ≡ Some c → (c.serial == n) ≡ false → is_mine k.client n ≡ false
+  mine_off c n is off = ap (λ o. is_mine o n) (caller_is t k.client c is) ∙ off
+
+  -- the client's focus may go elsewhere, and its user enters what it shows
+  entered : (c : Client) (l : Arrangement) → caller_client t k ≡ Some c → HasGone t k (enters t c l)
+  entered c l is =
+      let d : Client = with_layout l c in
+      let acts : List Act = entering c.user (focused d) in record {
+        all = row_goes (entered_of k acts) c d
+            (refl, refl, λ w at. inl (ap (λ (b : Bool). if b then entered_by acts else None) (mine_here c is) ∙ ap (λ o. entered_by (entering c.user o)) at))
+            (λ n off. ap (λ (b : Bool). if b then entered_by acts else None) (mine_off c n is off))
+            t.clients t.next_client s (caller_row t k.client c is);
+      }
+
+  arranged : (c : Client) (l : Arrangement) → caller_client t k ≡ Some c → ((w : ℕ) → at_place l.shown l.focus ≡ Some w → focused c ≡ Some w) → HasGone t k (arranges t c l)
+  arranged c l is same = record {
+    all = row_goes (entered_of k []) c (with_layout l c) (refl, refl, λ w at. inr (none_if (is_mine k.client c.serial), same w at)) (λ n off. none_if (is_mine k.client n)) t.clients t.next_client s (caller_row t k.client c is);
+  }
+
+  shown : (o : Client → Option Window) (r : Refusal) → is_plain r ≡ true → Either (HasGone t k) (on_client t k (λ c. given (o c) r (λ w. Ok (selects t c w))))
+  shown o r is = by_shown (HasGone t k) t k o r is (λ c w at there. entered c _ at)
+
+  pub gone : (c : Order) → Either (HasGone t k) (does t k c)
+  gone (command.Acladd names) = fault_gone t k (change_fault t.owner (known_users t) (names_of t names)) _ _ (λ all. add_rights (known_users t) (names_of t names) all)
+  gone (command.Aclchg names bits list) = fault_gone t k (change_fault t.owner (known_users t) (names_of t names)) _ _ (λ all. change_rights (known_users t) (names_of t names) bits all)
+  gone (command.Acldel word) = by_unless (HasGone t k) _ _ _ (λ f. refl) (removal_gone t k (named_by word))
+  gone (command.Aclgrp word None) = by_unless (HasGone t k) _ _ _ (λ f. refl) (lists t k _)
+  gone (command.Aclgrp word (Some leader)) = by_unless (HasGone t k) _ _ _ (λ f. refl) (rights t k _ (group_rights (named_by word) _))
+  gone (command.Aclumask masks) = by_unless (HasGone t k) _ _ _ (λ f. refl) (rights t k _ (mask_rights k.user (mask_entries t masks)))
+  gone (command.Multiuser true) = calm t k _ refl (kept_same t.clients)
+  gone (command.Multiuser false) = calm t k _ (sym (ap entered_by (Rattle.session_laws.proofs.Inputs.append_nil (parts (λ c. not (is_of t.owner c)) SingleUser t).acts)) ∙ parted_enter (filter (λ c. not (is_of t.owner c)) t.clients) [])
+      (kept_fewer (λ c. not (not (is_of t.owner c))) t.clients t.clients (kept_same t.clients))
+  gone (command.Writelock mode) = by_given (HasGone t k) k.window _ _ refl (λ w is. rights t k _ (refl, tt))
+  gone (command.Defwritelock mode) = rights t k _ (refl, tt)
+  gone (command.Wall bytes) = calm t k _ refl (kept_map (hearing (message.Text _)) t.clients t.clients (λ c. (refl, refl, λ w is. is)) (kept_same t.clients))
+  gone command.Screen = lists t k _
+  gone command.Windows = lists t k _
+  gone command.Displays = lists t k _
+  gone (command.Select word) = shown (λ c. window_named t.windows word) (Windows NoSuchWindow) refl
+  gone command.Next = shown (λ c. window_after t.windows k.window) NoWindow refl
+  gone command.Prev = shown (λ c. window_before t.windows k.window) NoWindow refl
+  gone command.Other = shown (λ c. option_and_then (window_at t) (former_of c)) NoWindow refl
+  gone (command.Split vertical) = by_given (HasGone t k) (caller_client t k) _ _ refl (λ c is. by_unless (HasGone t k) _ _ _ (λ f. refl) (arranged c _ is (λ w at. split_place c.layout.shown c.layout.focus w at)))
+  gone command.Focus = by_given (HasGone t k) (caller_client t k) _ _ refl (λ c is. entered c _ is)
+  gone command.Remove = by_given (HasGone t k) (caller_client t k) _ _ refl (λ c is. by_refused (HasGone t k) _ _ _ refl (λ no. entered c _ is))
+  gone command.Only = by_given (HasGone t k) (caller_client t k) _ _ refl (λ c is. arranged c _ is (λ w at. alone_place (slice_get c.layout.shown c.layout.focus) w at))
+  gone (command.Scrollview n) = by_given (HasGone t k) (caller_client t k) _ _ refl (λ c is. arranged c _ is (λ w at. scrolled_place c.layout.shown c.layout.focus n w at))
+  gone command.Fit = by_given (HasGone t k) (caller_client t k) _ _ refl (λ c is. by_given (HasGone t k) k.window _ _ refl (λ w at. by_given (HasGone t k) _ _ _ refl (λ box there. by_refused (HasGone t k) _ _ _ refl (λ no. calm t k _ refl (kept_same t.clients)))))
+  gone (command.Title bytes) = by_given (HasGone t k) k.window _ _ refl (λ w at. by_refused (HasGone t k) _ _ _ refl (λ no. calm t k _ refl (kept_same t.clients)))
+  gone (command.Number n) = by_given (HasGone t k) k.window _ _ refl (λ w at. by_refused (HasGone t k) _ _ _ refl (λ no. calm t k _ refl (kept_same t.clients)))
+  gone command.Clear = by_given (HasGone t k) k.window _ _ refl (λ w at. calm t k _ refl (kept_same t.clients))
+  gone command.Reset = by_given (HasGone t k) k.window _ _ refl (λ w at. calm t k _ refl (kept_same t.clients))
+  gone (command.Encoding coding) = by_given (HasGone t k) k.window _ _ refl (λ w at. calm t k _ refl (kept_same t.clients))
+  gone (command.Stuff bytes) = by_given (HasGone t k) k.window _ _ refl (λ w at. calm t k _ refl (kept_same t.clients))
+  gone command.Detach = by_given (HasGone t k) (caller_client t k) NoWindow (λ c. Ok (parts (λ (d : Client). d.serial == c.serial) Detached t)) refl (λ c is. parts_gone t k _ Detached)
+  gone command.Kill = by_given (HasGone t k) k.window NoWindow (λ (w : Window). Ok (closes (λ (v : Window). v.serial == w.serial) Killed t)) refl (λ w at. closes_gone t k _ Killed)
+  gone command.Quit = quit_gone t k

@@ -1,0 +1,230 @@
+-- Tables stay fit.
+use Rattle.std.proofs.Common.{◌≡◌, ℕ, zero, suc, ◌+◌, ◌<◌, Bool, true, false, List, [], ◌∷◌, ◌++◌, Option, Some, None, Ok, Err, Result, refl, ap, sym, ◌∙◌, subst, map, take, find, arith}
+use Rattle.std.specs.Prelude.{if◌then◌else◌, ◌==◌, ◌||◌, MatchOption, unwrap_or, not}
+use Rattle.std.specs.List.{AllByRecursion, list_any, range_with_len}
+use Rattle.std.specs.Option.{option_map}
+use Rattle.acl.specs.declared.edition.Edition.{Edition}
+use Rattle.acl.specs.declared.user_id.UserId.{UserId}
+use Rattle.command_lang.specs.command.Command.{Command as Order}
+use Rattle.command_lang.specs.fault.ParseFault.{ParseFault}
+use Rattle.keys.specs.Grammar.{Item, typed, bound, line}
+use Rattle.regions.specs.declared.shown.Shown.{Shown}
+use Rattle.regions.specs.Layouts.{empty, kept_alone, Arrangement}
+use Rattle.terminal_model.specs.Shows.{View}
+use Rattle.session_model.specs.declared.event.Effect.{Effect}
+use Rattle.session_model.specs.declared.event.Reason.TheVariants as reason
+use Rattle.session_model.specs.declared.check.Check.TheVariants.{Must as must}
+use Rattle.session_model.specs.declared.message.Message.{Message}
+use Rattle.session_model.specs.declared.refusal.Refusal.{Refusal}
+use Rattle.session_model.specs.declared.refusal.Refusal.TheVariants.{BadSize}
+use Rattle.session_model.specs.Trace.{Happening, Attach, Detach, Keys, Command, Resize, Open, Output, Closed, Draw, Entry}
+use Rattle.session_model.specs.Tables.{Tables, Window, Client, fresh, window_at, client_at, with_client, focused, is_known}
+use Rattle.session_model.specs.Naming.{lowest, free_number, has_number}
+use Rattle.session_model.specs.Lines.{caller_of, line_caller, read_line}
+use Rattle.session_model.specs.Checks.{checks, first_fault, verdicts}
+use Rattle.session_model.specs.Deeds.{Deed, Answer, changing, parts, closes, hearing}
+use Rattle.session_model.specs.Commands.{does}
+use Rattle.session_model.specs.Keying.{taken, step_items, typed_bytes, command_item}
+use Rattle.session_model.specs.Events.{outcome, Outcome, finished, done, where_passed, attach_checks, attaches, new_client, open_checks, opens, new_window, reply_of, is_client_size, resized, outputs, reading, keys_outcome, told, ordered, keyed, with_listed, message_of}
+use Rattle.session_model.specs.Events as events
+use Rattle.session_model.specs.Granted.{granted_view}
+use Rattle.session_model.specs.Run.{drawn, drawn_on, with_drawn, after, tables_from}
+use Rattle.session_model.specs.Promises.{unread}
+use Rattle.session_laws.specs.Fit.{IsOpen, ShowsOpen, AreFit}
+use Rattle.session_laws.proofs.Lists.{all_weaken, all_append, all_map}
+use Rattle.session_laws.proofs.Numbers.{serial_of}
+use Rattle.session_laws.proofs.Doing.{Either}
+use Rattle.session_laws.proofs.Moving.{serials}
+use Rattle.session_laws.proofs.Unread.{SameClients, typing_clients}
+use Rattle.session_laws.proofs.Settling.{told_same}
+use Rattle.session_laws.proofs.Agreeing.{has, has_row, has_append}
+use Rattle.session_laws.proofs.Sounding.{lasting, map_append, fresh_sound}
+use Rattle.session_laws.proofs.Noting.{acts_agree, fresh_agrees}
+use Rattle.session_laws.proofs.Small.{is_small, is_small_order, read_small, keys_small}
+use Rattle.session_laws.proofs.Fitting.{ShowsIn, PageIn, IsBelow, Holds, holds_client, holds_window, holds_closed, holds, page_of, get_all, lowest_there, number_there, at_there, has_there, some_has}
+use Rattle.session_laws.proofs.Outcomes as outcomes
+
+-- ---- messages
+
+told_holds : (w : Tables) (client : ℕ) (m : Message) → Holds w → Holds (told w client m)
+told_holds w client m h = told_same Holds w client m h (λ c is. holds_client w (hearing m c) (page_of w client c is h) h)
+
+-- ---- keys
+
+keyed_holds : (v : Tables) (client : ℕ) (m : List ℕ → Message) (a : Answer) → Holds v → Either (λ d. Holds d.tables) a → Holds (keyed v client m a).tables
+keyed_holds v client m (Err r) h plain = told_holds v client _ h
+keyed_holds v client m (Ok d) h all = on d.lists where
+  on : (o : Option (List ℕ)) → Holds (with_listed client m o d).tables
+  on None = all
+  on (Some bytes) = told_holds d.tables client (m bytes) all
+
+order_holds : (v : Tables) (d : Client) (order : Order) → is_small order ≡ true → Holds v → Holds (events.by_line v d (Ok order)).deed.tables
+order_holds v d order small h = on (first_fault v (checks v (caller_of v d) order)) where
+  on : (o : Option Refusal) → Holds (keyed v d.serial (message_of order) (elim o as (λ _. Answer) [ Some r ↦ Err r | None ↦ does v (caller_of v d) order ])).tables
+  on (Some r) = told_holds v d.serial _ h
+  on None = keyed_holds v d.serial (message_of order) (does v (caller_of v d) order) h (holds v (caller_of v d) h (λ w is. at_there v (focused d) w is) order small)
+
+read_holds : (v : Tables) (d : Client) (r : Result Order ParseFault) → ((order : Order) → r ≡ Ok order → is_small order ≡ true) → Holds v → Holds (events.by_line v d r).deed.tables
+read_holds v d (Err f) small h = told_holds v d.serial _ h
+read_holds v d (Ok order) small h = order_holds v d order (small order refl) h
+
+item_holds : (v : Tables) (d : Client) (item : Option Item) → is_small_order item ≡ true → Holds v → Holds (ordered v d item).deed.tables
+item_holds v d None small h = h
+item_holds v d (Some (typed b)) small h = h
+item_holds v d (Some (bound order)) small h = order_holds v d order small h
+item_holds v d (Some (line [])) small h = h
+item_holds v d (Some (line (b ∷ bs))) small h = read_holds v d (read_line (b ∷ bs)) (λ order is. read_small (b ∷ bs) order is) h
+
+-- the same clients, but for keys and messages, have the same pages
+pages_read : (ns : List ℕ) (cs : List Client) → AllByRecursion (PageIn ns) (map unread cs) → AllByRecursion (PageIn ns) cs
+pages_read ns [] all = tt
+pages_read ns (c ∷ cs) all = (all.0, pages_read ns cs all.1)
+
+same_holds : (t : Tables) (cs : List Client) → SameClients t cs → Holds t → Holds (record t { clients = cs })
+same_holds t cs same h = record {
+  numbers = h.numbers;
+  pages = pages_read (serials t) cs (subst (AllByRecursion (PageIn (serials t))) (sym same) (all_map (PageIn (serials t)) unread t.clients h.pages));
+}
+
+-- ---- what comes
+
+range_below : (from len : ℕ) → AllByRecursion (λ n. n < from + len) (range_with_len from len)
+range_below from zero = tt
+range_below from (suc len) = (omega arith, all_weaken (λ n. n < from + 1 + len) (λ n. n < from + suc len) (range_with_len (from + 1) len) (λ n lt. omega (arith, lt)) (range_below (from + 1) len))
+
+found_below : (p : ℕ → Bool) (ns : List ℕ) → AllByRecursion (λ n. n < 40) ns → unwrap_or (find p ns) 0 < 40
+found_below p [] all = omega arith
+found_below p (n ∷ ns) all = on (p n) (found_below p ns all.1) where
+  on : (b : Bool) → unwrap_or (find p ns) 0 < 40 → unwrap_or (if b then Some n else find p ns) 0 < 40
+  on true rest = all.0
+  on false rest = rest
+
+free_below : (ws : List Window) → unwrap_or (free_number ws) 0 < 40
+free_below ws = found_below (λ n. not (list_any (has_number n) ws)) (range_with_len 0 40) (all_weaken (λ n. n < 0 + 40) (λ n. n < 40) (range_with_len 0 40) (λ n lt. omega (arith, lt)) (range_below 0 40))
+
+first_shown : (ws : List Window) (o : Option Window) → lowest ws ≡ o → MatchOption (option_map serial_of o) (Unit {0}) (λ n. has (map serial_of ws) n ≡ true)
+first_shown ws None is = tt
+first_shown ws (Some w) is = has_there ws w (lowest_there ws w is)
+
+more_shown : (t : Tables) (n : ℕ) → AllByRecursion (PageIn (serials t)) t.clients → AllByRecursion (PageIn (serials t ++ n ∷ [])) t.clients
+more_shown t n all = all_weaken (PageIn (serials t)) (PageIn (serials t ++ n ∷ [])) t.clients (λ c page. all_weaken (ShowsIn (serials t)) (ShowsIn (serials t ++ n ∷ [])) c.layout.shown (λ s is. one s.window is) page) all where
+  one : (o : Option ℕ) → MatchOption o (Unit {0}) (λ m. has (serials t) m ≡ true) → MatchOption o (Unit {0}) (λ m. has (serials t ++ n ∷ []) m ≡ true)
+  one None is = tt
+  one (Some m) is = has_append (serials t) (n ∷ []) m ∙ ap (λ b. b || has (n ∷ []) m) is
+
+opened : (t : Tables) (user : UserId) (w : Window) → IsBelow w → Holds t → Holds (opens t user w).tables
+opened t user w below h = record {
+  numbers = all_append IsBelow t.windows (w ∷ []) h.numbers (below, tt);
+  pages = subst (λ ns. AllByRecursion (PageIn ns) t.clients) (sym (map_append serial_of t.windows w)) (more_shown t w.serial h.pages);
+}
+
+-- ---- events
+
+abbrev HoldsIn : Outcome → Type 0
+HoldsIn o = Holds o.tables
+
+-- whatever the acts are
+by_deed : (u v : Tables) → v.windows ≡ u.windows → v.clients ≡ u.clients → Holds u → Holds v
+by_deed u v windows clients h = record {
+  numbers = subst (AllByRecursion IsBelow) (sym windows) h.numbers;
+  pages = subst (λ ws. AllByRecursion (PageIn (map serial_of ws)) v.clients) (sym windows) (subst (AllByRecursion (PageIn (serials u))) (sym clients) h.pages);
+}
+
+ended : (t : Tables) (d : Deed) (vs : List Rattle.session_model.specs.declared.verdict.Verdict.Verdict) (reply : Rattle.session_model.specs.Trace.Reply) → Holds d.tables → HoldsIn (finished t vs reply d)
+ended t d vs reply h = by_deed d.tables (finished t vs reply d).tables refl refl h
+
+deed_holds : (a : Answer) (d : Deed) → a ≡ Ok d → Either (λ (e : Deed). Holds e.tables) a → Holds d.tables
+deed_holds (Ok e) d is h = let same : e ≡ d = cc (is) in subst (λ (x : Deed). Holds x.tables) same h
+deed_holds (Err r) d is h = absurd (cc (is))
+
+resized_page : (ns : List ℕ) (rows columns : ℕ) (c : Client) → PageIn ns c → PageIn ns (resized rows columns c)
+resized_page ns rows columns c page = on (Rattle.regions.specs.Pages.has_room c.layout.shape rows columns) where
+  on : (b : Bool) → AllByRecursion (ShowsIn ns) (let l : Arrangement = if b then c.layout else kept_alone c.layout in l).shown
+  on true = page
+  on false = (get_all (ShowsIn ns) c.layout.shown c.layout.focus empty tt page, tt)
+
+pub held : (t : Tables) (event : Happening) → Holds t → HoldsIn (outcome t event)
+held t (Attach user rows columns) h =
+    let c : Client = new_client t user rows columns in
+    outcomes.passed HoldsIn t (verdicts t (attach_checks t user rows columns)) (first_fault t (attach_checks t user rows columns)) (reply_of 0 t.next_client 0 None) (attaches t c) (λ r is. h)
+    (λ is. record { numbers = h.numbers; pages = all_append (PageIn (serials t)) t.clients (c ∷ []) h.pages ((first_shown t.windows (lowest t.windows) refl, tt), tt) })
+held t (Detach client) h =
+    outcomes.found HoldsIn t (λ c. finished t [] done (parts (λ d. d.serial == client) reason.Detached t)) (client_at t client) h
+    (λ c is. record { numbers = h.numbers; pages = Rattle.session_laws.proofs.Lists.all_filter (PageIn (serials t)) _ t.clients h.pages })
+held t (Keys client bytes) h =
+    outcomes.found HoldsIn t (λ c. keys_outcome t c (take (taken c.keys bytes) bytes)) (client_at t client) h
+    (λ c is. let read : List ℕ = take (taken c.keys bytes) bytes in
+    let items : List Item = step_items c bytes in
+    typing_clients (λ v. HoldsIn (finished t [] done (record (ordered v (reading read c) (command_item items)).deed { effects = [] }))) t client c (reading read c) (typed_bytes items) is refl refl
+    (λ cs same. ended t (record (ordered (record t { clients = cs }) (reading read c) (command_item items)).deed { effects = [] }) [] done
+    (item_holds (record t { clients = cs }) (reading read c) (command_item items) (keys_small c bytes) (same_holds t cs same h))))
+held t (Command user number bytes) h =
+    outcomes.by_line HoldsIn t (line_caller t user number) (is_known t user) (read_line bytes) (λ vs f. h)
+    (λ c d known read passes is. ended t d (verdicts t (checks t (line_caller t user number) c)) (reply_of 0 0 0 d.lists)
+    (deed_holds (does t (line_caller t user number) c) d is (holds t (line_caller t user number) h (λ w at. number_there t.windows number w at) c (read_small bytes c read))))
+held t (Resize client rows columns) h =
+    outcomes.found HoldsIn t (λ c. where_passed t (must (is_client_size rows columns) BadSize ∷ []) done (changing (with_client t (resized rows columns c)))) (client_at t client) h
+    (λ c is. outcomes.passed HoldsIn t (verdicts t (must (is_client_size rows columns) BadSize ∷ [])) (first_fault t (must (is_client_size rows columns) BadSize ∷ [])) done (changing (with_client t (resized rows columns c)))
+    (λ r at. h)
+    (λ at. ended t (changing (with_client t (resized rows columns c))) [] done (holds_client t (resized rows columns c) (resized_page (serials t) rows columns c (page_of t client c is h)) h)))
+held t (Open user rows columns keep title) h =
+    let v : Window = new_window t rows columns keep title in
+    outcomes.passed HoldsIn t (verdicts t (open_checks t user rows columns keep title)) (first_fault t (open_checks t user rows columns keep title)) (reply_of 0 v.serial v.number None) (opens t user v) (λ r is. h)
+    (λ is. ended t (opens t user v) [] done (opened t user v (free_below t.windows) h))
+held t (Output window bytes) h =
+    outcomes.found HoldsIn t (λ v. finished t [] done (outputs t v bytes)) (window_at t window) h
+    (λ v is. ended t (outputs t v bytes) [] done (holds_window t _ (some_has IsBelow v t.windows (at_there t (Some window) v is) h.numbers) h))
+held t (Closed window) h =
+    outcomes.found HoldsIn t (λ v. finished t [] done (closes (λ x. x.serial == window) reason.Detached t)) (window_at t window) h
+    (λ v is. ended t (closes (λ x. x.serial == window) reason.Detached t) [] done (holds_closed t (λ x. x.serial == window) reason.Detached h))
+held t (Draw client) h =
+    outcomes.found HoldsIn t (λ c. finished t [] done (changing t)) (client_at t client) h (λ c is. ended t (changing t) [] done h)
+
+-- ---- draws
+
+drawn_page : (ns : List ℕ) (effects : List Effect) (v : View) (c : Client) → PageIn ns c → PageIn ns (with_drawn effects v c)
+drawn_page ns [] v c page = page
+drawn_page ns (f ∷ effects) v c page = page
+
+drawn_holds : (u : Tables) (client : ℕ) (effects : List Effect) (o : Option Client) → client_at u client ≡ o → Holds u → Holds (drawn_on o effects u)
+drawn_holds u client effects None is h = h
+drawn_holds u client effects (Some c) is h = holds_client u (with_drawn effects (granted_view u c) c) (drawn_page (serials u) effects (granted_view u c) c (page_of u client c is h)) h
+
+pub after_holds : (t : Tables) (event : Happening) (effects : List Effect) → Holds t → Holds (drawn event effects (outcome t event).tables)
+after_holds t (Draw client) effects h =
+    let u : Tables = (outcome t (Draw client)).tables in drawn_holds u client effects (client_at u client) refl (held t (Draw client) h)
+after_holds t event effects h = held t event h
+
+-- ---- fit
+
+in_open : (t : Tables) (o : Option ℕ) → MatchOption o (Unit {0}) (λ n. has (serials t) n ≡ true) → IsOpen t o
+in_open t None is = tt
+in_open t (Some n) is = has_row t.windows n ∙ is
+
+open_in : (t : Tables) (o : Option ℕ) → IsOpen t o → MatchOption o (Unit {0}) (λ n. has (serials t) n ≡ true)
+open_in t None is = tt
+open_in t (Some n) is = sym (has_row t.windows n) ∙ is
+
+pub fit_after : (t : Tables) (e : Entry) → AreFit t → AreFit (after t e)
+fit_after t e f = record {
+  sound = lasting t e.event e.effects f.sound;
+  agree = acts_agree t e f.sound f.agree;
+  numbered = all.numbers;
+  shown = all_weaken (PageIn (serials (after t e))) (ShowsOpen (after t e)) (after t e).clients
+      (λ c page. all_weaken (ShowsIn (serials (after t e))) (λ (s : Shown). IsOpen (after t e) s.window) c.layout.shown (λ s is. in_open (after t e) s.window is) page) all.pages;
+} where
+  before : Holds t
+  before = record {
+    numbers = f.numbered;
+    pages = all_weaken (ShowsOpen t) (PageIn (serials t)) t.clients (λ c page. all_weaken (λ (s : Shown). IsOpen t s.window) (ShowsIn (serials t)) c.layout.shown (λ s is. open_in t s.window is) page) f.shown;
+  }
+
+  all : Holds (after t e)
+  all = after_holds t e.event e.effects before
+
+pub fresh_fit : (edition : Edition) (owner : UserId) → AreFit (fresh edition owner)
+fresh_fit edition owner = record { sound = fresh_sound edition owner; agree = fresh_agrees edition owner; numbered = tt; shown = tt }
+
+pub run_fit : (start : Tables) (entries : List Entry) → AreFit start → AreFit (tables_from start entries)
+run_fit start [] f = f
+run_fit start (e ∷ past) f = fit_after (tables_from start past) e (run_fit start past f)

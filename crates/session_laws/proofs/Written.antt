@@ -1,0 +1,321 @@
+-- What each command writes to windows: one row a command.
+use Rattle.std.proofs.Common.{◌≡◌, ℕ, ◌-◌, ◌<◌, ◌≤◌, Bool, true, false, not, List, [], ◌∷◌, ◌++◌, Option, Some, None, Ok, Err, refl, ap, sym, ◌∙◌, subst, map, filter, inl, inr, ⊎_elim, arith, append_assoc}
+use Rattle.std.specs.Prelude.{◌⊎◌, if◌then◌else◌, ◌==◌}
+use Rattle.std.specs.List.{AllByRecursion, list_any}
+use Rattle.std.specs.Option.{option_and_then}
+use Rattle.std.proofs.lemmas.Bool.Decides.{nat_tests}
+use Rattle.acl.specs.declared.user_id.UserId.{UserId}
+use Rattle.acl.specs.declared.faults.AclFault.{AclFault}
+use Rattle.acl.specs.declared.act.Act.{Act}
+use Rattle.acl.specs.declared.act.Object.{Object}
+use Rattle.acl.specs.Names.{named_by}
+use Rattle.acl.specs.Commands.{change_fault}
+use Rattle.command_lang.specs.command.Command.{Command as Order}
+use Rattle.command_lang.specs.command.Command.TheVariants as command
+use Rattle.terminal_model.specs.Writing.{Writing}
+use Rattle.terminal_model.specs.Writing as written
+use Rattle.session_model.specs.declared.event.Effect.{Effect}
+use Rattle.session_model.specs.declared.event.Effect.TheVariants.{Input, Deliver, Say, Size, GoneWindow, GoneClient}
+use Rattle.session_model.specs.declared.event.Reason.{Reason}
+use Rattle.session_model.specs.declared.event.Reason.TheVariants.{Detached, Killed, Quit}
+use Rattle.session_model.specs.declared.refusal.Refusal.{Refusal}
+use Rattle.session_model.specs.declared.refusal.Refusal.TheVariants.{Acl, Windows, NoWindow}
+use Rattle.session_model.specs.declared.refusal.WindowsFault.TheVariants.{NoSuchWindow}
+use Rattle.session_model.specs.Tables.{Tables, Window, Client, row_of, with_row, window_at, with_window, known_users}
+use Rattle.session_model.specs.Naming.{names_of, window_named, window_after, window_before}
+use Rattle.session_model.specs.Lines.{Caller}
+use Rattle.session_model.specs.Deeds as deeds
+use Rattle.session_model.specs.Deeds.{Deed, Answer, given, removes, parts, closes, selects, former_of, is_of, input_of}
+use Rattle.session_model.specs.Commands.{does, caller_client, on_client, coding_of}
+use Rattle.session_model.specs.Events.{says_same, unsaid}
+use Rattle.session_model.specs.Promises.{SomeOf}
+use Rattle.session_model.specs.Sound.{Rises}
+use Rattle.session_laws.specs.Written.{order_writing, is_own, sizes_of}
+use Rattle.session_laws.proofs.Inputs.{append_nil}
+use Rattle.session_laws.proofs.Lists.{all_weaken, all_filter, members, some_weaken, some_row, equal, itself}
+use Rattle.session_laws.proofs.Numbers.{serial_of}
+use Rattle.session_laws.proofs.Doing.{Either, is_plain, by_given, by_unless, by_refused, by_fault, by_shown}
+use Rattle.session_laws.proofs.Moving.{serials}
+
+-- ---- how a window's row goes on
+
+abbrev pub GoesOn : (ℕ → List Writing) → Window → Window → Type 0
+GoesOn f w v = (v.serial ≡ w.serial) × (v.writing ≡ w.writing ++ f w.serial)
+
+abbrev pub IsNew : Tables → Window → Type 0
+IsNew t v = (v.serial ≡ t.next_window) × (v.writing ≡ [])
+
+abbrev pub Row : Tables → (ℕ → List Writing) → Window → Type 0
+Row t f v = SomeOf (λ w. GoesOn f w v) t.windows ⊎ IsNew t v
+
+-- each window was there or is new, and nothing is written to a serial that wasn't given
+pub record Wrote (t : Tables) (f : ℕ → List Writing) (ws : List Window) : Type 0 where
+  pub rows : AllByRecursion (Row t f) ws
+  pub above : (n : ℕ) → t.next_window ≤ n → f n ≡ []
+
+pub alike : (t : Tables) (f g : ℕ → List Writing) (ws : List Window) → ((n : ℕ) → g n ≡ f n) → Wrote t f ws → Wrote t g ws
+alike t f g ws same all = record {
+  rows = all_weaken (Row t f) (Row t g) ws (λ v row. ⊎_elim (λ (old : SomeOf (λ w. GoesOn f w v) t.windows).
+      inl (some_weaken (λ w. GoesOn f w v) (λ w. GoesOn g w v) t.windows (λ w go. (go.0, go.1 ∙ ap (λ x. w.writing ++ x) (sym (same w.serial)))) old)) (λ new. inr new) row) all.rows;
+  above = λ n le. same n ∙ all.above n le;
+}
+
+-- ---- windows to which nothing is written
+
+abbrev core : Window → ℕ × List Writing
+core w = (w.serial, w.writing)
+
+abbrev pub Kept : List Window → List Window → Type 0
+Kept before after = AllByRecursion (λ v. SomeOf (λ w. core w ≡ core v) before) after
+
+pub kept_same : (ws : List Window) → Kept ws ws
+kept_same ws = all_weaken (λ v. SomeOf (λ w. w ≡ v) ws) (λ v. SomeOf (λ w. core w ≡ core v) ws) ws (λ v some. some_weaken (λ w. w ≡ v) (λ w. core w ≡ core v) ws (λ w e. ap core e) some) (members ws)
+
+pub kept_fewer : (p : Window → Bool) (ws : List Window) → Kept ws (filter p ws)
+kept_fewer p ws = all_filter (λ v. SomeOf (λ w. core w ≡ core v) ws) p ws (kept_same ws)
+
+kept_row : (before after : List Window) (n : ℕ) (x : Window) → SomeOf (λ w. core w ≡ core x) before → Kept before after → Kept before (with_row serial_of after n x)
+kept_row before [] n x some all = tt
+kept_row before (r ∷ after) n x some all = on (r.serial == n) (kept_row before after n x some all.1) where
+  on : (b : Bool) → Kept before (with_row serial_of after n x) → Kept before (if b then x ∷ after else r ∷ with_row serial_of after n x)
+  on true rest = (some, all.1)
+  on false rest = (all.0, rest)
+
+kept_window : (t : Tables) (w v : Window) → window_at t w.serial ≡ Some w → core v ≡ core w → Kept t.windows (with_window t v).windows
+kept_window t w v at same =
+    kept_row t.windows t.windows v.serial v (some_weaken (λ u. u ≡ w) (λ u. core u ≡ core v) t.windows (λ u e. ap core e ∙ sym same) (some_row serial_of t.windows w.serial w at)) (kept_same t.windows)
+
+pub kept_wrote : (t : Tables) (f : ℕ → List Writing) (ws : List Window) → ((n : ℕ) → f n ≡ []) → Kept t.windows ws → Wrote t f ws
+kept_wrote t f ws none kept = record {
+  rows = all_weaken (λ v. SomeOf (λ w. core w ≡ core v) t.windows) (Row t f) ws
+      (λ v some. inl (some_weaken (λ w. core w ≡ core v) (λ w. GoesOn f w v) t.windows
+      (λ w same. (sym (ap (λ (p : ℕ × List Writing). p.0) same), sym (ap (λ (p : ℕ × List Writing). p.1) same) ∙ sym (append_nil w.writing) ∙ ap (λ x. w.writing ++ x) (sym (none w.serial)))) some)) kept;
+  above = λ n le. none n;
+}
+
+-- ---- one window to which something is written
+
+module _ (f : ℕ → List Writing) (w : Window) (what : Writing) (own : f w.serial ≡ what ∷ []) (others : (n : ℕ) → (w.serial == n) ≡ false → f n ≡ []) where
+  abbrev more : Window
+  more = record w { writing = w.writing ++ what ∷ [] }
+
+  goes_same : (r : Window) → (w.serial == r.serial) ≡ false → GoesOn f r r
+  goes_same r off = (refl, sym (append_nil r.writing) ∙ ap (λ x. r.writing ++ x) (sym (others r.serial off)))
+
+  later_rows : (ws : List Window) → AllByRecursion (λ m. w.serial < m) (map serial_of ws) → AllByRecursion (λ v. SomeOf (λ r. GoesOn f r v) ws) ws
+  later_rows [] above = tt
+  later_rows (r ∷ ws) above =
+      let lt : w.serial < r.serial = above.0 in
+      let off : (w.serial == r.serial) ≡ false = grind (arith, nat_tests, lt) in
+      (inl (goes_same r off), all_weaken (λ v. SomeOf (λ r. GoesOn f r v) ws) (λ v. SomeOf (λ r. GoesOn f r v) (r ∷ ws)) ws (λ v some. inr some) (later_rows ws above.1))
+
+  other : (a b : ℕ) → (a == b) ≡ false → (b == a) ≡ false
+  other a b is = grind (arith, nat_tests, is)
+
+  rows_written : (ws : List Window) (next : ℕ) → Rises (map serial_of ws) next → row_of serial_of ws w.serial ≡ Some w → AllByRecursion (λ v. SomeOf (λ r. GoesOn f r v) ws) (with_row serial_of ws w.serial more)
+  rows_written [] next rise is = absurd (cc (is))
+  rows_written (r ∷ ws) next rise is = on (r.serial == w.serial) refl is (rows_written ws next rise.2) where
+    on : (b : Bool) → (r.serial == w.serial) ≡ b → (if b then Some r else row_of serial_of ws w.serial) ≡ Some w → (row_of serial_of ws w.serial ≡ Some w → AllByRecursion (λ v. SomeOf (λ r. GoesOn f r v) ws) (with_row serial_of ws w.serial more))
+        → AllByRecursion (λ v. SomeOf (λ q. GoesOn f q v) (r ∷ ws)) (if b then more ∷ ws else r ∷ with_row serial_of ws w.serial more)
+    on true at is rest =
+        let e : r ≡ w = cc (is) in (
+          inl (subst (λ (q : Window). GoesOn f q more) (sym e) (refl, ap (λ x. w.writing ++ x) (sym own))),
+          all_weaken (λ v. SomeOf (λ q. GoesOn f q v) ws) (λ v. SomeOf (λ q. GoesOn f q v) (r ∷ ws)) ws (λ v some. inr some)
+              (later_rows ws (subst (λ n. AllByRecursion (λ m. n < m) (map serial_of ws)) (equal r.serial w.serial at) rise.1)),
+        )
+    on false at is rest = (
+      inl (goes_same r (other r.serial w.serial at)),
+      all_weaken (λ v. SomeOf (λ q. GoesOn f q v) ws) (λ v. SomeOf (λ q. GoesOn f q v) (r ∷ ws)) (with_row serial_of ws w.serial more) (λ v some. inr some) (rest is),
+    )
+
+serial_below : (ws : List Window) (next n : ℕ) (w : Window) → Rises (map serial_of ws) next → row_of serial_of ws n ≡ Some w → w.serial < next
+serial_below [] next n w rise is = absurd (cc (is))
+serial_below (r ∷ ws) next n w rise is = on (r.serial == n) is (serial_below ws next n w rise.2) where
+  on : (b : Bool) → (if b then Some r else row_of serial_of ws n) ≡ Some w → (row_of serial_of ws n ≡ Some w → w.serial < next) → w.serial < next
+  on true is more = let e : r ≡ w = cc (is) in subst (λ (q : Window). q.serial < next) e rise.0
+  on false is more = more is
+
+apart : (a n next : ℕ) → a < next → next ≤ n → (a == n) ≡ false
+apart a n next lt le = grind (arith, nat_tests, lt, le)
+
+pub row_wrote : (t : Tables) (f : ℕ → List Writing) (w : Window) (what : Writing) → Rises (serials t) t.next_window → window_at t w.serial ≡ Some w → f w.serial ≡ what ∷ [] → ((n : ℕ) → (w.serial == n) ≡ false → f n ≡ [])
+    → Wrote t f (with_window t (record w { writing = w.writing ++ what ∷ [] })).windows
+row_wrote t f w what s at own others = record {
+  rows = all_weaken (λ v. SomeOf (λ r. GoesOn f r v) t.windows) (Row t f) (with_row serial_of t.windows w.serial (record w { writing = w.writing ++ what ∷ [] })) (λ v some. inl some)
+      (rows_written f w what own others t.windows t.next_window s at);
+  above = λ n le. others n (apart w.serial n t.next_window (serial_below t.windows t.next_window w.serial w s at) le);
+}
+
+-- ---- sizes among effects
+
+pub sizes_append : (xs ys : List Effect) (n : ℕ) → sizes_of (xs ++ ys) n ≡ sizes_of xs n ++ sizes_of ys n
+sizes_append [] ys n = refl
+sizes_append (Size at rows columns ∷ xs) ys n =
+    ap (λ ws. (if at == n then written.Size rows columns ∷ [] else []) ++ ws) (sizes_append xs ys n) ∙ sym (append_assoc (if at == n then written.Size rows columns ∷ [] else []) (sizes_of xs n) (sizes_of ys n))
+sizes_append (Input at bytes ∷ xs) ys n = sizes_append xs ys n
+sizes_append (Deliver to bytes ∷ xs) ys n = sizes_append xs ys n
+sizes_append (Say to bytes ∷ xs) ys n = sizes_append xs ys n
+sizes_append (GoneWindow at why ∷ xs) ys n = sizes_append xs ys n
+sizes_append (GoneClient at why ∷ xs) ys n = sizes_append xs ys n
+
+-- what isn't said again is no size
+sizes_one : (e : Effect) (said es : List Effect) (n : ℕ) → sizes_of (unsaid said es) n ≡ sizes_of es n → sizes_of (unsaid said (e ∷ es)) n ≡ sizes_of (e ∷ es) n
+sizes_one (Say to bytes) said es n rest = on (list_any (says_same (Say to bytes)) said) where
+  on : (b : Bool) → sizes_of (if not b then Say to bytes ∷ unsaid said es else unsaid said es) n ≡ sizes_of es n
+  on true = rest
+  on false = rest
+sizes_one (Size at rows columns) said es n rest = on (list_any (says_same (Size at rows columns)) said) (never said) where
+  never : (said : List Effect) → list_any (says_same (Size at rows columns)) said ≡ false
+  never [] = refl
+  never (f ∷ said) = never said
+
+  on : (b : Bool) → b ≡ false → sizes_of (if not b then Size at rows columns ∷ unsaid said es else unsaid said es) n ≡ sizes_of (Size at rows columns ∷ es) n
+  on true is = absurd (cc (is))
+  on false is = ap (λ ws. (if at == n then written.Size rows columns ∷ [] else []) ++ ws) rest
+sizes_one (Input at bytes) said es n rest = on (list_any (says_same (Input at bytes)) said) where
+  on : (b : Bool) → sizes_of (if not b then Input at bytes ∷ unsaid said es else unsaid said es) n ≡ sizes_of es n
+  on true = rest
+  on false = rest
+sizes_one (Deliver at bytes) said es n rest = on (list_any (says_same (Deliver at bytes)) said) where
+  on : (b : Bool) → sizes_of (if not b then Deliver at bytes ∷ unsaid said es else unsaid said es) n ≡ sizes_of es n
+  on true = rest
+  on false = rest
+sizes_one (GoneWindow at why) said es n rest = on (list_any (says_same (GoneWindow at why)) said) where
+  on : (b : Bool) → sizes_of (if not b then GoneWindow at why ∷ unsaid said es else unsaid said es) n ≡ sizes_of es n
+  on true = rest
+  on false = rest
+sizes_one (GoneClient at why) said es n rest = on (list_any (says_same (GoneClient at why)) said) where
+  on : (b : Bool) → sizes_of (if not b then GoneClient at why ∷ unsaid said es else unsaid said es) n ≡ sizes_of es n
+  on true = rest
+  on false = rest
+
+pub sizes_unsaid : (said es : List Effect) (n : ℕ) → sizes_of (unsaid said es) n ≡ sizes_of es n
+sizes_unsaid said [] n = refl
+sizes_unsaid said (e ∷ es) n = sizes_one e said es n (sizes_unsaid said es n)
+
+pub sizes_gone : (why : Reason) (cs : List Client) (n : ℕ) → sizes_of (map (λ (c : Client). GoneClient c.serial why) cs) n ≡ []
+sizes_gone why [] n = refl
+sizes_gone why (c ∷ cs) n = sizes_gone why cs n
+
+pub sizes_closed : (why : Reason) (ws : List Window) (n : ℕ) → sizes_of (map (λ (w : Window). GoneWindow w.serial why) ws) n ≡ []
+sizes_closed why [] n = refl
+sizes_closed why (w ∷ ws) n = sizes_closed why ws n
+
+sizes_said : (bytes : List ℕ) (cs : List Client) (n : ℕ) → sizes_of (map (λ (c : Client). Say c.serial bytes) cs) n ≡ []
+sizes_said bytes [] n = refl
+sizes_said bytes (c ∷ cs) n = sizes_said bytes cs n
+
+pub sizes_input : (at : ℕ) (bytes : List ℕ) (b : Bool) (n : ℕ) → sizes_of (if b then [] else Input at bytes ∷ []) n ≡ []
+sizes_input at bytes true n = refl
+sizes_input at bytes false n = refl
+
+-- ---- the rows
+
+abbrev pub row_writing : Caller → Order → ℕ → List Writing
+row_writing k c n = if is_own k.window n then order_writing c else []
+
+pub record HasWrote (t : Tables) (k : Caller) (c : Order) (d : Deed) : Type 0 where
+  pub all : Wrote t (λ n. row_writing k c n ++ sizes_of d.effects n) d.tables.windows
+
+pub none_if : {A : Type 0} (b : Bool) → (if b then (let none : List A = [] in none) else []) ≡ []
+none_if true = refl
+none_if false = refl
+
+-- a command that writes nothing
+quiet : (t : Tables) (k : Caller) (c : Order) (d : Deed) → order_writing c ≡ [] → ((n : ℕ) → sizes_of d.effects n ≡ []) → Kept t.windows d.tables.windows → HasWrote t k c d
+quiet t k c d none sizes kept = record {
+  all = kept_wrote t (λ n. row_writing k c n ++ sizes_of d.effects n) d.tables.windows
+      (λ n. ap (λ ws. (if is_own k.window n then ws else []) ++ sizes_of d.effects n) none ∙ ap (λ ws. ws ++ sizes_of d.effects n) (none_if (is_own k.window n)) ∙ sizes n) kept;
+}
+
+silent : (t : Tables) (k : Caller) (c : Order) (d : Deed) → order_writing c ≡ [] → d.effects ≡ [] → d.tables.windows ≡ t.windows → HasWrote t k c d
+silent t k c d none effects windows = quiet t k c d none (λ n. ap (λ es. sizes_of es n) effects) (subst (Kept t.windows) (sym windows) (kept_same t.windows))
+
+fault_wrote : (t : Tables) (k : Caller) (c : Order) (f : Option AclFault) (objects : Option (List Object)) (acts : List Object → List Act) → order_writing c ≡ []
+    → Either (HasWrote t k c) (elim f [ Some f ↦ Err (Acl f) | None ↦ given objects (Windows NoSuchWindow) (λ all. Ok (deeds.acting t (acts all))) ])
+fault_wrote t k c f objects acts none = by_fault (HasWrote t k c) t f objects acts (λ all. silent t k c _ none refl refl)
+
+removal_wrote : (t : Tables) (k : Caller) (c : Order) (o : Option UserId) → order_writing c ≡ [] → HasWrote t k c (removes o t)
+removal_wrote t k c None none = silent t k c _ none refl refl
+removal_wrote t k c (Some u) none = quiet t k c _ none (sizes_gone Rattle.session_model.specs.declared.event.Reason.TheVariants.Removed (filter (is_of u) t.clients)) (kept_same t.windows)
+
+shown_wrote : (t : Tables) (k : Caller) (c : Order) (o : Client → Option Window) (r : Refusal) → is_plain r ≡ true → order_writing c ≡ [] → Either (HasWrote t k c) (on_client t k (λ d. given (o d) r (λ w. Ok (selects t d w))))
+shown_wrote t k c o r is none = by_shown (HasWrote t k c) t k o r is (λ d w at there. silent t k c _ none refl refl)
+
+module _ (t : Tables) (k : Caller) (s : Rises (serials t) t.next_window) (row : (w : Window) → k.window ≡ Some w → window_at t w.serial ≡ Some w) where
+  own_here : (w : Window) → k.window ≡ Some w → is_own k.window w.serial ≡ true
+  own_here w is = ap (λ o. is_own o w.serial) is ∙ itself w.serial
+
+  own_off : (w : Window) (n : ℕ) → k.window ≡ Some w → (w.serial == n) ≡ false → is_own k.window n ≡ false
+  own_off w n is off = ap (λ o. is_own o n) is ∙ off
+
+  -- a command that writes this to its window
+  writes : (c : Order) (w : Window) (what : Writing) → k.window ≡ Some w → order_writing c ≡ what ∷ [] → HasWrote t k c (deeds.writes t w what)
+  writes c w what is one = record {
+    all = row_wrote t (λ n. row_writing k c n ++ []) w what s (row w is)
+        (append_nil (row_writing k c w.serial) ∙ ap (λ (b : Bool). if b then order_writing c else []) (own_here w is) ∙ one)
+        (λ n off. append_nil (row_writing k c n) ∙ ap (λ (b : Bool). if b then order_writing c else []) (own_off w n is off));
+  }
+
+  -- a window that is named otherwise
+  renamed : (c : Order) (w v : Window) → k.window ≡ Some w → order_writing c ≡ [] → core v ≡ core w → HasWrote t k c (deeds.changing (with_window t v))
+  renamed c w v is none same = quiet t k c (deeds.changing (with_window t v)) none (λ n. refl) (kept_window t w v (row w is) same)
+
+  sized : (w : Window) (rows columns : ℕ) → k.window ≡ Some w → HasWrote t k command.Fit (record (deeds.writes t w (written.Size rows columns)) { effects = Size w.serial rows columns ∷ [] })
+  sized w rows columns is = record {
+    all = row_wrote t (λ n. row_writing k command.Fit n ++ sizes_of (Size w.serial rows columns ∷ []) n) w (written.Size rows columns) s (row w is)
+        (ap (λ ws. ws ++ sizes_of (Size w.serial rows columns ∷ []) w.serial) (none_if (is_own k.window w.serial)) ∙ ap (λ (b : Bool). (if b then written.Size rows columns ∷ [] else []) ++ []) (itself w.serial))
+        (λ n off. ap (λ ws. ws ++ sizes_of (Size w.serial rows columns ∷ []) n) (none_if (is_own k.window n)) ∙ ap (λ (b : Bool). (if b then written.Size rows columns ∷ [] else []) ++ []) off);
+  }
+
+  pub wrote : (c : Order) → Either (HasWrote t k c) (does t k c)
+  wrote (command.Acladd names) = fault_wrote t k _ (change_fault t.owner (known_users t) (names_of t names)) _ _ refl
+  wrote (command.Aclchg names bits list) = fault_wrote t k _ (change_fault t.owner (known_users t) (names_of t names)) _ _ refl
+  wrote (command.Acldel word) = by_unless (HasWrote t k (command.Acldel word)) _ _ _ (λ f. refl) (removal_wrote t k (command.Acldel word) (named_by word) refl)
+  wrote (command.Aclgrp word None) = by_unless (HasWrote t k (command.Aclgrp word None)) _ _ _ (λ f. refl) (silent t k _ _ refl refl refl)
+  wrote (command.Aclgrp word (Some leader)) = by_unless (HasWrote t k (command.Aclgrp word (Some leader))) _ _ _ (λ f. refl) (silent t k _ _ refl refl refl)
+  wrote (command.Aclumask masks) = by_unless (HasWrote t k (command.Aclumask masks)) _ _ _ (λ f. refl) (silent t k _ _ refl refl refl)
+  wrote (command.Multiuser true) = silent t k _ _ refl refl refl
+  wrote (command.Multiuser false) = quiet t k _ _ refl (sizes_gone Rattle.session_model.specs.declared.event.Reason.TheVariants.SingleUser (filter (λ (c : Client). not (is_of t.owner c)) t.clients)) (kept_same t.windows)
+  wrote (command.Writelock mode) = by_given (HasWrote t k (command.Writelock mode)) k.window _ _ refl (λ w is. silent t k _ _ refl refl refl)
+  wrote (command.Defwritelock mode) = silent t k _ _ refl refl refl
+  wrote (command.Wall bytes) = quiet t k _ _ refl (sizes_said _ t.clients) (kept_same t.windows)
+  wrote command.Screen = silent t k _ _ refl refl refl
+  wrote command.Windows = silent t k _ _ refl refl refl
+  wrote command.Displays = silent t k _ _ refl refl refl
+  wrote (command.Select word) = shown_wrote t k _ (λ c. window_named t.windows word) (Windows NoSuchWindow) refl refl
+  wrote command.Next = shown_wrote t k _ (λ c. window_after t.windows k.window) NoWindow refl refl
+  wrote command.Prev = shown_wrote t k _ (λ c. window_before t.windows k.window) NoWindow refl refl
+  wrote command.Other = shown_wrote t k _ (λ c. option_and_then (window_at t) (former_of c)) NoWindow refl refl
+  wrote (command.Split vertical) = by_given (HasWrote t k (command.Split vertical)) (caller_client t k) _ _ refl (λ c is. by_unless (HasWrote t k (command.Split vertical)) _ _ _ (λ f. refl) (silent t k _ _ refl refl refl))
+  wrote command.Focus = by_given (HasWrote t k command.Focus) (caller_client t k) _ _ refl (λ c is. silent t k _ _ refl refl refl)
+  wrote command.Remove = by_given (HasWrote t k command.Remove) (caller_client t k) _ _ refl (λ c is. by_refused (HasWrote t k command.Remove) _ _ _ refl (λ no. silent t k _ _ refl refl refl))
+  wrote command.Only = by_given (HasWrote t k command.Only) (caller_client t k) _ _ refl (λ c is. silent t k _ _ refl refl refl)
+  wrote (command.Scrollview n) = by_given (HasWrote t k (command.Scrollview n)) (caller_client t k) _ _ refl (λ c is. silent t k _ _ refl refl refl)
+  wrote command.Fit = by_given (HasWrote t k command.Fit) (caller_client t k) _ _ refl (λ c is. by_given (HasWrote t k command.Fit) k.window _ _ refl (λ w at. by_given (HasWrote t k command.Fit) _ _ _ refl (λ box there.
+      by_refused (HasWrote t k command.Fit) _ _ _ refl (λ no. sized w (box.rows - 1) box.cols at))))
+  wrote (command.Title bytes) = by_given (HasWrote t k (command.Title bytes)) k.window _ _ refl (λ w at. by_refused (HasWrote t k (command.Title bytes)) _ _ _ refl (λ no. renamed _ w (record w { title = bytes }) at refl refl))
+  wrote (command.Number n) = by_given (HasWrote t k (command.Number n)) k.window _ _ refl (λ w at. by_refused (HasWrote t k (command.Number n)) _ _ _ refl (λ no. renamed _ w (record w { number = n }) at refl refl))
+  wrote command.Clear = by_given (HasWrote t k command.Clear) k.window _ _ refl (λ w at. writes command.Clear w written.Clear at refl)
+  wrote command.Reset = by_given (HasWrote t k command.Reset) k.window _ _ refl (λ w at. writes command.Reset w written.Reset at refl)
+  wrote (command.Encoding coding) = by_given (HasWrote t k (command.Encoding coding)) k.window _ _ refl (λ w at. writes (command.Encoding coding) w (written.Encoding (coding_of coding)) at refl)
+  wrote (command.Stuff bytes) = by_given (HasWrote t k (command.Stuff bytes)) k.window NoWindow _ refl (λ w at. quiet t k _ _ refl (sizes_input w.serial bytes (Rattle.std.specs.Prelude.length bytes == 0)) (kept_same t.windows))
+  wrote command.Detach = by_given (HasWrote t k command.Detach) (caller_client t k) NoWindow (λ c. Ok (parts (λ (d : Client). d.serial == c.serial) Detached t)) refl
+      (λ c is. quiet t k _ _ refl (sizes_gone Detached (filter (λ (d : Client). d.serial == c.serial) t.clients)) (kept_same t.windows))
+  wrote command.Kill = by_given (HasWrote t k command.Kill) k.window NoWindow (λ (w : Window). Ok (closes (λ (v : Window). v.serial == w.serial) Killed t)) refl
+      (λ w at. quiet t k _ _ refl (sizes_closed Killed (filter (λ (v : Window). v.serial == w.serial) t.windows)) (kept_fewer (λ (v : Window). not (v.serial == w.serial)) t.windows))
+  wrote command.Quit = quiet t k _ _ refl (λ n. sizes_append (closes (λ w. true) Quit t).effects (parts (λ c. true) Quit (closes (λ w. true) Quit t).tables).effects n
+      ∙ ap (λ ws. ws ++ sizes_of (parts (λ c. true) Quit (closes (λ w. true) Quit t).tables).effects n) (sizes_closed Quit (filter (λ (w : Window). true) t.windows) n)
+      ∙ sizes_gone Quit (filter (λ (c : Client). true) (closes (λ w. true) Quit t).tables.clients) n) (kept_fewer (λ (w : Window). not true) t.windows)
+
+-- where a command is refused nothing is written
+window_refused : (o : Option Window) (r : Refusal) (f : Window → Deed) (ws : List Writing) (n : ℕ) → given o NoWindow (λ w. Ok (f w)) ≡ Err r → (if is_own o n then ws else []) ≡ []
+unfolding given
+window_refused None r f ws n is = refl
+window_refused (Some w) r f ws n is = absurd (cc (is))
+
+pub refused_writes : (t : Tables) (k : Caller) (c : Order) (r : Refusal) (n : ℕ) → does t k c ≡ Err r → row_writing k c n ≡ []
+refused_writes t k command.Clear r n is = window_refused k.window r (λ w. deeds.writes t w written.Clear) (written.Clear ∷ []) n is
+refused_writes t k command.Reset r n is = window_refused k.window r (λ w. deeds.writes t w written.Reset) (written.Reset ∷ []) n is
+refused_writes t k (command.Encoding coding) r n is = window_refused k.window r (λ w. deeds.writes t w (written.Encoding (coding_of coding))) (written.Encoding (coding_of coding) ∷ []) n is
+refused_writes t k c r n is = none_if (is_own k.window n)

@@ -1,0 +1,4 @@
+pub mod Left
+pub mod Parting
+pub mod Answering
+pub mod Ending

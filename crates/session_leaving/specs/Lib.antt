@@ -1,0 +1,4 @@
+pub mod Leaving
+pub mod Going
+pub mod Closing
+pub mod Settling

@@ -1,0 +1,37 @@
+-- What is answered where clients or windows only go.
+use Rattle.std.specs.Prelude.{ℕ, ◌==◌, None, Result, Ok, Err}
+use Rattle.acl.specs.declared.faults.AclFault.{AclFault}
+use Rattle.acl.specs.declared.faults.AclFault.TheVariants as fault
+use Rattle.session_model.specs.declared.event.Reason.TheVariants as reason
+use Rattle.session_model.specs.declared.refusal.Refusal.{Refusal}
+use Rattle.session_model.specs.declared.refusal.Refusal.TheVariants.{NoWindow, NoMemory, Acl}
+use Rattle.session_model.specs.Tables.{Tables, client_at}
+use Rattle.session_model.specs.Deeds.{Answer, given, parts}
+use Rattle.session_state.specs.declared.made.Made.{Made}
+use Rattle.session_state.specs.declared.state.State.{State}
+use Rattle.session_state.specs.Stands.{Stands}
+use Rattle.session_state.specs.Fit.{AreFit}
+use Rattle.session_state.specs.Doing.{Answers}
+
+-- as a command that lists nothing
+abbrev pub Settled :
+    Tables → Answer → Result (Unit {0}) Refusal → State → Made → Made → Type 0
+Settled t answer (Ok done) new before after = Answers t answer (Ok None) new before after
+Settled t answer (Err r) new before after = Answers t answer (Err r) new before after
+
+-- whichever tables the state stood for
+abbrev pub Settles :
+    (Tables → Answer) → State → Result (Unit {0}) Refusal → State → Made → Made → Type 0
+Settles answer old result new before after =
+    (t : Tables) → Stands t old → AreFit t → Settled t (answer t) result new before after
+
+-- a client goes, where there is one of the serial
+abbrev pub detaching : ℕ → Tables → Answer
+detaching client t =
+    given (client_at t client) NoWindow
+    (λ c. Ok (parts (λ d. d.serial == client) reason.Detached t))
+
+-- the refusal of an access list's command
+abbrev pub refusal_of : AclFault → Refusal
+refusal_of fault.NoMemory = NoMemory
+refusal_of f = Acl f

@@ -1,0 +1,7 @@
+mod Cutting
+mod Events
+mod Lines
+mod Numbers
+mod ReadBack
+mod Texts
+mod Words

@@ -1,0 +1,4 @@
+pub mod Fields
+pub mod Printed
+pub mod ReadBack
+pub mod Script

@@ -1,0 +1,238 @@
+//! Scripts of events, one a line.
+
+ghost use Rattle.std.specs.Prelude.{◌≡◌, None, IfOk, IfSome, option_map};
+ghost use Rattle.session_model.specs.Trace.{happening, Detach, Keys, Command, Open, Output};
+ghost use Rattle.session_model.specs.Trace.{Closed, Draw};
+ghost use Rattle.session_lines.specs.Fields.{fields, number_of, text_of, title_of};
+ghost use Rattle.session_lines.specs.Script.{attach_in, bytes_in, command_in, resize_in, open_in};
+ghost use Rattle.session_lines.specs.Script.{event_in, event_of};
+ghost use Rattle.session_lines.specs.ReadBack.{ReadsTexts, ReadsEvents};
+
+use crate::fields::{cut, read_number, read_serial, read_text, read_title, read_window};
+use crate::kind::Kind;
+use acl::UserId;
+use session_model::Event;
+use std::alloc::AllocError;
+
+/// The event that a line stands for, its text being put into `text`; none where the line isn't
+/// understood.
+pub fn read_event<'a>(line: &[u8], text: &'a mut Vec<u8>) -> Result<Option<Event<'a>>, AllocError>
+    ensures { IfOk result (λ event. option_map happening event ≡ event_of line.now) }
+{
+    let Some((word, rest)) = cut(line) else {
+        return Ok(None);
+    };
+    let Some(kind) = Kind::of(word) else {
+        return Ok(None);
+    };
+    read_fields(kind, rest, text)
+}
+
+/// The event of a kind whose fields stand behind its word.
+fn read_fields<'a>(
+    kind: Kind,
+    rest: &[u8],
+    text: &'a mut Vec<u8>,
+) -> Result<Option<Event<'a>>, AllocError>
+    ensures { IfOk result (λ event. option_map happening event ≡ event_in kind rest.now) }
+{
+    match kind {
+        Kind::Attach => Ok(read_attach(rest)),
+        Kind::Detach => Ok(read_detach(rest)),
+        Kind::Keys => read_keys(rest, text),
+        Kind::Command => read_command(rest, text),
+        Kind::Resize => Ok(read_resize(rest)),
+        Kind::Open => read_open(rest, text),
+        Kind::Output => read_output(rest, text),
+        Kind::Closed => Ok(read_closed(rest)),
+        Kind::Draw => Ok(read_draw(rest)),
+    }
+}
+
+/// `USER ROWS COLS`
+fn read_attach(rest: &[u8]) -> Option<Event<'static>>
+    ensures { option_map happening result ≡ attach_in (fields 2 rest.now) }
+{
+    let (user, rest) = cut(rest)?;
+    let (rows, cols) = cut(rest)?;
+    Some(Event::Attach {
+        user: UserId::of(user)?,
+        rows: read_number(rows)?,
+        cols: read_number(cols)?,
+    })
+}
+
+/// `C`
+fn read_detach(rest: &[u8]) -> Option<Event<'static>>
+    ensures { option_map happening result ≡ option_map Detach (number_of rest.now) }
+{
+    Some(Event::Detach {
+        client: read_serial(rest)?,
+    })
+}
+
+/// `C TEXT` or `W TEXT`
+fn read_bytes<'a>(rest: &[u8], text: &'a mut Vec<u8>) -> Result<Option<(u32, &'a [u8])>, AllocError>
+    ensures { IfOk result
+        (λ read. option_map (λ parts. (parts.0, parts.1.now)) read ≡ bytes_in (fields 1 rest.now)) }
+{
+    let Some((serial, escaped)) = cut(rest) else {
+        return Ok(None);
+    };
+    let Some(serial) = read_serial(serial) else {
+        return Ok(None);
+    };
+    let Some(bytes) = read_text(escaped, text)? else {
+        return Ok(None);
+    };
+    Ok(Some((serial, bytes)))
+}
+
+/// `C TEXT`
+fn read_keys<'a>(rest: &[u8], text: &'a mut Vec<u8>) -> Result<Option<Event<'a>>, AllocError>
+    ensures { IfOk result (λ event. option_map happening event
+        ≡ option_map (λ p. Keys p.0 p.1) (bytes_in (fields 1 rest.now))) }
+{
+    let Some((client, bytes)) = read_bytes(rest, text)? else {
+        return Ok(None);
+    };
+    Ok(Some(Event::Keys { client, bytes }))
+}
+
+/// The parts of `USER W TEXT`, the text escaped.
+#[derive(Clone, Copy)]
+struct Request<'a> {
+    user: UserId,
+    window: Option<u8>,
+    line: &'a [u8],
+}
+
+impl<'a> Request<'a> {
+    fn read(rest: &'a [u8]) -> Option<Request<'a>>
+        ensures none { result ≡ None → command_in (fields 2 rest.now) ≡ None }
+        ensures some { IfSome result (λ r. command_in (fields 2 rest.now)
+            ≡ option_map (Command r.user r.window) (text_of r.line.now)) }
+    {
+        let (user, rest) = cut(rest)?;
+        let (window, line) = cut(rest)?;
+        Some(Request {
+            user: UserId::of(user)?,
+            window: read_window(window)?,
+            line,
+        })
+    }
+}
+
+/// `USER W TEXT`
+fn read_command<'a>(rest: &[u8], text: &'a mut Vec<u8>) -> Result<Option<Event<'a>>, AllocError>
+    ensures { IfOk result (λ event. option_map happening event ≡ command_in (fields 2 rest.now)) }
+{
+    let Some(request) = Request::read(rest) else {
+        return Ok(None);
+    };
+    let Some(line) = read_text(request.line, text)? else {
+        return Ok(None);
+    };
+    Ok(Some(Event::Command {
+        user: request.user,
+        window: request.window,
+        line,
+    }))
+}
+
+/// `C ROWS COLS`
+fn read_resize(rest: &[u8]) -> Option<Event<'static>>
+    ensures { option_map happening result ≡ resize_in (fields 2 rest.now) }
+{
+    let (client, rest) = cut(rest)?;
+    let (rows, cols) = cut(rest)?;
+    Some(Event::Resize {
+        client: read_serial(client)?,
+        rows: read_number(rows)?,
+        cols: read_number(cols)?,
+    })
+}
+
+/// The parts of `USER ROWS COLS KEEP TEXT`, the text escaped.
+#[derive(Clone, Copy)]
+struct Opening<'a> {
+    user: UserId,
+    rows: u16,
+    cols: u16,
+    keep: u16,
+    title: &'a [u8],
+}
+
+impl<'a> Opening<'a> {
+    fn read(rest: &'a [u8]) -> Option<Opening<'a>>
+        ensures none { result ≡ None → open_in (fields 4 rest.now) ≡ None }
+        ensures some { IfSome result (λ o. open_in (fields 4 rest.now)
+            ≡ option_map (Open o.user o.rows o.cols o.keep) (title_of o.title.now)) }
+    {
+        let (user, rest) = cut(rest)?;
+        let (rows, rest) = cut(rest)?;
+        let (cols, rest) = cut(rest)?;
+        let (keep, title) = cut(rest)?;
+        Some(Opening {
+            user: UserId::of(user)?,
+            rows: read_number(rows)?,
+            cols: read_number(cols)?,
+            keep: read_number(keep)?,
+            title,
+        })
+    }
+}
+
+/// `USER ROWS COLS KEEP TEXT`
+fn read_open<'a>(rest: &[u8], text: &'a mut Vec<u8>) -> Result<Option<Event<'a>>, AllocError>
+    ensures { IfOk result (λ event. option_map happening event ≡ open_in (fields 4 rest.now)) }
+{
+    let Some(opening) = Opening::read(rest) else {
+        return Ok(None);
+    };
+    let Some(title) = read_title(opening.title, text)? else {
+        return Ok(None);
+    };
+    Ok(Some(Event::Open {
+        user: opening.user,
+        rows: opening.rows,
+        cols: opening.cols,
+        keep: opening.keep,
+        title,
+    }))
+}
+
+/// `W TEXT`
+fn read_output<'a>(rest: &[u8], text: &'a mut Vec<u8>) -> Result<Option<Event<'a>>, AllocError>
+    ensures { IfOk result (λ event. option_map happening event
+        ≡ option_map (λ p. Output p.0 p.1) (bytes_in (fields 1 rest.now))) }
+{
+    let Some((window, bytes)) = read_bytes(rest, text)? else {
+        return Ok(None);
+    };
+    Ok(Some(Event::Output { window, bytes }))
+}
+
+/// `W`
+fn read_closed(rest: &[u8]) -> Option<Event<'static>>
+    ensures { option_map happening result ≡ option_map Closed (number_of rest.now) }
+{
+    Some(Event::Closed {
+        window: read_serial(rest)?,
+    })
+}
+
+/// `C`
+fn read_draw(rest: &[u8]) -> Option<Event<'static>>
+    ensures { option_map happening result ≡ option_map Draw (number_of rest.now) }
+{
+    Some(Event::Draw {
+        client: read_serial(rest)?,
+    })
+}
+
+/// Laws of what is printed: a text is read as the same bytes, and an event's line as the event.
+pub fn reads_printed()
+    ensures texts { ReadsTexts }
+    ensures events { ReadsEvents }
+{}

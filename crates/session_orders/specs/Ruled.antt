@@ -1,0 +1,29 @@
+-- Commands that were ruled on.
+use Rattle.std.specs.Prelude.{ℕ, ◌≡◌, ◌⊎◌, ◌++◌, List, Option, Result, Ok, Err}
+use Rattle.command_lang.specs.command.Command.{Command}
+use Rattle.session_model.specs.declared.refusal.Refusal.{Refusal}
+use Rattle.session_model.specs.declared.refusal.Refusal.TheVariants.{NoMemory}
+use Rattle.session_model.specs.declared.verdict.Verdict.{Verdict}
+use Rattle.session_model.specs.Tables.{Tables}
+use Rattle.session_model.specs.Commands.{Ruling, ruling}
+use Rattle.session_state.specs.declared.caller.Caller.{Caller}
+use Rattle.session_state.specs.declared.made.Made.{Made}
+use Rattle.session_state.specs.declared.state.State.{State}
+use Rattle.session_state.specs.Stands.{Stands}
+use Rattle.session_state.specs.Fit.{AreFit}
+use Rattle.session_state.specs.Doing.{Answers, caller_in}
+
+-- its deed was done, or it was refused, and its verdicts were noted; or memory was wanting
+abbrev pub Ruled : Tables → Ruling → Result (Option (List ℕ)) Refusal →
+    State → Made → Made → List Verdict → List Verdict → Type 0
+Ruled t r (Ok lists) new before after old noted =
+    Answers t r.answer (Ok lists) new before after × (noted ≡ old ++ r.verdicts)
+Ruled t r (Err e) new before after old noted =
+    (e ≡ NoMemory) ⊎ ((r.answer ≡ Err e) × (noted ≡ old ++ r.verdicts))
+
+-- whichever tables the state stood for
+abbrev pub Rules : Caller → Command → State → Result (Option (List ℕ)) Refusal →
+    State → Made → Made → List Verdict → List Verdict → Type 0
+Rules k c old result new before after noted now_noted =
+    (t : Tables) → Stands t old → AreFit t
+    → Ruled t (ruling t (caller_in t k) c) result new before after noted now_noted

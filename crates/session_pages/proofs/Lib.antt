@@ -1,0 +1,5 @@
+pub mod Answering
+pub mod Sizes
+pub mod Members
+pub mod Paging
+pub mod Shown

@@ -1,0 +1,55 @@
+//! Windows that get the size of a region.
+
+ghost use Rattle.std.specs.Prelude.{◌≡◌, None, ◌<◌, IfOk, OnOk, OnErr};
+ghost use Rattle.command_lang.specs.command.Command.TheVariants as command;
+ghost use Rattle.session_model.specs.Tables as model;
+ghost use Rattle.session_clients.specs.Stands.{ClientStands};
+ghost use Rattle.session_state.specs.Doing.{HasRoom, Does, IsAsBefore};
+ghost use Rattle.session_pages.specs.Giving.{IsFocusedBox};
+
+use crate::giver::{giver, refusal_of, window_of};
+use regions::{Rect, RegionFault};
+use session_clients::Client;
+use session_model::{Bytes, Effect, Refusal};
+use session_state::{Caller, Made, State};
+use std::alloc::Global;
+
+/// The rectangle of a client's focused region.
+fn focused_box(alloc: Global, client: &Client) -> Result<Rect, Refusal>
+    ensures tall { IfOk result (λ r. 1 < r.rows) }
+    ensures value { IsFocusedBox client.now result }
+{
+    let rows = client.shadow.rows();
+    let cols = client.shadow.cols();
+    match client.layout.rects(alloc, rows, cols) {
+        Ok(rects) => Ok(rects.boxes[rects.focus]),
+        Err(fault) => Err(refusal_of(fault)),
+    }
+}
+
+/// `fit`: gives a window the size of the focused region, beside its caption.
+pub fn fit(state: &mut State, caller: Caller, made: &mut Made) -> Result<Option<Bytes>, Refusal>
+    requires { HasRoom 256 made.old }
+    ensures answer { Does caller command.Fit state.old result state.new made.old made.new }
+    ensures silent { IfOk result (λ lists. lists ≡ None) }
+    ensures err { OnErr result (IsAsBefore state.old state.new made.old made.new) }
+    ensures room { OnOk result (HasRoom 64 made.new) }
+{
+    let Some(client) = giver(state, caller) else {
+        return Err(Refusal::NoWindow);
+    };
+    let Some(window) = window_of(state, caller) else {
+        return Err(Refusal::NoWindow);
+    };
+    let region = focused_box(state.alloc, client)?;
+    let rows = region.rows - 1;
+    if rows < 2 {
+        return Err(Refusal::Regions(RegionFault::TooSmall));
+    }
+    made.effects.reserve(1)?;
+    state.windows.resize(window, rows, region.cols)?;
+    made.effects
+        .push(Effect::Size(window, rows, region.cols))
+        .unwrap();
+    Ok(None)
+}

@@ -1,0 +1,10 @@
+//! What a session has at a moment, and what its commands are given and give.
+#![tactic(auto)]
+
+mod caller;
+mod made;
+mod state;
+
+pub use caller::Caller;
+pub use made::Made;
+pub use state::State;

@@ -1,0 +1,7 @@
+pub mod Growing
+pub mod Numbered
+pub mod Listing
+pub mod Lines
+pub mod Panes
+pub mod Granting
+pub mod Delivering

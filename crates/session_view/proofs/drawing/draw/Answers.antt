@@ -1,0 +1,38 @@
+use Rattle.std.proofs.Common.{◌∙◌, ◌++◌, ◌∷◌, [], List, ℕ, Some, ap, refl}
+use Rattle.std.specs.Prelude.{is_ok}
+use Rattle.session_model.specs.declared.event.Effect.{Effect}
+use Rattle.session_model.specs.declared.event.Effect.TheVariants.{Deliver}
+use Rattle.session_model.specs.Tables.{client_at}
+use Rattle.session_rows.proofs.Matching.{both_back}
+use Rattle.session_rows.proofs.Serials.{if_true}
+use Rattle.session_clients.specs.Stands.{ClientStands}
+use Rattle.session_view.proofs.Delivering.{nothing_drawn, frame_drawn}
+use Rattle.session_view.proofs.drawing.draw.Goals as goal
+
+pub returns-then-not-needs_draw-clause-ok : goal.returns-then-not-needs_draw-clause-ok
+returns-then-not-needs_draw-clause-ok c = λ t st fit.
+    let row = both_back ClientStands (client_at t c.args.client) (Some c.in-Some.row.now)
+    c.in-Some.row.now (c.in-Some.ensures.stands t.clients st.clients) refl in
+    let view = c.in_ok-view.ensures.granted t row.0 st fit row.2 in (
+      row.0,
+      row.1,
+      nothing_drawn t c.args.state.now c.args.client row.0 c.in_ok-view.view st row.1 view.granted
+          c.args.made.now (c.needs_draw.ensures.shown c.if-not-needs_draw.true row.0 row.2),
+    )
+
+pub returns-clause-ok : goal.returns-clause-ok
+returns-clause-ok c = λ t st fit.
+    let row = both_back ClientStands (client_at t c.args.client) (Some c.in-Some.row.now)
+    c.in-Some.row.now (c.in-Some.ensures.stands t.clients st.clients) refl in
+    let view = c.in_ok-view.ensures.granted t row.0 st fit row.2 in
+    let effects = c.push.ensures.items
+    ∙ (if_true (is_ok c.push.result) _ _ (ap (λ r. is_ok r) c.unwrap.ensures)
+    ∙ (ap (λ (es : List Effect). es ++ Deliver c.args.client c.from_vec.result ∷ []) c.in_ok-reserve.ensures.items
+    ∙ ap (λ (bytes : List ℕ). c.args.made.now.effects.items ++ Deliver c.args.client bytes ∷ []) c.from_vec.ensures)) in (
+      row.0,
+      row.1,
+      frame_drawn t c.args.state.now c.args.client row.0 c.in_ok-view.view st row.1 view.granted
+          c.args.made.now c.new-bytes.result.items c.draw.new.out.items c.draw.new.self _
+          (c.needs_draw.ensures.needed c.if-not-needs_draw.false row.0 row.2) c.new-bytes.ensures.items
+          (c.in_ok-draw.ensures.ok view.drawable t.clients row.0 st.clients row.1) effects refl,
+    )

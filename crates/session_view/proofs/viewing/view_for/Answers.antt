@@ -1,0 +1,33 @@
+use Rattle.std.proofs.Common.{◌≡◌, ◌∙◌, List, ap, map, subst, sym}
+use Rattle.regions.specs.Pages.{IsRects}
+use Rattle.regions.specs.declared.shown.Shown.{Shown}
+use Rattle.view.specs.Granted.{part_of}
+use Rattle.session_rows.specs.Matched.{Matched}
+use Rattle.session_view.specs.declared.parts.Part.{Part}
+use Rattle.session_view.specs.Parts.{ShowsPart}
+use Rattle.session_view.specs.Status.{SaysStatus}
+use Rattle.session_view.proofs.Granting.{view_is}
+use Rattle.session_view.proofs.viewing.view_for.Goals as goal
+
+pub returns-clause-granted : goal.returns-clause-granted
+returns-clause-granted c =
+    let row = c.args.client.now in
+    let text : c.as_slice.result.now ≡ c.in_ok-status.status = cc in
+    view_is c.args.state.now row c.in-Ok.rects (map part_of c.deref-2.result.now)
+    c.as_slice.result.now c.compose.result
+    (subst
+    (λ n. IsRects row.layout.shape row.layout.focus n row.shadow.columns c.in-Ok.rects)
+    c.rows-rows.ensures
+    (subst
+    (λ n. IsRects row.layout.shape row.layout.focus c.rows-rows.result n c.in-Ok.rects)
+    c.cols-cols.ensures c.in-Ok.ensures.ok))
+    c.in-Ok.ensures.each c.in-Ok.ensures.focused
+    (λ t st fit.
+    ap (map part_of) c.deref-2.ensures.value
+    ∙ c.in_ok-panes.ensures t row.user row.layout.shown
+    (subst (λ (parts : List Part). Matched (ShowsPart t row.user) row.layout.shown parts)
+    (sym c.deref.ensures.value)
+    (subst (λ (shown : List Shown). Matched (ShowsPart t row.user) shown c.in_ok-parts.parts.items)
+    c.shown.ensures.value (c.in_ok-parts.ensures t st fit))))
+    (subst (SaysStatus c.args.state.now row) (sym text) c.in_ok-status.ensures)
+    c.compose.ensures.size c.compose.ensures.exact c.compose.ensures.drawable

@@ -1,0 +1,6 @@
+pub mod Growing
+pub mod Listing
+pub mod Parts
+pub mod Status
+pub mod Viewed
+pub mod Drawn

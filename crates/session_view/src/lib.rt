@@ -1,0 +1,14 @@
+//! What lists say of a session's state, and what its clients are granted to see.
+#![tactic(auto)]
+
+mod drawing;
+mod lists;
+mod parts;
+mod status;
+mod texts;
+mod viewing;
+
+pub use drawing::draw;
+pub use lists::{aclgrp_of, displays, screen, windows};
+pub use texts::{clients_text, leaders_text, windows_text};
+pub use viewing::view_of;

@@ -1,0 +1,106 @@
+//! What the regions of a client's page show.
+
+ghost use Rattle.std.specs.Prelude.{◌≡◌, ℕ, IfOk, List, map};
+ghost use Rattle.acl.specs.declared.user_id.UserId.{UserId};
+ghost use Rattle.regions.specs.declared.shown.Shown.{Shown};
+ghost use Rattle.session_model.specs.Tables.{Tables};
+ghost use Rattle.session_model.specs.Granted.{part_shown};
+ghost use Rattle.session_rows.specs.Matched.{Matched};
+ghost use Rattle.view.specs.Granted.{part_of};
+ghost use Rattle.session_view.specs.Parts.{IsPart, AreParts, ShowsPart};
+
+use acl::{Bit, Object, UserId};
+use cells::Cell;
+use regions::Shown;
+use session_state::State;
+use std::alloc::{AllocError, Global};
+use view::Pane;
+use windows::Window;
+
+/// What a region shows a user.
+#[derive(Drop)]
+pub(crate) enum Part<'a> {
+    /// No window.
+    Empty,
+    /// The window of this number, which he may not read.
+    Hidden {
+        number: u8,
+    },
+    /// A window that he may read, moved back so many lines, and the lines of its page then.
+    Readable {
+        window: &'a Window,
+        back: usize,
+        lines: Vec<&'a [Cell]>,
+    },
+}
+
+impl Part<'_> {
+    /// The part as it is composed.
+    fn pane(&self) -> Pane<'_>
+        ensures { (t : Tables) (user : UserId) (shown : Shown) → ShowsPart t user shown self.now
+            → part_of result ≡ part_shown t user shown }
+    {
+        match self {
+            Part::Empty => Pane::Empty,
+            Part::Hidden { number } => Pane::Hidden { number: *number },
+            Part::Readable {
+                window,
+                back,
+                lines,
+            } => Pane::Readable(window.contents(*back, lines)),
+        }
+    }
+}
+
+/// What a region shows a user: its window, as far as he may read it.
+fn part_in(state: &State, user: UserId, shown: Shown) -> Result<Part<'_>, AllocError>
+    ensures { IfOk result (IsPart state.now user shown) }
+{
+    let Some(serial) = shown.window else {
+        return Ok(Part::Empty);
+    };
+    let Some(window) = state.windows.get(serial) else {
+        return Ok(Part::Empty);
+    };
+    let object = Object::Window(serial);
+    if state.acl.may(user, Bit::Read, object).is_err() {
+        return Ok(Part::Hidden {
+            number: window.number,
+        });
+    }
+    let back = shown.back as usize;
+    let lines = window.lines(state.alloc, back)?;
+    Ok(Part::Readable {
+        window,
+        back,
+        lines,
+    })
+}
+
+/// What regions show a user.
+pub(crate) fn parts<'a>(
+    state: &'a State,
+    user: UserId,
+    shown: &[Shown],
+) -> Result<Vec<Part<'a>>, AllocError>
+    ensures { IfOk result (λ made. AreParts state.now user shown.now made.items) }
+{
+    let mut made = Vec::with_capacity(state.alloc, shown.len())?;
+    for region in shown {
+        made.push(part_in(state, user, *region)?)?;
+    }
+    Ok(made)
+}
+
+/// The parts as they are composed.
+pub(crate) fn panes<'p>(alloc: Global, parts: &'p [Part<'_>]) -> Result<Vec<Pane<'p>>, AllocError>
+    ensures { IfOk result (λ made. (t : Tables) (user : UserId) (shown : List Shown)
+        → Matched (ShowsPart t user) shown parts.now
+        → map part_of made.items ≡ map (part_shown t user) shown) }
+{
+    let mut made = Vec::with_capacity(alloc, parts.len())?;
+    for part in parts {
+        made.push(part.pane())?;
+    }
+    Ok(made)
+}

@@ -1,0 +1,41 @@
+//! What a client is granted to see.
+
+ghost use Rattle.std.specs.Prelude.{IfOk};
+ghost use Rattle.view.specs.View.{HasSize};
+ghost use Rattle.session_view.specs.Viewed.{IsViewFor, IsViewOf};
+
+use crate::parts::{panes, parts};
+use crate::status::status_text;
+use session_clients::Client;
+use session_model::Refusal;
+use session_state::State;
+use std::alloc::AllocError;
+use view::{View, compose};
+
+/// What a client is granted to see. Each region of its page has room, so no memory is the only
+/// reason not to have its rectangles.
+pub(crate) fn view_for(state: &State, client: &Client) -> Result<View, AllocError>
+    ensures size { IfOk result (HasSize client.now.shadow.rows client.now.shadow.columns) }
+    ensures granted { IfOk result (IsViewFor state.now client.now) }
+{
+    let rows = client.shadow.rows();
+    let cols = client.shadow.cols();
+    let Ok(rects) = client.layout.rects(state.alloc, rows, cols) else {
+        return Err(AllocError);
+    };
+    let parts = parts(state, client.user, client.layout.shown())?;
+    let panes = panes(state.alloc, &parts)?;
+    let status = status_text(state, client)?;
+    compose(state.alloc, &rects, &panes, status.as_slice())
+}
+
+/// What a client is granted to see: all its regions, each window as far as its user may read it,
+/// and its status line. It is `NoWindow` where no client has the serial.
+pub fn view_of(state: &State, client: u32) -> Result<View, Refusal>
+    ensures { IsViewOf state.now client result }
+{
+    let Some(client) = state.clients.get(client) else {
+        return Err(Refusal::NoWindow);
+    };
+    Ok(view_for(state, client)?)
+}

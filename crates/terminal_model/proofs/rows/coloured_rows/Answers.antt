@@ -1,0 +1,26 @@
+use Rattle.std.proofs.Common.{refl}
+use Rattle.unicode_width.proofs.Computing.{unicode_width}
+use Rattle.charsets.specs.Utf8.{cut, piece}
+use Rattle.charsets.specs.Shifts.{mapped}
+use Rattle.charsets.specs.Sets.{character_at, supplement}
+use Rattle.control_parser.specs.Text.{fields}
+use Rattle.control_parser.specs.Grammar.{controls, text, begun_by, piece as function_piece, functions_behind}
+use Rattle.terminal_model.specs.Functions.{plain_sequence, private_sequence}
+use Rattle.terminal_model.specs.Table.{columns_of, drawn, acted_from, resized}
+use Rattle.terminal_model.specs.Reading.{act, act_all, read_unit, read_units, read_byte, reads}
+use Rattle.terminal_model.proofs.rows.coloured_rows.Goals as goal
+
+pub returns : goal.returns
+unfolding unicode_width cut piece mapped character_at supplement fields controls text begun_by function_piece functions_behind plain_sequence private_sequence columns_of drawn acted_from resized act act_all read_unit read_units read_byte reads
+returns c = record {
+  in_turn = refl;
+  each_by_itself = refl;
+  blank = refl;
+  saved = refl;
+  soft_reset = refl;
+  wide_cut = refl;
+  insertion = refl;
+  deletion = refl;
+  smaller = refl;
+  strings = refl;
+}
