@@ -3,3 +3,5 @@ pub mod Telling
 pub mod Inputs
 pub mod Orders
 pub mod Parts
+pub mod Putting
+pub mod Stepping

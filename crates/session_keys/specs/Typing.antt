@@ -46,3 +46,7 @@ abbrev pub Types : Caller → ℕ → List ℕ → State → Message → Made �
 Types k client typed s message before after old noted =
     (t : Tables) (c : Client) → Stands t s → AreFit t → client_at t client ≡ Some c
     → k ≡ caller_by client c → Typed t c typed message before after old noted
+
+-- effects stand behind those before
+abbrev pub Grows : List Effect → List Effect → Type 0
+Grows before after = (more : List Effect) × (after ≡ before ++ more)

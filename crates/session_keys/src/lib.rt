@@ -3,10 +3,12 @@
 
 mod dropping;
 mod given;
+mod key_step;
 mod obeying;
 mod saying;
 mod typing;
 
 pub use given::command_given;
+pub use key_step::keys;
 pub use obeying::obey;
 pub use typing::type_bytes;

@@ -2,7 +2,7 @@
 
 ghost use Rattle.std.specs.Prelude.{◌≡◌, ◌++◌, IfOk, IfErr, OnOk, OnErr};
 ghost use Rattle.session_model.specs.declared.refusal.Refusal.TheVariants.{NoMemory};
-ghost use Rattle.session_keys.specs.Typing.{Types, input_to};
+ghost use Rattle.session_keys.specs.Typing.{Types, Grows, input_to};
 
 use crate::saying::wants_memory;
 use session_checks::check_typing;
@@ -34,6 +34,7 @@ pub fn type_bytes(
 ) -> Result<Message, Refusal>
     ensures ok { IfOk result (λ message. Types caller client typed state.now message
         made.old made.new verdicts.old.items verdicts.new.items) }
+    ensures grows { OnOk result (Grows made.old.effects.items made.new.effects.items) }
     ensures err { OnErr result (made.new.effects.items ≡ made.old.effects.items) }
     ensures memory { IfErr result (λ refusal. refusal ≡ NoMemory) }
     ensures acts { made.new.acts ≡ made.old.acts }
