@@ -37,36 +37,41 @@ module _ {A : Type 0} (f : A → ℕ) where
   mapped_stay : {X : Type 0} (g : A → X) (rows : List A) (n : ℕ) (old new : A)
       → row_of f rows n ≡ Some old → g new ≡ g old → map g (with_row f rows n new) ≡ map g rows
   mapped_stay g [] n old new at same = refl
-  mapped_stay {X} g (r ∷ rs) n old new at same = on (f r == n) at where
+  mapped_stay {X} g (r ∷ rs) n old new at same =
+      on (f r == n) at (λ here. mapped_stay g rs n old new here same) where
     on : (b : Bool) → (if b then Some r else row_of f rs n) ≡ Some old
+        → (row_of f rs n ≡ Some old → map g (with_row f rs n new) ≡ map g rs)
         → map g (if b then new ∷ rs else r ∷ with_row f rs n new) ≡ map g (r ∷ rs)
-    on true here =
+    on true here further =
         let e : r ≡ old = cc (here) in ap (λ (x : X). x ∷ map g rs) (same ∙ ap g (sym e))
-    on false here = ap (λ (xs : List X). g r ∷ xs) (mapped_stay g rs n old new here same)
+    on false here further = ap (λ (xs : List X). g r ∷ xs) (further here)
 
   length_stays : (rows : List A) (n : ℕ) (new : A) → length (with_row f rows n new) ≡ length rows
   length_stays [] n new = refl
-  length_stays (r ∷ rs) n new = on (f r == n) where
-    on : (b : Bool) → length (if b then new ∷ rs else r ∷ with_row f rs n new) ≡ length (r ∷ rs)
-    on true = refl
-    on false = ap (λ (k : ℕ). suc k) (length_stays rs n new)
+  length_stays (r ∷ rs) n new = on (f r == n) (length_stays rs n new) where
+    on : (b : Bool) → length (with_row f rs n new) ≡ length rs
+        → length (if b then new ∷ rs else r ∷ with_row f rs n new) ≡ length (r ∷ rs)
+    on true further = refl
+    on false further = ap (λ (k : ℕ). suc k) further
 
   module _ (P : A → Type 0) where
     all_at : (rows : List A) (n : ℕ) (x : A) → row_of f rows n ≡ Some x → AllByRecursion P rows
         → P x
     all_at [] n x at all = absurd (cc (at))
-    all_at (r ∷ rs) n x at all = on (f r == n) at where
-      on : (b : Bool) → (if b then Some r else row_of f rs n) ≡ Some x → P x
-      on true here = let e : r ≡ x = cc (here) in subst P e all.0
-      on false here = all_at rs n x here all.1
+    all_at (r ∷ rs) n x at all = on (f r == n) at (λ here. all_at rs n x here all.1) where
+      on : (b : Bool) → (if b then Some r else row_of f rs n) ≡ Some x
+          → (row_of f rs n ≡ Some x → P x) → P x
+      on true here further = let e : r ≡ x = cc (here) in subst P e all.0
+      on false here further = further here
 
     all_with : (rows : List A) (n : ℕ) (new : A) → P new → AllByRecursion P rows
         → AllByRecursion P (with_row f rows n new)
     all_with [] n new p all = tt
-    all_with (r ∷ rs) n new p all = on (f r == n) where
-      on : (b : Bool) → AllByRecursion P (if b then new ∷ rs else r ∷ with_row f rs n new)
-      on true = (p, all.1)
-      on false = (all.0, all_with rs n new p all.1)
+    all_with (r ∷ rs) n new p all = on (f r == n) (all_with rs n new p all.1) where
+      on : (b : Bool) → AllByRecursion P (with_row f rs n new)
+          → AllByRecursion P (if b then new ∷ rs else r ∷ with_row f rs n new)
+      on true further = (p, all.1)
+      on false further = (all.0, further)
 
 -- ---- tables
 

@@ -2,8 +2,12 @@
 use Rattle.std.proofs.Common.{◌≡◌, ℕ, zero, suc, ◌+◌, ◌<◌, ◌≤◌, Bool, true, false, List, [], ◌∷◌, ◌++◌, Option, Some, None}
 use Rattle.std.proofs.Common.{Result, Ok, Err, refl, ap, sym, subst, ◌∙◌, arith, length, take, append_assoc}
 use Rattle.std.proofs.lemmas.List.{length-take-le}
-use Rattle.std.specs.Prelude.{if◌then◌else◌, find, unwrap_or}
+use Rattle.std.specs.Prelude.{if◌then◌else◌, find, unwrap_or, OnErr}
+use Rattle.std.specs.Prelude.{slice_get}
+use Rattle.std.specs.Option.{option_and_then}
 use Rattle.std.specs.List.{range_with_len}
+use Rattle.regions.specs.declared.shown.Shown.{Shown}
+use Rattle.regions.specs.Layouts.{Arrangement}
 use Rattle.command_lang.specs.command.Command.{Command}
 use Rattle.command_lang.specs.fault.ParseFault.{ParseFault}
 use Rattle.keys.specs.Grammar.{Item, typed as typed_item, bound as bound_item, line as line_item}
@@ -21,6 +25,9 @@ use Rattle.session_model.specs.Keying.{items_behind, taken, typed_bytes, command
 use Rattle.session_model.specs.Events.{Ordered, ordered, types, typing_verdicts, reading, unsaid, input_in, says_why, told}
 use Rattle.session_model.specs.Texts.{text_of}
 use Rattle.session_rows.proofs.Serials.{serial_is, with_same, with_twice}
+use Rattle.session_clients.specs.declared.client.Client.{Client as Row}
+use Rattle.session_clients.specs.Stands.{ClientStands}
+use Rattle.session_state.specs.declared.caller.Caller.{Caller}
 use Rattle.session_state.specs.declared.made.Made.{Made}
 use Rattle.session_state.specs.declared.state.State.{State}
 use Rattle.session_state.specs.Stands.{Stands}
@@ -29,8 +36,8 @@ use Rattle.session_keys.specs.Dropping.{DropsSaid}
 use Rattle.session_keys.specs.Given.{given, ordered_by}
 use Rattle.session_keys.specs.Obeying.{Obeyed}
 use Rattle.session_keys.specs.Reads.{typing, order, keys_deed, keys_verdicts, read_of}
-use Rattle.session_keys.specs.Stepping.{read_by, IsRead, AreGiven}
-use Rattle.session_keys.specs.Typing.{Typed, message_after}
+use Rattle.session_keys.specs.Stepping.{caller_now, read_by, IsRead, AreGiven}
+use Rattle.session_keys.specs.Typing.{Typed, caller_by, message_after}
 use Rattle.session_keys.proofs.Putting.{serial}
 use Rattle.session_keys.proofs.Telling.{told_there}
 
@@ -39,12 +46,11 @@ use Rattle.session_keys.proofs.Telling.{told_there}
 module _ (p : ℕ → Bool) where
   found_below : (a n k : ℕ) → find p (range_with_len a n) ≡ Some k → k < a + n
   found_below a zero k at = absurd (cc (at))
-  found_below a (suc n) k at = on (p a) at where
+  found_below a (suc n) k at = on (p a) at (λ here. found_below (a + 1) n k here) where
     on : (b : Bool) → (if b then Some a else find p (range_with_len (a + 1) n)) ≡ Some k
-        → k < a + suc n
-    on true here = let e : a ≡ k = cc (here) in omega (arith, e)
-    on false here =
-        let below : k < (a + 1) + n = found_below (a + 1) n k here in omega (arith, below)
+        → (find p (range_with_len (a + 1) n) ≡ Some k → k < (a + 1) + n) → k < a + suc n
+    on true here further = let e : a ≡ k = cc (here) in omega (arith, e)
+    on false here further = let below : k < (a + 1) + n = further here in omega (arith, below)
 
   found_or : (n : ℕ) (o : Option ℕ) → find p (range_with_len 0 (n + 1)) ≡ o → unwrap_or o n ≤ n
   found_or n None at = omega arith
@@ -125,6 +131,21 @@ module _ (t : Tables) (n : ℕ) (c : Client) (keys : List ℕ) (at : client_at t
       ∙ ap (λ (o : Option Refusal). (typed_deed t c (b ∷ bytes) (focused_window t c) o).effects)
       fault_is
 
+-- ---- who gives them
+
+pub called_by : (c : Client) (row : Row) (n : ℕ) → c.serial ≡ n → ClientStands c row
+    → caller_now row ≡ caller_by n c
+called_by c row n same st =
+    ap (λ (u : UserId). caller u row.serial row.layout) st.user_is
+    ∙ (ap (λ (k : ℕ). caller c.user k row.layout) (st.serial_is ∙ same)
+    ∙ ap (λ (l : Arrangement). caller c.user n l) st.layout_is) where
+  caller : UserId → ℕ → Arrangement → Caller
+  caller u k l = record {
+    user = u;
+    client = Some k;
+    window = option_and_then (λ (s : Shown). s.window) (slice_get l.shown l.focus);
+  }
+
 -- ---- the command that they complete
 
 ordered_as : (t : Tables) (c : Client) (i : Option Item) → ordered_by t c (given i) ≡ ordered t c i
@@ -138,7 +159,7 @@ ordered_as t c (Some (line_item (b ∷ bytes))) = refl
 
 -- what was typed and what was obeyed are the keys' deed
 pub keys_given : (t : Tables) (n : ℕ) (c : Client) (keys typed : List ℕ) (message : Message)
-    (orders : Option (Result Command ParseFault)) (new : State) (before middle later after : Made)
+    (start end : ℕ) (orders : Option (Result Command ParseFault)) (new : State) (before middle later after : Made)
     (past noted noted_then : List Verdict) → client_at t n ≡ Some c
     → typed ≡ typed_bytes (items_behind c.keys keys)
     → orders ≡ given (command_item (items_behind c.keys keys))
@@ -147,18 +168,18 @@ pub keys_given : (t : Tables) (n : ℕ) (c : Client) (keys typed : List ℕ) (me
     → Obeyed (with_client t (read_by message keys c)) (reading keys c) orders new middle later noted
     noted_then
     → after.acts.items ≡ later.acts.items
-    → DropsSaid (length before.effects.items) (length middle.effects.items) later.effects.items
-    after.effects.items
+    → start ≡ length before.effects.items → end ≡ length middle.effects.items
+    → DropsSaid start end later.effects.items after.effects.items
     → AreGiven t c keys new before after past noted_then
-keys_given t n c keys typed message orders new before middle later after past noted noted_then at
-    typed_is orders_are put quiet obeyed still drops = record {
+keys_given t n c keys typed message start end orders new before middle later after past noted
+    noted_then at typed_is orders_are put quiet obeyed still begin close drops = record {
   done = record {
     stands = subst (λ (v : Tables). Stands v new) tables obeyed.done.stands;
     acts = still ∙ (obeyed.done.acts
         ∙ (ap (λ (xs : List _). xs ++ (ordered_by u d orders).deed.acts) quiet
         ∙ ap (λ (o : Ordered). before.acts.items ++ o.deed.acts) same));
-    effects = drops before.effects.items mine.effects (order t c keys).deed.effects all refl
-        (sym (ap length typed_now));
+    effects = drops before.effects.items mine.effects (order t c keys).deed.effects all
+        (sym begin) (sym (close ∙ ap length typed_now));
   };
   verdicts = obeyed.verdicts
       ∙ (ap (λ (vs : List Verdict). vs ++ (ordered_by u d orders).verdicts) put.verdicts
@@ -208,3 +229,7 @@ keys_given t n c keys typed message orders new before middle later after past no
       ∙ (ap (λ (o : Ordered). middle.effects.items ++ o.deed.effects) same
       ∙ (ap (λ (fs : List Effect). fs ++ (order t c keys).deed.effects) typed_now
       ∙ append_assoc before.effects.items mine.effects (order t c keys).deed.effects))
+
+pub err_always : {A E P : Type 0} (r : Result A E) → P → OnErr r P
+err_always (Ok a) p = tt
+err_always (Err e) p = p

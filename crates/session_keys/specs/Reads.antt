@@ -1,5 +1,5 @@
 -- What a step of keys does, but for users who leave windows.
-use Rattle.std.specs.Prelude.{ℕ, ◌≡◌, ◌×◌, ◌++◌, List, Option, Some, None, Result, Ok, Err, length, take}
+use Rattle.std.specs.Prelude.{ℕ, ◌≡◌, ◌++◌, List, Option, Some, None, Result, Ok, Err, length, take}
 use Rattle.session_model.specs.declared.refusal.Refusal.{Refusal}
 use Rattle.session_model.specs.declared.refusal.Refusal.TheVariants.{NoMemory, NoWindow}
 use Rattle.session_model.specs.declared.verdict.Verdict.{Verdict}
