@@ -1,8 +1,8 @@
 -- Bytes that are typed.
-use Rattle.std.proofs.Common.{◌≡◌, ℕ, Bool, true, false, List, [], ◌∷◌, ◌++◌, Option, Some, None, refl}
-use Rattle.std.proofs.Common.{ap, sym, subst, ◌∙◌, length, inl, inr}
+use Rattle.std.proofs.Common.{◌≡◌, ℕ, true, false, List, [], ◌∷◌, ◌++◌, Option, Some, None, refl}
+use Rattle.std.proofs.Common.{ap, sym, ◌∙◌, length, inl, inr}
 use Rattle.std.specs.Prelude.{◌⊎◌, ◌==◌}
-use Rattle.std.specs.Option.{option_map_or, option_and_then}
+use Rattle.std.specs.Option.{option_and_then}
 use Rattle.acl.specs.declared.user_id.UserId.{UserId}
 use Rattle.session_model.specs.declared.event.Effect.{Effect}
 use Rattle.session_model.specs.declared.event.Effect.TheVariants.{Input, Say}
@@ -15,7 +15,7 @@ use Rattle.session_model.specs.Tables.{Window, Client, Tables, window_at, client
 use Rattle.session_model.specs.Tables.{focused_window}
 use Rattle.session_model.specs.Checks.{first_fault, typing_checks}
 use Rattle.session_model.specs.Deeds.{Deed, changing}
-use Rattle.session_model.specs.Events.{input_in, types, says_why}
+use Rattle.session_model.specs.Events.{input_in, says_why}
 use Rattle.session_model.specs.Texts.{text_of}
 use Rattle.session_rows.proofs.Serials.{serial_is}
 use Rattle.session_state.specs.declared.made.Made.{Made}

@@ -1,21 +1,17 @@
 -- What comes of commands by keys.
-use Rattle.std.proofs.Common.{◌≡◌, ℕ, true, false, List, [], ◌∷◌, ◌++◌, Option, Some, None, Result, Ok, Err, refl, ap}
+use Rattle.std.proofs.Common.{◌≡◌, ℕ, true, false, List, ◌++◌, Option, Some, None, Result, Ok, Err, ap}
 use Rattle.std.proofs.Common.{sym, subst, ◌∙◌, append-nil, append_assoc, inl, inr}
-use Rattle.std.specs.Prelude.{◌⊎◌, OnOk}
+use Rattle.std.specs.Prelude.{OnOk}
 use Rattle.command_lang.specs.command.Command.{Command}
-use Rattle.command_lang.specs.fault.ParseFault.{ParseFault}
-use Rattle.acl.specs.History.{followed_by}
 use Rattle.session_model.specs.declared.event.Effect.{Effect}
-use Rattle.session_model.specs.declared.message.Message.{Message}
 use Rattle.session_model.specs.declared.message.Message.TheVariants.{Text}
 use Rattle.session_model.specs.declared.refusal.Refusal.{Refusal}
-use Rattle.session_model.specs.declared.refusal.Refusal.TheVariants.{NoMemory, Line}
 use Rattle.session_model.specs.declared.verdict.Verdict.{Verdict}
-use Rattle.session_model.specs.Tables.{Client, Tables, client_at, focused}
+use Rattle.session_model.specs.Tables.{Client, Tables, client_at}
 use Rattle.session_model.specs.Lines as model
-use Rattle.session_model.specs.Deeds.{Deed, Answer, changing, hearing}
+use Rattle.session_model.specs.Deeds.{Deed}
 use Rattle.session_model.specs.Commands.{Ruling, ruling}
-use Rattle.session_model.specs.Events.{says, says_why, keyed, with_listed, by_line, message_of}
+use Rattle.session_model.specs.Events.{says, keyed, with_listed, message_of}
 use Rattle.session_model.specs.Texts.{text_of}
 use Rattle.session_clients.specs.Stands.{ClientStands}
 use Rattle.session_rows.proofs.Matching.{rows_match, both_there, both_back}
@@ -24,7 +20,7 @@ use Rattle.session_clients.specs.declared.client.Client.{Client as Row}
 use Rattle.session_state.specs.declared.made.Made.{Made}
 use Rattle.session_state.specs.declared.state.State.{State}
 use Rattle.session_state.specs.Stands.{Stands}
-use Rattle.session_state.specs.Doing.{HasDone, Answers, IsAsBefore, caller_in, did}
+use Rattle.session_state.specs.Doing.{HasDone, caller_in, did}
 use Rattle.session_keys.specs.Typing.{caller_by}
 use Rattle.session_orders.specs.Ruled.{Ruled}
 use Rattle.session_keys.specs.Said.{Says, wants_memory}

@@ -1,5 +1,5 @@
 -- A client's row that is put in place of the one before it: the same client with the same page.
-use Rattle.std.proofs.Common.{◌≡◌, ℕ, suc, ◌≤◌, Bool, true, false, List, [], ◌∷◌, ◌++◌, Some, Option, map, length, refl, ap}
+use Rattle.std.proofs.Common.{◌≡◌, ℕ, suc, ◌≤◌, Bool, true, false, List, [], ◌∷◌, ◌++◌, Some, map, length, refl, ap}
 use Rattle.std.proofs.Common.{sym, subst, ◌∙◌}
 use Rattle.std.specs.Prelude.{if◌then◌else◌, ◌==◌, reverse}
 use Rattle.std.specs.List.{AllByRecursion}
@@ -39,12 +39,12 @@ module _ {A : Type 0} (f : A → ℕ) where
   mapped_stay g [] n old new at same = refl
   mapped_stay {X} g (r ∷ rs) n old new at same =
       on (f r == n) at (λ here. mapped_stay g rs n old new here same) where
-    on : (b : Bool) → (if b then Some r else row_of f rs n) ≡ Some old
-        → (row_of f rs n ≡ Some old → map g (with_row f rs n new) ≡ map g rs)
-        → map g (if b then new ∷ rs else r ∷ with_row f rs n new) ≡ map g (r ∷ rs)
-    on true here further =
-        let e : r ≡ old = cc (here) in ap (λ (x : X). x ∷ map g rs) (same ∙ ap g (sym e))
-    on false here further = ap (λ (xs : List X). g r ∷ xs) (further here)
+        on : (b : Bool) → (if b then Some r else row_of f rs n) ≡ Some old
+            → (row_of f rs n ≡ Some old → map g (with_row f rs n new) ≡ map g rs)
+            → map g (if b then new ∷ rs else r ∷ with_row f rs n new) ≡ map g (r ∷ rs)
+        on true here further =
+            let e : r ≡ old = cc (here) in ap (λ (x : X). x ∷ map g rs) (same ∙ ap g (sym e))
+        on false here further = ap (λ (xs : List X). g r ∷ xs) (further here)
 
   length_stays : (rows : List A) (n : ℕ) (new : A) → length (with_row f rows n new) ≡ length rows
   length_stays [] n new = refl

@@ -1,5 +1,5 @@
 -- Lines that are read.
-use Rattle.std.proofs.Common.{◌≡◌, ℕ, Bool, true, false, List, [], ◌∷◌, Option, Some, Result, Ok, Err, refl, ap, sym, ◌∙◌}
+use Rattle.std.proofs.Common.{◌≡◌, ℕ, true, false, List, [], ◌∷◌, Option, Some, Result, Ok, Err, refl, ap, sym, ◌∙◌}
 use Rattle.std.proofs.Common.{length, inl, inr}
 use Rattle.std.specs.Prelude.{◌⊎◌, ◌==◌, IfOk}
 use Rattle.std.specs.declared.alloc.AllocError.{AllocError}

@@ -1,6 +1,6 @@
 -- A step of keys: what they type, and then the command that they complete.
 use Rattle.std.proofs.Common.{◌≡◌, ℕ, zero, suc, ◌+◌, ◌<◌, ◌≤◌, Bool, true, false, List, [], ◌∷◌, ◌++◌, Option, Some, None}
-use Rattle.std.proofs.Common.{Result, Ok, Err, refl, ap, sym, subst, ◌∙◌, arith, length, take, append_assoc}
+use Rattle.std.proofs.Common.{Result, Ok, Err, refl, ap, sym, subst, ◌∙◌, arith, length, append_assoc}
 use Rattle.std.proofs.lemmas.List.{length-take-le}
 use Rattle.std.specs.Prelude.{if◌then◌else◌, find, unwrap_or, OnErr}
 use Rattle.std.specs.Prelude.{slice_get}
@@ -18,11 +18,11 @@ use Rattle.session_model.specs.declared.message.Message.{Message}
 use Rattle.session_model.specs.declared.message.Message.TheVariants.{Silence, Text}
 use Rattle.session_model.specs.declared.refusal.Refusal.{Refusal}
 use Rattle.session_model.specs.declared.verdict.Verdict.{Verdict}
-use Rattle.session_model.specs.Tables.{Tables, Client, Window, client_at, with_client, focused, focused_window, with_row, row_of}
+use Rattle.session_model.specs.Tables.{Tables, Client, Window, client_at, with_client, focused_window, row_of}
 use Rattle.session_model.specs.Checks.{first_fault, typing_checks}
 use Rattle.session_model.specs.Deeds.{Deed, changing, hearing}
 use Rattle.session_model.specs.Keying.{items_behind, taken, typed_bytes, command_item, completes}
-use Rattle.session_model.specs.Events.{Ordered, ordered, types, typing_verdicts, reading, unsaid, input_in, says_why, told}
+use Rattle.session_model.specs.Events.{Ordered, ordered, types, typing_verdicts, reading, input_in, says_why}
 use Rattle.session_model.specs.Texts.{text_of}
 use Rattle.session_rows.proofs.Serials.{serial_is, with_same, with_twice}
 use Rattle.session_clients.specs.declared.client.Client.{Client as Row}
@@ -31,12 +31,12 @@ use Rattle.session_state.specs.declared.caller.Caller.{Caller}
 use Rattle.session_state.specs.declared.made.Made.{Made}
 use Rattle.session_state.specs.declared.state.State.{State}
 use Rattle.session_state.specs.Stands.{Stands}
-use Rattle.session_state.specs.Doing.{HasDone, did}
+use Rattle.session_state.specs.Doing.{did}
 use Rattle.session_keys.specs.Dropping.{DropsSaid}
 use Rattle.session_keys.specs.Given.{given, ordered_by}
 use Rattle.session_keys.specs.Obeying.{Obeyed}
-use Rattle.session_keys.specs.Reads.{typing, order, keys_deed, keys_verdicts, read_of}
-use Rattle.session_keys.specs.Stepping.{caller_now, read_by, IsRead, AreGiven}
+use Rattle.session_keys.specs.Reads.{typing, order, keys_deed, read_of}
+use Rattle.session_keys.specs.Stepping.{caller_now, read_by, AreGiven}
 use Rattle.session_keys.specs.Typing.{Typed, caller_by, message_after}
 use Rattle.session_keys.proofs.Putting.{serial}
 use Rattle.session_keys.proofs.Telling.{told_there}
@@ -139,12 +139,12 @@ called_by c row n same st =
     ap (λ (u : UserId). caller u row.serial row.layout) st.user_is
     ∙ (ap (λ (k : ℕ). caller c.user k row.layout) (st.serial_is ∙ same)
     ∙ ap (λ (l : Arrangement). caller c.user n l) st.layout_is) where
-  caller : UserId → ℕ → Arrangement → Caller
-  caller u k l = record {
-    user = u;
-    client = Some k;
-    window = option_and_then (λ (s : Shown). s.window) (slice_get l.shown l.focus);
-  }
+      caller : UserId → ℕ → Arrangement → Caller
+      caller u k l = record {
+        user = u;
+        client = Some k;
+        window = option_and_then (λ (s : Shown). s.window) (slice_get l.shown l.focus);
+      }
 
 -- ---- the command that they complete
 
@@ -173,62 +173,62 @@ pub keys_given : (t : Tables) (n : ℕ) (c : Client) (keys typed : List ℕ) (me
     → AreGiven t c keys new before after past noted_then
 keys_given t n c keys typed message start end orders new before middle later after past noted
     noted_then at typed_is orders_are put quiet obeyed still begin close drops = record {
-  done = record {
-    stands = subst (λ (v : Tables). Stands v new) tables obeyed.done.stands;
-    acts = still ∙ (obeyed.done.acts
-        ∙ (ap (λ (xs : List _). xs ++ (ordered_by u d orders).deed.acts) quiet
-        ∙ ap (λ (o : Ordered). before.acts.items ++ o.deed.acts) same));
-    effects = drops before.effects.items mine.effects (order t c keys).deed.effects all
-        (sym begin) (sym (close ∙ ap length typed_now));
-  };
-  verdicts = obeyed.verdicts
-      ∙ (ap (λ (vs : List Verdict). vs ++ (ordered_by u d orders).verdicts) put.verdicts
-      ∙ (append_assoc past (typing_verdicts t c typed) _
-      ∙ (ap (λ (bs : List ℕ). past ++ (typing_verdicts t c bs ++ (ordered_by u d orders).verdicts))
-      typed_is
-      ∙ ap (λ (o : Ordered). past
-      ++ (typing_verdicts t c (typed_bytes (items_behind c.keys keys)) ++ o.verdicts)) same)));
-} where
-  d : Client
-  d = reading keys c
+      done = record {
+        stands = subst (λ (v : Tables). Stands v new) tables obeyed.done.stands;
+        acts = still ∙ (obeyed.done.acts
+            ∙ (ap (λ (xs : List _). xs ++ (ordered_by u d orders).deed.acts) quiet
+            ∙ ap (λ (o : Ordered). before.acts.items ++ o.deed.acts) same));
+        effects = drops before.effects.items mine.effects (order t c keys).deed.effects all
+            (sym begin) (sym (close ∙ ap length typed_now));
+      };
+      verdicts = obeyed.verdicts
+          ∙ (ap (λ (vs : List Verdict). vs ++ (ordered_by u d orders).verdicts) put.verdicts
+          ∙ (append_assoc past (typing_verdicts t c typed) _
+          ∙ (ap (λ (bs : List ℕ). past ++ (typing_verdicts t c bs ++ (ordered_by u d orders).verdicts))
+          typed_is
+          ∙ ap (λ (o : Ordered). past
+          ++ (typing_verdicts t c (typed_bytes (items_behind c.keys keys)) ++ o.verdicts)) same)));
+    } where
+      d : Client
+      d = reading keys c
 
-  u : Tables
-  u = with_client t (read_by message keys c)
+      u : Tables
+      u = with_client t (read_by message keys c)
 
-  mine : Deed
-  mine = typing t c keys
+      mine : Deed
+      mine = typing t c keys
 
-  said : message ≡ message_after t c (typed_bytes (items_behind c.keys keys))
-  said = put.message_is ∙ ap (message_after t c) typed_is
+      said : message ≡ message_after t c (typed_bytes (items_behind c.keys keys))
+      said = put.message_is ∙ ap (message_after t c) typed_is
 
-  tables_are : u ≡ mine.tables
-  tables_are =
-      ap (λ (m : Message). with_client t (hearing m d)) said
-      ∙ sym (tables_typed t n c keys at (typed_bytes (items_behind c.keys keys)))
+      tables_are : u ≡ mine.tables
+      tables_are =
+          ap (λ (m : Message). with_client t (hearing m d)) said
+          ∙ sym (tables_typed t n c keys at (typed_bytes (items_behind c.keys keys)))
 
-  same : ordered_by u d orders ≡ order t c keys
-  same =
-      ap (ordered_by u d) orders_are
-      ∙ (ordered_as u d (command_item (items_behind c.keys keys))
-      ∙ ap (λ (v : Tables). ordered v d (command_item (items_behind c.keys keys))) tables_are)
+      same : ordered_by u d orders ≡ order t c keys
+      same =
+          ap (ordered_by u d) orders_are
+          ∙ (ordered_as u d (command_item (items_behind c.keys keys))
+          ∙ ap (λ (v : Tables). ordered v d (command_item (items_behind c.keys keys))) tables_are)
 
-  tables : did u (ordered_by u d orders).deed ≡ did t (keys_deed t c keys)
-  tables = ap (λ (o : Ordered). record o.deed.tables { acts = followed_by t.acts o.deed.acts }) same
+      tables : did u (ordered_by u d orders).deed ≡ did t (keys_deed t c keys)
+      tables = ap (λ (o : Ordered). record o.deed.tables { acts = followed_by t.acts o.deed.acts }) same
 
-  typed_now : middle.effects.items ≡ before.effects.items ++ mine.effects
-  typed_now =
-      put.effects
-      ∙ ap (λ (fs : List Effect). before.effects.items ++ fs)
-      (ap (λ (bs : List ℕ). (types t c bs).effects) typed_is
-      ∙ sym (effects_typed t n c keys at (typed_bytes (items_behind c.keys keys))))
+      typed_now : middle.effects.items ≡ before.effects.items ++ mine.effects
+      typed_now =
+          put.effects
+          ∙ ap (λ (fs : List Effect). before.effects.items ++ fs)
+          (ap (λ (bs : List ℕ). (types t c bs).effects) typed_is
+          ∙ sym (effects_typed t n c keys at (typed_bytes (items_behind c.keys keys))))
 
-  all : later.effects.items
-      ≡ before.effects.items ++ (mine.effects ++ (order t c keys).deed.effects)
-  all =
-      obeyed.done.effects
-      ∙ (ap (λ (o : Ordered). middle.effects.items ++ o.deed.effects) same
-      ∙ (ap (λ (fs : List Effect). fs ++ (order t c keys).deed.effects) typed_now
-      ∙ append_assoc before.effects.items mine.effects (order t c keys).deed.effects))
+      all : later.effects.items
+          ≡ before.effects.items ++ (mine.effects ++ (order t c keys).deed.effects)
+      all =
+          obeyed.done.effects
+          ∙ (ap (λ (o : Ordered). middle.effects.items ++ o.deed.effects) same
+          ∙ (ap (λ (fs : List Effect). fs ++ (order t c keys).deed.effects) typed_now
+          ∙ append_assoc before.effects.items mine.effects (order t c keys).deed.effects))
 
 pub err_always : {A E P : Type 0} (r : Result A E) → P → OnErr r P
 err_always (Ok a) p = tt

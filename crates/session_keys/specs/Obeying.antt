@@ -3,7 +3,7 @@ use Rattle.std.specs.Prelude.{ℕ, ◌≡◌, ◌++◌, List, Option, Some, Resu
 use Rattle.command_lang.specs.command.Command.{Command}
 use Rattle.command_lang.specs.fault.ParseFault.{ParseFault}
 use Rattle.session_model.specs.declared.verdict.Verdict.{Verdict}
-use Rattle.session_model.specs.Tables.{Tables, Client, client_at, focused}
+use Rattle.session_model.specs.Tables.{Tables, Client, client_at}
 use Rattle.session_state.specs.declared.caller.Caller.{Caller}
 use Rattle.session_state.specs.declared.made.Made.{Made}
 use Rattle.session_state.specs.declared.state.State.{State}

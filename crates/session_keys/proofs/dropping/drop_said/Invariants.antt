@@ -1,4 +1,4 @@
-use Rattle.std.proofs.Common.{◌≤◌, length}
+use Rattle.std.proofs.Common.{◌≤◌}
 use Rattle.session_keys.proofs.Parts.{DropsSoFar}
 use Rattle.session_keys.proofs.dropping.drop_said.Given as goal
 

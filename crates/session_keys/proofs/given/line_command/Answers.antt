@@ -1,4 +1,4 @@
-use Rattle.std.proofs.Common.{◌≡◌, sym, ◌∙◌}
+use Rattle.std.proofs.Common.{sym, ◌∙◌}
 use Rattle.session_keys.proofs.Reading.{line_read, line_faulty_if}
 use Rattle.session_keys.proofs.given.line_command.Goals as goal
 

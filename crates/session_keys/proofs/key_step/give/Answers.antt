@@ -1,4 +1,4 @@
-use Rattle.std.proofs.Common.{◌≡◌, List, ap, refl, ◌∙◌}
+use Rattle.std.proofs.Common.{ap, refl, ◌∙◌}
 use Rattle.session_state.specs.declared.made.Made.{Made}
 use Rattle.session_keys.proofs.Stepping.{keys_given}
 use Rattle.session_keys.proofs.key_step.give.Goals as goal

@@ -1,4 +1,4 @@
-use Rattle.std.proofs.Common.{◌≡◌, ℕ, List, Option, Ok, Some, ap, refl, sym, subst, ◌∙◌}
+use Rattle.std.proofs.Common.{ℕ, List, Option, Ok, ap, sym, subst, ◌∙◌}
 use Rattle.std.specs.Prelude.{option_copied}
 use Rattle.session_model.specs.Tables.{Client, client_at}
 use Rattle.session_rows.proofs.Serials.{serial_is}

@@ -1,5 +1,5 @@
-use Rattle.std.proofs.Common.{◌≡◌, ℕ, List, Some, ap, sym, ◌∙◌, refl}
-use Rattle.session_model.specs.Tables.{Client, Tables, with_client, row_of, with_row}
+use Rattle.std.proofs.Common.{◌≡◌, ℕ, List, ap, ◌∙◌, refl}
+use Rattle.session_model.specs.Tables.{Client, with_client, row_of, with_row}
 use Rattle.session_rows.proofs.Serials.{serial_is, with_same}
 use Rattle.session_rows.proofs.Matching.{row_there}
 use Rattle.session_clients.specs.declared.client.Client.{Client as Row}

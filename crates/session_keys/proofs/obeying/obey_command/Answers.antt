@@ -1,4 +1,4 @@
-use Rattle.std.proofs.Common.{◌≡◌, ◌+◌, ◌≤◌, Ok, Err, Some, ap, refl, sym, subst, ◌∙◌}
+use Rattle.std.proofs.Common.{◌+◌, ◌≤◌, Ok, Err, ap, refl, sym, subst, ◌∙◌}
 use Rattle.std.specs.Prelude.{vec_len, vec_capacity}
 use Rattle.std.specs.Option.{is_some}
 use Rattle.session_model.specs.declared.message.Message.{Message}
@@ -10,7 +10,7 @@ use Rattle.session_state.specs.Stands.{Stands}
 use Rattle.session_state.specs.Doing.{caller_in}
 use Rattle.session_orders.specs.Ruled.{Ruled}
 use Rattle.session_keys.specs.Said.{Says}
-use Rattle.session_keys.proofs.Orders.{obeyed_listing, obeyed_refused_or, obeyed_silently}
+use Rattle.session_keys.proofs.Orders.{obeyed_listing, obeyed_refused_or}
 use Rattle.session_keys.proofs.Orders.{kept_on, on_always}
 use Rattle.session_keys.proofs.obeying.obey_command.Goals as goal
 
