@@ -1,0 +1,4 @@
+pub mod Noted
+pub mod Least
+pub mod Stands
+pub mod Headline

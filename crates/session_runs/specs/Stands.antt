@@ -1,0 +1,36 @@
+-- What a session stands for.
+use Rattle.std.specs.Prelude.{List, ◌++◌, ◌≡◌, false}
+use Rattle.session_model.specs.declared.event.Effect.{Effect}
+use Rattle.session_model.specs.Trace.{Happening, Reply, Entry, Trace, with_step}
+use Rattle.session_model.specs.Run.{IsRun, tables_of}
+use Rattle.session_state.specs.Stands.{Stands}
+pub use Rattle.session_steps.specs.Taking.{wants_memory}
+use Rattle.session_runs.specs.Noted.{Noted}
+use Rattle.session_runs.specs.declared.session.Session.{Session}
+
+-- all its steps, whose tables its state stands for
+pub record StandsFor (h : Trace) (s : Session) : Type 0 where
+  pub run : IsRun h
+  pub stands : Stands (tables_of h) s.state
+
+-- a fact, unless the step was refused for want of memory
+abbrev pub IfTaken : Reply → Type 0 → Type 0
+IfTaken reply P = wants_memory reply ≡ false → P
+
+-- a step with what was noted of it and its effects
+abbrev pub entry_of : Happening → Reply → Noted → List Effect → Entry
+entry_of event reply noted effects = record {
+  event = event;
+  reply = reply;
+  acts = noted.acts;
+  verdicts = noted.verdicts;
+  effects = effects;
+}
+
+-- for each trace that the session stands for before, it stands afterwards for that trace with this
+-- step, whose effects were put behind others
+abbrev pub Takes :
+    Session → Happening → Noted → List Effect → List Effect → Reply → Session → Type 0
+Takes old event noted before after reply new = (h : Trace) → StandsFor h old →
+    (made : List Effect) × (after ≡ before ++ made)
+    × StandsFor (with_step h (entry_of event reply noted made)) new

@@ -1,0 +1,55 @@
+//! What is noted of a step.
+
+ghost use Rattle.std.specs.Prelude.{◌≡◌};
+ghost use Rattle.session_runs.specs.Noted.{nothing};
+
+use acl::Act;
+use session_model::Verdict;
+use std::alloc::Global;
+use std::marker::Model;
+
+/// What a step did to rights and locks, and what it checked. Each step that isn't refused for want
+/// of memory makes them anew.
+#[derive(Drop)]
+pub struct Notes {
+    acts: Vec<Act>,
+    verdicts: Vec<Verdict>,
+}
+
+impl Model for Notes {
+    ghost use Rattle.session_runs.specs.Noted.{Noted};
+
+    ghost Value = { Noted };
+
+    ghost view = { λ n. record { acts = n.acts.items; verdicts = n.verdicts.items } };
+}
+
+impl Notes {
+    /// Notes of nothing.
+    pub fn new(alloc: Global) -> Notes
+        ensures { result ≡ nothing }
+    {
+        Notes::of(Vec::new(alloc), Vec::new(alloc))
+    }
+
+    /// The acts of the step, in their order.
+    pub fn acts(&self) -> &[Act]
+        ensures { result.now ≡ self.now.acts }
+    {
+        self.acts.as_slice()
+    }
+
+    /// What the step checked, in its order.
+    pub fn verdicts(&self) -> &[Verdict]
+        ensures { result.now ≡ self.now.verdicts }
+    {
+        self.verdicts.as_slice()
+    }
+
+    /// Notes of these acts and verdicts.
+    pub(crate) fn of(acts: Vec<Act>, verdicts: Vec<Verdict>) -> Notes
+        ensures { result ≡ record { acts = acts.items; verdicts = verdicts.items } }
+    {
+        Notes { acts, verdicts }
+    }
+}

@@ -1,0 +1,6 @@
+pub mod Outcomes
+pub mod Answered
+pub mod Numbered
+pub mod Still
+pub mod Drawn
+pub mod Entries

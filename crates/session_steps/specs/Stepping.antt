@@ -1,0 +1,36 @@
+-- What has come about, of an outcome.
+use Rattle.std.specs.Prelude.{◌≡◌, ◌⊎◌, ◌++◌, List, Ok, Err}
+use Rattle.session_model.specs.declared.refusal.Refusal.TheVariants.{NoMemory}
+use Rattle.session_model.specs.declared.verdict.Verdict.{Verdict}
+use Rattle.session_model.specs.Trace.{Happening, Reply}
+use Rattle.session_model.specs.Tables.{Tables}
+use Rattle.session_model.specs.Events.{Outcome, outcome}
+use Rattle.session_state.specs.declared.made.Made.{Made}
+use Rattle.session_state.specs.declared.state.State.{State}
+use Rattle.session_state.specs.Stands.{Stands}
+use Rattle.session_state.specs.Fit.{AreFit}
+
+-- its reply was given, the state stands for its tables, and its acts, effects and verdicts stand
+-- behind those before
+pub record HasHappened (o : Outcome) (reply : Reply) (new : State) (before after : Made)
+    (old noted : List Verdict) : Type 0 where
+  pub replied : o.reply ≡ reply
+  pub stands : Stands o.tables new
+  pub acts : after.acts.items ≡ before.acts.items ++ o.acts
+  pub effects : after.effects.items ≡ before.effects.items ++ o.effects
+  pub verdicts : noted ≡ old ++ o.verdicts
+
+-- so it was, or memory was wanting
+abbrev pub Stepped :
+    Outcome → Reply → State → Made → Made → List Verdict → List Verdict → Type 0
+Stepped o (Ok done) new before after old noted =
+    HasHappened o (Ok done) new before after old noted
+Stepped o (Err r) new before after old noted =
+    (r ≡ NoMemory) ⊎ HasHappened o (Err r) new before after old noted
+
+-- that of an event, whichever tables the state stood for
+abbrev pub Steps : Happening → State → Reply → State → Made → Made → List Verdict →
+    List Verdict → Type 0
+Steps event old reply new before after past noted =
+    (t : Tables) → Stands t old → AreFit t
+    → Stepped (outcome t event) reply new before after past noted

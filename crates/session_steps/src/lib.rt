@@ -1,0 +1,12 @@
+//! Steps of a session: what an event does, whole.
+#![tactic(auto)]
+
+mod coming;
+mod commanding;
+mod drawing;
+mod going;
+mod programs;
+mod reading;
+mod taking;
+
+pub use taking::take;
