@@ -1,4 +1,4 @@
-//! `muxsim [--show] OWNER`: plays the script on standard input.
+//! `muxsim [--edition N] [--show] OWNER`: plays the script on standard input.
 #![tactic(auto)]
 
 use session::simulate;

@@ -7,7 +7,7 @@ use std::test::Fail;
 use std::{io, str};
 
 /// Lines that aren't understood.
-const NO_EVENTS: [&str; 18] = [
+const NO_EVENTS: [&str; 24] = [
     "zap",
     "open",
     "open own 2 5 0",
@@ -26,6 +26,12 @@ const NO_EVENTS: [&str; 18] = [
     "keys 0",
     r"output 0 \1",
     r"output 0 \zz",
+    "detach",
+    "detach 0 0",
+    "command own",
+    "command own 12345 windows",
+    "resize 0 4",
+    "closed -",
 ];
 
 #[test]
@@ -81,14 +87,17 @@ fn output_of_any_bytes_is_safe(rt: HostRuntime) -> Result<(), Fail> {
 }
 
 #[test]
-fn words_are_the_owner_and_show(rt: HostRuntime) -> Result<(), Fail> {
-    let no_words: [&[&str]; 6] = [
+fn words_are_the_owner_the_edition_and_show(rt: HostRuntime) -> Result<(), Fail> {
+    let no_words: [&[&str]; 9] = [
         &[],
         &["Own"],
         &["none"],
         &["own", "own"],
         &["--shew", "own"],
         &["--show"],
+        &["--edition", "0", "own"],
+        &["--edition", "3", "own"],
+        &["--edition", "one", "own"],
     ];
     for words in no_words {
         let played = play(rt.alloc(), words, b"")?;
@@ -96,6 +105,9 @@ fn words_are_the_owner_and_show(rt: HostRuntime) -> Result<(), Fail> {
         assert!(rt; played.output.is_empty());
         assert!(rt; !played.errors.is_empty());
     }
+    let played = play(rt.alloc(), &["--edition", "3", "own"], b"")?;
+    let told = str::from_utf8(&played.errors).unwrap_or("");
+    assert!(rt; told.contains("--edition <N>"), "{told}");
     let played = play(rt.alloc(), &["--help"], b"")?;
     assert_eq!(rt; played.status, 0);
     assert!(rt; !played.output.is_empty());

@@ -1,4 +1,4 @@
-//! One owner, one window, from script to page.
+//! One owner, from script to page.
 
 use crate::play::{Row, judge};
 use std::test::Fail;
@@ -28,7 +28,7 @@ client 0
 |                    |
 cursor 1 3
 ",
-        size: (4, 20),
+        sizes: &[(4, 20)],
     },
     Row {
         title: "the sixth character goes to the next line of five columns",
@@ -51,7 +51,7 @@ client 0
 |                    |
 cursor 2 2
 ",
-        size: (4, 20),
+        sizes: &[(4, 20)],
     },
     Row {
         title: "a region of two lines shows the lines up to the cursor's",
@@ -74,7 +74,7 @@ client 0
 |                    |
 cursor 2 2
 ",
-        size: (4, 20),
+        sizes: &[(4, 20)],
     },
     Row {
         title: "the command key and a type the command key, and any other key behind it is dropped",
@@ -95,7 +95,7 @@ client 0
 |                    |
 cursor 1 1
 ",
-        size: (4, 20),
+        sizes: &[(4, 20)],
     },
     Row {
         title: "the command key stands at the end of one event and its key at the beginning of the next",
@@ -124,7 +124,7 @@ client 0
 |                    |
 cursor 1 1
 ",
-        size: (4, 20),
+        sizes: &[(4, 20)],
     },
     Row {
         title: "a sequence that is cut into four outputs acts as one",
@@ -153,7 +153,7 @@ client 0
 |                    |
 cursor 1 4
 ",
-        size: (4, 20),
+        sizes: &[(4, 20)],
     },
     Row {
         title: "a fresh window is blank, its cursor in the first place",
@@ -174,7 +174,7 @@ client 0
 |                    |
 cursor 1 1
 ",
-        size: (4, 20),
+        sizes: &[(4, 20)],
     },
     Row {
         title: "backspace behind the last column goes to the column before it",
@@ -197,7 +197,7 @@ client 0
 |                    |
 cursor 1 5
 ",
-        size: (4, 20),
+        sizes: &[(4, 20)],
     },
     Row {
         title: "a second draw of the same view gives nothing, and one of another view no reset",
@@ -227,29 +227,41 @@ client 0
 |                    |
 cursor 1 4
 ",
-        size: (4, 20),
+        sizes: &[(4, 20)],
     },
     Row {
-        title: "one window and one client at most",
+        title: "windows and clients are counted from 0, and each shows window 0",
         script: r"
 open own 2 5 0 sh
 open own 2 5 0 sh
 attach own 4 20
-attach own 4 20
+attach own 5 21
+output 0 a
+draw 1
 ",
         lines: r"
 opened 0 0
-refused windows: 1
+opened 1 1
 attached 0
-refused too many clients
+attached 1
+ok
+deliver 1 reset ..
+ok
 client 0
-|                    |
+|a                   |
 |                    |
 |0 sh                |
 |                    |
-cursor 1 1
+cursor 1 2
+client 1
+|a                    |
+|                     |
+|                     |
+|0 sh                 |
+|                     |
+cursor 1 2
 ",
-        size: (4, 20),
+        sizes: &[(4, 20), (5, 21)],
     },
     Row {
         title: "only the owner is known, and sizes and titles have limits, refused in this order",
@@ -295,7 +307,7 @@ client 0
 |                    |
 cursor 1 1
 ",
-        size: (4, 20),
+        sizes: &[(4, 20)],
     },
     Row {
         title: "what isn't there is refused, and keys without a window are told so",
@@ -323,7 +335,7 @@ client 0
 |no window           |
 cursor hidden
 ",
-        size: (4, 20),
+        sizes: &[(4, 20)],
     },
 ];
 

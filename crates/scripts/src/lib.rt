@@ -9,3 +9,5 @@ mod first_path;
 mod play;
 #[cfg(test)]
 mod refused_memory;
+#[cfg(test)]
+mod several_users;

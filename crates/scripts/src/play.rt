@@ -18,15 +18,15 @@ pub struct Played {
     pub status: u8,
 }
 
-/// A script with what it must print. A line `deliver C ..` stands for any draw, and `deliver C reset ..` for
-/// one that begins with the reset: its bytes are read by terminals of the client's size, which must then show
-/// what `--show` prints, if the script draws last.
+/// A script with what it must print with `--show`. A line `deliver C ..` stands for any draw, and
+/// `deliver C reset ..` for one that begins with the reset: its bytes are read by terminals of the
+/// client's size, which must then show what is printed, if the script draws that client last.
 pub struct Row {
     pub title: &'static str,
     pub script: &'static str,
     pub lines: &'static str,
-    /// Lines and columns of client 0.
-    pub size: (usize, usize),
+    /// Lines and columns of each client, by serials.
+    pub sizes: &'static [(usize, usize)],
 }
 
 /// What stands in terminals before their first draw: nothing; and a page of wide characters with strange
@@ -67,8 +67,16 @@ pub fn judge(rt: &(impl Abort + AllocGlobal), row: &Row) -> io::Result<()> {
     assert_eq!(rt; played.status, 0, "{title}");
     assert!(rt; played.errors.is_empty(), "{title}");
     let printed = str::from_utf8(&played.output).unwrap_or("not UTF-8");
-    let mut delivered = Vec::new(alloc);
-    let mut wanted = row.lines.lines().filter(|line| !line.is_empty());
+    compare(rt, title, printed, row.lines);
+    for (client, size) in row.sizes.iter().enumerate() {
+        judge_draws(rt, title, printed, client, *size)?;
+    }
+    Ok(())
+}
+
+/// Compares what was printed with the lines that are wanted, where `..` stands for any draw.
+pub fn compare(rt: &impl Abort, title: &str, printed: &str, lines: &str) {
+    let mut wanted = lines.lines().filter(|line| !line.is_empty());
     for line in printed.lines() {
         let want = wanted.next().unwrap_or("the end");
         let is_as_wanted = match want.strip_suffix("..") {
@@ -76,17 +84,34 @@ pub fn judge(rt: &(impl Abort + AllocGlobal), row: &Row) -> io::Result<()> {
             None => line == want,
         };
         assert!(rt; is_as_wanted, "{title}");
-        if let Some(bytes) = line.strip_prefix("deliver 0 ") {
+    }
+    assert_eq!(rt; wanted.next(), None, "{title}");
+}
+
+/// Has terminals read all that was delivered to a client: they show what is printed of it.
+fn judge_draws(
+    rt: &(impl Abort + AllocGlobal),
+    title: &str,
+    printed: &str,
+    client: usize,
+    size: (usize, usize),
+) -> io::Result<()> {
+    let alloc = rt.alloc();
+    let mut delivered = Vec::new(alloc);
+    let begin = format!(in alloc; "deliver {client} ")?;
+    for line in printed.lines() {
+        if let Some(bytes) = line.strip_prefix(begin.as_str()) {
             unescape(bytes.as_bytes(), &mut delivered)?;
         }
     }
-    assert_eq!(rt; wanted.next(), None, "{title}");
-    if !delivered.is_empty() {
-        for state in STATES {
-            let shown = shown_after(alloc, row.size, state, &delivered)?;
-            let is_shown = printed.ends_with(shown.as_str());
-            assert!(rt; is_shown, "{title}: the terminal shows {shown}");
-        }
+    if delivered.is_empty() {
+        return Ok(());
+    }
+    for state in STATES {
+        let shown = shown_after(alloc, size, state, &delivered)?;
+        let view = format!(in alloc; "client {client}\n{shown}")?;
+        let is_shown = printed.contains(view.as_str());
+        assert!(rt; is_shown, "{title}: the terminal shows {shown}");
     }
     Ok(())
 }

@@ -1,5 +1,7 @@
 pub mod Lines
+pub mod Steps
 pub mod Playing
 pub mod Texts
+pub mod Serials
 pub mod Rising
 pub mod Parts

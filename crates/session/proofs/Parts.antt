@@ -8,18 +8,18 @@ use Rattle.std.specs.Io.BufRead.{first_piece, drop_through, DropsThrough}
 use Rattle.std.specs.Io.Iter.{YieldsKnownPiece}
 use Rattle.std.specs.Io.Buffered.{reader_remaining, reader_buffer, reader_capacity, reader_inner}
 use Rattle.std.specs.declared.io.buffered.BufReader.{BufReader}
-use Rattle.session_core.specs.declared.event.Effect.{Effect}
-use Rattle.session_core.specs.declared.event.Ran.{Ran}
+use Rattle.session_model.specs.declared.event.Effect.{Effect}
+use Rattle.session_model.specs.declared.event.Ran.{Ran}
 use Rattle.session_core.specs.declared.session.Session.{Session}
-use Rattle.session_core.specs.Trace.{Happening, Reply, History, start}
+use Rattle.session_model.specs.Trace.{Happening, Reply, Trace}
 use Rattle.session_core.specs.Stands.{StandsFor}
-use Rattle.session_core.specs.Steps.{IsStep}
-use Rattle.session_core.specs.Headline.{with_steps, AllSteps, Serves, SomeRun, left_by, without_part, effects_of, replies_of}
-use Rattle.session_script.specs.Printed.{effect_line, reply_line}
+use Rattle.session_core.specs.Headline.{with_steps, AllSteps, Keeps as KeepsPromise, Serves, SomeRun, left_by, without_part, effects_of, replies_of}
+use Rattle.session_lines.specs.Printed.{effect_line, reply_line}
 use Rattle.session.specs.declared.fault.Fault.{Fault}
 use Rattle.session.specs.declared.fault.Fault.TheVariants.{NotUnderstood, Io, NoMemory}
 use Rattle.session.specs.Lines.{lines_of}
-use Rattle.acl.specs.declared.user_id.UserId.{UserId}
+use Rattle.session_model.specs.Tables.{Tables}
+use Rattle.session_model.specs.Run.{tables_of}
 use Rattle.session.specs.Played.{printed, views, views_if, IfNotUnderstood, IsBad, PlaysAll, PlaysUntil, Runs, Played, PlayedPart}
 use Rattle.session.proofs.Lines.{first_line}
 use Rattle.session.proofs.Playing.{keeps_on, appends_on, played_on}
@@ -30,9 +30,9 @@ use Rattle.session.proofs.Texts.{one_event}
 pub left_none : (ran : Ran) (event : Happening) → ran.taken ≡ 1 → left_by ran (event ∷ []) ≡ []
 left_none ran event all = ap (λ n. without_part ran.part (drop n (event ∷ []))) all
 
-pub event_ran : (h : History) (old new : Session) (event : Happening) (no_effects effects : List Effect) (no_replies replies : List Reply) (left : List Happening) (a b : Option (List ℕ)) (text : List ℕ)
+pub event_ran : (h : Trace) (old new : Session) (event : Happening) (no_effects effects : List Effect) (no_replies replies : List Reply) (left : List Happening) (a b : Option (List ℕ)) (text : List ℕ)
     → no_effects ≡ [] → no_replies ≡ []
-    → SomeRun old (record { events = event ∷ []; effects = no_effects; more_effects = effects; replies = no_replies; more_replies = replies; left = left }) new (AllSteps IsStep)
+    → SomeRun old (record { events = event ∷ []; effects = no_effects; more_effects = effects; replies = no_replies; more_replies = replies; left = left }) new (AllSteps KeepsPromise)
     → left ≡ [] → text ≡ flat_map effect_line effects ++ flat_map (reply_line event) replies → Appends a b text → StandsFor h old → Runs h event new a b
 event_ran h old new event no_effects effects no_replies replies left a b text bare unsaid run none is prints st =
     let ran = run h st in
@@ -55,7 +55,7 @@ pub read_ahead : {R A : Type 0} → (remaining : R → Option (List ℕ)) (r : B
     → reader_inner r ≡ reader → reader_buffer r ≡ [] → reader_capacity r ≡ 8192 → remaining reader ≡ Some script → reader_remaining remaining r ≡ Some script
 read_ahead remaining r reader script inner empty capacity known = rw (capacity, empty) (rw inner (ap (λ k. prepend_known [] k) known))
 
-pub none_read : (h : History) (s : Session) (script : List ℕ) (count : ℕ) (left known : Option (List ℕ)) → count ≡ 0 → left ≡ Some script → Played h [] s known known → PlayedPart h script count left s known known
+pub none_read : (h : Trace) (s : Session) (script : List ℕ) (count : ℕ) (left known : Option (List ℕ)) → count ≡ 0 → left ≡ Some script → Played h [] s known known → PlayedPart h script count left s known known
 none_read h s script count left known zero is played = record {
   past = [];
   rest = script;
@@ -93,8 +93,8 @@ next_line line rest (Some bytes) behind is piece =
       behind_is = piece.rest;
     })
 
-pub line_on : (h : History) (script : List ℕ) (count more : ℕ) (left behind : Option (List ℕ)) (old new : Session) (line : List ℕ) (a b c : Option (List ℕ))
-    → PlayedPart h script count left old a b → Piece line left behind → more ≡ count + 1 → ((now : History) → StandsFor now old → Played now (line ∷ []) new b c)
+pub line_on : (h : Trace) (script : List ℕ) (count more : ℕ) (left behind : Option (List ℕ)) (old new : Session) (line : List ℕ) (a b c : Option (List ℕ))
+    → PlayedPart h script count left old a b → Piece line left behind → more ≡ count + 1 → ((now : Trace) → StandsFor now old → Played now (line ∷ []) new b c)
     → PlayedPart h script more behind new a c
 line_on h script count more left behind old new line a b c p piece next played =
     let is = next_line line p.rest left behind p.left_is piece in
@@ -111,12 +111,12 @@ at_end : (rest : List ℕ) (left : Option (List ℕ)) → left ≡ Some rest →
 at_end rest None is end = cc
 at_end rest (Some bytes) is end = let same : bytes ≡ rest = cc in sym same ∙ end
 
-pub all_played : (h : History) (script : List ℕ) (count : ℕ) (left : Option (List ℕ)) (s : Session) (a b : Option (List ℕ)) → PlayedPart h script count left s a b → IsAtEnd left → Played h (lines_of script) s a b
+pub all_played : (h : Trace) (script : List ℕ) (count : ℕ) (left : Option (List ℕ)) (s : Session) (a b : Option (List ℕ)) → PlayedPart h script count left s a b → IsAtEnd left → Played h (lines_of script) s a b
 all_played h script count left s a b p end =
     let none : p.rest ≡ [] = at_end p.rest left p.left_is end in
     subst (λ ls. Played h ls s a b) (sym (p.lines ∙ (ap (λ bs. p.past ++ lines_of bs) none ∙ append-nil p.past))) p.played
 
-pub stopped_at : (h : History) (script : List ℕ) (count number : ℕ) (left behind : Option (List ℕ)) (s : Session) (line : List ℕ) (a b c : Option (List ℕ))
+pub stopped_at : (h : Trace) (script : List ℕ) (count number : ℕ) (left behind : Option (List ℕ)) (s : Session) (line : List ℕ) (a b c : Option (List ℕ))
     → PlayedPart h script count left s a b → Piece line left behind → number ≡ count + 1 → IsBad line → Keeps b c → PlaysUntil number h script a c
 stopped_at h script count number left behind s line a b c p piece is bad kept =
     let next = next_line line p.rest left behind p.left_is piece in
@@ -138,27 +138,28 @@ pub if_known : (o : Option (List ℕ)) (P : List ℕ → Type 0) → ((script : 
 if_known None P each = tt
 if_known (Some script) P each = each script refl
 
-views_false : (shows : Bool) (h : History) → shows ≡ false → views_if shows h ≡ []
-views_false shows h quiet = ap (λ b. views_if b h) quiet
+views_false : (shows : Bool) (t : Tables) → shows ≡ false → views_if shows t ≡ []
+views_false shows t quiet = ap (λ b. views_if b t) quiet
 
-views_true : (shows : Bool) (h : History) → shows ≡ true → views_if shows h ≡ views h
-views_true shows h asked = ap (λ b. views_if b h) asked
+views_true : (shows : Bool) (t : Tables) → shows ≡ true → views_if shows t ≡ views t
+views_true shows t asked = ap (λ b. views_if b t) asked
 
-pub plays_quietly : (owner : UserId) (shows : Bool) (script : List ℕ) (s : Session) (a b : Option (List ℕ)) → shows ≡ false → Played (start owner) (lines_of script) s a b → PlaysAll owner shows script a b
-plays_quietly owner shows script s a b quiet p = record {
+pub plays_quietly : (start : Trace) (shows : Bool) (script : List ℕ) (s : Session) (a b : Option (List ℕ)) → shows ≡ false → Played start (lines_of script) s a b → PlaysAll start shows script a b
+plays_quietly start shows script s a b quiet p = record {
   steps = p.steps;
   plays = p.plays;
-  prints = subst (λ text. Appends a b text) (sym (ap (λ text. printed p.steps ++ text) (views_false shows (with_steps (start owner) p.steps) quiet) ∙ append-nil (printed p.steps))) p.prints;
+  prints = subst (λ text. Appends a b text) (sym (ap (λ text. printed p.steps ++ text) (views_false shows (tables_of (with_steps start p.steps)) quiet) ∙ append-nil (printed p.steps))) p.prints;
 }
 
-pub plays_shown : (owner : UserId) (shows : Bool) (script : List ℕ) (s : Session) (a b c : Option (List ℕ)) → shows ≡ true → Played (start owner) (lines_of script) s a b
-    → ((h : History) → StandsFor h s → Appends b c (views h)) → PlaysAll owner shows script a c
-plays_shown owner shows script s a b c asked p shown = record {
-  steps = p.steps;
-  plays = p.plays;
-  prints = subst (λ text. Appends a c text) (sym (ap (λ text. printed p.steps ++ text) (views_true shows (with_steps (start owner) p.steps) asked)))
-      (appends_on a b c (printed p.steps) (views (with_steps (start owner) p.steps)) p.prints (shown (with_steps (start owner) p.steps) p.stands));
-}
+pub plays_shown : (start : Trace) (shows : Bool) (script : List ℕ) (s : Session) (a b c : Option (List ℕ)) → shows ≡ true → Played start (lines_of script) s a b
+    → ((h : Trace) → StandsFor h s → Appends b c (views (tables_of h))) → PlaysAll start shows script a c
+plays_shown start shows script s a b c asked p shown =
+    let h : Trace = with_steps start p.steps in record {
+      steps = p.steps;
+      plays = p.plays;
+      prints = subst (λ text. Appends a c text) (sym (ap (λ text. printed p.steps ++ text) (views_true shows (tables_of h) asked)))
+          (appends_on a b c (printed p.steps) (views (tables_of h)) p.prints (shown h p.stands));
+    }
 
 pub if_bad : (P Q : ℕ → Type 0) (fault : Fault) → IfNotUnderstood fault P → ((number : ℕ) → P number → Q number) → IfNotUnderstood fault Q
 if_bad P Q (NotUnderstood number) is so = so number is

@@ -3,13 +3,12 @@ use Rattle.std.proofs.Common.{ℕ, ◌<◌, ◌≡◌, refl, sym, ◌∙◌, ap,
 use Rattle.std.proofs.lemmas.Grind.{flat_map-append}
 use Rattle.std.proofs.lemmas.List.{append-nil, map-append}
 use Rattle.std.specs.Io.KnownBytes.{Appends, Keeps}
-use Rattle.session_core.specs.Trace.{Happening, Entry, History, with_step}
+use Rattle.session_model.specs.Trace.{Happening, Entry, Trace, with_step}
 use Rattle.session_core.specs.Stands.{StandsFor}
-use Rattle.session_core.specs.Steps.{IsStep}
-use Rattle.session_core.specs.Headline.{with_steps, AllSteps}
-use Rattle.session_core.proofs.Runs.{with_steps-append, serves_before, serves_on}
+use Rattle.session_core.specs.Headline.{with_steps, AllSteps, Keeps as KeepsPromise}
+use Rattle.session.proofs.Steps.{with_steps-append, serves_before, serves_on}
 use Rattle.session_core.specs.declared.session.Session.{Session}
-use Rattle.session_script.specs.Script.{event_of}
+use Rattle.session_lines.specs.Script.{event_of}
 use Rattle.session.specs.Played.{filled, Plays, IsBad, step_lines, printed, Runs, Played}
 
 -- ---- known bytes
@@ -42,7 +41,7 @@ keeps_same (Some olds) = refl
 
 -- ---- steps
 
-steps_on : (P : History → Entry → Type 0) (h : History) (xs ys : List Entry) → AllSteps P h xs → AllSteps P (with_steps h xs) ys → AllSteps P h (xs ++ ys)
+steps_on : (P : Trace → Entry → Type 0) (h : Trace) (xs ys : List Entry) → AllSteps P h xs → AllSteps P (with_steps h xs) ys → AllSteps P h (xs ++ ys)
 steps_on P h [] ys before behind = behind
 steps_on P h (x ∷ xs) ys before behind = (before.0, steps_on P (with_step h x) xs ys before.1 behind)
 
@@ -58,7 +57,7 @@ filled_one [] some = absurd (omega arith)
 filled_one (byte ∷ bytes) some = refl
 
 -- no line
-pub none_played : (h : History) (s : Session) (known : Option (List ℕ)) → StandsFor h s → Played h [] s known known
+pub none_played : (h : Trace) (s : Session) (known : Option (List ℕ)) → StandsFor h s → Played h [] s known known
 none_played h s known st = record {
   steps = [];
   plays = record { events = []; understood = refl; serves = refl; run = tt };
@@ -67,7 +66,7 @@ none_played h s known st = record {
 }
 
 -- an empty line
-pub empty_played : (h : History) (s : Session) (line : List ℕ) (known : Option (List ℕ)) → line ≡ [] → StandsFor h s → Played h (line ∷ []) s known known
+pub empty_played : (h : Trace) (s : Session) (line : List ℕ) (known : Option (List ℕ)) → line ≡ [] → StandsFor h s → Played h (line ∷ []) s known known
 empty_played h s line known empty st = record {
   steps = [];
   plays = record { events = []; understood = ap (λ l. map event_of (filled (l ∷ []))) empty; serves = refl; run = tt };
@@ -76,7 +75,7 @@ empty_played h s line known empty st = record {
 }
 
 -- a line that is an event
-pub one_played : (h : History) (line : List ℕ) (event : Happening) (s : Session) (a b : Option (List ℕ)) → 0 < length line → event_of line ≡ Some event → Runs h event s a b
+pub one_played : (h : Trace) (line : List ℕ) (event : Happening) (s : Session) (a b : Option (List ℕ)) → 0 < length line → event_of line ≡ Some event → Runs h event s a b
     → Played h (line ∷ []) s a b
 one_played h line event s a b some is runs = record {
   steps = runs.steps;
@@ -95,16 +94,16 @@ pub bad_line : (line : List ℕ) → 0 < length line → event_of line ≡ None 
 bad_line line some is = ap (λ ls. map event_of ls) (filled_one line some) ∙ ap (λ e. e ∷ []) is
 
 -- lines behind others
-plays_on : (h : History) (xs ys : List (List ℕ)) (before behind : List Entry) → Plays h xs before → Plays (with_steps h before) ys behind → Plays h (xs ++ ys) (before ++ behind)
+plays_on : (h : Trace) (xs ys : List (List ℕ)) (before behind : List Entry) → Plays h xs before → Plays (with_steps h before) ys behind → Plays h (xs ++ ys) (before ++ behind)
 plays_on h xs ys before behind p q = record {
   events = p.events ++ q.events;
   understood = ap (λ ls. map event_of ls) (filled-append xs ys) ∙ (map-append event_of (filled xs) (filled ys)
       ∙ (ap (λ es. es ++ map event_of (filled ys)) p.understood ∙ (ap (λ es. map Some p.events ++ es) q.understood ∙ sym (map-append (λ e. Some e) p.events q.events))));
   serves = serves_on (p.events ++ q.events) before behind q.events [] (serves_before p.events before [] q.events p.serves) q.serves;
-  run = steps_on IsStep h before behind p.run q.run;
+  run = steps_on KeepsPromise h before behind p.run q.run;
 }
 
-pub played_on : (h : History) (xs ys : List (List ℕ)) (s t : Session) (a b c : Option (List ℕ)) → (p : Played h xs s a b) → Played (with_steps h p.steps) ys t b c → Played h (xs ++ ys) t a c
+pub played_on : (h : Trace) (xs ys : List (List ℕ)) (s t : Session) (a b c : Option (List ℕ)) → (p : Played h xs s a b) → Played (with_steps h p.steps) ys t b c → Played h (xs ++ ys) t a c
 played_on h xs ys s t a b c p q = record {
   steps = p.steps ++ q.steps;
   plays = plays_on h xs ys p.steps q.steps p.plays q.plays;

@@ -4,9 +4,9 @@ use Rattle.std.specs.Prelude.{nat_lt, if◌then◌else◌}
 use Rattle.std.specs.List.{flat_map}
 use Rattle.std.proofs.lemmas.Grind.{flat_map-append}
 use Rattle.std.proofs.lemmas.List.{append-nil}
-use Rattle.session_core.specs.Trace.{Happening, Attach, Open, Keys, Output, Draw, Reply, Entry}
+use Rattle.session_model.specs.Trace.{Happening, Attach, Detach, Keys, Command, Resize, Open, Output, Closed, Draw, Reply, Entry}
 use Rattle.session_core.specs.Headline.{Serves, left_of, last_reply, replies_of, effects_of}
-use Rattle.session_script.specs.Printed.{effect_line, reply_line}
+use Rattle.session_lines.specs.Printed.{effect_line, reply_line}
 use Rattle.session.specs.Played.{printed}
 
 -- nothing is left of an event, or an event with the same lines for replies
@@ -26,8 +26,12 @@ is_left : (event : Happening) (reply : Reply) → IsLeft event (left_of event re
 is_left (Keys client bytes) (Ok done) = keys_left client done.taken bytes (nat_lt done.taken (length bytes))
 is_left (Keys client bytes) (Err refusal) = none
 is_left (Attach user rows columns) reply = none
+is_left (Detach client) reply = none
+is_left (Command user window line) reply = none
+is_left (Resize client rows columns) reply = none
 is_left (Open user rows columns keep title) reply = none
 is_left (Output window bytes) reply = none
+is_left (Closed window) reply = none
 is_left (Draw client) reply = none
 
 same_replies : (more event : Happening) (replies : List Reply) → ((reply : Reply) → reply_line more reply ≡ reply_line event reply) → flat_map (reply_line more) replies ≡ flat_map (reply_line event) replies

@@ -1,12 +1,27 @@
 -- What the words of the command line ask for.
-use Rattle.std.specs.Prelude.{◌≡◌, ◌⊎◌, ℕ, Bool, true, false, List, Option, Some, IfSome, option_and_then, codes}
+use Rattle.std.specs.Prelude.{◌≡◌, ◌⊎◌, ℕ, pos, Bool, true, false, List, [], ◌∷◌, Option, Some}
+use Rattle.std.specs.Prelude.{IfSome, option_and_then, codes}
+use Rattle.acl.specs.declared.edition.Edition.{Edition}
+use Rattle.acl.specs.declared.edition.Edition.TheVariants.{First, Second}
 use Rattle.acl.specs.declared.user_id.UserId.{UserId}
 use Rattle.acl.specs.Names.{named_by}
-use Rattle.clap.specs.Words.{App, Rule, Text, new_app, new_rule, with_rule, matches_of, takes, first_of, one_of}
+use Rattle.clap.specs.Words.{App, Rule, Text, new_app, new_rule, with_rule, matches_of, takes}
+use Rattle.clap.specs.Words.{first_of, one_of}
 use Rattle.clap.specs.declared.builder.ArgAction.TheVariants.{SetTrue}
+use Rattle.clap.specs.declared.builder.value_parser.ValueParser.TheVariants.{Signed}
+use Rattle.session_model.specs.Trace.{begun}
 use Rattle.session.specs.Played.{PlaysAll}
 
--- ---- muxsim [--show] OWNER
+-- ---- muxsim [--edition N] [--show] OWNER
+
+-- a number of 1 or 2, and 2 where none is given
+abbrev pub edition : Rule
+edition = record (new_rule (codes "edition")) {
+  long = Some (codes "edition");
+  value_names = 1;
+  defaults = codes "2" ∷ [];
+  parser = Some (Signed (pos 1) (pos 2));
+}
 
 abbrev pub show : Rule
 show = record (new_rule (codes "show")) { long = Some (codes "show"); action = Some SetTrue }
@@ -15,7 +30,7 @@ abbrev pub owner : Rule
 owner = record (new_rule (codes "owner")) { value_names = 1; required = true }
 
 abbrev pub muxsim : App
-muxsim = with_rule (with_rule (new_app (codes "muxsim")) show) owner
+muxsim = with_rule (with_rule (with_rule (new_app (codes "muxsim")) edition) show) owner
 
 -- ---- what is asked for
 
@@ -23,12 +38,21 @@ abbrev pub flag_text : Bool → Text
 flag_text true = codes "true"
 flag_text false = codes "false"
 
--- the words are understood, and name this owner, with `--show` or without it
-pub record Asks (words : List Text) (name : UserId) (shows : Bool) : Type 0 where
+abbrev pub edition_text : Edition → Text
+edition_text First = codes "1"
+edition_text Second = codes "2"
+
+-- the words are understood, and name this owner and this edition, with `--show` or without it
+pub record Asks (words : List Text) (groups : Edition) (name : UserId) (shows : Bool) : Type 0 where
   pub understood : takes muxsim words ≡ true
-  pub owner_is : option_and_then named_by (first_of (codes "owner") (matches_of muxsim words)) ≡ Some name
+  pub edition_is : one_of (codes "edition") (matches_of muxsim words) ≡ Some (edition_text groups)
+  pub owner_is :
+      option_and_then named_by (first_of (codes "owner") (matches_of muxsim words)) ≡ Some name
   pub shows_is : one_of (codes "show") (matches_of muxsim words) ≡ Some (flag_text shows)
 
 -- status 0, and the whole script was played; or status 1
-abbrev pub Simulates : UserId → Bool → Option (List ℕ) → ℕ → Option (List ℕ) → Option (List ℕ) → Type 0
-Simulates name shows script status before after = ((status ≡ 0) × IfSome script (λ bytes. PlaysAll name shows bytes before after)) ⊎ (status ≡ 1)
+abbrev pub Simulates : Edition → UserId → Bool → Option (List ℕ) → ℕ
+    → Option (List ℕ) → Option (List ℕ) → Type 0
+Simulates groups name shows script status before after =
+    ((status ≡ 0) × IfSome script (λ bytes. PlaysAll (begun groups name) shows bytes before after))
+    ⊎ (status ≡ 1)

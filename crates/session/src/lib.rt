@@ -5,9 +5,11 @@ mod fault;
 mod player;
 mod simulator;
 
+pub use acl::Edition;
 pub use fault::Fault;
 pub use player::play;
 pub use session_core::{
-    Bytes, Done, Effect, Event, Notes, Ran, Refusal, Reply, Session, WindowsFault,
+    Bytes, Denied, Done, Effect, EntryDenied, Event, LockDenied, Notes, Ran, Reason, Refusal,
+    Reply, Session, Verdict, WindowsFault,
 };
 pub use simulator::simulate;

@@ -1,46 +1,65 @@
-//! Plays scripts: one event a line, whose effects and answer are printed before the next line is read.
+//! Plays scripts: one event a line, whose effects and answer are printed before the next line is
+//! read.
 
-ghost use Rattle.std.specs.Prelude.{◌≡◌, ◌≤◌, ◌++◌, ◌∷◌, [], List, ℕ, Some, None, IfSome, IfOk, IfErr, OnOk, option_map};
+ghost use Rattle.std.specs.Prelude.{◌≡◌, ◌++◌, ◌∷◌, [], List, ℕ, Some};
+ghost use Rattle.std.specs.Prelude.{IfSome, IfOk, IfErr, OnOk};
 ghost use Rattle.std.specs.List.{flat_map};
 ghost use Rattle.std.specs.String.{string_bytes};
 ghost use Rattle.std.specs.Io.KnownBytes.{Appends, Keeps};
-ghost use Rattle.session_core.specs.Trace.{History, Entry, happening, start};
+ghost use Rattle.session_model.specs.Trace.{Trace, happening, begun};
+ghost use Rattle.session_model.specs.Run.{tables_of};
+ghost use Rattle.session_lines.specs.Printed.{effect_line, reply_line};
 ghost use Rattle.session_core.specs.Stands.{StandsFor};
-ghost use Rattle.session_core.specs.Headline.{with_steps};
-ghost use Rattle.session_script.specs.Printed.{effect_line, reply_line};
 ghost use Rattle.session.specs.Lines.{lines_of};
-ghost use Rattle.session_script.specs.Script.{event_of};
-ghost use Rattle.session.specs.Played.{PlaysAll, PlaysUntil, Played, Runs, IsBad, IfNotUnderstood, views};
+ghost use Rattle.session.specs.Played.{PlaysAll, PlaysUntil, Played, Runs, IsBad, OfScript};
+ghost use Rattle.session.specs.Played.{IfNotUnderstood, views};
 
 use crate::fault::Fault;
-use acl::UserId;
-use session_core::{Effect, Event, Reply, Session};
-use session_script::{print_effect, print_reply, print_view, read_event};
+use acl::{Edition, UserId};
+use session_lines::{print_effect, print_reply, print_view, read_event};
+use session_core::{Effect, Event, Refusal, Reply, Session};
 use std::alloc::{AllocError, Global};
 use std::io;
 use std::io::{BufRead, BufReader, Read, Write};
 
-/// Plays the script on the reader over a new session of this owner, and writes what its effects and answers
-/// print, and behind the last one, if `shows`, what each client is to see.
+/// Plays the script on the reader over a new session of this edition and owner, and writes what its
+/// effects and answers print, and behind the last one, if `shows`, what each client is to see.
 pub fn play<R: Read + Drop, W: Write>(
     alloc: Global,
+    edition: Edition,
     owner: UserId,
     shows: bool,
     reader: R,
     writer: &mut W,
 ) -> Result<(), Fault>
-    // The lines were the events of a run of the session, and what was written is what that run prints.
-    ensures whole { OnOk result (IfSome (R.remaining reader) (λ script. PlaysAll owner shows script (W.contents writer.old) (W.contents writer.new))) }
+    // The lines were the events of a run of the session, each step of which keeps the promise, and
+    // what was written is what that run prints.
+    ensures whole { OnOk result (IfSome (R.remaining reader)
+        (λ script. PlaysAll (begun edition owner) shows script
+        (W.contents writer.old) (W.contents writer.new))) }
     // So were the lines before the first one that isn't understood, whose number the fault names.
-    ensures until { IfErr result (λ fault. IfNotUnderstood fault (λ number. IfSome (R.remaining reader) (λ script. PlaysUntil number (start owner) script (W.contents writer.old) (W.contents writer.new)))) }
+    ensures until { IfErr result (λ fault. IfNotUnderstood fault
+        (λ number. IfSome (R.remaining reader)
+        (λ script. PlaysUntil number (begun edition owner) script
+        (W.contents writer.old) (W.contents writer.new)))) }
 {
-    let mut session = Session::new(alloc, owner)?;
+    let mut session = new_session(alloc, edition, owner)?;
     play_lines(alloc, &mut session, reader, writer)?;
     if !shows {
         return Ok(());
     }
     show(alloc, &session, writer)?;
     Ok(())
+}
+
+/// A new session of an edition.
+fn new_session(alloc: Global, edition: Edition, owner: UserId) -> Result<Session, Refusal>
+    ensures { IfOk result (λ session. StandsFor (begun edition owner) session) }
+{
+    match edition {
+        Edition::First => Session::first_edition(alloc, owner),
+        Edition::Second => Session::new(alloc, owner),
+    }
 }
 
 /// Plays all lines of a reader.
@@ -50,8 +69,13 @@ fn play_lines<R: Read + Drop, W: Write>(
     reader: R,
     writer: &mut W,
 ) -> Result<(), Fault>
-    ensures whole { OnOk result ((script : List ℕ) → R.remaining reader ≡ Some script → (h : History) → StandsFor h session.old → Played h (lines_of script) session.new (W.contents writer.old) (W.contents writer.new)) }
-    ensures until { IfErr result (λ fault. IfNotUnderstood fault (λ number. (script : List ℕ) → R.remaining reader ≡ Some script → (h : History) → StandsFor h session.old → PlaysUntil number h script (W.contents writer.old) (W.contents writer.new))) }
+    ensures whole { OnOk result (OfScript (R.remaining reader) session.old
+        (λ h script. Played h (lines_of script) session.new
+        (W.contents writer.old) (W.contents writer.new))) }
+    ensures until { IfErr result (λ fault. IfNotUnderstood fault
+        (λ number. OfScript (R.remaining reader) session.old
+        (λ h script. PlaysUntil number h script
+        (W.contents writer.old) (W.contents writer.new)))) }
 {
     let lines = BufReader::new(alloc, reader)?.split(alloc, b'\n');
     'lines: for (past, line) in lines.enumerate() {
@@ -69,8 +93,11 @@ fn play_line<W: Write>(
     line: &[u8],
     writer: &mut W,
 ) -> Result<(), Fault>
-    ensures played { OnOk result ((h : History) → StandsFor h session.old → Played h (line.now ∷ []) session.new (W.contents writer.old) (W.contents writer.new)) }
-    ensures bad { IfErr result (λ fault. IfNotUnderstood fault (λ n. (n ≡ number) × IsBad line.now × Keeps (W.contents writer.old) (W.contents writer.new))) }
+    ensures played { OnOk result ((h : Trace) → StandsFor h session.old
+        → Played h (line.now ∷ []) session.new (W.contents writer.old) (W.contents writer.new)) }
+    ensures bad { IfErr result (λ fault. IfNotUnderstood fault
+        (λ n. (n ≡ number) × IsBad line.now
+        × Keeps (W.contents writer.old) (W.contents writer.new))) }
 {
     if line.is_empty() {
         return Ok(());
@@ -89,7 +116,9 @@ fn submit<W: Write>(
     event: Event,
     writer: &mut W,
 ) -> Result<(), Fault>
-    ensures ran { OnOk result ((h : History) → StandsFor h session.old → Runs h (happening event.entry) session.new (W.contents writer.old) (W.contents writer.new)) }
+    ensures ran { OnOk result ((h : Trace) → StandsFor h session.old
+        → Runs h (happening event.entry) session.new
+        (W.contents writer.old) (W.contents writer.new)) }
     ensures understood { IfErr result (λ fault. IfNotUnderstood fault (λ _. ⊥)) }
 {
     let mut effects = Vec::new(alloc);
@@ -110,7 +139,9 @@ fn text_of(
     effects: &[Effect],
     replies: &[Reply],
 ) -> Result<String, AllocError>
-    ensures { IfOk result (λ text. string_bytes text ≡ flat_map effect_line effects.now ++ flat_map (reply_line (happening event.now)) replies.now) }
+    ensures { IfOk result (λ text. string_bytes text
+        ≡ flat_map effect_line effects.now
+        ++ flat_map (reply_line (happening event.now)) replies.now) }
 {
     let mut text = String::new(alloc);
     for effect in effects {
@@ -132,7 +163,8 @@ fn put<W: Write>(text: &str, writer: &mut W) -> io::Result<()>
 
 /// Writes what each client is to see.
 fn show<W: Write>(alloc: Global, session: &Session, writer: &mut W) -> Result<(), Fault>
-    ensures shown { OnOk result ((h : History) → StandsFor h session.now → Appends (W.contents writer.old) (W.contents writer.new) (views h)) }
+    ensures shown { OnOk result ((h : Trace) → StandsFor h session.now
+        → Appends (W.contents writer.old) (W.contents writer.new) (views (tables_of h))) }
     ensures understood { IfErr result (λ fault. IfNotUnderstood fault (λ _. ⊥)) }
 {
     let mut from = 0;

@@ -1,14 +1,4 @@
-pub mod Refusals
-pub mod Trace
-pub mod Keys
-pub mod Rows
+pub mod Noted
 pub mod Least
-pub mod Drawn
-pub mod Feeding
-pub mod Terminals
-pub mod Granted
-pub mod Framed
-pub mod Steps
 pub mod Stands
-pub mod Openings
 pub mod Headline

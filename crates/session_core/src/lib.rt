@@ -1,17 +1,12 @@
 //! The core of a multiuser terminal multiplexer: one atomic step for each event.
 #![tactic(auto)]
 
-mod bytes;
-mod clients;
-mod event;
-mod keys;
 mod notes;
-mod refusal;
 mod session;
-mod windows;
 
-pub use bytes::Bytes;
-pub use event::{Done, Effect, Event, Ran, Reply};
 pub use notes::Notes;
-pub use refusal::{Refusal, WindowsFault};
 pub use session::Session;
+pub use session_model::{
+    Bytes, Denied, Done, Effect, EntryDenied, Event, LockDenied, Ran, Reason, Refusal, Reply,
+    Verdict, WindowsFault,
+};

@@ -1,53 +1,55 @@
-//! What a step did to rights and locks.
+//! What is noted of a step.
 
-ghost use Rattle.std.specs.Prelude.{◌≡◌, ◌++◌, ◌∷◌, [], OnOk, OnErr};
+ghost use Rattle.std.specs.Prelude.{◌≡◌};
+ghost use Rattle.session_core.specs.Noted.{nothing};
 
 use acl::Act;
-use std::alloc::{AllocError, Global};
+use session_model::Verdict;
+use std::alloc::Global;
 use std::marker::Model;
 
-/// The acts of a step, in their order. Each step that isn't refused for want of memory makes them anew.
+/// What a step did to rights and locks, and what it checked. Each step that isn't refused for want
+/// of memory makes them anew.
 #[derive(Drop)]
 pub struct Notes {
     acts: Vec<Act>,
+    verdicts: Vec<Verdict>,
 }
 
 impl Model for Notes {
-    ghost use Rattle.std.specs.Prelude.{List};
-    ghost use Rattle.acl.specs.declared.act.Act.{Act};
+    ghost use Rattle.session_core.specs.Noted.{Noted};
 
-    ghost Value = { List Act };
+    ghost Value = { Noted };
 
-    ghost view = { λ n. n.acts.items };
+    ghost view = { λ n. record { acts = n.acts.items; verdicts = n.verdicts.items } };
 }
 
 impl Notes {
     /// Notes of nothing.
     pub fn new(alloc: Global) -> Notes
-        ensures { result ≡ [] }
+        ensures { result ≡ nothing }
     {
-        Notes {
-            acts: Vec::new(alloc),
-        }
+        Notes::of(Vec::new(alloc), Vec::new(alloc))
     }
 
+    /// The acts of the step, in their order.
     pub fn acts(&self) -> &[Act]
-        ensures { result.now ≡ self.now }
+        ensures { result.now ≡ self.now.acts }
     {
         self.acts.as_slice()
     }
 
-    pub(crate) fn push(&mut self, act: Act) -> Result<(), AllocError>
-        ensures ok { OnOk result (self.new ≡ self.old ++ act ∷ []) }
-        ensures err { OnErr result (self.new ≡ self.old) }
+    /// What the step checked, in its order.
+    pub fn verdicts(&self) -> &[Verdict]
+        ensures { result.now ≡ self.now.verdicts }
     {
-        self.acts.push(act)?;
-        Ok(())
+        self.verdicts.as_slice()
     }
 
-    pub(crate) fn clear(&mut self)
-        ensures { self.new ≡ [] }
+    /// Notes of these acts and verdicts.
+    pub(crate) fn of(acts: Vec<Act>, verdicts: Vec<Verdict>) -> Notes
+        ensures { result ≡ record { acts = acts.items; verdicts = verdicts.items } }
     {
-        self.acts.clear();
+        Notes { acts, verdicts }
     }
 }

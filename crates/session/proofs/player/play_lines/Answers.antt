@@ -1,6 +1,6 @@
 use Rattle.std.proofs.Common.{◌≡◌, ℕ, ◌+◌, ap, ◌∙◌, List, Some, vec_items}
 use Rattle.std.specs.Io.KnownBytes.{Keeps}
-use Rattle.session_core.specs.Trace.{History}
+use Rattle.session_model.specs.Trace.{Trace}
 use Rattle.session_core.specs.Stands.{StandsFor}
 use Rattle.session.specs.Played.{IfNotUnderstood, IsBad, PlaysUntil}
 use Rattle.std.specs.Io.Iter.{split_known_bytes, split_byte}
@@ -41,7 +41,7 @@ returns-in_err-play_line-clause-until g c =
     let steps = c.in-Some.ensures.steps in
     let bad : IfNotUnderstood c.in_err-play_line.field-0.0 (λ n. (n ≡ c.in-Some.past + 1) × IsBad c.deref.result.now × Keeps (g.W.Write.contents c.lines.writer) (g.W.Write.contents c.play_line.new.writer)) =
     c.in_err-play_line.ensures.bad in
-    let stops : ℕ → Type 0 = λ number. (script : List ℕ) → g.R.Read.remaining c.args.reader ≡ Some script → (h : History) → StandsFor h c.args.session.now
+    let stops : ℕ → Type 0 = λ number. (script : List ℕ) → g.R.Read.remaining c.args.reader ≡ Some script → (h : Trace) → StandsFor h c.args.session.now
     → PlaysUntil number h script (g.W.Write.contents c.args.writer.now) (g.W.Write.contents c.play_line.new.writer) in
     if_err_same c.from_residual-in_err-play_line.result c.in_err-play_line.field-0.0 (λ fault. IfNotUnderstood fault stops) c.from_residual-in_err-play_line.ensures.1
     (if_bad _ stops c.in_err-play_line.field-0.0 bad (λ number is script known h st.

@@ -1,12 +1,13 @@
 use Rattle.std.proofs.Common.{◌-◌, ◌^◌}
 use Rattle.std.specs.Io.KnownBytes.{Appends}
-use Rattle.session_core.specs.Trace.{History}
+use Rattle.session_model.specs.Trace.{Trace}
+use Rattle.session_model.specs.Run.{tables_of}
 use Rattle.session_core.specs.Stands.{StandsFor}
 use Rattle.session.proofs.Rising.{shown_below}
 use Rattle.session.proofs.player.show.Given as goal
 
 abbrev pub invariant-clients : goal.invariant-clients
-invariant-clients g l = (h : History) → StandsFor h l.session → Appends (g.W.Write.contents l.fn.writer) (g.W.Write.contents l.writer) (shown_below h l.from)
+invariant-clients g l = (h : Trace) → StandsFor h l.session → Appends (g.W.Write.contents l.fn.writer) (g.W.Write.contents l.writer) (shown_below (tables_of h) l.from)
 
 abbrev pub decreases-clients : goal.decreases-clients
 decreases-clients g l = 2 ^ 32 - l.from

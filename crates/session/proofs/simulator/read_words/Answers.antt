@@ -10,8 +10,9 @@ pub returns : goal.returns
 returns c =
     let show_is : rule_of c.help-show.result ≡ show = search rules in
     let owner_is : rule_of c.help-owner.result ≡ owner = search rules in
-    let app_is : app_of c.in_ok-arg-2.field-0 ≡ muxsim = c.in_ok-arg-2.ensures.shape (search rules)
-    ∙ ap₂ with_rule (c.in_ok-arg.ensures.shape (search rules) ∙ ap₂ with_rule (ap app_of_fields c.about.ensures ∙ c.new-3.ensures.app) show_is) owner_is in
+    let app_is : app_of c.in_ok-arg-3.field-0 ≡ muxsim = c.in_ok-arg-3.ensures.shape (search rules)
+    ∙ ap₂ with_rule (c.in_ok-arg-2.ensures.shape (search rules)
+    ∙ ap₂ with_rule (c.in_ok-arg.ensures.shape c.edition_word.ensures.local ∙ ap₂ with_rule (ap app_of_fields c.about.ensures ∙ c.new-3.ensures.app) c.edition_word.ensures.rule) show_is) owner_is in
     let parse = c.try_get_matches_from in
     record {
       ok = IfOk-weaker parse.result _ _ (λ m h. (h (ap is_simple app_is)).0 ∙ ap (λ a. matches_of a (map string_bytes c.args.words.now)) app_is) parse.ensures.matches;

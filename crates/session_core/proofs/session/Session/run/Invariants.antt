@@ -1,5 +1,5 @@
 use Rattle.std.proofs.Common.{drop, map}
-use Rattle.session_core.specs.Trace.{happening}
+use Rattle.session_model.specs.Trace.{happening}
 use Rattle.session_core.specs.Headline.{SomeSteps}
 use Rattle.session_core.proofs.session.Session.run.Given as goal
 

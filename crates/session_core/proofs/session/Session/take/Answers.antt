@@ -1,7 +1,11 @@
-use Rattle.std.proofs.Common.{sym, ◌∙◌}
-use Rattle.session_core.specs.Trace.{happening}
-use Rattle.session_core.proofs.Runs.{whole_step}
+use Rattle.std.proofs.Common.{[], sym, ◌∙◌}
+use Rattle.session_model.specs.Trace.{happening}
+use Rattle.session_core.proofs.Runs.{one_step, whole_but_keys}
 use Rattle.session_core.proofs.session.Session.take.Goals as goal
 
 pub returns : goal.returns
-returns c = whole_step _ _ (happening c.args.event) c.step-reply.new.notes _ _ c.step-reply.result c.step-reply.ensures.whole (c.step-reply.ensures.step (sym c.wants_memory.ensures ∙ c.if-wants_memory.false))
+returns c = record {
+  steps = one_step _ _ (happening c.args.event) [] c.step-reply.new.notes _ _ c.step-reply.result (λ t is. whole_but_keys c.args.event c.step-reply.result c.in_default.not-Keys)
+      (c.step-reply.ensures.step (sym c.wants_memory.ensures ∙ c.if-wants_memory.false));
+  part = tt;
+}

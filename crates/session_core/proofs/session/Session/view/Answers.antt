@@ -1,10 +1,9 @@
-use Rattle.std.proofs.Common.{◌≡◌, sym, ap, subst, ◌∙◌}
-use Rattle.std.specs.Prelude.{option_copied, MatchOption}
-use Rattle.session_core.specs.Granted.{granted_view}
-use Rattle.session_core.specs.Stands.{ClientAt, ClientStands}
+use Rattle.std.proofs.Common.{refl}
+use Rattle.session_model.specs.Tables.{client_at}
+use Rattle.session_model.specs.Run.{tables_of}
+use Rattle.session_core.proofs.Fitting.{run_is_fit}
+use Rattle.session_core.proofs.Seeing.{sees}
 use Rattle.session_core.proofs.session.Session.view.Goals as goal
 
 pub returns : goal.returns
-returns c = λ h st.
-    let stands : ClientStands h c.args.client c.in-Some.client.now = subst (λ o. ClientAt h c.args.client o) (sym c.get.ensures ∙ ap option_copied c.in-Some.is) (st.clients.each c.args.client) in
-    subst (λ o. MatchOption o ⊥ (λ a. c.in_ok-view_for.field-0 ≡ granted_view h c.args.client a)) (sym stands.attached_is) (c.in_ok-view_for.ensures.exact h c.args.client st stands)
+returns c = λ h st. sees h c.args.client c.view_of.result (client_at (tables_of h) c.args.client) refl (c.view_of.ensures (tables_of h) st.stands (run_is_fit h))

@@ -1,6 +1,0 @@
-pub mod Fitting
-pub mod Lowest
-pub mod Reading
-pub mod Runs
-pub mod Seeing
-pub mod Rests

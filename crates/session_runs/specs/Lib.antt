@@ -1,4 +1,0 @@
-pub mod Noted
-pub mod Least
-pub mod Stands
-pub mod Headline

@@ -1,5 +1,0 @@
-mod Fields
-mod Numbers
-mod Texts
-mod Events
-mod ReadBack
