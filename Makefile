@@ -5,9 +5,10 @@ TESTS = $(notdir $(patsubst %/,%,$(dir $(wildcard crates/*_tests/src)))) scripts
 
 .PHONY: demo build try check test edits
 
-# Plays the first run, without any proof: about a minute.
+# Plays a script of examples/, without any proof: about a minute.
+SCRIPT ?= first-run
 demo:
-	@cd crates/muxsim && $(RT) try -- --show own < ../../examples/first-run.mux
+	@cd crates/muxsim && $(RT) try -- --show own < ../../examples/$(SCRIPT).mux
 	@echo "make demo: nothing was proved; make build proves muxsim, make test everything" >&2
 
 # Proves the programs and all that they stand on, and builds them into bin/.
