@@ -17,7 +17,7 @@ use Rattle.session_model.specs.Checks.{where_needed, window_checks, checks, typi
 use Rattle.session_model.specs.Needs.{needs}
 use Rattle.session_rows.proofs.Serials.{serial_is}
 use Rattle.session_state.specs.declared.caller.Caller.{Caller}
-use Rattle.session_state.specs.Fit.{AreFit}
+use Rattle.session_model.specs.Sound.{AreFit}
 use Rattle.session_state.specs.Doing.{caller_in}
 use Rattle.session_checks.specs.Checked.{AllMade, listed, only_if, access, writing, writing_on}
 use Rattle.session_checks.specs.Checked.{lock_on, row_of_caller}

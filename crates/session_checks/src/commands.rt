@@ -4,7 +4,7 @@ ghost use Rattle.std.specs.Prelude.{◌≡◌};
 ghost use Rattle.session_model.specs.Tables.{Tables};
 ghost use Rattle.session_model.specs.Checks.{checks};
 ghost use Rattle.session_state.specs.Stands.{Stands};
-ghost use Rattle.session_state.specs.Fit.{AreFit};
+ghost use Rattle.session_model.specs.Sound.{AreFit};
 ghost use Rattle.session_state.specs.Doing.{caller_in};
 ghost use Rattle.session_checks.specs.Checked.{Checked, row_of_caller, access, writing_on, lock_on, only_if};
 

@@ -8,7 +8,7 @@ ghost use Rattle.session_model.specs.Events.{attach_checks, open_checks};
 ghost use Rattle.session_model.specs.declared.check.Check.TheVariants.{Must as must};
 ghost use Rattle.session_model.specs.declared.refusal.Refusal.TheVariants.{BadSize};
 ghost use Rattle.session_state.specs.Stands.{Stands};
-ghost use Rattle.session_state.specs.Fit.{AreFit};
+ghost use Rattle.session_model.specs.Sound.{AreFit};
 ghost use Rattle.session_state.specs.Doing.{caller_in};
 ghost use Rattle.session_checks.specs.Checked.{Checked, writing, has_seat};
 
@@ -16,7 +16,7 @@ use crate::checks::check_all;
 use crate::commands::{lock_on, open_window};
 use acl::{Bit, CommandName, Object, UserId};
 use session_model::{Check, Refusal, Verdict, WindowsFault};
-use session_state::{Caller, State};
+use session_state::{Caller, State, is_client_size};
 use windows::{is_title, is_window_size};
 
 /// The most clients that are attached at once, and the most windows that are open at once.
@@ -32,13 +32,6 @@ pub fn is_known(state: &State, user: UserId) -> bool
     ensures { (t : Tables) → Stands t state.now → result ≡ is_known t user }
 {
     state.acl.knows(user)
-}
-
-/// Whether a client's terminal may have so many lines and columns: 4 to 200 by 20 to 300.
-fn is_client_size(rows: u16, cols: u16) -> bool
-    ensures { result ≡ is_client_size rows cols }
-{
-    4 <= rows && rows <= 200 && 20 <= cols && cols <= 300
 }
 
 /// Whether the mode of the session lets a user in: in single-user mode the owner alone.

@@ -21,7 +21,7 @@ use Rattle.session_rows.proofs.Serials.{serial_is as serial_at}
 use Rattle.session_state.specs.declared.made.Made.{Made}
 use Rattle.session_state.specs.declared.state.State.{State}
 use Rattle.session_state.specs.Stands.{Stands}
-use Rattle.session_state.specs.Fit.{AreFit}
+use Rattle.session_model.specs.Sound.{AreFit}
 use Rattle.session_state.specs.Doing.{HasDone}
 use Rattle.session_events.specs.Events.{IsOpenIn}
 use Rattle.session_events.proofs.Finding.{lowest_open}

@@ -14,7 +14,7 @@ use Rattle.session_model.specs.Events.{open_checks, new_window, opens, resized, 
 use Rattle.session_state.specs.declared.made.Made.{Made}
 use Rattle.session_state.specs.declared.state.State.{State}
 use Rattle.session_state.specs.Stands.{Stands}
-use Rattle.session_state.specs.Fit.{AreFit}
+use Rattle.session_model.specs.Sound.{AreFit}
 use Rattle.session_state.specs.Doing.{HasDone}
 
 -- the serial that comes next, unless all are given

@@ -13,14 +13,7 @@ ghost use Rattle.session_events.specs.Events.{IsOpenIn, Attaches, Resizes};
 use crate::serials::serial_from;
 use acl::{Act, Bit, Object, UserId};
 use session_model::Refusal;
-use session_state::{Made, State};
-
-/// Whether a client's terminal may have so many lines and columns: 4 to 200 by 20 to 300.
-fn is_client_size(rows: u16, cols: u16) -> bool
-    ensures { result ≡ is_client_size rows cols }
-{
-    4 <= rows && rows <= 200 && 20 <= cols && cols <= 300
-}
+use session_state::{Made, State, is_client_size};
 
 /// The window of the lowest number.
 fn first_window(state: &State) -> Option<u32>

@@ -17,7 +17,7 @@ use Rattle.session_clients.specs.Stands.{ClientStands, AreClients}
 use Rattle.session_clients.proofs.Changing.{serials}
 use Rattle.session_state.specs.declared.state.State.{State}
 use Rattle.session_state.specs.Stands.{Stands}
-use Rattle.session_state.specs.Fit.{AreFit, ShowsOpen, IsOpen}
+use Rattle.session_model.specs.Sound.{AreFit, ShowsOpen, IsOpen}
 use Rattle.session_keys.specs.Stepping.{read_by}
 use Rattle.session_keys.proofs.Telling.{stands_client}
 

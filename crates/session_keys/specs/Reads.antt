@@ -10,7 +10,7 @@ use Rattle.session_model.specs.Events.{Ordered, ordered, types, typing_verdicts,
 use Rattle.session_state.specs.declared.made.Made.{Made}
 use Rattle.session_state.specs.declared.state.State.{State}
 use Rattle.session_state.specs.Stands.{Stands}
-use Rattle.session_state.specs.Fit.{AreFit}
+use Rattle.session_model.specs.Sound.{AreFit}
 use Rattle.session_state.specs.Doing.{HasDone}
 
 -- what the keys type behind those before them

@@ -16,7 +16,7 @@ use Rattle.session_state.specs.declared.caller.Caller.{Caller}
 use Rattle.session_state.specs.declared.made.Made.{Made}
 use Rattle.session_state.specs.declared.state.State.{State}
 use Rattle.session_state.specs.Stands.{Stands}
-use Rattle.session_state.specs.Fit.{AreFit}
+use Rattle.session_model.specs.Sound.{AreFit}
 use Rattle.session_state.specs.Doing.{HasDone}
 use Rattle.session_keys.specs.declared.key_step.KeysRead.{KeysRead}
 use Rattle.session_keys.specs.Given.{given}

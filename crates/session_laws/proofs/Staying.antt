@@ -30,7 +30,7 @@ use Rattle.session_model.specs.Events as events
 use Rattle.session_model.specs.Granted.{granted_view}
 use Rattle.session_model.specs.Run.{drawn, drawn_on, with_drawn, after, tables_from}
 use Rattle.session_model.specs.Promises.{unread}
-use Rattle.session_laws.specs.Fit.{IsOpen, ShowsOpen, AreFit}
+use Rattle.session_model.specs.Sound.{IsOpen, ShowsOpen, AreFit}
 use Rattle.session_laws.proofs.Lists.{all_weaken, all_append, all_map}
 use Rattle.session_laws.proofs.Numbers.{serial_of}
 use Rattle.session_laws.proofs.Doing.{Either}

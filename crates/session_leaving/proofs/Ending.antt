@@ -33,7 +33,7 @@ use Rattle.session_clients.specs.Stands.{AreClients, Keeps, ChangesAll}
 use Rattle.session_state.specs.declared.made.Made.{Made}
 use Rattle.session_state.specs.declared.state.State.{State}
 use Rattle.session_state.specs.Stands.{Stands}
-use Rattle.session_state.specs.Fit.{AreFit}
+use Rattle.session_model.specs.Sound.{AreFit}
 use Rattle.session_state.specs.Doing.{HasDone}
 use Rattle.session_leaving.specs.declared.going.Going.TheVariants.{Of, All}
 use Rattle.session_leaving.specs.Going.{goes, goes_now, gone_now, parted_now}

@@ -1,7 +1,8 @@
 -- What holds of the tables of a run.
-use Rattle.std.specs.Prelude.{◌≡◌, ◌<◌, ◌≤◌, ℕ, List, [], ◌∷◌, length, map, reverse, None, is_some}
+use Rattle.std.specs.Prelude.{◌≡◌, ◌<◌, ◌≤◌, ℕ, List, [], ◌∷◌, length, map, reverse, Option, Some, None, is_some, true}
 use Rattle.std.specs.List.{AllByRecursion}
 use Rattle.acl.specs.History.{is_open, open_count}
+use Rattle.regions.specs.declared.shown.Shown.{Shown}
 use Rattle.writelock.specs.Holding.{clients_of}
 use Rattle.session_model.specs.Tables.{Window, Client, Tables, window_at}
 use Rattle.session_model.specs.Naming.{with_number}
@@ -42,3 +43,20 @@ pub record ActsAgree (t : Tables) : Type 0 where
   pub count_is : open_count t.acts ≡ length t.windows
   pub clients_are :
       clients_of t.acts ≡ reverse (map (λ (c : Client). (c.serial, c.user)) t.clients)
+
+-- a window, if one is named, is open
+abbrev pub IsOpen : Tables → Option ℕ → Type 0
+IsOpen t None = Unit {0}
+IsOpen t (Some window) = is_some (window_at t window) ≡ true
+
+-- each region of a client that shows a window shows an open one
+abbrev pub ShowsOpen : Tables → Client → Type 0
+ShowsOpen t c = AllByRecursion (λ (s : Shown). IsOpen t s.window) c.layout.shown
+
+-- Tables as those of each run are: serials rise, numbers differ and are below 40, the acts agree
+-- with the rows, and what is shown is open.
+pub record AreFit (t : Tables) : Type 0 where
+  pub sound : AreSound t
+  pub agree : ActsAgree t
+  pub numbered : AllByRecursion (λ (w : Window). w.number < 40) t.windows
+  pub shown : AllByRecursion (ShowsOpen t) t.clients

@@ -19,7 +19,7 @@ use Rattle.session_state.specs.declared.caller.Caller.{Caller}
 use Rattle.session_state.specs.declared.made.Made.{Made}
 use Rattle.session_state.specs.declared.state.State.{State}
 use Rattle.session_state.specs.Stands.{Stands}
-use Rattle.session_state.specs.Fit.{AreFit}
+use Rattle.session_model.specs.Sound.{AreFit}
 use Rattle.session_state.specs.Doing.{Answers, HasDone, caller_in}
 use Rattle.session_pages.specs.Entering.{Selects}
 use Rattle.session_pages.specs.Giving.{refusal_of}

@@ -6,7 +6,7 @@ use Rattle.std.specs.Option.{option_and_then}
 use Rattle.regions.specs.declared.shown.Shown.{Shown}
 use Rattle.regions.specs.Layouts.{remove_focused}
 use Rattle.session_model.specs.Tables.{Client, Tables, row_of, client_at, focused, with_layout}
-use Rattle.session_state.specs.Fit.{AreFit, IsOpen, ShowsOpen}
+use Rattle.session_model.specs.Sound.{AreFit, IsOpen, ShowsOpen}
 use Rattle.session_pages.specs.Entering.{IsOpenThere}
 
 abbrev pub window_in : Shown → Option ℕ

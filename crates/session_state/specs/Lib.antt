@@ -1,3 +1,2 @@
 pub mod Stands
-pub mod Fit
 pub mod Doing

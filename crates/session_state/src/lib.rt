@@ -3,8 +3,10 @@
 
 mod caller;
 mod made;
+mod sizes;
 mod state;
 
 pub use caller::Caller;
 pub use made::Made;
+pub use sizes::is_client_size;
 pub use state::State;

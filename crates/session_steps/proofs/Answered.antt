@@ -1,7 +1,7 @@
 -- Deeds that were answered, and lines.
-use Rattle.std.proofs.Common.{◌≡◌, ◌++◌, ℕ, Bool, true, false, List, [], Option, Some, None}
+use Rattle.std.proofs.Common.{◌≡◌, ℕ, true, false, List, [], Option, Some, None}
 use Rattle.std.proofs.Common.{Result, Ok, Err, refl, ap, sym, ◌∙◌, append-nil, inl, inr, length}
-use Rattle.std.specs.Prelude.{◌⊎◌, if◌then◌else◌}
+use Rattle.std.specs.Prelude.{◌⊎◌}
 use Rattle.command_lang.specs.command.Command.{Command}
 use Rattle.command_lang.specs.fault.ParseFault.{ParseFault}
 use Rattle.command_lang.specs.fault.FaultKind.{FaultKind}

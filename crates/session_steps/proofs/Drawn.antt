@@ -1,5 +1,5 @@
 -- Draws are steps.
-use Rattle.std.proofs.Common.{◌≡◌, ◌++◌, ℕ, List, [], Option, Some, None, Err, refl, ap, sym, subst}
+use Rattle.std.proofs.Common.{◌≡◌, ℕ, List, [], Option, Some, None, Err, refl, ap, sym, subst}
 use Rattle.std.proofs.Common.{◌∙◌, append-nil, true, false, inl, inr}
 use Rattle.std.specs.Prelude.{MatchOption, ◌⊎◌}
 use Rattle.acl.specs.declared.act.Act.{Act}
@@ -47,8 +47,7 @@ module _ (t : Tables) (client : ℕ) where
       let is : outcome t (Draw client) ≡ finished t [] done (changing t) = ap outcome_of at in
       let kept : (outcome t (Draw client)).tables ≡ t =
       ap (λ (o : Outcome). o.tables) is
-      ∙ ap (λ (acts : List Act). record t { acts = followed_by t.acts acts }) left in
-      (
+      ∙ ap (λ (acts : List Act). record t { acts = followed_by t.acts acts }) left in (
         entry reply drawn.effects,
         refl,
         refl,
@@ -75,8 +74,7 @@ module _ (t : Tables) (client : ℕ) where
       → TakenAs (Draw client) (Err r) t new before after past past
   undrawn_taken r old new before after past at why st same =
       let none : List Effect = [] in
-      let is : outcome t (Draw client) ≡ refused t [] NoWindow = ap outcome_of at in
-      (
+      let is : outcome t (Draw client) ≡ refused t [] NoWindow = ap outcome_of at in (
         entry (Err r) [],
         refl,
         refl,

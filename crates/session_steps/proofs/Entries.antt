@@ -3,7 +3,6 @@ use Rattle.std.proofs.Common.{◌≡◌, Bool, true, false, List, Ok, Err, refl,
 use Rattle.std.specs.Prelude.{OnErr}
 use Rattle.session_model.specs.declared.event.Effect.{Effect}
 use Rattle.session_model.specs.declared.refusal.Refusal.{Refusal}
-use Rattle.session_model.specs.declared.refusal.Refusal.TheVariants.{NoMemory}
 use Rattle.session_model.specs.declared.verdict.Verdict.{Verdict}
 use Rattle.session_model.specs.Trace.{Happening, Draw, Reply}
 use Rattle.session_model.specs.Tables.{Tables}
@@ -35,8 +34,7 @@ happened_taken : (t : Tables) (event : Happening) (reply : Reply) (new : State)
     → HasHappened (outcome t event) reply new before after past noted
     → TakenAs event reply t new before after past noted
 happened_taken t event reply new before after past noted plain h =
-    let o : Outcome = outcome t event in
-    (
+    let o : Outcome = outcome t event in (
       record {
         event = event;
         reply = reply;

@@ -12,7 +12,7 @@ use Rattle.session_model.specs.Naming.{with_number}
 use Rattle.session_model.specs.Lines.{read_line}
 use Rattle.session_state.specs.declared.state.State.{State}
 use Rattle.session_state.specs.Stands.{Stands}
-use Rattle.session_state.specs.Fit.{AreFit}
+use Rattle.session_model.specs.Sound.{AreFit}
 
 -- why a line with a fault is refused
 abbrev pub refusal_by : ParseFault → FaultKind → Refusal

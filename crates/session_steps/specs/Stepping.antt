@@ -8,7 +8,7 @@ use Rattle.session_model.specs.Events.{Outcome, outcome}
 use Rattle.session_state.specs.declared.made.Made.{Made}
 use Rattle.session_state.specs.declared.state.State.{State}
 use Rattle.session_state.specs.Stands.{Stands}
-use Rattle.session_state.specs.Fit.{AreFit}
+use Rattle.session_model.specs.Sound.{AreFit}
 
 -- its reply was given, the state stands for its tables, and its acts, effects and verdicts stand
 -- behind those before

@@ -9,7 +9,7 @@ use Rattle.session_model.specs.Run.{IsStep}
 use Rattle.session_state.specs.declared.made.Made.{Made}
 use Rattle.session_state.specs.declared.state.State.{State}
 use Rattle.session_state.specs.Stands.{Stands}
-use Rattle.session_state.specs.Fit.{AreFit}
+use Rattle.session_model.specs.Sound.{AreFit}
 
 -- whether memory was wanting
 abbrev pub wants_memory : Reply → Bool

@@ -1,6 +1,6 @@
 //! Clients that go, and windows whose programs end.
 
-ghost use Rattle.std.specs.Prelude.{ℕ, List, OnErr};
+ghost use Rattle.std.specs.Prelude.{List, OnErr};
 ghost use Rattle.session_model.specs.declared.verdict.Verdict.{Verdict};
 ghost use Rattle.session_model.specs.Trace.{Detach, Closed};
 ghost use Rattle.session_state.specs.Doing.{IsAsBefore};

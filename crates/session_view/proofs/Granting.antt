@@ -21,7 +21,7 @@ use Rattle.session_rows.specs.Matched.{BothOrNone}
 use Rattle.std.specs.declared.alloc.AllocError.{AllocError}
 use Rattle.session_state.specs.declared.state.State.{State}
 use Rattle.session_state.specs.Stands.{Stands}
-use Rattle.session_state.specs.Fit.{AreFit}
+use Rattle.session_model.specs.Sound.{AreFit}
 use Rattle.session_view.specs.Status.{SaysStatus}
 use Rattle.session_view.specs.Viewed.{IsGranted, IsViewFor, ViewOf}
 use Rattle.session_view.proofs.Panes.{parts_well}

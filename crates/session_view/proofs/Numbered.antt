@@ -13,7 +13,7 @@ use Rattle.session_model.specs.Texts.{window_item, windows_text, separated}
 use Rattle.session_texts.specs.Items.{separator}
 use Rattle.session_texts.specs.Orders.{numbered}
 use Rattle.session_texts.proofs.Numbers.{order_by_numbers}
-use Rattle.session_state.specs.Fit.{AreFit}
+use Rattle.session_model.specs.Sound.{AreFit}
 use Rattle.session_view.specs.Growing.{IsList}
 use Rattle.session_view.proofs.Growing.{list_more}
 

@@ -22,7 +22,7 @@ use Rattle.session_rows.proofs.Matching.{push_match, row_there, length_match}
 use Rattle.session_rows.proofs.Serials.{serial_is, by_if, if_true, if_false}
 use Rattle.windows.specs.declared.window.Window.{Window}
 use Rattle.windows.specs.Standing.{WindowStands, StandFor}
-use Rattle.session_state.specs.Fit.{AreFit}
+use Rattle.session_model.specs.Sound.{AreFit}
 use Rattle.session_view.specs.declared.parts.Part.{Part}
 use Rattle.session_view.specs.Parts.{ShowsPart}
 use Rattle.session_view.proofs.Lines.{lines_moved, at_each}

@@ -8,7 +8,7 @@ use Rattle.session_model.specs.Run.{IsDraw, drawn_on}
 use Rattle.session_state.specs.declared.state.State.{State}
 use Rattle.session_state.specs.declared.made.Made.{Made}
 use Rattle.session_state.specs.Stands.{Stands}
-use Rattle.session_state.specs.Fit.{AreFit}
+use Rattle.session_model.specs.Sound.{AreFit}
 
 -- the client's draw stands behind the effects before it, and the state knows of it; no act was made
 pub record HasDrawn (t : Tables) (c : Client) (new : State) (before after : Made) : Type 0 where

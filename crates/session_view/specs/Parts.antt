@@ -14,7 +14,7 @@ use Rattle.windows.specs.Standing.{WindowStands}
 use Rattle.windows.specs.Showing.{cells_of}
 use Rattle.session_state.specs.declared.state.State.{State}
 use Rattle.session_state.specs.Stands.{Stands}
-use Rattle.session_state.specs.Fit.{AreFit}
+use Rattle.session_model.specs.Sound.{AreFit}
 use Rattle.session_view.specs.declared.parts.Part.{Part}
 use Rattle.session_view.specs.declared.parts.Part.TheVariants.{Empty, Hidden, Readable}
 

@@ -12,7 +12,7 @@ use Rattle.session_clients.specs.declared.client.Client.{Client}
 use Rattle.session_clients.specs.Stands.{ClientStands}
 use Rattle.session_state.specs.declared.state.State.{State}
 use Rattle.session_state.specs.Stands.{Stands}
-use Rattle.session_state.specs.Fit.{AreFit}
+use Rattle.session_model.specs.Sound.{AreFit}
 
 -- the client's granted view, which its terminal can show
 pub record IsGranted (t : Tables) (m : model.Client) (v : View) : Type 0 where

@@ -1,4 +1,4 @@
-use Rattle.std.proofs.Common.{◌≡◌, ℕ, List, None, Ok, refl, ap, sym, ◌∙◌}
+use Rattle.std.proofs.Common.{ℕ, List, None, Ok, refl, ap, sym, ◌∙◌}
 use Rattle.session_model.specs.declared.check.Check.{Check}
 use Rattle.session_model.specs.Trace.{Attach}
 use Rattle.session_model.specs.Deeds.{Deed}

@@ -1,4 +1,4 @@
-use Rattle.std.proofs.Common.{◌≡◌, [], Ok, refl, ap, sym, ◌∙◌, append-nil}
+use Rattle.std.proofs.Common.{[], Ok, refl, ap, sym, append-nil}
 use Rattle.std.specs.Option.{option_copied}
 use Rattle.session_model.specs.Trace.{Output}
 use Rattle.session_model.specs.Tables.{Window, window_at}

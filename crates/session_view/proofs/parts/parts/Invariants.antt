@@ -2,7 +2,7 @@ use Rattle.std.proofs.Common.{take}
 use Rattle.session_model.specs.Tables.{Tables}
 use Rattle.session_rows.specs.Matched.{Matched}
 use Rattle.session_state.specs.Stands.{Stands}
-use Rattle.session_state.specs.Fit.{AreFit}
+use Rattle.session_model.specs.Sound.{AreFit}
 use Rattle.session_view.specs.Parts.{ShowsPart}
 use Rattle.session_view.proofs.parts.parts.Given as goal
 

@@ -1,0 +1,11 @@
+//! Sizes of clients' terminals.
+
+ghost use Rattle.std.specs.Prelude.{◌≡◌};
+ghost use Rattle.session_model.specs.Events.{is_client_size};
+
+/// Whether a client's terminal may have so many lines and columns: 4 to 200 by 20 to 300.
+pub fn is_client_size(rows: u16, cols: u16) -> bool
+    ensures { result ≡ is_client_size rows cols }
+{
+    4 <= rows && rows <= 200 && 20 <= cols && cols <= 300
+}
