@@ -1,5 +1,5 @@
 -- A control sequence that stands whole.
-use Rattle.std.proofs.Common.{◌≡◌, ℕ, ◌+◌, ◌-◌, ◌<◌, Bool, true, false, cond, arith, List, [], ◌∷◌, ◌++◌, length, take, get_or, Some, refl, sym, ap, ◌∙◌, subst}
+use Rattle.std.proofs.Common.{◌≡◌, ℕ, suc, ◌+◌, ◌-◌, ◌<◌, Bool, true, false, cond, arith, List, [], ◌∷◌, ◌++◌, length, take, get_or, Some, refl, sym, ap, ◌∙◌, subst, lt-ltb}
 use Rattle.std.specs.List.{list_all}
 use Rattle.std.proofs.lemmas.List.{take_more}
 use Rattle.charsets.specs.declared.unit.Coding.TheVariants.{Utf8}
@@ -93,3 +93,30 @@ other-read bytes at t whole grown-text value next takes takes' l r is w g n y = 
       ∙ sym (valued-stays grown-text) ∙ ap (λ (v : ℕ). Some (valued grown-text v)) (sym n);
   digits = y;
 }
+
+-- the text whose last parameter is written down, and behind a semicolon another one
+last_pushed : (values : List ℕ) → last_value (values ++ 0 ∷ []) ≡ 0
+last_pushed [] = refl
+last_pushed (n ∷ []) = refl
+last_pushed (n ∷ m ∷ ns) = last_pushed (m ∷ ns)
+
+pub length-with_last : (values : List ℕ) (value : ℕ) → length (with_last values value) ≡ length values
+length-with_last [] value = refl
+length-with_last (n ∷ []) value = refl
+length-with_last (n ∷ m ∷ ns) value = ap suc (length-with_last (m ∷ ns) value)
+
+abbrev pub with_next : Text → List ℕ → Text
+with_next t params = record t { begun = true; params = params ++ 0 ∷ [] }
+
+next-grown : (t : Text) → TakesDigits t → length t.params < 16 → text_grown t 0x3B ≡ Some (with_next t t.params)
+next-grown t takes few =
+    let e : (length t.intermediates == 0) ≡ true = ap (λ (v : List ℕ). length v == 0) takes.inside in
+    rw (e, lt-ltb (length t.params) 16 few) refl
+
+pub next-read : (bytes : List ℕ) (at : ℕ) (t : Text) (value : ℕ) (params : List ℕ) → at < length bytes → IsRead bytes at t value true
+    → get_or bytes at 0 ≡ 0x3B → params ≡ with_last t.params value → length params < 16 → IsRead bytes (at + 1) (with_next t params) 0 true
+next-read bytes at t value params l r c p few =
+    let k = r.digits refl in
+    other-read bytes at t (record t { params = params }) (with_next t params) value 0 true true l r (rw c refl) (ap (λ (v : List ℕ). record t { params = v }) p)
+    (ap (text_grown (record t { params = params })) c ∙ next-grown (record t { params = params }) (record { few = k.few; inside = k.inside }) few)
+    (sym (last_pushed params)) (λ y. record { few = k.few; inside = k.inside })
