@@ -105,18 +105,32 @@ length-with_last [] value = refl
 length-with_last (n ∷ []) value = refl
 length-with_last (n ∷ m ∷ ns) value = ap suc (length-with_last (m ∷ ns) value)
 
-abbrev pub with_next : Text → List ℕ → Text
-with_next t params = record t { begun = true; params = params ++ 0 ∷ [] }
+-- the bytes so far are digits and semicolons; that something has begun is not written down
+pub record IsNumerals (bytes : List ℕ) (at : ℕ) (t : Text) (value : ℕ) : Type 0 where
+  pub begun : Bool
+  pub read : IsRead bytes at (record t { begun = begun }) value true
 
-next-grown : (t : Text) → TakesDigits t → length t.params < 16 → text_grown t 0x3B ≡ Some (with_next t t.params)
+pub number-read : (bytes : List ℕ) (at : ℕ) (t : Text) (value next : ℕ) → at < length bytes → IsNumerals bytes at t value
+    → is_digit (get_or bytes at 0) ≡ true → next ≡ longer value (get_or bytes at 0 - 0x30) → IsNumerals bytes (at + 1) t next
+number-read bytes at t value next l r d n = record {
+  begun = true;
+  read = digit-read bytes at (record t { begun = r.begun }) value next true l r.read refl d n;
+}
+
+next-grown : (t : Text) → TakesDigits t → length t.params < 16 → text_grown t 0x3B ≡ Some (record t { begun = true; params = t.params ++ 0 ∷ [] })
 next-grown t takes few =
     let e : (length t.intermediates == 0) ≡ true = ap (λ (v : List ℕ). length v == 0) takes.inside in
     rw (e, lt-ltb (length t.params) 16 few) refl
 
-pub next-read : (bytes : List ℕ) (at : ℕ) (t : Text) (value : ℕ) (params : List ℕ) → at < length bytes → IsRead bytes at t value true
-    → get_or bytes at 0 ≡ 0x3B → params ≡ with_last t.params value → length params < 16 → IsRead bytes (at + 1) (with_next t params) 0 true
+pub next-read : (bytes : List ℕ) (at : ℕ) (t : Text) (value : ℕ) (params : List ℕ) → at < length bytes → IsNumerals bytes at t value
+    → get_or bytes at 0 ≡ 0x3B → params ≡ with_last t.params value → length params < 16 → IsNumerals bytes (at + 1) (record t { params = params ++ 0 ∷ [] }) 0
 next-read bytes at t value params l r c p few =
-    let k = r.digits refl in
-    other-read bytes at t (record t { params = params }) (with_next t params) value 0 true true l r (rw c refl) (ap (λ (v : List ℕ). record t { params = v }) p)
-    (ap (text_grown (record t { params = params })) c ∙ next-grown (record t { params = params }) (record { few = k.few; inside = k.inside }) few)
-    (sym (last_pushed params)) (λ y. record { few = k.few; inside = k.inside })
+    let k = r.read.digits refl in
+    let whole : Text = record t { begun = r.begun; params = params } in
+    record {
+      begun = true;
+      read = other-read bytes at (record t { begun = r.begun }) whole (record whole { begun = true; params = params ++ 0 ∷ [] }) value 0 true true l r.read (rw c refl)
+          (ap (λ (v : List ℕ). record t { begun = r.begun; params = v }) p)
+          (ap (text_grown whole) c ∙ next-grown whole (record { few = k.few; inside = k.inside }) few)
+          (sym (last_pushed params)) (λ y. record { few = k.few; inside = k.inside });
+    }

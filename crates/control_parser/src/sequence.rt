@@ -73,23 +73,18 @@ impl Sequence {
         let mut at = 0;
         while at < bytes.len() {
             let c = bytes[at];
-            match c {
-                b'0'..=b'9' => {
-                    self.text.begun = true;
-                    value = longer(value, c - b'0');
-                }
-                b';' if self.text.params.len() < 16 => {
-                    self.text.begun = true;
-                    self.text.params.set_last(value);
-                    self.text.params.push(0);
-                    value = 0;
-                }
-                b'@'..=b'~' => {
-                    self.text.params.set_last(value);
-                    self.last = c;
-                    return at + 1;
-                }
-                _ => return 0,
+            if b'0' <= c && c <= b'9' {
+                value = longer(value, c - b'0');
+            } else if c == b';' && self.text.params.len() < 16 {
+                self.text.params.set_last(value);
+                self.text.params.push(0);
+                value = 0;
+            } else if b'@' <= c && c <= b'~' {
+                self.text.params.set_last(value);
+                self.last = c;
+                return at + 1;
+            } else {
+                return 0;
             }
             at += 1;
         }

@@ -103,7 +103,7 @@ impl Display {
         if mark.is_none() && intermediates.is_empty() {
             return self.perform_plain(params, last);
         }
-        self.perform_unanswered(sequence_acts(mark, params, intermediates, last))
+        self.perform_any(mark, params, intermediates, last)
     }
 
     /// The same of one with neither mark nor intermediates. CUP and SGR, the commonest, have a case of their own, so that their
@@ -121,11 +121,32 @@ impl Display {
         match last {
             b'H' => self.perform_unanswered(sequence_acts(None, params, &[], b'H')),
             b'm' => self.perform_unanswered(sequence_acts(None, params, &[], b'm')),
-            _ => self.perform_unanswered(sequence_acts(None, params, &[], last)),
+            _ => self.perform_any(None, params, &[], last),
         }
     }
 
+    /// The same of any, whose row is found when it is done.
+    #[inline(never)]
+    fn perform_any(
+        &mut self,
+        mark: Option<u8>,
+        params: &[u16],
+        intermediates: &[u8],
+        last: u8,
+    ) -> bool
+        requires { IsFit self.old }
+        ensures screen { IsTrue result → screen_of self.new ≡ all_acted (screen_of self.old) (sequence_actions mark params.now intermediates.now last) }
+        ensures silent { IsTrue result → all_answered (screen_of self.old) (sequence_actions mark params.now intermediates.now last) ≡ [] }
+        ensures places { IsTrue result → self.new.page.places ≡ all_acted_places (screen_of self.old) (sequence_actions mark params.now intermediates.now last) self.old.page.places }
+        ensures undone { result ≡ false → screen_of self.new ≡ screen_of self.old }
+        ensures unturned { result ≡ false → self.new.page.places ≡ self.old.page.places }
+        ensures fit { IsFit self.new }
+    {
+        self.perform_unanswered(sequence_acts(mark, params, intermediates, last))
+    }
+
     /// Does the action of each value that is named, in turn; nothing is answered.
+    #[inline(always)]
     fn set_each(&mut self, setting: Setting, values: &[u16])
         requires { IsFit self.old }
         ensures screen { screen_of self.new ≡ all_acted (screen_of self.old) (each (meaning setting) values.now) }
