@@ -119,6 +119,11 @@ pub fn put_run(
     if codes.is_empty() {
         return;
     }
+    if codes.len() == 1 {
+        let cell = Cell::narrow(codes[0] as char, rendition, is_protected);
+        put_narrow(cells, at, cell, at + 1);
+        return;
+    }
     cut(cells, at);
     cut(cells, at + codes.len());
     let space = space_cell(rendition, is_protected);
