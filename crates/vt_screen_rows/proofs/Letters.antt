@@ -39,9 +39,9 @@ narrow_from (suc n) start h c low high other =
     let k = both (eqb start 0xAD || is_one (char_width false start)) (are_narrow n (start + 1)) h in
     ⊎_elim (λ (less : start < c). narrow_from n (start + 1) k.1 c (omega arith) (omega arith) other)
     (λ (more : c ≤ start).
-        let e : start ≡ c = omega arith in
-        let l : (eqb c 0xAD || is_one (char_width false c)) ≡ true = ap (λ (v : ℕ). eqb v 0xAD || is_one (char_width false v)) (sym e) ∙ k.0 in
-        one_is (char_width false c) (rw (ne_eqb c 0xAD other) at l))
+    let e : start ≡ c = omega arith in
+    let l : (eqb c 0xAD || is_one (char_width false c)) ≡ true = ap (λ (v : ℕ). eqb v 0xAD || is_one (char_width false v)) (sym e) ∙ k.0 in
+    one_is (char_width false c) (rw (ne_eqb c 0xAD other) at l))
     (cases_lt start c)
 
 join : (low middle high : ℕ) → IsNarrow low middle → IsNarrow middle high → IsNarrow low high
