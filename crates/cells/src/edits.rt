@@ -1,7 +1,7 @@
 //! Edits of a line's cells.
 
 ghost use Rattle.std.specs.Prelude.{◌≡◌, ◌+◌, ◌<◌, ◌≤◌, length, replicate, [], ◌∷◌};
-ghost use Rattle.cells.specs.Line.{cells_from, IsPaired, cut_of, spliced, blank, unprotected_erased, fresh_at, narrow_cells};
+ghost use Rattle.cells.specs.Line.{cells_from, IsPaired, cut_of, spliced, blank, unprotected_erased, fresh_at, narrow_cell, narrow_cells};
 
 use crate::cell::{Cell, Rendition, Shape};
 
@@ -119,11 +119,28 @@ pub fn put_run(
     if codes.is_empty() {
         return;
     }
+    if codes.len() == 1 {
+        let cell = Cell::narrow(codes[0] as char, rendition, is_protected);
+        put_narrow(cells, at, cell, at + 1);
+        return;
+    }
     cut(cells, at);
     cut(cells, at + codes.len());
+    let space = space_cell(rendition, is_protected);
     for column in 0..codes.len() {
-        cells[at + column] = Cell::narrow(codes[column] as char, rendition, is_protected);
+        let character = codes[column] as char;
+        let mut cell = space;
+        cell.character = character;
+        cells[at + column] = cell;
     }
+}
+
+/// A space. It is made apart, so that the cells of a run are copied from one in memory as a whole, and not field by field.
+#[inline(never)]
+fn space_cell(rendition: Rendition, is_protected: bool) -> Cell
+    ensures { result ≡ narrow_cell 0x20 rendition is_protected }
+{
+    Cell::narrow(' ', rendition, is_protected)
 }
 
 /// Erases the cells from `from` on and below `end`, but for protected ones.

@@ -1,5 +1,5 @@
 -- A control sequence that stands whole.
-use Rattle.std.proofs.Common.{◌≡◌, ℕ, ◌+◌, ◌-◌, ◌<◌, Bool, true, false, cond, arith, List, [], ◌∷◌, ◌++◌, length, take, get_or, Some, refl, sym, ap, ◌∙◌, subst}
+use Rattle.std.proofs.Common.{◌≡◌, ℕ, suc, ◌+◌, ◌-◌, ◌<◌, Bool, true, false, cond, arith, List, [], ◌∷◌, ◌++◌, length, take, get_or, Some, refl, sym, ap, ◌∙◌, subst, lt-ltb}
 use Rattle.std.specs.List.{list_all}
 use Rattle.std.proofs.lemmas.List.{take_more}
 use Rattle.charsets.specs.declared.unit.Coding.TheVariants.{Utf8}
@@ -93,3 +93,44 @@ other-read bytes at t whole grown-text value next takes takes' l r is w g n y = 
       ∙ sym (valued-stays grown-text) ∙ ap (λ (v : ℕ). Some (valued grown-text v)) (sym n);
   digits = y;
 }
+
+-- the text whose last parameter is written down, and behind a semicolon another one
+last_pushed : (values : List ℕ) → last_value (values ++ 0 ∷ []) ≡ 0
+last_pushed [] = refl
+last_pushed (n ∷ []) = refl
+last_pushed (n ∷ m ∷ ns) = last_pushed (m ∷ ns)
+
+pub length-with_last : (values : List ℕ) (value : ℕ) → length (with_last values value) ≡ length values
+length-with_last [] value = refl
+length-with_last (n ∷ []) value = refl
+length-with_last (n ∷ m ∷ ns) value = ap suc (length-with_last (m ∷ ns) value)
+
+-- the bytes so far are digits and semicolons; that something has begun is not written down
+pub record IsNumerals (bytes : List ℕ) (at : ℕ) (t : Text) (value : ℕ) : Type 0 where
+  pub begun : Bool
+  pub read : IsRead bytes at (record t { begun = begun }) value true
+
+pub number-read : (bytes : List ℕ) (at : ℕ) (t : Text) (value next : ℕ) → at < length bytes → IsNumerals bytes at t value
+    → is_digit (get_or bytes at 0) ≡ true → next ≡ longer value (get_or bytes at 0 - 0x30) → IsNumerals bytes (at + 1) t next
+number-read bytes at t value next l r d n = record {
+  begun = true;
+  read = digit-read bytes at (record t { begun = r.begun }) value next true l r.read refl d n;
+}
+
+next-grown : (t : Text) → TakesDigits t → length t.params < 16 → text_grown t 0x3B ≡ Some (record t { begun = true; params = t.params ++ 0 ∷ [] })
+next-grown t takes few =
+    let e : (length t.intermediates == 0) ≡ true = ap (λ (v : List ℕ). length v == 0) takes.inside in
+    rw (e, lt-ltb (length t.params) 16 few) refl
+
+pub next-read : (bytes : List ℕ) (at : ℕ) (t : Text) (value : ℕ) (params : List ℕ) → at < length bytes → IsNumerals bytes at t value
+    → get_or bytes at 0 ≡ 0x3B → params ≡ with_last t.params value → length params < 16 → IsNumerals bytes (at + 1) (record t { params = params ++ 0 ∷ [] }) 0
+next-read bytes at t value params l r c p few =
+    let k = r.read.digits refl in
+    let whole : Text = record t { begun = r.begun; params = params } in
+    record {
+      begun = true;
+      read = other-read bytes at (record t { begun = r.begun }) whole (record whole { begun = true; params = params ++ 0 ∷ [] }) value 0 true true l r.read (rw c refl)
+          (ap (λ (v : List ℕ). record t { begun = r.begun; params = v }) p)
+          (ap (text_grown whole) c ∙ next-grown whole (record { few = k.few; inside = k.inside }) few)
+          (sym (last_pushed params)) (λ y. record { few = k.few; inside = k.inside });
+    }

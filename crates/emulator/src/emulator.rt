@@ -1,9 +1,10 @@
 //! Bytes to a screen.
 
-ghost use Rattle.std.specs.Prelude.{◌≡◌, ◌≤◌, ◌<◌, ◌+◌, ◌*◌, ◌↔◌, ℕ, List, [], ◌∷◌, ◌++◌, Err, IfOk, IfErr, OnOk, OnErr, IsOk, IsTrue, length, take, vec_len, vec_capacity};
+ghost use Rattle.std.specs.Prelude.{◌≡◌, ◌≤◌, ◌<◌, ◌+◌, ◌*◌, ◌↔◌, ℕ, List, [], ◌∷◌, ◌++◌, true, Err, IfOk, IfErr, OnOk, OnErr, IsOk, IsTrue, length, take, vec_len, vec_capacity};
 ghost use Rattle.cells.specs.Page.{IsPage, IsGridSize};
 ghost use Rattle.charsets.specs.declared.unit.Coding.TheVariants.{Utf8};
-ghost use Rattle.charsets.specs.Units.{unit_list};
+ghost use Rattle.std.specs.List.{list_all};
+ghost use Rattle.charsets.specs.Units.{is_plain, unit_list};
 ghost use Rattle.control_parser.specs.Spelling.{IsGiven};
 ghost use Rattle.control_parser.specs.declared.func.Func.TheVariants.{Esc};
 ghost use Rattle.terminal_model.specs.Screen.{starting};
@@ -167,7 +168,7 @@ impl Emulator {
     {
         let first = bytes[0];
         if 0x1F < first && first < 0x7F {
-            let run = plain_run(bytes);
+            let run = plain_front(bytes);
             self.screen.print_run(&bytes[..run]);
             return run;
         }
@@ -379,6 +380,18 @@ impl Emulator {
             self.feed(*byte);
         }
     }
+}
+
+/// How many bytes 20 to 7E stand at the front; between two sequences that is one mostly, and found at once.
+#[inline(always)]
+fn plain_front(bytes: &[u8]) -> usize
+    ensures plain { list_all is_plain (take result bytes.now) ≡ true }
+    ensures few { result ≤ length bytes.now }
+{
+    if bytes.len() > 1 && bytes[1] == ESC && 0x1F < bytes[0] && bytes[0] < 0x7F {
+        return 1;
+    }
+    plain_run(bytes)
 }
 
 /// Whether ESC and this byte are a whole function: the byte is a final, and begins no control sequence and no string.

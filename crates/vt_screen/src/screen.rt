@@ -15,12 +15,12 @@ ghost use Rattle.vt_screen.specs.Stored.{effect_places, effects_places};
 ghost use Rattle.vt_screen.specs.Sizes.{IsScreenSize};
 
 use cells::{Cell, GridFault};
-use charsets::{Coding, Unit};
+use charsets::Coding;
 use control_parser::{Func, Sequence};
 use std::alloc::Global;
 use std::marker::Model;
-use terminal_model::{Action, MAX_KEEP, Modes, Report};
-use vt_screen_actions::{acts_of, control_action, plain_escape_action, sequence_acts};
+use terminal_model::{MAX_KEEP, Modes, Report};
+use vt_screen_actions::{acts_of, control_action, plain_escape_action};
 use vt_screen_rows::{Display, prints_ascii};
 
 /// The screen of a VT220: its page with all that control functions change, and its scrollback. Lines and columns count
@@ -89,8 +89,7 @@ impl Screen {
         ensures places { self.new.places ≡ effect_places self.old.screen (Print character) self.old.places }
         ensures silent { report self.old.screen (Print character) ≡ [] }
     {
-        self.display
-            .perform_silently(Some(Action::Print(Unit::Code(character))));
+        self.display.print_code(character);
     }
 
     /// Does a C0 control, as `apply` of it; nothing is answered.
@@ -122,7 +121,7 @@ impl Screen {
     {
         let (mark, params, intermediates, last) = sequence.parts();
         self.display
-            .perform_unanswered(sequence_acts(mark, params, intermediates, last))
+            .perform_sequence(mark, params, intermediates, last)
     }
 
     /// Takes another size. It keeps the upper left part, of the kept lines too; the cursor and the saved place go to the

@@ -5,3 +5,4 @@ pub mod WideLemmas
 pub mod SizeLemmas
 pub mod RunLemmas
 pub mod RunPlaces
+pub mod Letters

@@ -1,7 +1,7 @@
 //! All the actions of a control function.
 
-ghost use Rattle.std.specs.Prelude.{◌≡◌, ◌≤◌, [], false, length, IfSome, IsTrue};
-ghost use Rattle.terminal_model.specs.Functions.{alone, each};
+ghost use Rattle.std.specs.Prelude.{◌≡◌, ◌≤◌, [], None, false, length, IfSome, IsTrue};
+ghost use Rattle.terminal_model.specs.Functions.{alone, each, sequence_actions};
 ghost use Rattle.terminal_model.specs.Reports.{all_answered};
 ghost use Rattle.terminal_model.specs.Table.{all_acted};
 ghost use Rattle.vt_screen_actions.specs.Acting.{actions_in};
@@ -13,7 +13,7 @@ ghost use Rattle.vt_screen_rows.specs.Places.{all_acted_places};
 
 use crate::display::Display;
 use terminal_model::{Action, Report};
-use vt_screen_actions::{Acts, Setting};
+use vt_screen_actions::{Acts, Setting, sequence_acts};
 
 impl Display {
     /// Does the actions of a control function, in turn, and gives what is answered.
@@ -82,7 +82,71 @@ impl Display {
         }
     }
 
+    /// Does the actions of a control sequence that isn't answered, in turn. It gives false where it is answered, and has done
+    /// nothing then.
+    #[inline(always)]
+    pub fn perform_sequence(
+        &mut self,
+        mark: Option<u8>,
+        params: &[u16],
+        intermediates: &[u8],
+        last: u8,
+    ) -> bool
+        requires { IsFit self.old }
+        ensures screen { IsTrue result → screen_of self.new ≡ all_acted (screen_of self.old) (sequence_actions mark params.now intermediates.now last) }
+        ensures silent { IsTrue result → all_answered (screen_of self.old) (sequence_actions mark params.now intermediates.now last) ≡ [] }
+        ensures places { IsTrue result → self.new.page.places ≡ all_acted_places (screen_of self.old) (sequence_actions mark params.now intermediates.now last) self.old.page.places }
+        ensures undone { result ≡ false → screen_of self.new ≡ screen_of self.old }
+        ensures unturned { result ≡ false → self.new.page.places ≡ self.old.page.places }
+        ensures fit { IsFit self.new }
+    {
+        if mark.is_none() && intermediates.is_empty() {
+            return self.perform_plain(params, last);
+        }
+        self.perform_any(mark, params, intermediates, last)
+    }
+
+    /// The same of one with neither mark nor intermediates. CUP and SGR, the commonest, have a case of their own, so that their
+    /// rows are found when this is compiled.
+    #[inline(always)]
+    fn perform_plain(&mut self, params: &[u16], last: u8) -> bool
+        requires { IsFit self.old }
+        ensures screen { IsTrue result → screen_of self.new ≡ all_acted (screen_of self.old) (sequence_actions None params.now [] last) }
+        ensures silent { IsTrue result → all_answered (screen_of self.old) (sequence_actions None params.now [] last) ≡ [] }
+        ensures places { IsTrue result → self.new.page.places ≡ all_acted_places (screen_of self.old) (sequence_actions None params.now [] last) self.old.page.places }
+        ensures undone { result ≡ false → screen_of self.new ≡ screen_of self.old }
+        ensures unturned { result ≡ false → self.new.page.places ≡ self.old.page.places }
+        ensures fit { IsFit self.new }
+    {
+        match last {
+            b'H' => self.perform_unanswered(sequence_acts(None, params, &[], b'H')),
+            b'm' => self.perform_unanswered(sequence_acts(None, params, &[], b'm')),
+            _ => self.perform_any(None, params, &[], last),
+        }
+    }
+
+    /// The same of any, whose row is found when it is done.
+    #[inline(never)]
+    fn perform_any(
+        &mut self,
+        mark: Option<u8>,
+        params: &[u16],
+        intermediates: &[u8],
+        last: u8,
+    ) -> bool
+        requires { IsFit self.old }
+        ensures screen { IsTrue result → screen_of self.new ≡ all_acted (screen_of self.old) (sequence_actions mark params.now intermediates.now last) }
+        ensures silent { IsTrue result → all_answered (screen_of self.old) (sequence_actions mark params.now intermediates.now last) ≡ [] }
+        ensures places { IsTrue result → self.new.page.places ≡ all_acted_places (screen_of self.old) (sequence_actions mark params.now intermediates.now last) self.old.page.places }
+        ensures undone { result ≡ false → screen_of self.new ≡ screen_of self.old }
+        ensures unturned { result ≡ false → self.new.page.places ≡ self.old.page.places }
+        ensures fit { IsFit self.new }
+    {
+        self.perform_unanswered(sequence_acts(mark, params, intermediates, last))
+    }
+
     /// Does the action of each value that is named, in turn; nothing is answered.
+    #[inline(always)]
     fn set_each(&mut self, setting: Setting, values: &[u16])
         requires { IsFit self.old }
         ensures screen { screen_of self.new ≡ all_acted (screen_of self.old) (each (meaning setting) values.now) }

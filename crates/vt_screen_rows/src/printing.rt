@@ -1,8 +1,9 @@
 //! Print.
 
-ghost use Rattle.std.specs.Prelude.{◌≡◌, ◌<◌, ◌+◌, ◌&&◌, Some};
+ghost use Rattle.std.specs.Prelude.{◌≡◌, ◌<◌, ◌+◌, ◌&&◌, Some, IsTrue};
 ghost use Rattle.cells.specs.Glyph.{glyph_columns};
-ghost use Rattle.terminal_model.specs.Table.{acted, drawn_as, lacks_room, marked_at, placed_narrow, placed_wide, printed, printed_as, wide_or_none, widely, wrapped};
+ghost use Rattle.charsets.specs.declared.unit.Unit.TheVariants.{Code};
+ghost use Rattle.terminal_model.specs.Table.{acted, columns_of, drawn, drawn_as, lacks_room, marked_at, placed_narrow, placed_wide, printed, printed_as, wide_or_none, widely, wrapped};
 ghost use Rattle.terminal_model.specs.declared.action.Action.TheVariants.{Print};
 ghost use Rattle.vt_screen_rows.specs.Displays.{IsFit, screen_of};
 ghost use Rattle.vt_screen_rows.specs.Places.{acted_places, printed_places, wrapped_places};
@@ -16,6 +17,9 @@ use vt_screen_state::{advance, following, lacks_room, needs_line, separate};
 
 /// What is drawn of a character of width 3.
 const REPLACEMENT: char = '\u{FFFD}';
+
+/// A character of width 0.
+const SOFT_HYPHEN: char = '\u{AD}';
 
 impl Display {
     /// Prints a graphic unit, through the sets; a single shift is spent.
@@ -31,6 +35,38 @@ impl Display {
         }
     }
 
+    /// Prints a character, as `print` of it.
+    #[inline(always)]
+    pub fn print_code(&mut self, character: char)
+        requires { IsFit self.old }
+        ensures screen { screen_of self.new ≡ acted (screen_of self.old) (Print (Code character)) }
+        ensures fit { IsFit self.new }
+        ensures width { self.new.ring.columns ≡ self.old.ring.columns }
+        ensures places { self.new.page.places ≡ acted_places self.old.state (Print (Code character)) self.old.page.places }
+    {
+        if character < '\u{A0}' {
+            self.print(Unit::Code(character));
+        } else {
+            self.state.shifts.single = None;
+            self.print_beyond(character);
+        }
+    }
+
+    /// Prints a character that is in no set: one of width 1, mostly, whose width needn't be looked up.
+    #[inline(always)]
+    fn print_beyond(&mut self, character: char)
+        requires { IsFit self.old }
+        ensures screen { screen_of self.new ≡ printed (Some character) (screen_of self.old) }
+        ensures width { self.new.ring.columns ≡ self.old.ring.columns }
+        ensures places { self.new.page.places ≡ printed_places (Some character) self.old.state self.old.page.places }
+    {
+        if is_letter(character) {
+            self.print_narrow(character);
+        } else {
+            self.print_character(character);
+        }
+    }
+
     /// Prints a character by its width.
     #[tactic(auto, unfolding(terminal_model::specs::Table::columns_of, terminal_model::specs::Table::drawn))]
     fn print_character(&mut self, character: char)
@@ -41,6 +77,18 @@ impl Display {
     {
         let width = character.width();
         self.print_as(columns_in(width), drawn_as(width, character));
+    }
+
+    /// Prints a character in one column.
+    #[inline(always)]
+    fn print_narrow(&mut self, character: char)
+        requires { IsFit self.old }
+        ensures screen { screen_of self.new ≡ printed_as 1 character (screen_of self.old) }
+        ensures width { self.new.ring.columns ≡ self.old.ring.columns }
+        ensures places { self.new.page.places ≡ wrapped_places (is_wrapped 1 self.old.state) self.old.state self.old.page.places }
+    {
+        self.wrap(self.state.is_wrap_pending);
+        self.place_narrow(character);
     }
 
     /// Prints a character in so many columns: none for a mark.
@@ -132,6 +180,15 @@ impl Display {
             .put_wide(self.state.line, self.state.column, left, right, rest);
         advance(&mut self.state, 2);
     }
+}
+
+/// Whether a character is one of U+00A0 to U+02FF, which take one column each, but for the soft hyphen.
+#[inline(always)]
+fn is_letter(character: char) -> bool
+    ensures columns { IsTrue result → columns_of character ≡ 1 }
+    ensures drawn { IsTrue result → drawn character ≡ character }
+{
+    '\u{A0}' <= character && character < '\u{300}' && character != SOFT_HYPHEN
 }
 
 /// The columns that a character of a width takes.

@@ -69,30 +69,18 @@ pub fn set_mode(state: &mut State, mode: Mode, is_set: bool)
     settle(state);
 }
 
-/// The rendition after one value of SGR.
-fn rendition_after(rendition: Rendition, attribute: Attribute) -> Rendition
-    ensures { result ≡ rendition_with rendition attribute }
+/// One value of SGR changes the rendition.
+fn change_rendition(rendition: &mut Rendition, attribute: Attribute)
+    ensures { rendition.new ≡ rendition_with rendition.old attribute }
 {
     match attribute {
-        Attribute::Plain => Rendition::PLAIN,
-        Attribute::Bold(is_bold) => Rendition {
-            is_bold,
-            ..rendition
-        },
-        Attribute::Underlined(is_underlined) => Rendition {
-            is_underlined,
-            ..rendition
-        },
-        Attribute::Blinking(is_blinking) => Rendition {
-            is_blinking,
-            ..rendition
-        },
-        Attribute::Reversed(is_reversed) => Rendition {
-            is_reversed,
-            ..rendition
-        },
-        Attribute::Foreground(fore) => Rendition { fore, ..rendition },
-        Attribute::Background(back) => Rendition { back, ..rendition },
+        Attribute::Plain => *rendition = Rendition::PLAIN,
+        Attribute::Bold(is_bold) => rendition.is_bold = is_bold,
+        Attribute::Underlined(is_underlined) => rendition.is_underlined = is_underlined,
+        Attribute::Blinking(is_blinking) => rendition.is_blinking = is_blinking,
+        Attribute::Reversed(is_reversed) => rendition.is_reversed = is_reversed,
+        Attribute::Foreground(fore) => rendition.fore = fore,
+        Attribute::Background(back) => rendition.back = back,
     }
 }
 
@@ -100,7 +88,7 @@ fn rendition_after(rendition: Rendition, attribute: Attribute) -> Rendition
 pub fn render(state: &mut State, attribute: Attribute)
     ensures { state.new ≡ apart (record state.old { rendition = rendition_with state.old.rendition attribute }) }
 {
-    state.rendition = rendition_after(state.rendition, attribute);
+    change_rendition(&mut state.rendition, attribute);
     separate(state);
 }
 

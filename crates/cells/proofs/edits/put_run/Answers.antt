@@ -1,4 +1,4 @@
-use Rattle.std.proofs.Common.{◌≡◌, ◌+◌, ◌<◌, List, length, slice_set, sym, ap, ◌∙◌, subst, arith}
+use Rattle.std.proofs.Common.{◌≡◌, ◌+◌, ◌<◌, List, length, slice_index_or, slice_set, sym, ap, ◌∙◌, subst, arith}
 use Rattle.std.proofs.lemmas.Bool.Decides.{nat_tests}
 use Rattle.cells.specs.declared.cell.Cell.{Cell}
 use Rattle.cells.specs.Line.{IsPaired, cells_from, cut_of, spliced, narrow_cells}
@@ -24,7 +24,8 @@ loop-column-preserved c =
     let fresh : List Cell = narrow_cells c.args.codes.now c.args.rendition c.args.is_protected in
     let two : List Cell = cut_of (c.args.at + length c.args.codes.now) (cut_of c.args.at c.args.cells.now) in
     subst (λ (x : Cell). IsPutSoFar c.args.at fresh two (c.loop-column.column + 1) (slice_set c.loop-column.cells (c.args.at + c.loop-column.column) x))
-    (narrow_at c.args.codes.now c.args.rendition c.args.is_protected c.loop-column.column c.loop-column-test.true ∙ sym c.narrow.ensures)
+    (narrow_at c.args.codes.now c.args.rendition c.args.is_protected c.loop-column.column c.loop-column-test.true
+    ∙ sym (ap (λ (x : Cell). record x { character = slice_index_or c.args.codes.now c.loop-column.column 0 }) c.space_cell-space.ensures))
     (put_next c.args.at fresh two c.loop-column.column c.loop-column.cells c.loop-column.invariant (omega (arith, c.requires.room)))
 
 pub returns : goal.returns

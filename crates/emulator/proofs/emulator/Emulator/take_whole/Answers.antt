@@ -1,7 +1,5 @@
 use Rattle.std.proofs.Common.{rules, ◌≡◌, ◌∷◌, [], true, List, ℕ, map, take, get_or, refl, sym, ap, ◌∙◌, subst, arith}
-use Rattle.std.specs.List.{list_all}
 use Rattle.std.proofs.lemmas.Bool.Decides.{nat_tests}
-use Rattle.charsets.specs.Units.{is_plain}
 use Rattle.charsets.specs.declared.unit.Coding.TheVariants.{Utf8}
 use Rattle.control_parser.specs.declared.func.Func.TheVariants.{Print, Control}
 use Rattle.control_parser.specs.Grammar.{is_control}
@@ -12,18 +10,15 @@ use Rattle.terminal_model.specs.Reports.{report}
 use Rattle.terminal_model.proofs.Codings.{effect-coding}
 use Rattle.vt_screen.specs.Effects.{effects}
 use Rattle.emulator.specs.Standing.{Parts}
-use Rattle.emulator.proofs.RunLemmas.{prefix-plain, run-has-read}
+use Rattle.emulator.proofs.RunLemmas.{run-has-read}
 use Rattle.emulator.proofs.Wholes.{quiet-has-read, front-one, nothing-taken}
 use Rattle.emulator.proofs.emulator.Emulator.take_whole.Goals as goal
 
-pub print_run-requires : goal.print_run-requires
-print_run-requires c = subst (λ (n : ℕ). list_all is_plain (take n c.args.bytes.now) ≡ true) (sym c.plain_run-run.ensures) (prefix-plain is_plain c.args.bytes.now)
-
 pub returns-then-first-lt127-clause-taken : goal.returns-then-first-lt127-clause-taken
 returns-then-first-lt127-clause-taken c = λ said t h.
-    run-has-read c.args.self.now _ t (take c.plain_run-run.result c.args.bytes.now) said h c.requires.idle.whole c.requires.idle.idle
-    (subst (λ (n : ℕ). list_all is_plain (take n c.args.bytes.now) ≡ true) (sym c.plain_run-run.ensures) (prefix-plain is_plain c.args.bytes.now))
-    (c.print_run.ensures.effect ∙ ap (λ (e : Parts). effects e.screen (map (λ b. Print b) (take c.plain_run-run.result c.args.bytes.now))) c.self.view_is)
+    run-has-read c.args.self.now _ t (take c.plain_front-run.result c.args.bytes.now) said h c.requires.idle.whole c.requires.idle.idle
+    c.plain_front-run.ensures.plain
+    (c.print_run.ensures.effect ∙ ap (λ (e : Parts). effects e.screen (map (λ b. Print b) (take c.plain_front-run.result c.args.bytes.now))) c.self.view_is)
     (ap (λ (e : Parts). e.decoding) c.self.view_is) (ap (λ (e : Parts). e.parsing) c.self.view_is)
 
 pub returns-then-ne-clause-taken : goal.returns-then-ne-clause-taken

@@ -1,8 +1,6 @@
-use Rattle.std.proofs.Common.{refl, ap, ◌∙◌, List}
+use Rattle.std.proofs.Common.{refl, ap, ◌∙◌}
 use Rattle.control_parser.specs.declared.func.Func.TheVariants.{Csi}
-use Rattle.terminal_model.specs.declared.action.Action.{Action}
 use Rattle.terminal_model.specs.Screen.{Screen}
-use Rattle.terminal_model.specs.Table.{all_acted}
 use Rattle.terminal_model.proofs.Codings.{effect-coding}
 use Rattle.vt_screen_rows.specs.Displays.{screen_of}
 use Rattle.vt_screen.specs.Stored.{Stored}
@@ -12,7 +10,6 @@ pub returns-clause-coding : goal.returns-clause-coding
 returns-clause-coding c = λ done.
     let x : Screen = screen_of c.self.inside.display in
     let p = c.parts-mark.result in
-    ap (λ (y : Screen). y.state.coding) (c.perform_unanswered.ensures.screen done)
-    ∙ ap (λ (actions : List Action). (all_acted x actions).state.coding) c.sequence_acts.ensures.value
+    ap (λ (y : Screen). y.state.coding) (c.perform_sequence.ensures.screen done)
     ∙ effect-coding x (Csi p.0 p.1.now p.2.now p.3) refl
     ∙ ap (λ (y : Stored). y.screen.state.coding) c.self.view_is

@@ -1,0 +1,11 @@
+use Rattle.std.proofs.Common.{ℕ, refl, sym, ap, ◌∙◌}
+use Rattle.terminal_model.specs.Screen.{Screen}
+use Rattle.terminal_model.specs.Table.{drawn, printed_as}
+use Rattle.vt_screen_rows.specs.Displays.{screen_of}
+use Rattle.vt_screen_rows.proofs.display.Display.print_beyond.Goals as goal
+
+pub returns-then-is_letter-clause-screen : goal.returns-then-is_letter-clause-screen
+returns-then-is_letter-clause-screen c =
+    let x : Screen = screen_of c.args.self.now in
+    c.print_narrow.ensures.screen
+    ∙ sym (ap (λ (n : ℕ). printed_as n (drawn c.args.character) x) (c.if-is_letter.ensures.columns refl) ∙ ap (λ (d : ℕ). printed_as 1 d x) (c.if-is_letter.ensures.drawn refl))
