@@ -1,0 +1,328 @@
+-- What a step files is legal, and what writes no entry does no act.
+use Rattle.std.proofs.Common.{◌≡◌, ◌∙◌, ℕ, Bool, true, false, List, [], ◌∷◌, ◌++◌, Option, Some, None, Result, Ok, Err, refl, ap, subst, sym, inl, inr, ◌⊎◌, ⊎_elim, take}
+use Rattle.std.specs.Prelude.{◌==◌, if◌then◌else◌}
+use Rattle.std.specs.List.{AllByRecursion}
+use Rattle.std.proofs.lemmas.Bool.{and_from, or_left, eq-eqb, both_ways}
+use Rattle.acl.specs.declared.user_id.UserId.{UserId}
+use Rattle.acl.specs.declared.act.Object.TheVariants as object
+use Rattle.acl.specs.declared.bits.Bit.TheVariants.{Write, Execute}
+use Rattle.acl.proofs.StandsForLemmas.{same_user-refl}
+use Rattle.writelock.specs.LockTable.{stops_nobody_but}
+use Rattle.command_lang.specs.command.Command.{Command as Order}
+use Rattle.command_lang.specs.fault.ParseFault.{ParseFault}
+use Rattle.command_lang.specs.Names.{name_of}
+use Rattle.command_lang.specs.Relation.{read_line}
+use Rattle.command_lang.proofs.OneReading.{relates-reads}
+use Rattle.keys.specs.Grammar.{Item, typed, bound, line}
+use Rattle.session_model.specs.declared.check.Check.{Check}
+use Rattle.session_model.specs.declared.check.Check.TheVariants.{Must as must}
+use Rattle.session_model.specs.declared.event.Done.{Done}
+use Rattle.session_model.specs.declared.event.Reason.TheVariants as reason
+use Rattle.session_model.specs.declared.message.Message.{Message}
+use Rattle.session_model.specs.declared.message.Message.TheVariants as message
+use Rattle.session_model.specs.declared.refusal.Refusal.{Refusal}
+use Rattle.session_model.specs.declared.refusal.Refusal.TheVariants.{UnknownUser, NoWindow, BadSize, Line}
+use Rattle.session_model.specs.declared.verdict.Verdict.{Verdict}
+use Rattle.session_model.specs.declared.verdict.Verdict.TheVariants as verdict
+use Rattle.session_model.specs.Trace.{Happening, Attach, Detach, Keys, Command, Resize, Open, Output, Closed, Draw}
+use Rattle.session_model.specs.Sound.{ActsAgree}
+use Rattle.session_model.specs.Tables.{Window, Client, Tables, window_at, client_at, with_client, focused_window, is_known}
+use Rattle.session_model.specs.Rights.{may_in, holder_in}
+use Rattle.session_model.specs.Texts.{text_of}
+use Rattle.session_model.specs.Lines.{Caller, caller_of, line_caller}
+use Rattle.session_model.specs.Checks.{verdicts, first_fault, checks, typing_checks}
+use Rattle.session_model.specs.Deeds.{Deed, Answer, changing, parts, closes}
+use Rattle.session_model.specs.Commands.{does}
+use Rattle.session_model.specs.Keying.{items_behind, typed_bytes, command_item, taken}
+use Rattle.session_model.specs.Events.{Outcome, outcome, attaches, opens, outputs, finished, refused, where_passed, left_acts, attach_checks, open_checks, new_client, new_window, reply_of, line_ruling, answered, commanded, told, typing_verdicts, message_of, keyed, is_client_size, by_line, ordered, Ordered, reading, types, keys_outcome, done, resized}
+use Rattle.session_model.specs.Promises.{OnlyRead}
+use Rattle.session_laws.proofs.Doing.{Either}
+use Rattle.session_laws.proofs.Granting.{told_read}
+use Rattle.session_laws.proofs.Lists.{all_append, all_weaken}
+use Rattle.session_laws.proofs.Quiet.{Of}
+use Rattle.session_laws.proofs.Unread.{SameClients, typing_clients, nobody_left}
+use Rattle.session_laws.proofs.Outcomes as outcomes
+use Rattle.hub_trail.specs.declared.kept.Kept.{Kept}
+use Rattle.hub_trail.specs.declared.kept.Kept.TheVariants as kept
+use Rattle.hub_trail.specs.Trails.{Entry}
+use Rattle.hub_trail.specs.Legal.{IsLegalEntry, AreOfUser, AsksForCommand, AsksFirst, HasItsActs, is_let, is_granted, from_command, failed, first_names, is_client_of, user_of}
+use Rattle.hub_trail.specs.Filing.{kept_of, ending_of}
+use Rattle.hub_trail.proofs.Verdicts.{AreTrue, true_verdicts, AreOf, own_verdicts, all_pass, Tells, IsPlain, IsCheckOf, tells, plain_refusal, plain_tells, denial_carries, refusal_denies, none_denied, plain_checks, own_checks, own_typing}
+use Rattle.hub_trail.proofs.Sights.{stays_alike, left_none, with_stays, sight_resized, parted_found, closed_found, attached}
+use Rattle.hub_trail.proofs.Names.{HasFirst, HasEach, has_first, each_then}
+use Rattle.hub_trail.proofs.Rules.{rules, Still, stills, listed_rules, read_rules}
+
+abbrev pub entry : Kept → Outcome → Entry
+entry k o = record { event = k; verdicts = o.verdicts; acts = o.acts; reply = ending_of o.reply }
+
+abbrev pub Legal : Tables → Kept → Outcome → Type 0
+Legal t k o = IsLegalEntry t.edition t.owner t.acts (entry k o)
+
+-- ---- refused, and done
+
+refused_legal : (t : Tables) (k : Kept) (cs : List Check) (r : Refusal) → AreOfUser t.acts k (verdicts t cs) → AsksForCommand t.owner t.acts k (verdicts t cs)
+    → Tells (Some r) (failed (verdicts t cs)) → Legal t k (refused t (verdicts t cs) r)
+refused_legal t k cs r user first told = record {
+  verdicts = true_verdicts t cs;
+  user = user;
+  first = first;
+  acts = inl refl;
+  denial = denial_carries r (failed (verdicts t cs)) told;
+  denied = refusal_denies k r (failed (verdicts t cs)) told;
+  done = tt;
+}
+
+finished_legal : (t : Tables) (k : Kept) (cs : List Check) (y : Done) (d : Deed) → AreOfUser t.acts k (verdicts t cs) → AsksForCommand t.owner t.acts k (verdicts t cs)
+    → is_let k (verdicts t cs) ≡ true → Tells None (failed (verdicts t cs))
+    → HasItsActs t.owner t.acts k (ending_of (Ok y)) (finished t (verdicts t cs) (Ok y) d).acts
+    → Legal t k (finished t (verdicts t cs) (Ok y) d)
+finished_legal t k cs y d user first passing told has = record {
+  verdicts = true_verdicts t cs;
+  user = user;
+  first = first;
+  acts = inr passing;
+  denial = tt;
+  denied = none_denied k (failed (verdicts t cs)) (ending_of (Ok y)) told;
+  done = has;
+}
+
+-- what is done where its checks pass, and is no command
+passed_legal : (t : Tables) (k : Kept) (cs : List Check) (y : Done) (d : Deed) → AllByRecursion IsPlain cs
+    → AreOfUser t.acts k (verdicts t cs) → AsksForCommand t.owner t.acts k (verdicts t cs) → (first_fault t cs ≡ None → is_let k (verdicts t cs) ≡ true)
+    → HasItsActs t.owner t.acts k (ending_of (Ok y)) (finished t (verdicts t cs) (Ok y) d).acts
+    → Legal t k (where_passed t cs (Ok y) d)
+passed_legal t k cs y d plain user first passing has =
+    outcomes.passed (Legal t k) t (verdicts t cs) (first_fault t cs) (Ok y) d
+    (λ r is. refused_legal t k cs r user first (subst (λ f. Tells f (failed (verdicts t cs))) is (tells t cs plain)))
+    (λ is. finished_legal t k cs y d user first (passing is) (subst (λ f. Tells f (failed (verdicts t cs))) is (tells t cs plain)) has)
+
+-- ---- a line that says a command
+
+order_in : Order → Result Order ParseFault → Order
+order_in c (Ok d) = d
+order_in c (Err f) = c
+
+one_order : (c d : Order) (r : Result Order ParseFault) → r ≡ Ok c → r ≡ Ok d → c ≡ d
+unfolding order_in
+one_order c d r a b = ap (order_in c) (sym a ∙ b)
+
+fault_or_order : {P : Type 0} (f : ParseFault) (c : Order) (r : Result Order ParseFault) → r ≡ Err f → r ≡ Ok c → P
+fault_or_order f c r a b = let e : Err f ≡ Ok c = sym a ∙ b in absurd (cc (e))
+
+granted_first : (t : Tables) (k : Caller) (c : Order) → first_fault t (checks t k c) ≡ None → is_granted (verdicts t (checks t k c)) ≡ true
+granted_first t k c none = all_pass t (checks t k c) none
+
+asks_own : (t : Tables) (k : Caller) (c d : Order) → c ≡ d → AsksFirst k.user (name_of d) (verdicts t (checks t k c))
+asks_own t k c d e = subst (λ (d : Order). AsksFirst k.user (name_of d) (verdicts t (checks t k c))) e (may_in t k.user Execute (object.Command (name_of c)), refl)
+
+module _ (t : Tables) (user : UserId) (number : Option ℕ) (bytes : List ℕ) where
+  abbrev k : Caller
+  k = line_caller t user number
+
+  abbrev event : Kept
+  event = kept.Command user number bytes
+
+  -- the command that the line says
+  module _ (c : Order) (read : read_line bytes ≡ Ok c) where
+    first : AsksForCommand t.owner t.acts event (verdicts t (checks t k c))
+    first known d said = asks_own t k c d (one_order c d (read_line bytes) read (relates-reads bytes d said))
+
+    named : (d : Deed) → HasFirst t c d → HasItsActs t.owner t.acts event (ending_of (reply_of 0 0 0 d.lists)) (d.acts ++ left_acts t.clients d.tables.clients)
+    named d has o said =
+        subst (λ (o : Order). HasEach (d.acts ++ left_acts t.clients d.tables.clients) (first_names t.owner t.acts o)) (one_order c o (read_line bytes) read (relates-reads bytes o said))
+        (each_then d.acts (left_acts t.clients d.tables.clients) (first_names t.owner t.acts c) has)
+
+    does_legal : (a : Answer) → first_fault t (checks t k c) ≡ None → Tells None (failed (verdicts t (checks t k c))) → Either (Still t) a → Of (HasFirst t c) a
+        → Legal t event (answered t (verdicts t (checks t k c)) a)
+    does_legal (Err r) none told plain has = refused_legal t event (checks t k c) r tt first (plain_tells r (failed (verdicts t (checks t k c))) (plain_refusal r plain) told)
+    does_legal (Ok d) none told still has =
+        finished_legal t event (checks t k c) (record { taken = 0; made = 0; number = 0; text = d.lists }) d tt first (granted_first t k c none) told (named d has)
+
+    ruled_legal : (f : Option Refusal) → first_fault t (checks t k c) ≡ f → Tells f (failed (verdicts t (checks t k c)))
+        → Legal t event (answered t (verdicts t (checks t k c)) (elim f as (λ _. Answer) [ Some r ↦ Err r | None ↦ does t k c ]))
+    ruled_legal (Some r) is told = refused_legal t event (checks t k c) r tt first told
+    ruled_legal None is told = does_legal (does t k c) is told (stills t k c) (has_first t k c)
+
+  line_legal : (r : Result Order ParseFault) → read_line bytes ≡ r → Legal t event (commanded t (line_ruling t k r))
+  line_legal (Ok c) read = ruled_legal c read (first_fault t (checks t k c)) refl (tells t (checks t k c) (plain_checks t k c))
+  line_legal (Err f) read =
+      refused_legal t event [] (Line f) tt (λ known d said. fault_or_order f d (read_line bytes) read (relates-reads bytes d said)) refl
+
+  known_legal : (b : Bool) → is_known t user ≡ b → Legal t event (if b then commanded t (line_ruling t k (read_line bytes)) else refused t [] UnknownUser)
+  known_legal true is = line_legal (read_line bytes) refl
+  known_legal false is = refused_legal t event [] UnknownUser tt (λ known d said. absurd (both_ways (is_known t user) is known)) refl
+
+  command_legal : Legal t event (outcome t (Command user number bytes))
+  command_legal = known_legal (is_known t user) refl
+
+-- ---- Attach, Open, Detach, Closed
+
+attach_legal : (t : Tables) (user : UserId) (rows columns : ℕ) → Legal t (kept.Attach user rows columns) (outcome t (Attach user rows columns))
+attach_legal t user rows columns =
+    let cs : List Check = attach_checks t user rows columns in
+    passed_legal t (kept.Attach user rows columns) cs (record { taken = 0; made = t.next_client; number = 0; text = None }) (attaches t (new_client t user rows columns)) (refl, (refl, (refl, (refl, tt)))) tt tt
+    (λ none. all_pass t cs none) (or_left _ _ (and_from _ _ (eq-eqb t.next_client t.next_client refl) (same_user-refl user)))
+
+open_legal : (t : Tables) (user : UserId) (rows columns keep : ℕ) (title : List ℕ) → Legal t (kept.Open user rows columns keep title) (outcome t (Open user rows columns keep title))
+open_legal t user rows columns keep title =
+    let cs : List Check = open_checks t user rows columns keep title in
+    let w : Window = new_window t rows columns keep title in
+    passed_legal t (kept.Open user rows columns keep title) cs (record { taken = 0; made = w.serial; number = w.number; text = None }) (opens t user w) (refl, (tt, (refl, (refl, (refl, (refl, tt)))))) tt tt
+    (λ none. all_pass t cs none) (or_left _ _ (and_from _ _ (eq-eqb t.next_window t.next_window refl) (same_user-refl user)))
+
+abbrev nothing : Done
+nothing = record { taken = 0; made = 0; number = 0; text = None }
+
+detach_legal : (t : Tables) (client : ℕ) → Legal t (kept.Detach client) (outcome t (Detach client))
+detach_legal t client =
+    let d : Deed = parts (λ (d : Client). d.serial == client) reason.Detached t in
+    outcomes.found (Legal t (kept.Detach client)) t (λ (c : Client). finished t [] done d) (client_at t client) (refused_legal t (kept.Detach client) [] NoWindow tt tt refl)
+    (λ c is. finished_legal t (kept.Detach client) [] nothing d tt tt refl tt (parted_found t.clients client c (left_acts t.clients d.tables.clients) is))
+
+closed_legal : (t : Tables) (window : ℕ) → Legal t (kept.Closed window) (outcome t (Closed window))
+closed_legal t window =
+    let d : Deed = closes (λ (v : Window). v.serial == window) reason.Detached t in
+    outcomes.found (Legal t (kept.Closed window)) t (λ (w : Window). finished t [] done d) (window_at t window) (refused_legal t (kept.Closed window) [] NoWindow tt tt refl)
+    (λ w is. finished_legal t (kept.Closed window) [] nothing d tt tt refl tt (closed_found t.windows window w (left_acts t.clients d.tables.clients) is))
+
+-- ---- Keys
+
+-- what comes of a command among keys of a client of this user
+pub record IsOrdered (t : Tables) (user : UserId) (o : Ordered) : Type 0 where
+  pub truth : AreTrue t o.verdicts
+  pub own : AreOf user o.verdicts
+  pub stand : (o.deed.acts ++ left_acts t.clients o.deed.tables.clients ≡ []) ⊎ (is_granted (from_command o.verdicts) ≡ true)
+  pub still : rules o.deed.tables ≡ rules t
+
+module _ (t : Tables) (cs : List Client) (same : SameClients t cs) (d : Client) where
+  abbrev v : Tables
+  v = record t { clients = cs }
+
+  only : OnlyRead t v
+  only = record { owner = refl; edition = refl; next_window = refl; next_client = refl; acts = refl; multiuser = refl; windows = refl; clients = same }
+
+  abbrev Is : Ordered → Type 0
+  Is o = IsOrdered t d.user o
+
+  -- a refusal is told
+  why_said : (r : Refusal) (m : List ℕ → Message) (asked : List Check) → AllByRecursion (IsCheckOf d.user) asked → Is (record { verdicts = verdicts v asked; deed = keyed v d.serial m (Err r) })
+  why_said r m asked own =
+      let all : OnlyRead t (told v d.serial (message.Text (text_of r))) = told_read t v d.serial (message.Text (text_of r)) only in
+      record {
+        truth = true_verdicts v asked;
+        own = own_verdicts v d.user asked own;
+        stand = inl (nobody_left t.clients (told v d.serial (message.Text (text_of r))).clients all.clients);
+        still = read_rules t (told v d.serial (message.Text (text_of r))) all;
+      }
+
+  by_order : (c : Order) → Is (by_line v d (Ok c))
+  by_order c = on (first_fault v (checks v (caller_of v d) c)) refl where
+    answer : (a : Answer) → first_fault v (checks v (caller_of v d) c) ≡ None → Either (Still v) a
+        → Is (record { verdicts = verdicts v (checks v (caller_of v d) c); deed = keyed v d.serial (message_of c) a })
+    answer (Err r) none plain = why_said r (message_of c) (checks v (caller_of v d) c) (own_checks v (caller_of v d) c)
+    answer (Ok e) none still = record {
+      truth = true_verdicts v (checks v (caller_of v d) c);
+      own = own_verdicts v d.user (checks v (caller_of v d) c) (own_checks v (caller_of v d) c);
+      stand = inr (granted_first v (caller_of v d) c none);
+      still = listed_rules d.serial (message_of c) e.lists e ∙ still;
+    }
+
+    on : (f : Option Refusal) → first_fault v (checks v (caller_of v d) c) ≡ f
+        → Is (record { verdicts = verdicts v (checks v (caller_of v d) c); deed = keyed v d.serial (message_of c) (elim f as (λ _. Answer) [ Some r ↦ Err r | None ↦ does v (caller_of v d) c ]) })
+    on (Some r) is = why_said r (message_of c) (checks v (caller_of v d) c) (own_checks v (caller_of v d) c)
+    on None is = answer (does v (caller_of v d) c) is (stills v (caller_of v d) c)
+
+  by_read : (r : Result Order ParseFault) → Is (by_line v d r)
+  by_read (Ok c) = by_order c
+  by_read (Err f) = why_said (Line f) message.Text [] tt
+
+  none_ordered : Is (record { verdicts = []; deed = changing v })
+  none_ordered = record { truth = tt; own = tt; stand = inl (nobody_left t.clients cs same); still = refl }
+
+  is_ordered : (item : Option Item) → Is (ordered v d item)
+  is_ordered (Some (bound c)) = by_order c
+  is_ordered (Some (line (b ∷ bytes))) = by_read (read_line (b ∷ bytes))
+  is_ordered (Some (line [])) = none_ordered
+  is_ordered (Some (typed b)) = none_ordered
+  is_ordered None = none_ordered
+
+-- the tables once a step's bytes were typed
+abbrev pub typed_into : Tables → Client → List ℕ → Tables
+typed_into t c bytes = let d : Client = reading bytes c in (types (with_client t d) d (typed_bytes (items_behind c.keys bytes))).tables
+
+abbrev pub order_of : Tables → Client → List ℕ → Ordered
+order_of t c bytes = ordered (typed_into t c bytes) (reading bytes c) (command_item (items_behind c.keys bytes))
+
+pub keys_ordered : (t : Tables) (s : ℕ) (c : Client) (bytes : List ℕ) → client_at t s ≡ Some c → IsOrdered t c.user (order_of t c bytes)
+keys_ordered t s c bytes found =
+    let d : Client = reading bytes c in
+    let item : Option Item = command_item (items_behind c.keys bytes) in
+    typing_clients (λ v. IsOrdered t c.user (ordered v d item)) t s c d (typed_bytes (items_behind c.keys bytes)) found refl refl
+    (λ cs same. is_ordered t cs same d item)
+
+-- the verdicts of typed bytes
+true_typing : (t : Tables) (c : Client) (bytes : List ℕ) → AreTrue t (typing_verdicts t c bytes)
+true_typing t c [] = tt
+true_typing t c (b ∷ bytes) = true_verdicts t (typing_checks c.user (focused_window t c))
+
+typing_own : (t : Tables) (c : Client) (bytes : List ℕ) → AreOf c.user (typing_verdicts t c bytes)
+typing_own t c [] = tt
+typing_own t c (b ∷ bytes) = own_verdicts t c.user (typing_checks c.user (focused_window t c)) (own_typing c.user (focused_window t c))
+
+-- they don't ask for x on a command
+asks_none : (t : Tables) (c : Client) (bytes : List ℕ) (vs : List Verdict) → from_command (typing_verdicts t c bytes ++ vs) ≡ from_command vs
+asks_none t c [] vs = refl
+asks_none t c (b ∷ bytes) vs = on (focused_window t c) where
+  locked : (b : Bool) → from_command ((if b then [] else []) ++ vs) ≡ from_command vs
+  locked true = refl
+  locked false = refl
+
+  written : (w : ℕ) (m s : Bool) → from_command ((if m then verdict.Lock c.user w (holder_in t w) ∷ (if s then [] else []) else []) ++ vs) ≡ from_command vs
+  written w true s = locked s
+  written w false s = refl
+
+  on : (o : Option Window) → from_command (verdicts t (typing_checks c.user o) ++ vs) ≡ from_command vs
+  on None = refl
+  on (Some w) = written w.serial (may_in t c.user Write (object.Window w.serial)) (stops_nobody_but c.user (holder_in t w.serial))
+
+keys_legal : (t : Tables) (s : ℕ) (c : Client) (bytes : List ℕ) → ActsAgree t → client_at t s ≡ Some c → Legal t (kept.Keys s) (keys_outcome t c bytes)
+keys_legal t s c bytes agree found =
+    let typing : List Verdict = typing_verdicts t c (typed_bytes (items_behind c.keys bytes)) in
+    let o : Ordered = order_of t c bytes in
+    let is : IsOrdered t c.user o = keys_ordered t s c bytes found in
+    let Own : Verdict → Type 0 = λ v. is_client_of t.acts s (user_of v) ≡ true in
+    record {
+      verdicts = all_append _ typing o.verdicts (true_typing t c (typed_bytes (items_behind c.keys bytes))) is.truth;
+      user = all_weaken (λ v. user_of v ≡ c.user) Own (typing ++ o.verdicts) (λ v same. ap (is_client_of t.acts s) same ∙ attached t s c agree found)
+          (all_append (λ v. user_of v ≡ c.user) typing o.verdicts (typing_own t c (typed_bytes (items_behind c.keys bytes))) is.own);
+      first = tt;
+      acts = ⊎_elim (λ (none : o.deed.acts ++ left_acts t.clients o.deed.tables.clients ≡ []). inl none)
+          (λ (granted : is_granted (from_command o.verdicts) ≡ true). inr (ap is_granted (asks_none t c (typed_bytes (items_behind c.keys bytes)) o.verdicts) ∙ granted)) is.stand;
+      denial = tt;
+      denied = tt;
+      done = tt;
+    }
+
+-- ---- all events
+
+-- a step that writes no entry has no acts
+abbrev pub IsLegalStep : Tables → Option Kept → Outcome → Type 0
+IsLegalStep t None o = o.acts ≡ []
+IsLegalStep t (Some k) o = Legal t k o
+
+pub legal_step : (t : Tables) (event : Happening) → ActsAgree t → IsLegalStep t (kept_of event) (outcome t event)
+legal_step t (Attach user rows columns) agree = attach_legal t user rows columns
+legal_step t (Detach client) agree = detach_legal t client
+legal_step t (Keys client bytes) agree =
+    outcomes.found (Legal t (kept.Keys client)) t (λ c. keys_outcome t c (take (taken c.keys bytes) bytes)) (client_at t client) (refused_legal t (kept.Keys client) [] NoWindow tt tt refl)
+    (λ c is. keys_legal t client c (take (taken c.keys bytes) bytes) agree is)
+legal_step t (Command user number bytes) agree = command_legal t user number bytes
+legal_step t (Resize client rows columns) agree =
+    let cs : List Check = must (is_client_size rows columns) BadSize ∷ [] in
+    outcomes.found (λ o. o.acts ≡ []) t (λ c. where_passed t cs done (changing (with_client t (resized rows columns c)))) (client_at t client) refl
+    (λ c is. outcomes.passed (λ o. o.acts ≡ []) t (verdicts t cs) (first_fault t cs) done (changing (with_client t (resized rows columns c))) (λ r at. refl)
+    (λ at. left_none t.clients _ (stays_alike t.clients _ (with_stays t.clients client c (resized rows columns c) is refl (sight_resized rows columns c)))))
+legal_step t (Open user rows columns keep title) agree = open_legal t user rows columns keep title
+legal_step t (Output window bytes) agree = outcomes.found (λ o. o.acts ≡ []) t (λ w. finished t [] done (outputs t w bytes)) (window_at t window) refl (λ w is. nobody_left t.clients t.clients refl)
+legal_step t (Closed window) agree = closed_legal t window
+legal_step t (Draw client) agree = outcomes.found (λ o. o.acts ≡ []) t (λ c. finished t [] done (changing t)) (client_at t client) refl (λ c is. nobody_left t.clients t.clients refl)

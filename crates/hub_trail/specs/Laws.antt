@@ -1,0 +1,52 @@
+-- Every run has a legal trail; and what holds of legal trails.
+use Rattle.std.specs.Prelude.{◌≡◌, ◌↔◌, List, ◌++◌}
+use Rattle.acl.specs.declared.edition.Edition.{Edition}
+use Rattle.acl.specs.declared.user_id.UserId.{UserId}
+use Rattle.acl.specs.History.{History, followed_by}
+use Rattle.session_model.specs.declared.verdict.Verdict.{Verdict}
+use Rattle.session_model.specs.declared.verdict.Verdict.TheVariants.{Right as right, Lock as lock}
+use Rattle.session_model.specs.Sound.{ActsAgree}
+use Rattle.session_model.specs.Tables.{Tables}
+use Rattle.session_model.specs.Trace.{Trace}
+use Rattle.session_model.specs.Trace as trace
+use Rattle.session_model.specs.Run.{IsStep, IsRun, tables_of}
+use Rattle.hub_trail.specs.Trails.{Entry}
+use Rattle.hub_trail.specs.Legal.{IsTrue, AreLegal, IsLegal, acts_after, acts_of}
+use Rattle.hub_trail.specs.Filing.{filed, trail_of}
+
+-- what a step files is legal after the acts of its tables, and has all its acts
+abbrev pub EntriesAreLegal : Type 0
+EntriesAreLegal =
+    (t : Tables) (step : trace.Entry) → ActsAgree t → IsStep t step
+    → AreLegal t.edition t.owner t.acts (filed step)
+    × (acts_after t.acts (filed step) ≡ followed_by t.acts step.acts)
+
+-- the trail of every run is legal
+abbrev pub TrailsAreLegal : Type 0
+TrailsAreLegal = (h : Trace) → IsRun h → IsLegal (trail_of h)
+
+-- and its acts are those of the session's tables
+abbrev pub TrailsHaveTheActs : Type 0
+TrailsHaveTheActs = (h : Trace) → IsRun h → acts_of (trail_of h) ≡ (tables_of h).acts
+
+-- ---- legal trails
+
+-- the same was asked
+abbrev pub AskTheSame : Verdict → Verdict → Type 0
+AskTheSame (right u b o answer) (right v c p other) = (u ≡ v) × (b ≡ c) × (o ≡ p)
+AskTheSame (lock u w held) (lock v x other) = (u ≡ v) × (w ≡ x)
+AskTheSame v w = ⊥
+
+-- what was asked decides a verdict, so that no other in its place is legal
+abbrev pub VerdictsAreDecided : Type 0
+VerdictsAreDecided =
+    (edition : Edition) (owner : UserId) (h : History) (v w : Verdict) → AskTheSame v w
+    → IsTrue edition owner h v → IsTrue edition owner h w → v ≡ w
+
+-- entries are legal exactly where the first ones are, and those behind after the acts of the first
+abbrev pub LegalInParts : Type 0
+LegalInParts =
+    (edition : Edition) (owner : UserId) (h : History) (before behind : List Entry)
+    → AreLegal edition owner h (before ++ behind)
+    ↔ (AreLegal edition owner h before
+    × AreLegal edition owner (acts_after h before) behind)

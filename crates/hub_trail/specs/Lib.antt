@@ -1,0 +1,5 @@
+pub mod Trails
+pub mod Legal
+pub mod Filing
+pub mod Laws
+pub mod Peers

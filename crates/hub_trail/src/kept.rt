@@ -1,0 +1,115 @@
+//! What a trail keeps of an event, and of its reply.
+
+ghost use Rattle.std.specs.Prelude.{◌≡◌, IfOk, false, is_ok, true};
+ghost use Rattle.session_model.specs.Trace.{happening};
+ghost use Rattle.hub_trail.specs.Filing.{copies, ending_of, finished_by, kept_of};
+
+use acl::UserId;
+use session_model::{Bytes, Done, Event, Refusal, Reply};
+use std::alloc::{AllocError, Global};
+
+/// An event that a trail keeps: Keys without their bytes, a Command with its line.
+#[derive(Debug, Drop)]
+pub enum Kept {
+    Attach {
+        user: UserId,
+        rows: u16,
+        cols: u16,
+    },
+    Detach {
+        client: u32,
+    },
+    Keys {
+        client: u32,
+    },
+    Command {
+        user: UserId,
+        window: Option<u8>,
+        line: Bytes,
+    },
+    Open {
+        user: UserId,
+        rows: u16,
+        cols: u16,
+        keep: u16,
+        title: Bytes,
+    },
+    Closed {
+        window: u32,
+    },
+}
+
+/// What a step did that wasn't refused, without the text that it lists.
+#[derive(Clone, Copy, PartialEq, Eq, Debug)]
+pub struct Finished {
+    /// How many bytes of a Keys event were read; 0 for others.
+    pub taken: usize,
+    /// The serial of what was attached or opened, else 0.
+    pub made: u32,
+    /// The number of an opened window, else 0.
+    pub number: u8,
+}
+
+/// A reply without its text.
+pub type Ending = Result<Finished, Refusal>;
+
+impl Kept {
+    /// What a trail keeps of the event, if it writes an entry.
+    pub fn of(alloc: Global, event: Event<'_>) -> Result<Option<Kept>, AllocError>
+        ensures ok { IfOk result (λ kept. kept ≡ kept_of (happening event.entry)) }
+        // Only the line of a Command and the title of an Open take memory.
+        ensures plain { copies (happening event.entry) ≡ false → is_ok result ≡ true }
+    {
+        let kept = match event {
+            Event::Attach { user, rows, cols } => Kept::Attach { user, rows, cols },
+            Event::Detach { client } => Kept::Detach { client },
+            Event::Keys { client, .. } => Kept::Keys { client },
+            Event::Command { user, window, line } => {
+                let line = Bytes::of(alloc, line)?;
+                Kept::Command { user, window, line }
+            }
+            Event::Open {
+                user,
+                rows,
+                cols,
+                keep,
+                title,
+            } => {
+                let title = Bytes::of(alloc, title.as_bytes())?;
+                Kept::Open {
+                    user,
+                    rows,
+                    cols,
+                    keep,
+                    title,
+                }
+            }
+            Event::Closed { window } => Kept::Closed { window },
+            Event::Resize { .. } | Event::Output { .. } | Event::Draw { .. } => return Ok(None),
+        };
+        Ok(Some(kept))
+    }
+}
+
+impl Finished {
+    /// What was done, without the text.
+    pub fn of(done: &Done) -> Finished
+        ensures { result ≡ finished_by done.now }
+    {
+        Finished {
+            taken: done.taken,
+            made: done.made,
+            number: done.number,
+        }
+    }
+}
+
+/// The reply without its text.
+pub fn ending_of(reply: &Reply) -> Ending
+    ensures { result ≡ ending_of reply.now }
+{
+    match reply {
+        Ok(done) => Ok(Finished::of(done)),
+        Err(refusal) => Err(*refusal),
+    }
+}
