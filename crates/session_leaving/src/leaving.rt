@@ -1,6 +1,6 @@
 //! Users who leave windows.
 
-ghost use Rattle.std.specs.Prelude.{◌≡◌, ◌≤◌, ◌+◌, ◌++◌, length, vec_len, vec_capacity};
+ghost use Rattle.std.specs.Prelude.{◌≡◌, ◌≤◌, ◌+◌, ◌++◌, true, length, vec_len, vec_capacity};
 ghost use Rattle.std.specs.List.{list_any};
 ghost use Rattle.acl.specs.declared.edition.Edition.{Edition};
 ghost use Rattle.acl.specs.History.{History, followed_by};
@@ -40,12 +40,31 @@ fn is_in_focus(clients: &[Client], user: UserId, window: u32) -> bool
         && is_window(window, client.layout.focused().window))
 }
 
-/// The window that the user of this focus has left: no later focus of his is at it, and no client
-/// of his shows it now.
-fn left_window(focus: Focus, rest: &[Focus], clients: &[Client]) -> Option<u32>
+/// Whether the client at this place is the user's and shows the window in its focused region.
+fn shows_at(clients: &[Client], place: usize, user: UserId, window: u32) -> bool
+    ensures { result ≡ true → list_any (shows_now user window) clients.now ≡ true }
+{
+    match clients.get(place) {
+        Some(client) => client.user == user && is_window(window, client.layout.focused().window),
+        None => false,
+    }
+}
+
+/// The window that the user of the focus at this place has left: no later focus of his is at it,
+/// and no client of his shows it now. That is mostly the client of the same place, which is looked
+/// at first.
+fn left_window(
+    focus: Focus,
+    place: usize,
+    rest: &[Focus],
+    clients: &[Client],
+) -> Option<u32>
     ensures { result ≡ left_window focus.user focus.window rest.now clients.now }
 {
     let window = focus.window?;
+    if shows_at(clients, place, focus.user, window) {
+        return None;
+    }
     if is_among(rest, focus.user, window) || is_in_focus(clients, focus.user, window) {
         None
     } else {
@@ -64,7 +83,7 @@ fn note_left(before: &[Focus], clients: &[Client], locks: &mut Locks, acts: &mut
 {
     for i in 0..before.len() {
         let focus = before[i];
-        if let Some(window) = left_window(focus, &before[i + 1..], clients) {
+        if let Some(window) = left_window(focus, i, &before[i + 1..], clients) {
             let user = focus.user;
             acts.push(Act::Left { user, window }).unwrap();
             locks.left(user, window);
