@@ -4,10 +4,18 @@
 #[cfg(test)]
 mod bad_input;
 #[cfg(test)]
+mod cut_keys;
+#[cfg(test)]
+mod draws;
+#[cfg(test)]
 mod first_path;
 #[cfg(test)]
 mod play;
 #[cfg(test)]
 mod refused_memory;
 #[cfg(test)]
+mod regions;
+#[cfg(test)]
 mod several_users;
+#[cfg(test)]
+mod views;

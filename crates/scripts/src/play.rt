@@ -29,6 +29,29 @@ pub struct Row {
     pub sizes: &'static [(usize, usize)],
 }
 
+/// A script that is played behind another one, with what it must print itself.
+pub struct Case {
+    pub title: &'static str,
+    pub words: &'static [&'static str],
+    pub script: &'static str,
+    pub lines: &'static str,
+}
+
+/// Three windows of the owner, and a client of each of four users; bob and eve show window 2.
+pub const FOUR_CLIENTS: &str = r"
+command own - multiuser on
+command own - acladd ann,bob,eve
+open own 24 80 0 zero
+open own 24 80 0 one
+open own 24 80 0 two
+attach own 24 80
+attach ann 24 80
+attach bob 24 80
+attach eve 24 80
+keys 2 \01:select 2\0d
+keys 3 \01:select 2\0d
+";
+
 /// What stands in terminals before their first draw: nothing; and a page of wide characters with strange
 /// modes, inside a string.
 const STATES: [&[u8]; 2] = [
@@ -71,6 +94,19 @@ pub fn judge(rt: &(impl Abort + AllocGlobal), row: &Row) -> io::Result<()> {
     for (client, size) in row.sizes.iter().enumerate() {
         judge_draws(rt, title, printed, client, *size)?;
     }
+    Ok(())
+}
+
+/// Plays a case's script behind another one, and compares what it prints itself.
+pub fn judge_behind(rt: &(impl Abort + AllocGlobal), first: &str, case: &Case) -> io::Result<()> {
+    let title = case.title;
+    let before = play(rt.alloc(), case.words, first.as_bytes())?;
+    let script = format!(in rt.alloc(); "{first}{}", case.script)?;
+    let played = play(rt.alloc(), case.words, script.as_bytes())?;
+    assert_eq!(rt; played.status, 0, "{title}");
+    let output = played.output.strip_prefix(before.output.as_slice());
+    let printed = str::from_utf8(output.unwrap_or(b"another beginning")).unwrap_or("not UTF-8");
+    compare(rt, title, printed, case.lines);
     Ok(())
 }
 

@@ -1,32 +1,8 @@
 //! Several users: entries, leaders, locks, masks, windows and keys.
 
-use crate::play::{Row, compare, judge, play};
-use std::process::Abort;
+use crate::play::{Case, FOUR_CLIENTS, Row, compare, judge, judge_behind, play};
+use std::str;
 use std::test::Fail;
-use std::{io, str};
-
-/// Three windows of the owner, and a client of each of four users; bob and eve show window 2.
-const FOUR_CLIENTS: &str = r"
-command own - multiuser on
-command own - acladd ann,bob,eve
-open own 24 80 0 zero
-open own 24 80 0 one
-open own 24 80 0 two
-attach own 24 80
-attach ann 24 80
-attach bob 24 80
-attach eve 24 80
-keys 2 \01:select 2\0d
-keys 3 \01:select 2\0d
-";
-
-/// A script behind the four clients, with what it must print.
-struct Case {
-    title: &'static str,
-    words: &'static [&'static str],
-    script: &'static str,
-    lines: &'static str,
-}
 
 const CASES: [Case; 16] = [
     Case {
@@ -325,19 +301,6 @@ ok
 ",
     },
 ];
-
-/// Plays a case's script behind another one, and compares what it prints itself.
-fn judge_behind(rt: &(impl Abort + AllocGlobal), first: &str, case: &Case) -> io::Result<()> {
-    let title = case.title;
-    let before = play(rt.alloc(), case.words, first.as_bytes())?;
-    let script = format!(in rt.alloc(); "{first}{}", case.script)?;
-    let played = play(rt.alloc(), case.words, script.as_bytes())?;
-    assert_eq!(rt; played.status, 0, "{title}");
-    let output = played.output.strip_prefix(before.output.as_slice());
-    let printed = str::from_utf8(output.unwrap_or(b"another beginning")).unwrap_or("not UTF-8");
-    compare(rt, title, printed, case.lines);
-    Ok(())
-}
 
 #[test]
 fn cases_are_printed(rt: HostRuntime) -> Result<(), Fail> {
