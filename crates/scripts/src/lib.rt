@@ -14,8 +14,8 @@ mod play;
 #[cfg(test)]
 mod refused_memory;
 #[cfg(test)]
-mod regions;
-#[cfg(test)]
 mod several_users;
+#[cfg(test)]
+mod splits;
 #[cfg(test)]
 mod views;
