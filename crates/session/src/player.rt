@@ -16,8 +16,8 @@ ghost use Rattle.session.specs.Played.{IfNotUnderstood, views};
 
 use crate::fault::Fault;
 use acl::{Edition, UserId};
-use session_lines::{print_effect, print_reply, print_view, read_event};
 use session_core::{Effect, Event, Refusal, Reply, Session};
+use session_lines::{print_effect, print_reply, print_view, read_event};
 use std::alloc::{AllocError, Global};
 use std::io;
 use std::io::{BufRead, BufReader, Read, Write};

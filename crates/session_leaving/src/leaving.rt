@@ -53,12 +53,7 @@ fn shows_at(clients: &[Client], place: usize, user: UserId, window: u32) -> bool
 /// The window that the user of the focus at this place has left: no later focus of his is at it,
 /// and no client of his shows it now. That is mostly the client of the same place, which is looked
 /// at first.
-fn left_window(
-    focus: Focus,
-    place: usize,
-    rest: &[Focus],
-    clients: &[Client],
-) -> Option<u32>
+fn left_window(focus: Focus, place: usize, rest: &[Focus], clients: &[Client]) -> Option<u32>
     ensures { result ≡ left_window focus.user focus.window rest.now clients.now }
 {
     let window = focus.window?;
