@@ -1,5 +1,5 @@
 -- Every run has a legal trail; and what holds of legal trails.
-use Rattle.std.specs.Prelude.{◌≡◌, ◌↔◌, List, ◌++◌}
+use Rattle.std.specs.Prelude.{◌≡◌, ◌↔◌, List, [], ◌++◌}
 use Rattle.acl.specs.declared.edition.Edition.{Edition}
 use Rattle.acl.specs.declared.user_id.UserId.{UserId}
 use Rattle.acl.specs.History.{History, followed_by}
@@ -12,7 +12,8 @@ use Rattle.session_model.specs.Trace as trace
 use Rattle.session_model.specs.Run.{IsStep, IsRun, tables_of}
 use Rattle.hub_trail.specs.Trails.{Entry}
 use Rattle.hub_trail.specs.Legal.{IsTrue, AreLegal, IsLegal, acts_after, acts_of}
-use Rattle.hub_trail.specs.Filing.{filed, trail_of}
+use Rattle.hub_trail.specs.Filing.{filed, entries_of, trail_of}
+use Rattle.hub_trail.specs.Judging.{AreJudgeable}
 
 -- what a step files is legal after the acts of its tables, and has all its acts
 abbrev pub EntriesAreLegal : Type 0
@@ -28,6 +29,11 @@ TrailsAreLegal = (h : Trace) → IsRun h → IsLegal (trail_of h)
 -- and its acts are those of the session's tables
 abbrev pub TrailsHaveTheActs : Type 0
 TrailsHaveTheActs = (h : Trace) → IsRun h → acts_of (trail_of h) ≡ (tables_of h).acts
+
+-- tables of rights and locks can judge each entry of the trail of a run
+abbrev pub TrailsAreJudgeable : Type 0
+TrailsAreJudgeable =
+    (h : Trace) → IsRun h → AreJudgeable h.edition h.owner [] (entries_of h.entries)
 
 -- ---- legal trails
 

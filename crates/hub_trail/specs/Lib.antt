@@ -1,5 +1,6 @@
 pub mod Trails
 pub mod Legal
 pub mod Filing
+pub mod Judging
 pub mod Laws
 pub mod Peers
