@@ -53,7 +53,7 @@ examples:
 
 # Scripts, terminal descriptions and man pages: Debian's shellcheck, ncurses-bin and mandoc.
 lint:
-	shellcheck -s sh $(SCRIPTS) tests/outside/programs tests/outside/terminals
+	shellcheck -s sh $(SCRIPTS) tests/outside/programs tests/outside/terminals tests/outside/memory
 	tic -c contrib/mux.ti
 	cd man && mandoc -Tlint *.1 *.5 *.8
 
