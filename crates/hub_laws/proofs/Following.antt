@@ -22,7 +22,7 @@ use Rattle.acl.specs.declared.user_id.UserId.{UserId}
 use Rattle.acl.specs.Same.{same_user}
 use Rattle.acl.specs.History.{History, followed_by, users_of, among, leaders_of, there}
 use Rattle.acl.specs.Commands.{new_name_fault, known_name_fault, change_fault, mask_fault, scope_fault, group_fault, leader_fault, with_name, with_names, names_user}
-use Rattle.acl.specs.Commands.{sets_on, sets, user_acts, name_acts, change_acts, new_acts, known_acts, added, name_sets, names_sets, add_acts, scope_acts, mask_acts, group_acts, removal_acts, chosen_leader}
+use Rattle.acl.specs.Commands.{sets_on, sets, user_acts, name_acts, change_acts, new_acts, known_acts, added, name_sets, names_sets, add_acts, scope_acts, mask_acts, group_acts, removal_acts}
 use Rattle.acl.proofs.NameLemmas.{among-with_name, among-with_names}
 use Rattle.acl.proofs.StandsForLemmas.{same_user-refl}
 use Rattle.session_laws.proofs.Agreeing.{followed_append}
@@ -66,6 +66,16 @@ free_one edition owner h a is = refl
 pub free_follow : (edition : Edition) (owner : UserId) (h : History) (acts : List Act) → AllFree acts → CanFollow edition owner h acts
 free_follow edition owner h [] free = tt
 free_follow edition owner h (a ∷ acts) free = (free_one edition owner h a free.0, free_follow edition owner (a ∷ h) acts free.1)
+
+-- they leave the known users
+users_free : (owner : UserId) (h : History) (a : Act) → is_free a ≡ true → users_of owner (a ∷ h) ≡ users_of owner h
+users_free owner h (act.Known u) is = absurd (cc (is))
+users_free owner h (act.Gone u) is = absurd (cc (is))
+users_free owner h a is = refl
+
+pub users_stay : (owner : UserId) (h : History) (acts : List Act) → AllFree acts → users_of owner (followed_by h acts) ≡ users_of owner h
+users_stay owner h [] free = refl
+users_stay owner h (a ∷ acts) free = users_stay owner (a ∷ h) acts free.1 ∙ users_free owner h a free.0
 
 -- ---- faults
 

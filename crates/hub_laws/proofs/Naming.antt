@@ -45,6 +45,9 @@ named_there ws word w is =
 abbrev pub OpenIs : Tables → Type 0
 OpenIs t = (w : ℕ) → is_open t.acts w ≡ is_some (window_at t w)
 
+abbrev pub AreThere : Tables → List Object → Type 0
+AreThere t objects = AllByRecursion (λ o. there t.acts o ≡ true) objects
+
 module _ (t : Tables) (agree : OpenIs t) where
   pub listed_open : (n : ℕ) → has (serials t) n ≡ true → is_open t.acts n ≡ true
   listed_open n is = agree n ∙ has_row t.windows n ∙ is
@@ -54,47 +57,44 @@ module _ (t : Tables) (agree : OpenIs t) where
 
   -- ---- objects
 
-  abbrev pub AreThere : List Object → Type 0
-  AreThere objects = AllByRecursion (λ o. there t.acts o ≡ true) objects
-
-  windows_there : AreThere (every_window t)
+  windows_there : AreThere t (every_window t)
   windows_there =
       all_map (λ o. there t.acts o ≡ true) (λ (w : Window). object.Window w.serial) t.windows
       (all_weaken (λ w. IsThere t.windows w) (λ w. is_open t.acts w.serial ≡ true) t.windows there_open (members t.windows))
 
-  commands_there : AreThere every_command
+  commands_there : AreThere t every_command
   commands_there = all_map (λ o. there t.acts o ≡ true) object.Command all_names (all_of (λ c. there t.acts (object.Command c) ≡ true) all_names (λ c. refl))
 
-  pub every_there : AreThere (every_window t ++ every_command)
+  pub every_there : AreThere t (every_window t ++ every_command)
   every_there = all_append (λ o. there t.acts o ≡ true) (every_window t) every_command windows_there commands_there
 
-  wide_there : (b c : Bool) → AreThere ((if b then every_window t else []) ++ (if c then every_command else []))
+  wide_there : (b c : Bool) → AreThere t ((if b then every_window t else []) ++ (if c then every_command else []))
   wide_there true true = every_there
   wide_there true false = all_append (λ o. there t.acts o ≡ true) (every_window t) [] windows_there tt
   wide_there false true = commands_there
   wide_there false false = tt
 
   one_there : (c : Option CommandName) (o : Option Window) → ((w : Window) → o ≡ Some w → IsThere t.windows w)
-      → IfSome (option_or (option_map (λ x. object.Command x ∷ []) c) (option_map (λ (w : Window). object.Window w.serial ∷ []) o)) AreThere
+      → IfSome (option_or (option_map (λ x. object.Command x ∷ []) c) (option_map (λ (w : Window). object.Window w.serial ∷ []) o)) (AreThere t)
   one_there (Some c) o is = (refl, tt)
   one_there None (Some w) is = (there_open w (is w refl), tt)
   one_there None None is = tt
 
-  if_wide : (b : Bool) (objects : List Object) (o : Option (List Object)) → AreThere objects → IfSome o AreThere → IfSome (if b then Some objects else o) AreThere
+  if_wide : (b : Bool) (objects : List Object) (o : Option (List Object)) → AreThere t objects → IfSome o (AreThere t) → IfSome (if b then Some objects else o) (AreThere t)
   if_wide true objects o these those = these
   if_wide false objects o these those = those
 
-  item_there : (item : List ℕ) → IfSome (item_objects t item) AreThere
+  item_there : (item : List ℕ) → IfSome (item_objects t item) (AreThere t)
   item_there item =
       if_wide (is_wide item) (wide_objects t item) _ (wide_there (list_any (nat_eq 0x23) item) (list_any (nat_eq 0x3F) item))
       (one_there (command_named item) (window_named t.windows item) (named_there t.windows item))
 
-  more_there : (a b : Option (List Object)) → IfSome a AreThere → IfSome b AreThere → IfSome (option_and_then (λ objects. option_map (λ more. objects ++ more) b) a) AreThere
+  more_there : (a b : Option (List Object)) → IfSome a (AreThere t) → IfSome b (AreThere t) → IfSome (option_and_then (λ objects. option_map (λ more. objects ++ more) b) a) (AreThere t)
   more_there None b these those = tt
   more_there (Some xs) None these those = tt
   more_there (Some xs) (Some ys) these those = all_append (λ o. there t.acts o ≡ true) xs ys these those
 
-  items_there : (items : List (List ℕ)) → IfSome (objects_of t items) AreThere
+  items_there : (items : List (List ℕ)) → IfSome (objects_of t items) (AreThere t)
   items_there [] = tt
   items_there (item ∷ items) = more_there (item_objects t item) (objects_of t items) (item_there item) (items_there items)
 
@@ -111,8 +111,8 @@ module _ (t : Tables) (agree : OpenIs t) where
     on (Some s) is = shown s.window is
 
 -- the objects of a list
-pub list_there : (t : Tables) (agree : OpenIs t) (items : List (List ℕ)) (objects : List Object) → objects_of t items ≡ Some objects → AreThere t agree objects
-list_there t agree items objects is = subst (λ o. IfSome o (AreThere t agree)) is (items_there t agree items)
+pub list_there : (t : Tables) (agree : OpenIs t) (items : List (List ℕ)) (objects : List Object) → objects_of t items ≡ Some objects → AreThere t objects
+list_there t agree items objects is = subst (λ o. IfSome o (AreThere t)) is (items_there t agree items)
 
 -- ---- rows
 
