@@ -13,7 +13,8 @@ use Rattle.acl.specs.declared.act.Object.TheVariants as object
 use Rattle.acl.specs.declared.bits.Bit.TheVariants.{Write, Execute}
 use Rattle.acl.specs.declared.faults.AclFault.{AclFault}
 use Rattle.acl.specs.declared.user_id.UserId.{UserId}
-use Rattle.acl.specs.History.{followed_by, is_open}
+use Rattle.acl.specs.declared.edition.Edition.{Edition}
+use Rattle.acl.specs.History.{History, followed_by, is_open}
 use Rattle.acl.specs.Names.{named_by}
 use Rattle.acl.specs.Commands.{change_fault, known_name_fault, mask_fault, group_acts, mask_acts}
 use Rattle.writelock.specs.Holding.{is_off}
@@ -22,7 +23,7 @@ use Rattle.command_lang.specs.command.Command.TheVariants as command
 use Rattle.command_lang.specs.Names.{name_of}
 use Rattle.regions.specs.Layouts.{Arrangement, next_focus, remove_focused}
 use Rattle.session_model.specs.declared.check.Check.{Check}
-use Rattle.session_model.specs.declared.check.Check.TheVariants.{Right as right, Unlocked as unlocked}
+use Rattle.session_model.specs.declared.check.Check.TheVariants.{Right as right}
 use Rattle.session_model.specs.declared.event.Reason.TheVariants.{Detached, Killed, Removed, Quit}
 use Rattle.session_model.specs.declared.refusal.Refusal.{Refusal}
 use Rattle.session_model.specs.declared.refusal.Refusal.TheVariants.{Acl, Windows, NoWindow, Regions}
@@ -58,16 +59,14 @@ by_both : (P Q : Deed → Type 0) (a : Answer) → Either (λ d. P d → Q d) a 
 by_both P Q (Ok d) on p = on p
 by_both P Q (Err r) on p = p
 
--- a check that stands among some that pass
-passed_here : (t : Tables) (cs ds : List Check) (c : Check) → first_fault t (cs ++ c ∷ ds) ≡ None → passes t c ≡ true
-passed_here t [] ds c none = on (passes t c) none where
-  on : (b : Bool) → (if b then first_fault t ds else Some (refusal_of t c)) ≡ None → b ≡ true
-  on true e = refl
-  on false e = absurd (cc (e))
-passed_here t (x ∷ cs) ds c none = passed_here t cs ds c (on (passes t x) none) where
-  on : (b : Bool) → (if b then first_fault t (cs ++ c ∷ ds) else Some (refusal_of t x)) ≡ None → first_fault t (cs ++ c ∷ ds) ≡ None
-  on true e = e
-  on false e = absurd (cc (e))
+-- where there is no fault, each check passes
+pub each_passes : (t : Tables) (cs : List Check) → first_fault t cs ≡ None → AllByRecursion (λ c. passes t c ≡ true) cs
+each_passes t [] none = tt
+each_passes t (c ∷ cs) none = on (passes t c) none (each_passes t cs) where
+  on : (b : Bool) → (if b then first_fault t cs else Some (refusal_of t c)) ≡ None → (first_fault t cs ≡ None → AllByRecursion (λ d. passes t d ≡ true) cs)
+      → (b ≡ true) × AllByRecursion (λ d. passes t d ≡ true) cs
+  on true e rest = (refl, rest e)
+  on false e rest = absurd (cc (e))
 
 -- ---- acts that come after any others
 
@@ -90,9 +89,10 @@ closed_follow t ws = free_follows t _ (free_closed ws)
 
 -- ---- entering
 
-pub entering_follows : (t : Tables) (user : UserId) (o : Option ℕ) → MatchOption o (Unit {0}) (λ n. is_open t.acts n ≡ true) → Follows t (entering user o)
-entering_follows t user None is = tt
-entering_follows t user (Some n) is = (is, tt)
+pub entering_follows : (edition : Edition) (owner : UserId) (h : History) (user : UserId) (o : Option ℕ) → MatchOption o (Unit {0}) (λ n. is_open h n ≡ true)
+    → CanFollow edition owner h (entering user o)
+entering_follows edition owner h user None is = tt
+entering_follows edition owner h user (Some n) is = (is, tt)
 
 own_row : (t : Tables) (o : Option ℕ) (c : Client) → option_and_then (client_at t) o ≡ Some c → client_at t c.serial ≡ Some c
 own_row t None c is = absurd (cc (is))
@@ -120,10 +120,10 @@ may_write : (t : Tables) (k : Caller) (c : Command) (w : Window) → k.window �
     → first_fault t (right k.user Execute (object.Command (name_of c)) ∷ window_checks k.user typing (option_map (λ (v : Window). v.serial) k.window)) ≡ None
     → may_in t k.user Write (object.Window w.serial) ≡ true
 may_write t k c w is none =
-    let asked : Check = right k.user Execute (object.Command (name_of c)) in
-    let here : first_fault t (asked ∷ window_checks k.user typing (Some w.serial)) ≡ None =
-        subst (λ (o : Option Window). first_fault t (asked ∷ window_checks k.user typing (option_map (λ (v : Window). v.serial) o)) ≡ None) is none in
-    passed_here t (asked ∷ right k.user Execute (object.Window w.serial) ∷ []) (unlocked k.user w.serial ∷ []) (right k.user Write (object.Window w.serial)) here
+    let cs : List Check = right k.user Execute (object.Command (name_of c)) ∷ window_checks k.user typing (Some w.serial) in
+    let each : AllByRecursion (λ d. passes t d ≡ true) cs =
+        each_passes t cs (subst (λ (o : Option Window). first_fault t (right k.user Execute (object.Command (name_of c)) ∷ window_checks k.user typing (option_map (λ (v : Window). v.serial) o)) ≡ None) is none) in
+    each.1.1.0
 
 off_or_may : (t : Tables) (k : Caller) (mode : LockMode) (w : Window) → k.window ≡ Some w → first_fault t (checks t k (command.Writelock mode)) ≡ None
     → (is_off mode || may_in t k.user Write (object.Window w.serial)) ≡ true
@@ -144,7 +144,7 @@ module _ (t : Tables) (agree : OpenIs t) (k : Caller) (h : Holds t) (row : (w : 
   enters_follow : (c : Client) (l : Arrangement) → caller_client t k ≡ Some c → ShowsThen (enters t c l)
   enters_follow c l is held =
       let d : Client = with_layout l c in
-      entering_follows t d.user (focused d) (focus_open t agree d (new_page t c d (own_row t k.client c is) held))
+      entering_follows t.edition t.owner t.acts d.user (focused d) (focus_open t agree d (new_page t c d (own_row t k.client c is) held))
 
   shown_follow : (o : Client → Option Window) (r : Refusal) → is_plain r ≡ true → Either ShowsThen (on_client t k (λ c. given (o c) r (λ w. Ok (selects t c w))))
   shown_follow o r plain = by_shown ShowsThen t k o r plain (λ c w at found. enters_follow c (showing c (record { window = Some w.serial; back = 0 })) at)

@@ -31,18 +31,17 @@ use Rattle.session_model.specs.Sound.{Rises, AreFit}
 use Rattle.session_model.specs.Tables.{Tables, Window, Client, fresh, window_at, client_at, with_client, focused, is_in_focus, is_known}
 use Rattle.session_model.specs.Naming.{lowest, free_number, is_title}
 use Rattle.session_model.specs.Lines.{Caller, caller_of, line_caller}
-use Rattle.session_model.specs.Checks.{checks, first_fault, verdicts}
+use Rattle.session_model.specs.Checks.{passes, checks, first_fault, verdicts}
 use Rattle.session_model.specs.Deeds.{Deed, Answer, changing, parts, closes, entering}
 use Rattle.session_model.specs.Commands.{does}
 use Rattle.session_model.specs.Keying.{items_behind, typed_bytes, command_item, taken}
-use Rattle.session_model.specs.Events.{Outcome, outcome, finished, refused, where_passed, done, reply_of, left_by, left_acts, attach_checks, attaches, new_client, open_checks, opens, new_window, has_place, is_let_in, is_window_size, is_client_size, resized, outputs, typing_verdicts, keyed, with_listed, message_of, by_line, ordered, Ordered, reading, types, keys_outcome, commanded, line_ruling, answered}
+use Rattle.session_model.specs.Events.{Outcome, outcome, finished, refused, where_passed, done, reply_of, left_by, left_acts, attach_checks, attaches, new_client, open_checks, opens, new_window, has_place, is_let_in, is_window_size, is_client_size, resized, outputs, typing_verdicts, keyed, with_listed, message_of, by_line, ordered, Ordered, reading, types, unsaid, keys_outcome, commanded, line_ruling, answered}
 use Rattle.session_model.specs.Run.{IsStep, IsRun, IsRunFrom, tables_from}
 use Rattle.session_laws.proofs.Agreeing.{has, has_row}
 use Rattle.session_laws.proofs.Doing.{Either}
 use Rattle.session_laws.proofs.Fitting.{IsThere, Holds, at_there, number_there, lowest_there}
 use Rattle.session_laws.proofs.Lists.{all_append, and_first}
 use Rattle.session_laws.proofs.Moving.{serials}
-use Rattle.session_laws.proofs.Sounding.{check_passed}
 use Rattle.session_laws.proofs.Staying.{run_fit, fresh_fit}
 use Rattle.session_laws.proofs.Unread.{SameClients, typing_clients}
 use Rattle.session_laws.proofs.Outcomes as outcomes
@@ -55,7 +54,7 @@ use Rattle.hub_trail.proofs.Runs.{Named, IsJudged, judged}
 use Rattle.hub_laws.proofs.Following.{is_free, AllFree, follow_append, free_follow}
 use Rattle.hub_laws.proofs.Naming.{OpenIs, there_open, fit_holds, same_holds}
 use Rattle.hub_laws.proofs.Seeing.{SeeThere, verdicts_see, checks_see, typed_see}
-use Rattle.hub_laws.proofs.Rows.{Follows, Is, follows, entering_follows, parted_follow, closed_follow}
+use Rattle.hub_laws.proofs.Rows.{Follows, each_passes, follows, entering_follows, parted_follow, closed_follow}
 
 -- ---- outcomes
 
@@ -93,24 +92,165 @@ passed_judged t cs reply d see follow =
 
 -- ---- commands
 
-line_judged : (t : Tables) (user : UserId) (number : Option ℕ) (bytes : List ℕ) → OpenIs t → Holds t → CanJudge t (outcome t (Command user number bytes))
-line_judged t user number bytes agree h = on (is_known t user) where
-  k : Caller
-  k = line_caller t user number
+module _ (t : Tables) (agree : OpenIs t) (h : Holds t) where
+  -- a command of a line
+  module _ (user : UserId) (number : Option ℕ) (c : Order) where
+    abbrev asked : List Check
+    asked = checks t (line_caller t user number) c
 
-  answer : (c : Order) (a : Answer) → Either (λ d. Follows t d.acts) a → CanJudge t (answered t (verdicts t (checks t (line_caller t user number) c)) a)
-  answer c (Ok d) follow = finished_judged t _ (reply_of 0 0 0 d.lists) d (verdicts_see t _ (checks_see t agree (line_caller t user number) c (number_there t.windows number))) follow
-  answer c (Err r) plain = refused_judged t _ r (verdicts_see t _ (checks_see t agree (line_caller t user number) c (number_there t.windows number)))
+    asked_see : SeeThere t (verdicts t asked)
+    asked_see = verdicts_see t asked (checks_see t agree (line_caller t user number) c (number_there t.windows number))
 
-  ruled : (c : Order) (f : Option Refusal) → first_fault t (checks t (line_caller t user number) c) ≡ f
-      → CanJudge t (answered t (verdicts t (checks t (line_caller t user number) c)) (elim f as (λ _. Answer) [ Some r ↦ Err r | None ↦ does t (line_caller t user number) c ]))
-  ruled c (Some r) is = answer c (Err r) refl
-  ruled c None is = answer c (does t (line_caller t user number) c) (follows t agree (line_caller t user number) h (number_there t.windows number) c is)
+    answer_judged : (a : Answer) → Either (λ d. Follows t d.acts) a → CanJudge t (answered t (verdicts t asked) a)
+    answer_judged (Ok d) follow = finished_judged t (verdicts t asked) (reply_of 0 0 0 d.lists) d asked_see follow
+    answer_judged (Err r) plain = refused_judged t (verdicts t asked) r asked_see
 
-  read : (r : Result Order ParseFault) → CanJudge t (commanded t (line_ruling t (line_caller t user number) r))
-  read (Ok c) = ruled c (first_fault t (checks t (line_caller t user number) c)) refl
-  read (Err f) = refused_judged t [] _ tt
+    order_judged : (f : Option Refusal) → first_fault t asked ≡ f
+        → CanJudge t (answered t (verdicts t asked) (elim f as (λ _. Answer) [ Some r ↦ Err r | None ↦ does t (line_caller t user number) c ]))
+    order_judged (Some r) is = refused_judged t (verdicts t asked) r asked_see
+    order_judged None is = answer_judged (does t (line_caller t user number) c) (follows t agree (line_caller t user number) h (number_there t.windows number) c is)
 
-  on : (b : Bool) → CanJudge t (if b then commanded t (line_ruling t (line_caller t user number) (read_line bytes)) else refused t [] UnknownUser)
-  on true = read (read_line bytes)
-  on false = refused_judged t [] UnknownUser tt
+  line_judged : (user : UserId) (number : Option ℕ) (bytes : List ℕ) → CanJudge t (outcome t (Command user number bytes))
+  line_judged user number bytes = on (is_known t user) where
+    read : (r : Result Order ParseFault) → CanJudge t (commanded t (line_ruling t (line_caller t user number) r))
+    read (Ok c) = order_judged user number c (first_fault t (checks t (line_caller t user number) c)) refl
+    read (Err f) = refused_judged t [] _ tt
+
+    on : (b : Bool) → CanJudge t (if b then commanded t (line_ruling t (line_caller t user number) (read_line bytes)) else refused t [] UnknownUser)
+    on true = read (read_line bytes)
+    on false = refused_judged t [] UnknownUser tt
+
+-- ---- keys
+
+-- what comes of a command among keys, where the tables have the same acts and windows
+pub record IsOrdered (t : Tables) (o : Ordered) : Type 0 where
+  pub see : SeeThere t o.verdicts
+  pub follow : Follows t o.deed.acts
+
+listed_follows : (t : Tables) (client : ℕ) (m : List ℕ → Message) (o : Option (List ℕ)) (d : Deed) → Follows t d.acts → Follows t (with_listed client m o d).acts
+listed_follows t client m None d follow = follow
+listed_follows t client m (Some bytes) d follow = follow
+
+module _ (t : Tables) (agree : OpenIs t) (h : Holds t) (d : Client) where
+  module _ (c : Order) where
+    abbrev keyed_asks : List Check
+    keyed_asks = checks t (caller_of t d) c
+
+    keyed_see : SeeThere t (verdicts t keyed_asks)
+    keyed_see = verdicts_see t keyed_asks (checks_see t agree (caller_of t d) c (at_there t (focused d)))
+
+    keyed_answer : (a : Answer) → Either (λ e. Follows t e.acts) a → IsOrdered t (record { verdicts = verdicts t keyed_asks; deed = keyed t d.serial (message_of c) a })
+    keyed_answer (Ok e) follow = record { see = keyed_see; follow = listed_follows t d.serial (message_of c) e.lists e follow }
+    keyed_answer (Err r) plain = record { see = keyed_see; follow = tt }
+
+    keyed_order : (f : Option Refusal) → first_fault t keyed_asks ≡ f
+        → IsOrdered t (record { verdicts = verdicts t keyed_asks; deed = keyed t d.serial (message_of c) (elim f as (λ _. Answer) [ Some r ↦ Err r | None ↦ does t (caller_of t d) c ]) })
+    keyed_order (Some r) is = record { see = keyed_see; follow = tt }
+    keyed_order None is = keyed_answer (does t (caller_of t d) c) (follows t agree (caller_of t d) h (at_there t (focused d)) c is)
+
+  keyed_line : (r : Result Order ParseFault) → IsOrdered t (by_line t d r)
+  keyed_line (Ok c) = keyed_order c (first_fault t (checks t (caller_of t d) c)) refl
+  keyed_line (Err f) = record { see = tt; follow = tt }
+
+  is_ordered : (item : Option Item) → IsOrdered t (ordered t d item)
+  is_ordered (Some (bound c)) = keyed_line (Ok c)
+  is_ordered (Some (line (b ∷ bytes))) = keyed_line (read_line (b ∷ bytes))
+  is_ordered (Some (line [])) = record { see = tt; follow = tt }
+  is_ordered (Some (typed b)) = record { see = tt; follow = tt }
+  is_ordered None = record { see = tt; follow = tt }
+
+keys_judged : (t : Tables) (s : ℕ) (c : Client) (bytes : List ℕ) → OpenIs t → Holds t → client_at t s ≡ Some c → CanJudge t (keys_outcome t c bytes)
+keys_judged t s c bytes agree h found =
+    let given : List Item = items_behind c.keys bytes in
+    let d : Client = reading bytes c in
+    let typing : Deed = types (with_client t d) d (typed_bytes given) in
+    let order : Ordered = ordered typing.tables d (command_item given) in
+    let is : IsOrdered t order =
+        typing_clients (λ v. IsOrdered t (ordered v d (command_item given))) t s c d (typed_bytes given) found refl refl (λ cs same.
+        let all : IsOrdered (record t { clients = cs }) (ordered (record t { clients = cs }) d (command_item given)) =
+            is_ordered (record t { clients = cs }) agree (same_holds t cs same h) d (command_item given) in
+        record { see = all.see; follow = all.follow }) in
+    finished_judged t (typing_verdicts t c (typed_bytes given) ++ order.verdicts) (reply_of (length bytes) 0 0 None)
+    (record order.deed { effects = typing.effects ++ unsaid typing.effects order.deed.effects })
+    (all_append (λ v. is_on_there t.acts v ≡ true) (typing_verdicts t c (typed_bytes given)) order.verdicts (typed_see t agree c (typed_bytes given)) is.see) is.follow
+
+-- ---- what comes
+
+attach_judged : (t : Tables) (user : UserId) (rows columns : ℕ) → OpenIs t → CanJudge t (outcome t (Attach user rows columns))
+attach_judged t user rows columns agree =
+    let cs : List Check = attach_checks t user rows columns in
+    passed_judged t cs (reply_of 0 t.next_client 0 None) (attaches t (new_client t user rows columns)) (verdicts_see t cs (tt, (tt, (tt, (tt, tt)))))
+    (λ none. (refl, entering_follows t.edition t.owner (act.Attached t.next_client user ∷ t.acts) user (option_map (λ (w : Window). w.serial) (lowest t.windows)) (shown (lowest t.windows) refl))) where
+      shown : (o : Option Window) → lowest t.windows ≡ o → MatchOption (option_map (λ (w : Window). w.serial) o) (Unit {0}) (λ n. is_open t.acts n ≡ true)
+      shown None is = tt
+      shown (Some w) is = there_open t agree w (lowest_there t.windows w is)
+
+-- the serial that comes next isn't open
+new_serial : (ns : List ℕ) (next : ℕ) → Rises ns next → has ns next ≡ false
+new_serial [] next rises = refl
+new_serial (n ∷ ns) next rises = let off : (n == next) ≡ false = grind (arith, nat_tests, rises.0) in ap (λ b. b || has ns next) off ∙ new_serial ns next rises.2
+
+open_judged : (t : Tables) (user : UserId) (rows columns keep : ℕ) (title : List ℕ) → AreFit t → CanJudge t (outcome t (Open user rows columns keep title))
+open_judged t user rows columns keep title f =
+    let cs : List Check = open_checks t user rows columns keep title in
+    let w : Window = new_window t rows columns keep title in
+    passed_judged t cs (reply_of 0 w.serial w.number None) (opens t user w) (verdicts_see t cs (tt, ((refl, tt), (tt, (tt, (tt, (tt, tt)))))))
+    (λ none. let each : AllByRecursion (λ c. passes t c ≡ true) cs = each_passes t cs none in
+    (and_from _ _ each.0 (and_from _ _ shut (room each.1.1.1.1.0)), tt)) where
+      shut : not (is_open t.acts t.next_window) ≡ true
+      shut = ap not (f.agree.open_is t.next_window ∙ has_row t.windows t.next_window ∙ new_serial (serials t) t.next_window f.sound.windows_rise)
+
+      room : (has_place t.windows && nat_lt t.next_window (2 ^ 32)) ≡ true → nat_lt (open_count t.acts) 40 ≡ true
+      room place = ap (λ n. nat_lt n 40) f.agree.count_is ∙ and_first (nat_lt (length t.windows) 40) (is_some (free_number t.windows)) (and_first (has_place t.windows) (nat_lt t.next_window (2 ^ 32)) place)
+
+-- ---- steps
+
+pub judged_step : (t : Tables) (event : Happening) → AreFit t → CanJudge t (outcome t event)
+judged_step t (Attach user rows columns) f = attach_judged t user rows columns f.agree.open_is
+judged_step t (Detach client) f =
+    outcomes.found (CanJudge t) t (λ c. finished t [] done (parts (λ d. d.serial == client) reason.Detached t)) (client_at t client) (refused_judged t [] NoWindow tt)
+    (λ c is. finished_judged t [] done (parts (λ d. d.serial == client) reason.Detached t) tt (parted_follow t _))
+judged_step t (Keys client bytes) f =
+    outcomes.found (CanJudge t) t (λ c. keys_outcome t c (take (taken c.keys bytes) bytes)) (client_at t client) (refused_judged t [] NoWindow tt)
+    (λ c is. keys_judged t client c (take (taken c.keys bytes) bytes) f.agree.open_is (fit_holds t f) is)
+judged_step t (Command user number bytes) f = line_judged t f.agree.open_is (fit_holds t f) user number bytes
+judged_step t (Resize client rows columns) f =
+    outcomes.found (CanJudge t) t (λ c. where_passed t (must (is_client_size rows columns) BadSize ∷ []) done (changing (with_client t (resized rows columns c)))) (client_at t client) (refused_judged t [] NoWindow tt)
+    (λ c is. passed_judged t (must (is_client_size rows columns) BadSize ∷ []) done (changing (with_client t (resized rows columns c))) (verdicts_see t (must (is_client_size rows columns) BadSize ∷ []) (tt, tt)) (λ none. tt))
+judged_step t (Open user rows columns keep title) f = open_judged t user rows columns keep title f
+judged_step t (Output window bytes) f =
+    outcomes.found (CanJudge t) t (λ w. finished t [] done (outputs t w bytes)) (window_at t window) (refused_judged t [] NoWindow tt) (λ w is. finished_judged t [] done (outputs t w bytes) tt tt)
+judged_step t (Closed window) f =
+    outcomes.found (CanJudge t) t (λ w. finished t [] done (closes (λ v. v.serial == window) reason.Detached t)) (window_at t window) (refused_judged t [] NoWindow tt)
+    (λ w is. finished_judged t [] done (closes (λ v. v.serial == window) reason.Detached t) tt (closed_follow t _))
+judged_step t (Draw client) f =
+    outcomes.found (CanJudge t) t (λ c. finished t [] done (changing t)) (client_at t client) (refused_judged t [] NoWindow tt) (λ c is. finished_judged t [] done (changing t) tt tt)
+
+-- ---- entries
+
+pub judged_filed : (t : Tables) (e : trace.Entry) → AreFit t → IsStep t e → AreJudgeable t.edition t.owner t.acts (filed e)
+judged_filed t e f s = on (kept_of e.event) where
+  on : (o : Option Kept) → AreJudgeable t.edition t.owner t.acts (entry_of o e)
+  on None = tt
+  on (Some k) =
+      let can : CanJudge t (outcome t e.event) = judged_step t e.event f in
+      (record { there = subst (λ vs. SeeThere t vs) (sym s.verdicts) can.see; follow = subst (λ acts. Follows t acts) (sym s.acts) can.follow }, tt)
+
+-- ---- runs
+
+judged_append : (edition : Edition) (owner : UserId) (h : History) (es fs : List Entry) → AreJudgeable edition owner h es → AreJudgeable edition owner (acts_after h es) fs
+    → AreJudgeable edition owner h (es ++ fs)
+judged_append edition owner h [] fs these those = those
+judged_append edition owner h (e ∷ es) fs these those = (these.0, judged_append edition owner (followed_by h e.acts) es fs these.1 those)
+
+judged_steps : (edition : Edition) (owner : UserId) (steps : List trace.Entry) → IsRunFrom (fresh edition owner) steps → AreJudgeable edition owner [] (entries_of steps)
+judged_steps edition owner [] run = tt
+judged_steps edition owner (e ∷ past) run =
+    let t : Tables = tables_from (fresh edition owner) past in
+    let j : IsJudged edition owner t (entries_of past) = judged edition owner past run.0 in
+    judged_append edition owner [] (entries_of past) (filed e) (judged_steps edition owner past run.0)
+    (subst (λ (h : History). AreJudgeable edition owner h (filed e)) (sym j.acts)
+    (subst (λ (x : Named). AreJudgeable x.1 x.0 t.acts (filed e)) j.named (judged_filed t e (run_fit (fresh edition owner) past (fresh_fit edition owner)) run.1)))
+
+pub judged_run : (h : trace.Trace) → IsRun h → AreJudgeable h.edition h.owner [] (entries_of h.entries)
+judged_run h run = judged_steps h.edition h.owner h.entries run
