@@ -1,10 +1,12 @@
 -- What a step files can be judged, and so can the trail of a run.
-use Rattle.std.proofs.Common.{◌≡◌, ◌∙◌, ℕ, ◌<◌, Bool, true, false, not, ◌&&◌, List, [], ◌∷◌, ◌++◌, Option, Some, None, Result, Ok, Err, map, refl, ap, sym, subst, take, arith}
+use Rattle.std.proofs.Common.{◌≡◌, ◌∙◌, ℕ, ◌<◌, Bool, true, false, not, ◌&&◌, List, [], ◌∷◌, ◌++◌, Option, Some, None, Result, Ok, Err, map, reverse, refl, ap, sym, subst, take, arith}
 use Rattle.std.specs.Prelude.{◌==◌, ◌||◌, ◌^◌, if◌then◌else◌, MatchOption, is_some, nat_lt, length}
-use Rattle.std.specs.List.{AllByRecursion}
+use Rattle.std.specs.List.{AllByRecursion, list_any}
 use Rattle.std.specs.Option.{option_map}
 use Rattle.std.proofs.lemmas.Bool.{and_from}
 use Rattle.std.proofs.lemmas.Bool.Decides.{nat_tests}
+use Rattle.std.proofs.lemmas.List.{reverse-append}
+use Rattle.std.proofs.lemmas.List.Folds.{list_any-append}
 use Rattle.acl.specs.declared.act.Act.{Act}
 use Rattle.acl.specs.declared.act.Act.TheVariants as act
 use Rattle.acl.specs.declared.act.Object.TheVariants as object
@@ -27,7 +29,7 @@ use Rattle.session_model.specs.declared.refusal.WindowsFault.TheVariants.{Full, 
 use Rattle.session_model.specs.declared.verdict.Verdict.{Verdict}
 use Rattle.session_model.specs.Trace.{Happening, Attach, Detach, Keys, Command, Resize, Open, Output, Closed, Draw, Reply}
 use Rattle.session_model.specs.Trace as trace
-use Rattle.session_model.specs.Sound.{Rises, AreFit}
+use Rattle.session_model.specs.Sound.{Rises, AreFit, client_serials}
 use Rattle.session_model.specs.Tables.{Tables, Window, Client, fresh, window_at, client_at, with_client, focused, is_in_focus, is_known}
 use Rattle.session_model.specs.Naming.{lowest, free_number, is_title}
 use Rattle.session_model.specs.Lines.{Caller, caller_of, line_caller}
@@ -49,7 +51,7 @@ use Rattle.hub_trail.specs.declared.kept.Kept.{Kept}
 use Rattle.hub_trail.specs.Trails.{Entry}
 use Rattle.hub_trail.specs.Legal.{acts_after}
 use Rattle.hub_trail.specs.Filing.{kept_of, entry_of, filed, entries_of}
-use Rattle.hub_trail.specs.Judging.{is_on_there, CanFollow, AreJudgeable}
+use Rattle.hub_trail.specs.Judging.{is_on_there, is_client, CanFollow, AreJudgeable}
 use Rattle.hub_trail.proofs.Runs.{Named, IsJudged, judged}
 use Rattle.hub_laws.proofs.Following.{is_free, AllFree, follow_append, free_follow}
 use Rattle.hub_laws.proofs.Naming.{OpenIs, there_open, fit_holds, same_holds}
@@ -176,19 +178,36 @@ keys_judged t s c bytes agree h found =
 
 -- ---- what comes
 
-attach_judged : (t : Tables) (user : UserId) (rows columns : ℕ) → OpenIs t → CanJudge t (outcome t (Attach user rows columns))
-attach_judged t user rows columns agree =
+-- a serial that comes next isn't given yet
+next_apart : (n next : ℕ) → n < next → (n == next) ≡ false
+next_apart n next below = grind (arith, nat_tests, below)
+
+new_serial : (ns : List ℕ) (next : ℕ) → Rises ns next → has ns next ≡ false
+new_serial [] next rises = refl
+new_serial (n ∷ ns) next rises = ap (λ b. b || has ns next) (next_apart n next rises.0) ∙ new_serial ns next rises.2
+
+no_client : (cs : List Client) (next : ℕ) → Rises (client_serials cs) next → list_any (λ (p : ℕ × UserId). p.0 == next) (reverse (map (λ (c : Client). (c.serial, c.user)) cs)) ≡ false
+no_client [] next rises = refl
+no_client (c ∷ cs) next rises =
+    let ps : List (ℕ × UserId) = map (λ (c : Client). (c.serial, c.user)) cs in
+    let is : ℕ × UserId → Bool = λ p. p.0 == next in
+    ap (list_any is) (reverse-append ((c.serial, c.user) ∷ []) ps) ∙ list_any-append is (reverse ps) ((c.serial, c.user) ∷ [])
+    ∙ ap (λ b. b || (c.serial == next || false)) (no_client cs next rises.2) ∙ ap (λ b. b || false) (next_apart c.serial next rises.0)
+
+attach_judged : (t : Tables) (user : UserId) (rows columns : ℕ) → AreFit t → CanJudge t (outcome t (Attach user rows columns))
+attach_judged t user rows columns f =
     let cs : List Check = attach_checks t user rows columns in
     passed_judged t cs (reply_of 0 t.next_client 0 None) (attaches t (new_client t user rows columns)) (verdicts_see t cs (tt, (tt, (tt, (tt, tt)))))
-    (λ none. (refl, entering_follows t.edition t.owner (act.Attached t.next_client user ∷ t.acts) user (option_map (λ (w : Window). w.serial) (lowest t.windows)) (shown (lowest t.windows) refl))) where
+    (λ none. (ap not new, entering_follows t.edition t.owner (act.Attached t.next_client user ∷ t.acts) user (option_map (λ (w : Window). w.serial) (lowest t.windows)) (shown (lowest t.windows) refl))) where
+      agree : OpenIs t
+      agree = f.agree.open_is
+
+      new : is_client t.acts t.next_client ≡ false
+      new = ap (list_any (λ (p : ℕ × UserId). p.0 == t.next_client)) f.agree.clients_are ∙ no_client t.clients t.next_client f.sound.clients_rise
+
       shown : (o : Option Window) → lowest t.windows ≡ o → MatchOption (option_map (λ (w : Window). w.serial) o) (Unit {0}) (λ n. is_open t.acts n ≡ true)
       shown None is = tt
       shown (Some w) is = there_open t agree w (lowest_there t.windows w is)
-
--- the serial that comes next isn't open
-new_serial : (ns : List ℕ) (next : ℕ) → Rises ns next → has ns next ≡ false
-new_serial [] next rises = refl
-new_serial (n ∷ ns) next rises = let off : (n == next) ≡ false = grind (arith, nat_tests, rises.0) in ap (λ b. b || has ns next) off ∙ new_serial ns next rises.2
 
 open_judged : (t : Tables) (user : UserId) (rows columns keep : ℕ) (title : List ℕ) → AreFit t → CanJudge t (outcome t (Open user rows columns keep title))
 open_judged t user rows columns keep title f =
@@ -206,7 +225,7 @@ open_judged t user rows columns keep title f =
 -- ---- steps
 
 pub judged_step : (t : Tables) (event : Happening) → AreFit t → CanJudge t (outcome t event)
-judged_step t (Attach user rows columns) f = attach_judged t user rows columns f.agree.open_is
+judged_step t (Attach user rows columns) f = attach_judged t user rows columns f
 judged_step t (Detach client) f =
     outcomes.found (CanJudge t) t (λ c. finished t [] done (parts (λ d. d.serial == client) reason.Detached t)) (client_at t client) (refused_judged t [] NoWindow tt)
     (λ c is. finished_judged t [] done (parts (λ d. d.serial == client) reason.Detached t) tt (parted_follow t _))
