@@ -16,7 +16,6 @@ use Rattle.acl.specs.declared.entries.MaskScope.{MaskScope}
 use Rattle.acl.specs.declared.entries.MaskScope.TheVariants as scope
 use Rattle.acl.specs.declared.entries.NewLeader.{NewLeader}
 use Rattle.acl.specs.declared.entries.NewLeader.TheVariants.{Nobody, Named}
-use Rattle.acl.specs.declared.faults.AclFault.{AclFault}
 use Rattle.acl.specs.declared.faults.AclFault.TheVariants.{OwnerKept, TooManyUsers, UnknownUser}
 use Rattle.acl.specs.declared.user_id.UserId.{UserId}
 use Rattle.acl.specs.Same.{same_user}
@@ -28,7 +27,7 @@ use Rattle.acl.proofs.StandsForLemmas.{same_user-refl}
 use Rattle.session_laws.proofs.Agreeing.{followed_append}
 use Rattle.session_laws.proofs.Moving.{is_aside}
 use Rattle.hub_trail.proofs.Sights.{any_behind}
-use Rattle.hub_trail.specs.Judging.{can_follow, CanFollow, leader_in}
+use Rattle.hub_trail.specs.Judging.{can_follow, CanFollow}
 
 -- ---- acts behind acts
 

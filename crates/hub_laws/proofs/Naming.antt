@@ -20,7 +20,6 @@ use Rattle.session_laws.proofs.Agreeing.{has, has_row}
 use Rattle.session_laws.proofs.Fitting.{IsThere, lowest_there, number_there, has_there, get_all, ShowsIn, PageIn, Holds, page_of}
 use Rattle.session_laws.proofs.Lists.{all_append, all_map, all_of, all_weaken, itself, members}
 use Rattle.session_laws.proofs.Moving.{serials}
-use Rattle.session_laws.proofs.Numbers.{serial_of}
 use Rattle.session_laws.proofs.Unread.{SameClients}
 
 -- ---- windows that are named

@@ -1,9 +1,9 @@
 -- The acts of commands follow those of the tables: one row a command.
-use Rattle.std.proofs.Common.{◌≡◌, ◌∙◌, ℕ, Bool, true, false, ◌&&◌, ◌||◌, List, [], ◌∷◌, ◌++◌, Option, Some, None, Ok, Err, map, refl, ap, sym, subst}
+use Rattle.std.proofs.Common.{◌≡◌, ◌∙◌, ℕ, Bool, true, false, ◌||◌, List, [], ◌∷◌, ◌++◌, Option, Some, None, Ok, Err, map, refl, ap, subst}
 use Rattle.std.specs.Prelude.{◌==◌, if◌then◌else◌, MatchOption}
 use Rattle.std.specs.List.{AllByRecursion}
 use Rattle.std.specs.Option.{option_map, option_and_then}
-use Rattle.std.proofs.lemmas.Bool.{and_from, or_right}
+use Rattle.std.proofs.lemmas.Bool.{and_from}
 use Rattle.acl.specs.declared.act.Act.{Act}
 use Rattle.acl.specs.declared.act.Act.TheVariants as act
 use Rattle.acl.specs.declared.act.LockMode.{LockMode}
@@ -26,15 +26,15 @@ use Rattle.session_model.specs.declared.check.Check.{Check}
 use Rattle.session_model.specs.declared.check.Check.TheVariants.{Right as right}
 use Rattle.session_model.specs.declared.event.Reason.TheVariants.{Detached, Killed, Removed, Quit}
 use Rattle.session_model.specs.declared.refusal.Refusal.{Refusal}
-use Rattle.session_model.specs.declared.refusal.Refusal.TheVariants.{Acl, Windows, NoWindow, Regions}
+use Rattle.session_model.specs.declared.refusal.Refusal.TheVariants.{Acl, Windows, NoWindow}
 use Rattle.session_model.specs.declared.refusal.WindowsFault.TheVariants.{NoSuchWindow}
-use Rattle.session_model.specs.Tables.{Tables, Window, Client, window_at, client_at, with_client, with_layout, focused, known_users}
+use Rattle.session_model.specs.Tables.{Tables, Window, Client, window_at, client_at, with_layout, focused, known_users}
 use Rattle.session_model.specs.Rights.{may_in, group_fault_in}
-use Rattle.session_model.specs.Naming.{names_of, objects_of, new_leader_of, window_named, window_after, window_before, every_window, every_command}
+use Rattle.session_model.specs.Naming.{names_of, new_leader_of, window_named, window_after, window_before, every_window, every_command}
 use Rattle.session_model.specs.Lines.{Caller}
 use Rattle.session_model.specs.Needs.{typing}
 use Rattle.session_model.specs.Checks.{passes, refusal_of, first_fault, checks, window_checks}
-use Rattle.session_model.specs.Deeds.{Deed, Answer, acting, given, unless, refused_if, parts, removes, is_of, closes, entering, enters, showing, selects, former_of}
+use Rattle.session_model.specs.Deeds.{Deed, Answer, acting, given, unless, parts, removes, is_of, closes, entering, enters, showing, selects, former_of}
 use Rattle.session_model.specs.Commands.{does, caller_client, on_client, known_fault, mask_entries}
 use Rattle.session_laws.proofs.Doing.{Either, is_plain, by_given, by_unless, by_refused, by_shown}
 use Rattle.session_laws.proofs.Fitting.{IsThere, Holds, holds}
@@ -122,7 +122,7 @@ may_write : (t : Tables) (k : Caller) (c : Command) (w : Window) → k.window �
 may_write t k c w is none =
     let cs : List Check = right k.user Execute (object.Command (name_of c)) ∷ window_checks k.user typing (Some w.serial) in
     let each : AllByRecursion (λ d. passes t d ≡ true) cs =
-        each_passes t cs (subst (λ (o : Option Window). first_fault t (right k.user Execute (object.Command (name_of c)) ∷ window_checks k.user typing (option_map (λ (v : Window). v.serial) o)) ≡ None) is none) in
+    each_passes t cs (subst (λ (o : Option Window). first_fault t (right k.user Execute (object.Command (name_of c)) ∷ window_checks k.user typing (option_map (λ (v : Window). v.serial) o)) ≡ None) is none) in
     each.1.1.0
 
 off_or_may : (t : Tables) (k : Caller) (mode : LockMode) (w : Window) → k.window ≡ Some w → first_fault t (checks t k (command.Writelock mode)) ≡ None

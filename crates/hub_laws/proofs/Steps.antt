@@ -9,9 +9,6 @@ use Rattle.std.proofs.lemmas.List.{reverse-append}
 use Rattle.std.proofs.lemmas.List.Folds.{list_any-append}
 use Rattle.acl.specs.declared.act.Act.{Act}
 use Rattle.acl.specs.declared.act.Act.TheVariants as act
-use Rattle.acl.specs.declared.act.Object.TheVariants as object
-use Rattle.acl.specs.declared.bits.Bit.TheVariants.{Execute}
-use Rattle.acl.specs.declared.command_name.CommandName.TheVariants.{Screen}
 use Rattle.acl.specs.declared.edition.Edition.{Edition}
 use Rattle.acl.specs.declared.user_id.UserId.{UserId}
 use Rattle.acl.specs.History.{History, followed_by, is_open, open_count}
@@ -20,38 +17,37 @@ use Rattle.command_lang.specs.fault.ParseFault.{ParseFault}
 use Rattle.command_lang.specs.Relation.{read_line}
 use Rattle.keys.specs.Grammar.{Item, typed, bound, line}
 use Rattle.session_model.specs.declared.check.Check.{Check}
-use Rattle.session_model.specs.declared.check.Check.TheVariants.{Right as right, Must as must}
+use Rattle.session_model.specs.declared.check.Check.TheVariants.{Must as must}
 use Rattle.session_model.specs.declared.event.Reason.TheVariants as reason
 use Rattle.session_model.specs.declared.message.Message.{Message}
 use Rattle.session_model.specs.declared.refusal.Refusal.{Refusal}
-use Rattle.session_model.specs.declared.refusal.Refusal.TheVariants.{UnknownUser, NoWindow, NotMultiuser, BadSize, Windows}
-use Rattle.session_model.specs.declared.refusal.WindowsFault.TheVariants.{Full, BadTitle}
+use Rattle.session_model.specs.declared.refusal.Refusal.TheVariants.{UnknownUser, NoWindow, BadSize}
 use Rattle.session_model.specs.declared.verdict.Verdict.{Verdict}
 use Rattle.session_model.specs.Trace.{Happening, Attach, Detach, Keys, Command, Resize, Open, Output, Closed, Draw, Reply}
 use Rattle.session_model.specs.Trace as trace
 use Rattle.session_model.specs.Sound.{Rises, AreFit, client_serials}
 use Rattle.session_model.specs.Tables.{Tables, Window, Client, fresh, window_at, client_at, with_client, focused, is_in_focus, is_known}
-use Rattle.session_model.specs.Naming.{lowest, free_number, is_title}
-use Rattle.session_model.specs.Lines.{Caller, caller_of, line_caller}
+use Rattle.session_model.specs.Naming.{lowest, free_number}
+use Rattle.session_model.specs.Lines.{caller_of, line_caller}
 use Rattle.session_model.specs.Checks.{passes, checks, first_fault, verdicts}
-use Rattle.session_model.specs.Deeds.{Deed, Answer, changing, parts, closes, entering}
+use Rattle.session_model.specs.Deeds.{Deed, Answer, changing, parts, closes}
 use Rattle.session_model.specs.Commands.{does}
 use Rattle.session_model.specs.Keying.{items_behind, typed_bytes, command_item, taken}
-use Rattle.session_model.specs.Events.{Outcome, outcome, finished, refused, where_passed, done, reply_of, left_by, left_acts, attach_checks, attaches, new_client, open_checks, opens, new_window, has_place, is_let_in, is_window_size, is_client_size, resized, outputs, typing_verdicts, keyed, with_listed, message_of, by_line, ordered, Ordered, reading, types, unsaid, keys_outcome, commanded, line_ruling, answered}
+use Rattle.session_model.specs.Events.{Outcome, outcome, finished, refused, where_passed, done, reply_of, left_by, left_acts, attach_checks, attaches, new_client, open_checks, opens, new_window, has_place, is_client_size, resized, outputs, typing_verdicts, keyed, with_listed, message_of, by_line, ordered, Ordered, reading, types, unsaid, keys_outcome, commanded, line_ruling, answered}
 use Rattle.session_model.specs.Run.{IsStep, IsRun, IsRunFrom, tables_from}
 use Rattle.session_laws.proofs.Agreeing.{has, has_row}
 use Rattle.session_laws.proofs.Doing.{Either}
-use Rattle.session_laws.proofs.Fitting.{IsThere, Holds, at_there, number_there, lowest_there}
+use Rattle.session_laws.proofs.Fitting.{Holds, at_there, number_there, lowest_there}
 use Rattle.session_laws.proofs.Lists.{all_append, and_first}
 use Rattle.session_laws.proofs.Moving.{serials}
 use Rattle.session_laws.proofs.Staying.{run_fit, fresh_fit}
-use Rattle.session_laws.proofs.Unread.{SameClients, typing_clients}
+use Rattle.session_laws.proofs.Unread.{typing_clients}
 use Rattle.session_laws.proofs.Outcomes as outcomes
 use Rattle.hub_trail.specs.declared.kept.Kept.{Kept}
 use Rattle.hub_trail.specs.Trails.{Entry}
 use Rattle.hub_trail.specs.Legal.{acts_after}
 use Rattle.hub_trail.specs.Filing.{kept_of, entry_of, filed, entries_of}
-use Rattle.hub_trail.specs.Judging.{is_on_there, is_client, CanFollow, AreJudgeable}
+use Rattle.hub_trail.specs.Judging.{is_on_there, is_client, AreJudgeable}
 use Rattle.hub_trail.proofs.Runs.{Named, IsJudged, judged}
 use Rattle.hub_laws.proofs.Following.{is_free, AllFree, follow_append, free_follow}
 use Rattle.hub_laws.proofs.Naming.{OpenIs, there_open, fit_holds, same_holds}
@@ -168,10 +164,10 @@ keys_judged t s c bytes agree h found =
     let typing : Deed = types (with_client t d) d (typed_bytes given) in
     let order : Ordered = ordered typing.tables d (command_item given) in
     let is : IsOrdered t order =
-        typing_clients (λ v. IsOrdered t (ordered v d (command_item given))) t s c d (typed_bytes given) found refl refl (λ cs same.
-        let all : IsOrdered (record t { clients = cs }) (ordered (record t { clients = cs }) d (command_item given)) =
-            is_ordered (record t { clients = cs }) agree (same_holds t cs same h) d (command_item given) in
-        record { see = all.see; follow = all.follow }) in
+    typing_clients (λ v. IsOrdered t (ordered v d (command_item given))) t s c d (typed_bytes given) found refl refl (λ cs same.
+    let all : IsOrdered (record t { clients = cs }) (ordered (record t { clients = cs }) d (command_item given)) =
+    is_ordered (record t { clients = cs }) agree (same_holds t cs same h) d (command_item given) in
+    record { see = all.see; follow = all.follow }) in
     finished_judged t (typing_verdicts t c (typed_bytes given) ++ order.verdicts) (reply_of (length bytes) 0 0 None)
     (record order.deed { effects = typing.effects ++ unsaid typing.effects order.deed.effects })
     (all_append (λ v. is_on_there t.acts v ≡ true) (typing_verdicts t c (typed_bytes given)) order.verdicts (typed_see t agree c (typed_bytes given)) is.see) is.follow
