@@ -4,12 +4,6 @@
 
 ghost use Rattle.hub_laws.specs.Steps.{EntriesAreJudgeable};
 ghost use Rattle.hub_trail.specs.Laws.{TrailsAreJudgeable};
-ghost use Rattle.hub_trail.specs.Peers.{EffectsAreFew};
-
-/// No step has more than 256 effects.
-pub fn effects_are_few()
-    ensures { EffectsAreFew }
-{}
 
 /// What a step files on tables as those of runs are, tables of rights and locks can judge: its
 /// verdicts speak of objects that are there, and its acts follow one another.
