@@ -1,5 +1,5 @@
-//! Growths that are refused. Played as it stands it meets no refusal; `rt try --test --fail-alloc 1..` refuses
-//! each allocation in turn, and the joined effects must still be the same.
+//! Growths that are refused. Played as they stand the tests meet no refusal; `rt try --test --fail-alloc N`
+//! refuses the Nth allocation, and the joined effects must still be the same.
 
 use acl::UserId;
 use session::{Bytes, Effect, Event, Reply, Session};
