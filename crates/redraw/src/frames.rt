@@ -62,12 +62,7 @@ fn first_bytes(alloc: Global, view: &View, out: &mut Vec<u8>) -> Result<(), Allo
 }
 
 /// Appends the bytes from one view to another, whose pages look the same above the line `from`.
-fn next_bytes(
-    old: &View,
-    view: &View,
-    from: usize,
-    out: &mut Vec<u8>,
-) -> Result<(), AllocError>
+fn next_bytes(old: &View, view: &View, from: usize, out: &mut Vec<u8>) -> Result<(), AllocError>
     requires size { HasSize (length old.now.page) (length (line_at old.now.page 0)) view.now }
     requires inside { from ≤ length view.now.page }
     requires above { AreAlikeAbove from old.now.page view.now.page }
@@ -103,11 +98,7 @@ fn draw(alloc: Global, shadow: &Shadow, view: &View) -> Result<Option<Vec<u8>>, 
 /// shadow's size, and that agrees with the shadow then: it keeps the view. They are discreet and spare,
 /// and begin with the reset exactly where the shadow is unknown. There are none, and the shadow stays,
 /// exactly where it is known to show the same. After an `Err` nothing has changed.
-pub fn frame(
-    alloc: Global,
-    shadow: &mut Shadow,
-    view: View,
-) -> Result<Option<Vec<u8>>, AllocError>
+pub fn frame(alloc: Global, shadow: &mut Shadow, view: View) -> Result<Option<Vec<u8>>, AllocError>
     requires size { HasSize shadow.old.rows shadow.old.columns view }
     ensures needless { IfOk result (λ frame. IfNone frame (DrawsNothing shadow.old view shadow.new)) }
     ensures drawn { IfOk result (λ frame. IfSome frame (λ bytes. DrawsFrame shadow.old view shadow.new bytes.items)) }

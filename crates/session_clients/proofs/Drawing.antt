@@ -206,13 +206,13 @@ pub nothing_drawn : (old inside : List Client) (serial : ℕ) (r : Option (MutBo
     → DrawsNothing serial v old (lender (record b.now { shadow = known }))
 nothing_drawn old inside serial r b lender v known same at holds is size drawn =
     let here = lent_at old inside serial r b lender b.now same at holds is in record {
-  needless =
-      found (λ n. ShowsAlready n v) old inside serial r b same at is
-      (λ n s. shows_already n b.now v s (size b.now here.0) drawn.known drawn.grid);
-  same =
-      ap (λ (k : redraw.Knowledge). lender (record b.now { shadow = k })) drawn.same
-      ∙ lent_back old inside serial r b lender same at holds is;
-}
+      needless =
+          found (λ n. ShowsAlready n v) old inside serial r b same at is
+          (λ n s. shows_already n b.now v s (size b.now here.0) drawn.known drawn.grid);
+      same =
+          ap (λ (k : redraw.Knowledge). lender (record b.now { shadow = k })) drawn.same
+          ∙ lent_back old inside serial r b lender same at holds is;
+    }
 
 pub nobody_drawn : (old inside : List Client) (serial : ℕ) (r : Option (MutBor Client)) (v : View)
     → inside ≡ old → option_copied_mut r ≡ row_of serial_of inside serial → r ≡ None

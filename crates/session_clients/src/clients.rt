@@ -240,8 +240,8 @@ impl Clients {
         client.exchange(keys, message);
     }
 
-    /// Draws a view for a client, of its size: the frame, or none where its terminal is known to show
-    /// the view.
+    /// Draws a view for a client, of its size: the frame, or none where its terminal is known to
+    /// show the view.
     pub fn draw(
         &mut self,
         alloc: Global,

@@ -1,5 +1,5 @@
 -- Views that are drawn.
-use Rattle.std.proofs.Common.{◌≡◌, ℕ, List, [], ◌∷◌, ◌++◌, Some, refl, ap, sym, ◌∙◌, subst, append-nil}
+use Rattle.std.proofs.Common.{◌≡◌, ℕ, List, [], ◌∷◌, ◌++◌, Some, ap, sym, ◌∙◌, subst, append-nil}
 use Rattle.std.specs.Prelude.{◌==◌}
 use Rattle.terminal_model.specs.Shows.{View, ShowsFromAny}
 use Rattle.session_model.specs.declared.event.Effect.TheVariants.{Deliver}

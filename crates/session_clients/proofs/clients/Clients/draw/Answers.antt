@@ -1,4 +1,4 @@
-use Rattle.std.proofs.Common.{ ◌∙◌, ap}
+use Rattle.std.proofs.Common.{◌∙◌, ap}
 use Rattle.redraw.specs.Shadow.{Knowledge}
 use Rattle.session_rows.proofs.Serials.{if_ok, on_error}
 use Rattle.std.proofs.lemmas.Option.{IfSome_then}
@@ -27,10 +27,10 @@ pub returns-clause-err : goal.returns-clause-err
 returns-clause-err c =
     let row : Client = c.in-Some.client.now in
     on_error c.frame.result (λ same.
-      ap (λ (k : Knowledge). c.get_mut.follows.lender (record row { shadow = k })) same
-          ∙ lent_back c.args.self.now c.self.inside.rows c.args.serial c.get_mut.result
-          c.in-Some.client c.get_mut.follows.lender c.self.view_is c.get_mut.follows.claims
-          c.get_mut.follows.holds c.in-Some.is) c.frame.ensures.err
+    ap (λ (k : Knowledge). c.get_mut.follows.lender (record row { shadow = k })) same
+    ∙ lent_back c.args.self.now c.self.inside.rows c.args.serial c.get_mut.result
+    c.in-Some.client c.get_mut.follows.lender c.self.view_is c.get_mut.follows.claims
+    c.get_mut.follows.holds c.in-Some.is) c.frame.ensures.err
 
 pub returns-in_default-clause-needless : goal.returns-in_default-clause-needless
 returns-in_default-clause-needless c = record {
