@@ -18,10 +18,9 @@ use Rattle.terminal_model.proofs.Terminals.{IsTerminal-reads, IsTerminal-ready}
 use Rattle.view.specs.View.{HasSize}
 use Rattle.terminal_model.specs.Drawable.{HaveHalves}
 use Rattle.redraw.specs.declared.pen.Pen.{Pen}
-use Rattle.redraw.specs.Shadow.{LooksLike}
 use Rattle.redraw.specs.Drawing.{Drawing, Takes, Stage, Final}
-use Rattle.redraw.specs.Frames.{Begins, NextBytes, Redraws, pen_of, EndsAs, DrawsBytes}
-use Rattle.redraw.proofs.Takings.{takes_weaker, takes_nothing}
+use Rattle.redraw.specs.Frames.{Begins, Redraws, pen_of, EndsAs, DrawsBytes}
+use Rattle.redraw.proofs.Takings.{takes_weaker}
 
 -- past its edges a page has blanks
 outside_lines : (rows columns l c : ℕ) (page : Page) → IsPage rows columns page → rows ≤ l → cell_at (line_at page l) c ≡ blank
@@ -227,18 +226,3 @@ blank_halves rows columns l hl c left =
         (λ (h : k < columns). get_or-replicate columns k blank blank h)
         (λ (h : columns ≤ k). get_or_past (replicate columns blank) k blank (rw (length-replicate columns blank) h))
         (cases_lt k columns)
-
--- a view that looks like the one that is shown needs no byte
-pub looks_like_bytes : (old v : View) (a : List ℕ) → length v.page < 9999 → length (line_at v.page 0) < 9999 → LooksLike old v → NextBytes old v a a
-looks_like_bytes old v a rh ch like =
-    takes_nothing old.page v.page (Begins (length v.page) (length (line_at v.page 0)) old) (λ x y. EndsAs (length v.page) (length (line_at v.page 0)) v y) a a refl
-    (λ x f. ends (length v.page) (length (line_at v.page 0)) rh ch (pen_of old.cursor) v x (record {
-      stage = let s = f.stage in record {
-        drawing = s.drawing;
-        cells = λ l c hl hc. s.cells l c hl hc ∙ like.cells l c;
-        arrows_are = s.arrows_are ∙ like.arrows;
-        keypad_is = s.keypad_is ∙ like.keypad;
-        shows_are = s.shows_are ∙ ap is_some like.cursor;
-      };
-      cursor_is = subst (λ (k : Option Position). ShowsCursor k x) like.cursor f.cursor_is;
-    }))

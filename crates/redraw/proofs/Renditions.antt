@@ -1,5 +1,5 @@
 -- SGR from any rendition, and from one that is known.
-use Rattle.std.proofs.Common.{◌≡◌, ℕ, ◌+◌, ◌<◌, ◌≤◌, ◌==◌, eqb, Bool, true, false, ◌&&◌, List, [], ◌∷◌, ◌++◌, length, Option, Some, None, refl, sym, ap, ◌∙◌, subst, arith, append_assoc}
+use Rattle.std.proofs.Common.{◌≡◌, ℕ, ◌+◌, ◌<◌, ◌≤◌, ◌==◌, eqb, Bool, true, false, List, [], ◌∷◌, ◌++◌, length, Option, Some, None, refl, sym, ap, ◌∙◌, arith, append_assoc}
 use Rattle.std.specs.Prelude.{if◌then◌else◌, nat_lt, option_to_list}
 use Rattle.std.specs.List.{AllByRecursion, list_all}
 use Rattle.std.proofs.lemmas.List.{length-append}
@@ -8,7 +8,6 @@ use Rattle.cells.specs.declared.cell.Colour.{Colour}
 use Rattle.cells.specs.declared.cell.Colour.TheVariants.{Default, Black, Red, Green, Yellow, Blue, Magenta, Cyan, White}
 use Rattle.cells.specs.declared.cell.Rendition.{Rendition}
 use Rattle.control_parser.specs.declared.func.Func.TheVariants.{Csi}
-use Rattle.terminal_model.specs.declared.action.Action.{Action}
 use Rattle.terminal_model.specs.declared.action.Action.TheVariants.{Render}
 use Rattle.terminal_model.specs.declared.action.Attribute.{Attribute}
 use Rattle.terminal_model.specs.declared.action.Attribute.TheVariants.{Plain, Bold, Underlined, Blinking, Reversed, Foreground, Background}

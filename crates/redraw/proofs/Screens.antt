@@ -1,5 +1,5 @@
 -- A screen on which a frame is drawn, after each command.
-use Rattle.std.proofs.Common.{◌≡◌, ℕ, ◌+◌, ◌-◌, ◌<◌, min, max, Bool, true, false, eqb, List, Some, refl, sym, ap, subst, arith, ⊎_elim}
+use Rattle.std.proofs.Common.{◌≡◌, ℕ, ◌+◌, ◌-◌, ◌<◌, min, max, true, false, eqb, List, Some, refl, sym, ap, subst, arith, ⊎_elim}
 use Rattle.std.proofs.lemmas.Bool.{cases_Bool, ne_eqb, eqb-true}
 use Rattle.charsets.specs.declared.unit.Coding.TheVariants.{Utf8}
 use Rattle.cells.specs.declared.cell.Rendition.{Rendition}
@@ -8,7 +8,7 @@ use Rattle.control_parser.specs.Spelling.{spelling}
 use Rattle.terminal_model.specs.declared.state.State.{State}
 use Rattle.terminal_model.specs.Screen.{Page, Screen, IsSound}
 use Rattle.terminal_model.specs.Functions.{first, second, plain_sequence}
-use Rattle.terminal_model.specs.Table.{effect, acted_from, moved_to, settled, apart, with_state, line_named, line_below}
+use Rattle.terminal_model.specs.Table.{effect, acted_from, moved_to, settled, apart, line_named, line_below}
 use Rattle.terminal_model.specs.Drawing.{drawn_state}
 use Rattle.terminal_model.proofs.Sound.{IsSound-effect}
 use Rattle.redraw.specs.declared.pen.Pen.{Pen}

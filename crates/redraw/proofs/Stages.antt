@@ -15,6 +15,7 @@ use Rattle.redraw.specs.declared.pen.Pen.{Pen}
 use Rattle.redraw.specs.declared.command.Command.{Command}
 use Rattle.redraw.specs.declared.command.Command.TheVariants.{Arrows, ShowCursor, Keypad}
 use Rattle.redraw.specs.Commands.{func_of}
+use Rattle.redraw.specs.Shadow.{AreAlikeAbove}
 use Rattle.redraw.specs.Drawing.{seen, Drawing, Takes, Keeps, HasLine, DrawsLine, HasPage, DrawsPage, Stage, Final, changed}
 use Rattle.redraw.proofs.Rows.{mixed_front}
 use Rattle.redraw.proofs.Effects.{silent_leads}
@@ -22,9 +23,9 @@ use Rattle.redraw.proofs.Screens.{utf8, LeadsTo}
 use Rattle.redraw.proofs.Takings.{leads_nothing, takes_nothing, takes_then, takes_bytes, takes_weaker, takes_given}
 
 module _ (old new : Page) (rows columns : ℕ) where
-  pub page_start : (p : Pen) (a : List ℕ) → Takes old new (HasPage rows columns p old) (DrawsPage rows columns p old new 0) a a
-  page_start p a = takes_nothing old new (HasPage rows columns p old) (DrawsPage rows columns p old new 0) a a refl
-      (λ x h. record { drawing = h.drawing; above = λ l c hl hc. absurd (omega arith); below = λ l c nl hl hc. h.cells l c hl hc; modes = refl })
+  pub page_start : (p : Pen) (from : ℕ) (a : List ℕ) → from ≤ rows → AreAlikeAbove from old new → Takes old new (HasPage rows columns p old) (DrawsPage rows columns p old new from) a a
+  page_start p from a inside alike = takes_nothing old new (HasPage rows columns p old) (DrawsPage rows columns p old new from) a a refl
+      (λ x h. record { drawing = h.drawing; above = λ l c hl hc. h.cells l c (omega arith) hc ∙ alike l c hl; below = λ l c nl hl hc. h.cells l c hl hc; modes = refl })
 
   pub page_line : (p q r : Pen) (k : ℕ) (a b c : List ℕ) → k < rows → Takes old new (HasPage rows columns p old) (DrawsPage rows columns q old new k) a b
       → Takes old new (HasLine rows columns q k (seen_at old k)) (DrawsLine rows columns r k (seen_at old k) (seen_at new k) columns) b c → Takes old new (HasPage rows columns p old) (DrawsPage rows columns r old new (k + 1)) a c

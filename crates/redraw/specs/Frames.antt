@@ -1,7 +1,7 @@
 -- What a frame does to each terminal that agrees with a shadow.
 use Rattle.std.specs.Prelude.{◌≡◌, ℕ, true, false, List, [], ◌++◌, length, Option, Some, None}
 use Rattle.cells.specs.Line.{plain}
-use Rattle.cells.specs.Page.{line_at}
+use Rattle.cells.specs.Page.{line_at, IsGrid}
 use Rattle.terminal_model.specs.declared.state.Position.{Position}
 use Rattle.terminal_model.specs.Screen.{Page, Screen, blank_page}
 use Rattle.terminal_model.specs.Reading.{Terminal, reads}
@@ -9,6 +9,8 @@ use Rattle.terminal_model.specs.Shows.{View}
 use Rattle.terminal_model.specs.Drawing.{frame_bytes, Draws, AreSpelled, Agrees}
 use Rattle.terminal_model.specs.Drawable.{HaveHalves}
 use Rattle.redraw.specs.declared.pen.Pen.{Pen}
+use Rattle.view.specs.Drawable.{IsDrawable}
+use Rattle.redraw.specs.Shadow.{Knowledge, NeedsDraw, IsKnown}
 use Rattle.redraw.specs.Drawing.{Takes, Stage, Final}
 
 -- a frame begins with the reset exactly where nothing is known of the terminal
@@ -68,3 +70,15 @@ pub record FirstBytes (v : View) (before after : List ℕ) : Type 0 where
 abbrev pub DrawsBytes : Option View → View → List ℕ → List ℕ → Type 0
 DrawsBytes None v before after = FirstBytes v before after
 DrawsBytes (Some old) v before after = NextBytes old v before after
+
+-- the terminal is known to show the view, and nothing changes
+pub record DrawsNothing (old : Knowledge) (v : View) (new : Knowledge) : Type 0 where
+  pub known : IsKnown old.known v
+  pub grid : IsGrid v.page
+  pub same : new ≡ old
+
+-- the view has to be drawn, the bytes draw it, and the terminal is known to show it then
+pub record DrawsFrame (old : Knowledge) (v : View) (new : Knowledge) (bytes : List ℕ) : Type 0 where
+  pub needed : NeedsDraw old.known v
+  pub redraws : CanBeShown old.known → IsDrawable v → Redraws old.rows old.columns old.known v bytes
+  pub known : new ≡ record old { known = Some v }

@@ -1,5 +1,6 @@
 -- What is known of a client's terminal.
-use Rattle.std.specs.Prelude.{◌≡◌, ℕ, Option, Some, None}
+use Rattle.std.specs.Prelude.{◌≡◌, ◌<◌, ℕ, Option, Some, None}
+use Rattle.terminal_model.specs.Screen.{Page}
 use Rattle.terminal_model.specs.Shows.{View, seen_at}
 use Rattle.view.specs.View.{HasSize}
 
@@ -12,6 +13,10 @@ pub record Knowledge : Type 0 where
 -- a known view has the terminal's size
 abbrev pub IsSound : Knowledge → Type 0
 IsSound k = (v : View) → k.known ≡ Some v → HasSize k.rows k.columns v
+
+-- two pages look the same above a line
+abbrev pub AreAlikeAbove : ℕ → Page → Page → Type 0
+AreAlikeAbove line a b = (l column : ℕ) → l < line → seen_at a l column ≡ seen_at b l column
 
 -- two views show the same: protection isn't seen
 pub record LooksLike (a b : View) : Type 0 where

@@ -1,19 +1,16 @@
 //! Frames.
 
-ghost use Rattle.std.specs.Prelude.{◌≡◌, ◌<◌, ◌≤◌, ◌++◌, ℕ, List, Some, None, OnOk, OnErr, length, is_some, true, false};
+ghost use Rattle.std.specs.Prelude.{◌≡◌, ◌≤◌, [], OnOk, OnErr, IfOk, IfNone, IfSome, length, is_some};
 ghost use Rattle.cells.specs.Page.{line_at};
-ghost use Rattle.terminal_model.specs.Screen.{blank_page};
-ghost use Rattle.terminal_model.specs.Drawing.{frame_bytes};
 ghost use Rattle.view.specs.View.{HasSize, place_of};
 ghost use Rattle.terminal_model.specs.Drawable.{HaveHalves};
 ghost use Rattle.view.specs.Drawable.{IsDrawable};
-ghost use Rattle.redraw.specs.Drawing.{Takes, Stage, Final};
-ghost use Rattle.redraw.specs.Frames.{Redraws, CanBeShown, pen_of, FirstBytes, NextBytes, DrawsBytes};
-ghost use Rattle.redraw.specs.Shadow.{NeedsDraw};
+ghost use Rattle.redraw.specs.Frames.{CanBeShown, pen_of, FirstBytes, NextBytes, DrawsBytes, DrawsNothing, DrawsFrame};
+ghost use Rattle.redraw.specs.Shadow.{AreAlikeAbove, NeedsDraw, IsKnown};
 
 use crate::painting::paint;
 use crate::pen::Pen;
-use crate::shadow::{Shadow, is_same};
+use crate::shadow::{Shadow, first_change};
 use cells::Rendition;
 use std::alloc::{AllocError, Global};
 use view::{Cursor, View};
@@ -60,54 +57,56 @@ fn first_bytes(alloc: Global, view: &View, out: &mut Vec<u8>) -> Result<(), Allo
         column: 0,
         rendition: Some(Rendition::PLAIN),
     };
-    paint(&mut pen, &blank, true, view, out)?;
+    paint(&mut pen, &blank, true, view, 0, out)?;
     Ok(())
 }
 
-/// Appends the bytes from one view to another.
-fn next_bytes(old: &View, view: &View, out: &mut Vec<u8>) -> Result<(), AllocError>
-    requires { HasSize (length old.now.page) (length (line_at old.now.page 0)) view.now }
+/// Appends the bytes from one view to another, whose pages look the same above the line `from`.
+fn next_bytes(old: &View, view: &View, from: usize, out: &mut Vec<u8>) -> Result<(), AllocError>
+    requires size { HasSize (length old.now.page) (length (line_at old.now.page 0)) view.now }
+    requires inside { from ≤ length view.now.page }
+    requires above { AreAlikeAbove from old.now.page view.now.page }
     ensures { OnOk result (HaveHalves old.now.page → IsDrawable view.now → NextBytes old.now view.now out.old.items out.new.items) }
 {
     let cursor = old.cursor();
     let mut pen = pen_at(cursor);
-    paint(&mut pen, old, is_shown(cursor), view, out)?;
+    paint(&mut pen, old, is_shown(cursor), view, from, out)?;
     Ok(())
 }
 
-/// Appends the bytes from what is known of a terminal to a view.
-fn draw(alloc: Global, shadow: &Shadow, view: &View, out: &mut Vec<u8>) -> Result<(), AllocError>
+/// The bytes from what is known of a terminal to a view; none where it is known to show that.
+fn draw(alloc: Global, shadow: &Shadow, view: &View) -> Result<Option<Vec<u8>>, AllocError>
     requires size { HasSize shadow.now.rows shadow.now.columns view.now }
-    ensures draws { OnOk result (CanBeShown shadow.now.known → IsDrawable view.now → DrawsBytes shadow.now.known view.now out.old.items out.new.items) }
-    ensures spares { OnOk result ((NeedsDraw shadow.now.known view.now → ⊥) → out.new.items ≡ out.old.items) }
-{
-    match &shadow.known {
-        None => first_bytes(alloc, view, out)?,
-        Some(last) if is_same(last, view) => {}
-        Some(last) => next_bytes(last, view, out)?,
-    }
-    Ok(())
-}
-
-/// Appends bytes that lead each terminal that agrees with the shadow to one that shows the view, of the
-/// shadow's size, and that agrees with the shadow then. They are discreet and spare, and begin with the reset
-/// exactly where the shadow is unknown. After an `Err` nothing has changed.
-pub fn frame(
-    alloc: Global,
-    shadow: &mut Shadow,
-    view: &View,
-    out: &mut Vec<u8>,
-) -> Result<(), AllocError>
-    requires size { HasSize shadow.old.rows shadow.old.columns view.now }
-    ensures known { OnOk result (shadow.new ≡ record shadow.old { known = Some view.now }) }
-    ensures err { OnErr result ((out.new.items ≡ out.old.items) × (shadow.new ≡ shadow.old)) }
-    ensures unchanged { OnOk result ((NeedsDraw shadow.old.known view.now → ⊥) → out.new.items ≡ out.old.items) }
-    ensures drawn { OnOk result (CanBeShown shadow.old.known → IsDrawable view.now → (bytes : List ℕ) × (out.new.items ≡ out.old.items ++ bytes) × Redraws shadow.old.rows shadow.old.columns shadow.old.known view.now bytes) }
+    ensures needless { IfOk result (λ frame. IfNone frame (IsKnown shadow.now.known view.now)) }
+    ensures needed { IfOk result (λ frame. IfSome frame (λ bytes. NeedsDraw shadow.now.known view.now)) }
+    ensures drawn { IfOk result (λ frame. IfSome frame (λ bytes. CanBeShown shadow.now.known → IsDrawable view.now → DrawsBytes shadow.now.known view.now [] bytes.items)) }
 {
     let mut bytes = Vec::new(alloc);
-    draw(alloc, shadow, view, &mut bytes)?;
-    let known = view.try_copy(alloc)?;
-    out.extend_from_slice(&bytes)?;
-    shadow.known = Some(known);
-    Ok(())
+    match &shadow.known {
+        None => first_bytes(alloc, view, &mut bytes)?,
+        Some(last) => {
+            let Some(from) = first_change(last, view) else {
+                return Ok(None);
+            };
+            next_bytes(last, view, from, &mut bytes)?;
+        }
+    }
+    Ok(Some(bytes))
+}
+
+/// The bytes that lead each terminal that agrees with the shadow to one that shows the view, of the
+/// shadow's size, and that agrees with the shadow then: it keeps the view. They are discreet and spare,
+/// and begin with the reset exactly where the shadow is unknown. There are none, and the shadow stays,
+/// exactly where it is known to show the same. After an `Err` nothing has changed.
+pub fn frame(alloc: Global, shadow: &mut Shadow, view: View) -> Result<Option<Vec<u8>>, AllocError>
+    requires size { HasSize shadow.old.rows shadow.old.columns view }
+    ensures needless { IfOk result (λ frame. IfNone frame (DrawsNothing shadow.old view shadow.new)) }
+    ensures drawn { IfOk result (λ frame. IfSome frame (λ bytes. DrawsFrame shadow.old view shadow.new bytes.items)) }
+    ensures err { OnErr result (shadow.new ≡ shadow.old) }
+{
+    let Some(bytes) = draw(alloc, shadow, &view)? else {
+        return Ok(None);
+    };
+    shadow.known = Some(view);
+    Ok(Some(bytes))
 }

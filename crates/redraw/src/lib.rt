@@ -9,4 +9,4 @@ mod rendition;
 mod shadow;
 
 pub use frames::frame;
-pub use shadow::{Shadow, needs_draw};
+pub use shadow::Shadow;

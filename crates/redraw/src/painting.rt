@@ -10,6 +10,7 @@ ghost use Rattle.view.specs.Drawable.{IsDrawable};
 ghost use Rattle.terminal_model.specs.Drawing.{Differs};
 ghost use Rattle.view.specs.View.{HasSize, place_of};
 ghost use Rattle.redraw.specs.Commands.{IsPlaced};
+ghost use Rattle.redraw.specs.Shadow.{AreAlikeAbove};
 ghost use Rattle.redraw.specs.Drawing.{AreLines, DrawsPiece, DrawsUpTo, Takes, HasPage, DrawsPage, Stage, Final, changed};
 
 use crate::command::Command;
@@ -97,14 +98,22 @@ fn draw_line(
     Ok(())
 }
 
-/// Draws the places of a page that differ, line after line.
-fn draw_page(pen: &mut Pen, old: &View, new: &View, out: &mut Vec<u8>) -> Result<(), AllocError>
+/// Draws the places of a page that differ, from a line on and line after line.
+fn draw_page(
+    pen: &mut Pen,
+    old: &View,
+    new: &View,
+    from: usize,
+    out: &mut Vec<u8>,
+) -> Result<(), AllocError>
     requires size { HasSize (length old.now.page) (length (line_at old.now.page 0)) new.now }
+    requires inside { from ≤ length new.now.page }
+    requires above { AreAlikeAbove from old.now.page new.now.page }
     ensures { OnOk result (HaveHalves old.now.page → IsDrawable new.now →
         Takes old.now.page new.now.page (HasPage (length new.now.page) (length (line_at new.now.page 0)) pen.old old.now.page)
         (DrawsPage (length new.now.page) (length (line_at new.now.page 0)) pen.new old.now.page new.now.page (length new.now.page)) out.old.items out.new.items) }
 {
-    for line in 0..new.rows() {
+    for line in from..new.rows() {
         draw_line(pen, line as u16, old.row(line), new.row(line), out)?;
     }
     Ok(())
@@ -165,22 +174,26 @@ fn draw_cursor(
     Ok(())
 }
 
-/// Draws what differs between two views of one size. `was_shown` says whether the cursor is shown before.
+/// Draws what differs between two views of one size, whose pages look the same above the line `from`.
+/// `was_shown` says whether the cursor is shown before.
 pub fn paint(
     pen: &mut Pen,
     old: &View,
     was_shown: bool,
     new: &View,
+    from: usize,
     out: &mut Vec<u8>,
 ) -> Result<(), AllocError>
-    requires { HasSize (length old.now.page) (length (line_at old.now.page 0)) new.now }
+    requires size { HasSize (length old.now.page) (length (line_at old.now.page 0)) new.now }
+    requires inside { from ≤ length new.now.page }
+    requires above { AreAlikeAbove from old.now.page new.now.page }
     ensures { OnOk result (HaveHalves old.now.page → IsDrawable new.now →
         Takes old.now.page new.now.page
         (Stage (length new.now.page) (length (line_at new.now.page 0)) pen.old old.now.page old.now.has_application_arrows old.now.has_application_keypad was_shown)
         (λ x y. Final (length new.now.page) (length (line_at new.now.page 0)) pen.new new.now.page new.now.has_application_arrows new.now.has_application_keypad new.now.cursor y)
         out.old.items out.new.items) }
 {
-    draw_page(pen, old, new, out)?;
+    draw_page(pen, old, new, from, out)?;
     draw_modes(old.modes(), new.modes(), out)?;
     draw_cursor(pen, was_shown, new.cursor(), out)?;
     Ok(())

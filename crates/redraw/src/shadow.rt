@@ -1,10 +1,9 @@
 //! What is known of a client's terminal.
 
-ghost use Rattle.std.specs.Prelude.{◌≡◌, ◌<◌, ◌≤◌, ◌↔◌, ℕ, None, IsTrue, false, length};
-ghost use Rattle.terminal_model.specs.Shows.{seen_at};
+ghost use Rattle.std.specs.Prelude.{◌≡◌, ◌<◌, ◌≤◌, ◌↔◌, None, IsTrue, IfNone, IfSome, length};
 ghost use Rattle.cells.specs.Page.{line_at, IsGrid};
 ghost use Rattle.view.specs.View.{HasSize, place_of};
-ghost use Rattle.redraw.specs.Shadow.{LooksLike, NeedsDraw, IsKnown};
+ghost use Rattle.redraw.specs.Shadow.{AreAlikeAbove, LooksLike};
 
 use cells::next_unlike;
 use std::marker::Model;
@@ -75,43 +74,37 @@ fn is_same_modes(a: KeyModes, b: KeyModes) -> bool
     a == b
 }
 
-/// Whether two pages look the same, protection aside.
-fn is_same_page(old: &View, new: &View) -> bool
+/// The first line in which two pages look different, protection aside, or the number of their lines.
+fn first_unlike(old: &View, new: &View) -> usize
     requires { HasSize (length old.now.page) (length (line_at old.now.page 0)) new.now }
-    ensures { IsTrue result ↔ ((line column : ℕ) → seen_at old.now.page line column ≡ seen_at new.now.page line column) }
+    ensures inside { result ≤ length new.now.page }
+    ensures above { AreAlikeAbove result old.now.page new.now.page }
+    ensures unlike { result < length new.now.page → LooksLike old.now new.now → ⊥ }
 {
     for line in 0..new.rows() {
         if let Some(_run) = next_unlike(old.row(line), new.row(line), 0) {
-            return false;
+            return line;
         }
     }
-    true
+    new.rows()
 }
 
-/// Whether two views show the same.
-pub fn is_same(old: &View, new: &View) -> bool
+/// The line from which a page is to be drawn that leads from one view to another; none where they
+/// show the same.
+pub fn first_change(old: &View, new: &View) -> Option<usize>
     requires { HasSize (length old.now.page) (length (line_at old.now.page 0)) new.now }
-    ensures same { IsTrue result ↔ LooksLike old.now new.now }
+    ensures none { IfNone result (LooksLike old.now new.now) }
+    ensures unlike { IfSome result (λ line. LooksLike old.now new.now → ⊥) }
+    ensures from { IfSome result (λ line. (line ≤ length new.now.page) × AreAlikeAbove line old.now.page new.now.page) }
     ensures grid { IsGrid new.now.page }
 {
-    if !is_same_cursor(old.cursor(), new.cursor()) {
-        return false;
-    }
-    if !is_same_modes(old.modes(), new.modes()) {
-        return false;
-    }
-    is_same_page(old, new)
-}
-
-/// Whether the terminal isn't known to show the view.
-pub fn needs_draw(shadow: &Shadow, view: &View) -> bool
-    requires size { HasSize shadow.now.rows shadow.now.columns view.now }
-    ensures needs { IsTrue result ↔ NeedsDraw shadow.now.known view.now }
-    ensures known { result ≡ false → IsKnown shadow.now.known view.now }
-    ensures grid { result ≡ false → IsGrid view.now.page }
-{
-    match &shadow.known {
-        None => true,
-        Some(last) => !is_same(last, view),
+    let line = first_unlike(old, new);
+    let is_same_page = line == new.rows();
+    let is_same_cursor = is_same_cursor(old.cursor(), new.cursor());
+    let is_same_modes = is_same_modes(old.modes(), new.modes());
+    if is_same_page && is_same_cursor && is_same_modes {
+        None
+    } else {
+        Some(line)
     }
 }

@@ -62,13 +62,13 @@ fn letters(a: char, first: Rendition, b: char, second: Rendition) -> [Cell; 2] {
 /// The bytes of a frame from two cells to others.
 fn frame_between(alloc: Global, from: &[Cell], to: &[Cell]) -> Result<Vec<u8>, Fail> {
     let mut shadow = Shadow::unknown(4, 20);
-    let mut bytes = Vec::new(alloc);
-    let first = view_of(alloc, from)?;
-    frame(alloc, &mut shadow, &first, &mut bytes)?;
-    bytes.clear();
-    let second = view_of(alloc, to)?;
-    frame(alloc, &mut shadow, &second, &mut bytes)?;
-    Ok(bytes)
+    let Some(_first) = frame(alloc, &mut shadow, view_of(alloc, from)?)? else {
+        return Err(Fail::from("no frame"));
+    };
+    match frame(alloc, &mut shadow, view_of(alloc, to)?)? {
+        Some(bytes) => Ok(bytes),
+        None => Err(Fail::from("no frame")),
+    }
 }
 
 /// Whether some bytes hold others.

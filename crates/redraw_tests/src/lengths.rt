@@ -183,25 +183,25 @@ impl Page {
     }
 }
 
-/// The bytes of the frame from a page to another.
-fn frame_between(alloc: Global, from: Option<Page>, to: Page) -> Result<Vec<u8>, AllocError> {
+/// How many bytes the frame from a page to another has.
+fn count_between(alloc: Global, from: Option<Page>, to: Page) -> Result<usize, Fail> {
     let mut shadow = Shadow::unknown(24, 80);
-    let mut bytes = Vec::new(alloc);
     if let Some(from) = from {
-        let view = from.view(alloc)?;
-        frame(alloc, &mut shadow, &view, &mut bytes)?;
-        bytes.clear();
+        let Some(_first) = frame(alloc, &mut shadow, from.view(alloc)?)? else {
+            return Err(Fail::from("no frame"));
+        };
     }
-    let view = to.view(alloc)?;
-    frame(alloc, &mut shadow, &view, &mut bytes)?;
-    Ok(bytes)
+    match frame(alloc, &mut shadow, to.view(alloc)?)? {
+        Some(bytes) => Ok(bytes.len()),
+        None => Ok(0),
+    }
 }
 
 #[test]
 fn frames_are_short(rt: HostRuntime) -> Result<(), Fail> {
     for draw in &DRAWS {
-        let bytes = frame_between(rt.alloc(), draw.from, draw.to)?;
-        let (title, count) = (draw.title, bytes.len());
+        let count = count_between(rt.alloc(), draw.from, draw.to)?;
+        let title = draw.title;
         assert!(rt; 0 < count && count <= draw.most, "{title}: {count}");
     }
     Ok(())

@@ -5,7 +5,7 @@ ghost use Rattle.view.specs.View.{HasSize};
 
 use crate::stage::{COLS, Dice, ROWS, Stage, read, shows, terminal_in_some_state};
 use emulator::Emulator;
-use redraw::{Shadow, frame, needs_draw};
+use redraw::{Shadow, frame};
 use std::alloc::Global;
 use std::process::Abort;
 use std::test::Fail;
@@ -13,26 +13,27 @@ use view::View;
 
 const STEPS: usize = 1000;
 
-/// Draws the view into a terminal, and gives how many bytes that took.
+/// Draws the view into a terminal, and says whether that took bytes.
 fn draw(
     alloc: Global,
-    view: &View,
+    view: View,
     shadow: &mut Shadow,
     terminal: &mut Emulator,
-) -> Result<usize, Fail>
-    requires { HasSize shadow.old.rows shadow.old.columns view.now }
+) -> Result<bool, Fail>
+    requires { HasSize shadow.old.rows shadow.old.columns view }
     ensures rows { OnOk result (shadow.new.rows ≡ shadow.old.rows) }
     ensures columns { OnOk result (shadow.new.columns ≡ shadow.old.columns) }
 {
-    let mut bytes = Vec::new(alloc);
-    frame(alloc, shadow, view, &mut bytes)?;
+    let Some(bytes) = frame(alloc, shadow, view)? else {
+        return Ok(false);
+    };
     read(terminal, alloc, &bytes)?;
-    Ok(bytes.len())
+    Ok(!bytes.is_empty())
 }
 
 /// Draws the view into a terminal in some state.
-fn drawn_from_unknown(alloc: Global, view: &View, dice: &mut Dice) -> Result<Emulator, Fail>
-    requires { HasSize 10 24 view.now }
+fn drawn_from_unknown(alloc: Global, view: View, dice: &mut Dice) -> Result<Emulator, Fail>
+    requires { HasSize 10 24 view }
 {
     let mut terminal = terminal_in_some_state(alloc, dice)?;
     draw(alloc, view, &mut Shadow::unknown(ROWS, COLS), &mut terminal)?;
@@ -42,7 +43,7 @@ fn drawn_from_unknown(alloc: Global, view: &View, dice: &mut Dice) -> Result<Emu
 /// Draws the view both ways, and looks at what the terminals show then.
 fn draw_both_ways(
     rt: &(impl Abort + AllocGlobal),
-    view: &View,
+    stage: &Stage,
     shadow: &mut Shadow,
     terminal: &mut Emulator,
     dice: &mut Dice,
@@ -50,19 +51,20 @@ fn draw_both_ways(
 ) -> Result<(), Fail>
     requires rows { shadow.old.rows ≡ 10 }
     requires columns { shadow.old.columns ≡ 24 }
-    requires size { HasSize 10 24 view.now }
     ensures rows { OnOk result (shadow.new.rows ≡ 10) }
     ensures columns { OnOk result (shadow.new.columns ≡ 24) }
 {
-    let is_needed = needs_draw(shadow, view);
-    let count = draw(rt.alloc(), view, shadow, terminal)?;
+    let alloc = rt.alloc();
+    let view = stage.view(alloc)?;
+    let is_shown = shows(terminal, &view);
+    let is_drawn = draw(alloc, stage.view(alloc)?, shadow, terminal)?;
     assert!(rt;
-        is_needed == (0 < count),
-        "step {step}: a draw is needed or not"
+        step == 0 || is_drawn != is_shown,
+        "step {step}: bytes where it isn't shown, and nowhere else"
     );
-    assert!(rt; shows(terminal, view), "step {step}: from what was known");
-    let other = drawn_from_unknown(rt.alloc(), view, dice)?;
-    assert!(rt; shows(&other, view), "step {step}: from unknown");
+    assert!(rt; shows(terminal, &view), "step {step}: from what was known");
+    let other = drawn_from_unknown(alloc, stage.view(alloc)?, dice)?;
+    assert!(rt; shows(&other, &view), "step {step}: from unknown");
     Ok(())
 }
 
@@ -75,8 +77,7 @@ fn both_ways_lead_to_the_view(rt: HostRuntime) -> Result<(), Fail> {
     let mut terminal = terminal_in_some_state(alloc, &mut dice)?;
     for step in 0..STEPS {
         stage.step(alloc, &mut dice)?;
-        let view = stage.view(alloc)?;
-        draw_both_ways(&rt, &view, &mut shadow, &mut terminal, &mut dice, step)?;
+        draw_both_ways(&rt, &stage, &mut shadow, &mut terminal, &mut dice, step)?;
     }
     Ok(())
 }

@@ -1,6 +1,6 @@
 -- Views that are drawn.
 use Rattle.std.proofs.Common.{◌≡◌, ℕ, List, [], ◌++◌, length, Option, Some, None, refl, ap, sym, ◌∙◌, subst, MutBor}
-use Rattle.std.specs.Option.{OnSome, option_copied_mut}
+use Rattle.std.specs.Option.{OnSome, IfNone, option_copied_mut}
 use Rattle.std.proofs.lemmas.List.{append-nil}
 use Rattle.cells.specs.Page.{IsPage, IsGrid}
 use Rattle.terminal_model.specs.Screen.{Screen}
@@ -11,14 +11,15 @@ use Rattle.terminal_model.proofs.Readings.{reads-append}
 use Rattle.view.specs.View.{HasSize}
 use Rattle.view.specs.Drawable.{IsDrawable}
 use Rattle.redraw.specs.Shadow as redraw
-use Rattle.redraw.specs.Frames.{Redraws, CanBeShown}
+use Rattle.redraw.specs.Frames as frames
+use Rattle.redraw.specs.Frames.{Redraws, CanBeShown, DrawsFrame}
 use Rattle.session_model.specs.Framed.{LooksLike, NeedsDraw, NeedsNoDraw, IsFrame}
 use Rattle.session_model.specs.Tables as model
 use Rattle.session_model.specs.Tables.{row_of, with_row}
 use Rattle.session_clients.specs.declared.client.Client.{Client}
-use Rattle.session_clients.specs.Stands.{ClientStands, IsScreen}
-use Rattle.session_clients.specs.Draws.{ShowsAlready, Draws}
-use Rattle.session_clients.proofs.Changing.{serial_of, lent_at, found, found_none, changed}
+use Rattle.session_clients.specs.Stands.{ClientStands, IsScreen, Finds}
+use Rattle.session_clients.specs.Draws.{ShowsAlready, Draws, DrawsNothing}
+use Rattle.session_clients.proofs.Changing.{serial_of, lent_at, lent_back, found, found_none, changed}
 use Rattle.session_clients.proofs.Frames.{frame_behind, then_delivered}
 
 -- ---- what is known
@@ -75,13 +76,13 @@ size_of_row m c v st size = record {
   columns_are = size.columns_are ∙ st.columns_are;
 }
 
-pub needs_then : (m : model.Client) (c : Client) (v : View) → ClientStands m c
+needs_then : (m : model.Client) (c : Client) (v : View) → ClientStands m c
     → redraw.NeedsDraw c.shadow.known v → NeedsDraw m.drawn v
 needs_then m c v st needed =
     needs m.drawn v (subst (λ k. redraw.NeedsDraw k v) st.known_is needed)
 
 -- nothing has to be drawn
-pub shows_already : (m : model.Client) (c : Client) (v : View) → ClientStands m c
+shows_already : (m : model.Client) (c : Client) (v : View) → ClientStands m c
     → HasSize c.shadow.rows c.shadow.columns v → redraw.IsKnown c.shadow.known v → IsGrid v.page
     → ShowsAlready m v
 shows_already m c v st size known grid =
@@ -128,12 +129,12 @@ module _ (m : model.Client) (c : Client) (v : View) (bytes : List ℕ) (st : Cli
       (st.screen.quiet t is)
       ∙ redraws_then.quiet (reads t m.delivered).terminal (st.screen.agrees t is))
 
-  pub framed : IsFrame m.rows m.columns m.delivered v bytes
+  framed : IsFrame m.rows m.columns m.delivered v bytes
   framed =
       frame_behind m.rows m.columns m.drawn v m.delivered bytes st.screen.delivers
       st.screen.agrees redraws_then
 
-  pub shows_then : ShowsFromAny (m.delivered ++ bytes) m.rows m.columns v
+  shows_then : ShowsFromAny (m.delivered ++ bytes) m.rows m.columns v
   shows_then t is = record { shows = (agrees_then t is).1.shows; quiet = quiet_then t is }
 
   screen_then : IsScreen m.rows m.columns (Some v) (m.delivered ++ bytes)
@@ -146,7 +147,7 @@ module _ (m : model.Client) (c : Client) (v : View) (bytes : List ℕ) (st : Cli
   }
 
   -- the row knows what was drawn
-  pub keeps_drawn : (d : Client)
+  keeps_drawn : (d : Client)
       → d ≡ record c { shadow = record c.shadow { known = Some v } }
       → ClientStands (record m { delivered = m.delivered ++ bytes; drawn = Some v }) d
   keeps_drawn d is =
@@ -170,40 +171,55 @@ module _ (m : model.Client) (c : Client) (v : View) (bytes : List ℕ) (st : Cli
       })
 
 pub drawn_row : (old inside : List Client) (serial : ℕ) (r : Option (MutBor Client))
-    (b : MutBor Client) (lender : Client → List Client) (d : Client) (v : View)
-    (before after : List ℕ) → inside ≡ old
-    → option_copied_mut r ≡ row_of serial_of inside serial
+    (b : MutBor Client) (lender : Client → List Client) (v : View) (known : redraw.Knowledge)
+    (bytes : List ℕ) → inside ≡ old → option_copied_mut r ≡ row_of serial_of inside serial
     → ((w : Client) → OnSome r (lender w ≡ with_row serial_of inside serial w)) → r ≡ Some b
-    → IsDrawable v → d ≡ record b.now { shadow = record b.now.shadow { known = Some v } }
-    → (CanBeShown b.now.shadow.known → IsDrawable v
-    → (bytes : List ℕ) × (after ≡ before ++ bytes)
-    × Redraws b.now.shadow.rows b.now.shadow.columns b.now.shadow.known v bytes)
-    → Draws serial v before after old (lender d)
-drawn_row old inside serial r b lender d v before after same at holds is drawable now drawn rows m st
-    there =
+    → DrawsFrame b.now.shadow v known bytes → IsDrawable v
+    → Draws serial v bytes old (lender (record b.now { shadow = known }))
+drawn_row old inside serial r b lender v known bytes same at holds is drawn drawable rows m st there =
+    let d : Client = record b.now { shadow = known } in
     let here = lent_at old inside serial r b lender d same at holds is in
     let stands : ClientStands m b.now =
     found (λ n. ClientStands n b.now) old inside serial r b same at is (λ n s. s) rows m st
     there in
     let shown : CanBeShown b.now.shadow.known =
     subst (λ k. CanBeShown k) (sym stands.known_is) stands.screen.can_be_shown in
-    let frame = drawn shown drawable in record {
-      bytes = frame.0;
-      appended = frame.1;
-      frame = framed m b.now v frame.0 stands drawable frame.2;
-      shows = shows_then m b.now v frame.0 stands drawable frame.2;
+    let frame = drawn.redraws shown drawable in record {
+      needed = needs_then m b.now v stands drawn.needed;
+      frame = framed m b.now v bytes stands drawable frame;
+      shows = shows_then m b.now v bytes stands drawable frame;
       stands =
           changed
-          (λ (n : model.Client).
-          record n { delivered = n.delivered ++ frame.0; drawn = Some v })
+          (λ (n : model.Client). record n { delivered = n.delivered ++ bytes; drawn = Some v })
           old (lender d) serial b.now d here.0 here.1
-          (λ n s. keeps_drawn n b.now v frame.0 s drawable frame.2 d now) rows m st there;
+          (λ n s. keeps_drawn n b.now v bytes s drawable frame d
+          (ap (λ (k : redraw.Knowledge). record b.now { shadow = k }) drawn.known)) rows m st there;
     }
 
-pub drawn_none : (old inside : List Client) (serial : ℕ) (r : Option (MutBor Client)) (v : View)
-    (before after : List ℕ) (new : List Client) → inside ≡ old
-    → option_copied_mut r ≡ row_of serial_of inside serial → r ≡ None
-    → Draws serial v before after old new
-drawn_none old inside serial r v before after new same at is rows m st there =
-    absurd
-    (found_none (λ n. ⊥) old inside serial r same at is rows m st there)
+pub nothing_drawn : (old inside : List Client) (serial : ℕ) (r : Option (MutBor Client))
+    (b : MutBor Client) (lender : Client → List Client) (v : View) (known : redraw.Knowledge)
+    → inside ≡ old → option_copied_mut r ≡ row_of serial_of inside serial
+    → ((w : Client) → OnSome r (lender w ≡ with_row serial_of inside serial w)) → r ≡ Some b
+    → ((c : Client) → row_of serial_of old serial ≡ Some c
+    → HasSize c.shadow.rows c.shadow.columns v)
+    → frames.DrawsNothing b.now.shadow v known
+    → DrawsNothing serial v old (lender (record b.now { shadow = known }))
+nothing_drawn old inside serial r b lender v known same at holds is size drawn =
+    let here = lent_at old inside serial r b lender b.now same at holds is in record {
+      needless =
+          found (λ n. ShowsAlready n v) old inside serial r b same at is
+          (λ n s. shows_already n b.now v s (size b.now here.0) drawn.known drawn.grid);
+      same =
+          ap (λ (k : redraw.Knowledge). lender (record b.now { shadow = k })) drawn.same
+          ∙ lent_back old inside serial r b lender same at holds is;
+    }
+
+pub nobody_drawn : (old inside : List Client) (serial : ℕ) (r : Option (MutBor Client)) (v : View)
+    → inside ≡ old → option_copied_mut r ≡ row_of serial_of inside serial → r ≡ None
+    → Finds serial old (λ m. ShowsAlready m v)
+nobody_drawn old inside serial r v same at is =
+    found_none (λ n. ShowsAlready n v) old inside serial r same at is
+
+pub none_then : {A P Q : Type 0} (o : Option A) → (P → Q) → IfNone o P → IfNone o Q
+none_then None f p = f p
+none_then (Some x) f p = tt

@@ -1,31 +1,35 @@
 -- Clients to whom a view is drawn.
 use Rattle.std.specs.Prelude.{◌≡◌, ℕ, List, [], ◌++◌, Some}
 use Rattle.terminal_model.specs.Shows.{View, ShowsFromAny}
-use Rattle.session_model.specs.Framed.{IsFrame, NeedsNoDraw}
+use Rattle.session_model.specs.Framed.{IsFrame, NeedsDraw, NeedsNoDraw}
 use Rattle.session_model.specs.Tables as model
 use Rattle.session_model.specs.Tables.{row_of, with_row}
 use Rattle.session_clients.specs.declared.client.Client.{Client}
-use Rattle.session_clients.specs.Stands.{AreClients}
+use Rattle.session_clients.specs.Stands.{AreClients, Finds}
 
 -- no draw is needed: all that was delivered shows the view
 pub record ShowsAlready (m : model.Client) (v : View) : Type 0 where
   pub needless : NeedsNoDraw m.drawn v
   pub shows : ShowsFromAny (m.delivered ++ []) m.rows m.columns v
 
--- A frame of the view was appended. All that was delivered shows the view with it, whichever
--- terminal of the client's size reads it; and the row knows that.
-pub record Draw (serial : ℕ) (v : View) (before after : List ℕ) (rows : List model.Client)
+-- nothing needs to be drawn, and nothing changes
+pub record DrawsNothing (serial : ℕ) (v : View) (old new : List Client) : Type 0 where
+  pub needless : Finds serial old (λ m. ShowsAlready m v)
+  pub same : new ≡ old
+
+-- A draw is needed, and these bytes are a frame of the view. All that was delivered shows the view
+-- with it, whichever terminal of the client's size reads it; and the row knows that.
+pub record Draw (serial : ℕ) (v : View) (bytes : List ℕ) (rows : List model.Client)
     (m : model.Client) (new : List Client) : Type 0 where
-  pub bytes : List ℕ
-  pub appended : after ≡ before ++ bytes
+  pub needed : NeedsDraw m.drawn v
   pub frame : IsFrame m.rows m.columns m.delivered v bytes
   pub shows : ShowsFromAny (m.delivered ++ bytes) m.rows m.columns v
   pub stands : AreClients
       (with_row (λ (c : model.Client). c.serial) rows serial
       (record m { delivered = m.delivered ++ bytes; drawn = Some v })) new
 
-abbrev pub Draws : ℕ → View → List ℕ → List ℕ → List Client → List Client → Type 0
-Draws serial v before after old new =
+abbrev pub Draws : ℕ → View → List ℕ → List Client → List Client → Type 0
+Draws serial v bytes old new =
     (rows : List model.Client) (m : model.Client) → AreClients rows old
     → row_of (λ (c : model.Client). c.serial) rows serial ≡ Some m
-    → Draw serial v before after rows m new
+    → Draw serial v bytes rows m new

@@ -1,24 +1,20 @@
 //! A client.
 
-ghost use Rattle.std.specs.Prelude.{ℕ, ◌≡◌, true, false, IfOk, OnOk, OnErr};
+ghost use Rattle.std.specs.Prelude.{ℕ, ◌≡◌, true, IfOk, OnOk, OnErr};
 ghost use Rattle.std.specs.Prelude.{slice_set, slice_get, unwrap_or};
 ghost use Rattle.regions.specs.Layouts.{empty, split_focused, remove_focused, next_focus};
 ghost use Rattle.regions.specs.Layouts.{kept_alone, split_fault};
 ghost use Rattle.regions.specs.Pages.{has_room};
-ghost use Rattle.session_model.specs.Tables as model;
-ghost use Rattle.session_model.specs.Framed.{NeedsDraw};
 ghost use Rattle.session_model.specs.Events.{is_client_size};
-ghost use Rattle.view.specs.View.{HasSize};
 
 use acl::UserId;
 use keys::KeyReader;
-use redraw::{Shadow, needs_draw};
+use redraw::Shadow;
 use regions::{Layout, RegionFault, Shown, Way};
 use session_model::Message;
 use session_rows::Serial;
 use std::alloc::{AllocError, Global};
 use std::mem;
-use view::View;
 
 /// A user's terminal.
 #[derive(Drop)]
@@ -49,7 +45,6 @@ impl Serial for Client {
 impl Client {
     ghost use Rattle.session_clients.specs.Moves.{attached, seen, moved_to, without, fitted};
     ghost use Rattle.session_clients.specs.Stands.{ClientStands, IsFaultOf, IsRemoval};
-    ghost use Rattle.session_clients.specs.Draws.{ShowsAlready};
 
     /// A new client, whose one region shows this window.
     pub(crate) fn new(
@@ -192,16 +187,5 @@ impl Client {
     {
         mem::swap(&mut self.keys, keys);
         mem::swap(&mut self.message, message);
-    }
-
-    /// Whether its terminal isn't known to show the view, of its size.
-    pub fn needs_draw(&self, view: &View) -> bool
-        requires { HasSize self.now.shadow.rows self.now.shadow.columns view.now }
-        ensures needed { result ≡ true → (m : model.Client) → ClientStands m self.now
-            → NeedsDraw m.drawn view.now }
-        ensures shown { result ≡ false → (m : model.Client) → ClientStands m self.now
-            → ShowsAlready m view.now }
-    {
-        needs_draw(&self.shadow, view)
     }
 }

@@ -2,7 +2,7 @@
 
 ghost use Rattle.std.specs.Prelude.{◌≡◌, ◌==◌, ◌<◌, ◌+◌, [], ℕ, List, Option};
 ghost use Rattle.std.specs.Prelude.{true, false, not, Some, length, map, replicate};
-ghost use Rattle.std.specs.Prelude.{OnOk, OnErr, IfOk, option_copied};
+ghost use Rattle.std.specs.Prelude.{OnOk, OnErr, IfOk, IfNone, IfSome, option_copied};
 ghost use Rattle.regions.specs.Layouts.{split_focused, remove_focused, next_focus, kept_alone};
 ghost use Rattle.regions.specs.Layouts.{split_fault};
 ghost use Rattle.session_model.specs.declared.message.Message.{Message as What};
@@ -50,7 +50,7 @@ impl Clients {
     ghost use Rattle.session_clients.specs.declared.client.Client.{Client};
     ghost use Rattle.session_clients.specs.Moves.{attached};
     ghost use Rattle.session_clients.specs.Exchanges.{Exchanged, HasReadMore, PutsBack};
-    ghost use Rattle.session_clients.specs.Draws.{Draws};
+    ghost use Rattle.session_clients.specs.Draws.{Draws, DrawsNothing};
     ghost use Rattle.session_clients.specs.Stands.{Attaches, Keeps, Changes, ChangesAll, Finds};
     ghost use Rattle.session_clients.specs.Stands.{AreClients, ClientStands, IsFaultOf, IsRemoval};
     ghost use Rattle.session_rows.specs.Matched.{BothOrNone};
@@ -240,24 +240,26 @@ impl Clients {
         client.exchange(keys, message);
     }
 
-    /// Draws a view for a client, of its size: appends its frame.
+    /// Draws a view for a client, of its size: the frame, or none where its terminal is known to
+    /// show the view.
     pub fn draw(
         &mut self,
         alloc: Global,
         serial: u32,
-        view: &View,
-        out: &mut Vec<u8>,
-    ) -> Result<(), AllocError>
+        view: View,
+    ) -> Result<Option<Vec<u8>>, AllocError>
         requires { (c : Client) → row_of (λ (c : Client). c.serial) self.old serial ≡ Some c
-            → HasSize c.shadow.rows c.shadow.columns view.now }
-        ensures ok { OnOk result (IsDrawable view.now
-            → Draws serial view.now out.old.items out.new.items self.old self.new) }
-        ensures err { OnErr result ((self.new ≡ self.old) × (out.new.items ≡ out.old.items)) }
+            → HasSize c.shadow.rows c.shadow.columns view }
+        ensures needless { IfOk result (λ frame. IfNone frame
+            (DrawsNothing serial view self.old self.new)) }
+        ensures drawn { IfOk result (λ frame. IfSome frame (λ bytes. IsDrawable view
+            → Draws serial view bytes.items self.old self.new)) }
+        ensures err { OnErr result (self.new ≡ self.old) }
     {
         let Some(client) = self.rows.get_mut(serial) else {
-            return Ok(());
+            return Ok(None);
         };
-        frame(alloc, &mut client.shadow, view, out)
+        frame(alloc, &mut client.shadow, view)
     }
 
     /// What is said to each client.

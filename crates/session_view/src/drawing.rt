@@ -20,12 +20,10 @@ pub fn draw(state: &mut State, client: u32, made: &mut Made) -> Result<(), Refus
         return Err(Refusal::NoWindow);
     };
     let view = view_for(state, row)?;
-    if !row.needs_draw(&view) {
-        return Ok(());
-    }
     made.effects.reserve(1)?;
-    let mut bytes = Vec::new(state.alloc);
-    state.clients.draw(state.alloc, client, &view, &mut bytes)?;
+    let Some(bytes) = state.clients.draw(state.alloc, client, view)? else {
+        return Ok(());
+    };
     let frame = Effect::Deliver(client, Bytes::from_vec(bytes));
     made.effects.push(frame).unwrap();
     Ok(())

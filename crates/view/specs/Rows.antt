@@ -1,5 +1,5 @@
 -- Rows of cells, and pieces that are laid over a page.
-use Rattle.std.specs.Prelude.{◌≡◌, ℕ, ◌+◌, ◌-◌, ◌<◌, ◌≤◌, true, if◌then◌else◌, List, length}
+use Rattle.std.specs.Prelude.{◌≡◌, ℕ, ◌+◌, ◌-◌, ◌<◌, ◌≤◌, nat_lt, Bool, true, if◌then◌else◌, List, length}
 use Rattle.cells.specs.declared.cell.Cell.{Cell}
 use Rattle.cells.specs.Line.{blank, cell_at}
 use Rattle.cells.specs.Page.{line_at}
@@ -7,12 +7,17 @@ use Rattle.regions.specs.declared.rect.Rect.{Rect}
 use Rattle.regions.specs.Pages.{has}
 use Rattle.terminal_model.specs.Places.{place}
 use Rattle.terminal_model.specs.Shows.{View}
-use Rattle.view.specs.Granted.{Piece, Part, cursor_of, arrows_of, keypad_of}
+use Rattle.view.specs.Granted.{Piece, Part, shown_cell, cursor_of, arrows_of, keypad_of}
 
 -- so many cells, one for each column
 pub record IsRow (cell : ℕ → Cell) (cols : ℕ) (cells : List Cell) : Type 0 where
   pub width : length cells ≡ cols
   pub cells_are : (column : ℕ) → column < cols → cell_at cells column ≡ cell column
+
+-- a column of a line as it is shown, wherever the line is cut, and blanks behind it
+abbrev pub whole_cell : Bool → List Cell → ℕ → Cell
+whole_cell is_inverted line column =
+    if nat_lt column (length line) then shown_cell is_inverted (cell_at line column) else blank
 
 -- a place of a page, which counts its lines and columns from 1
 pub record IsOnPage (page : List (List Cell)) (line column : ℕ) : Type 0 where

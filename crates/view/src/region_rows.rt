@@ -2,12 +2,13 @@
 
 ghost use Rattle.std.specs.Prelude.{◌≡◌, ℕ, ◌<◌, ◌+◌, ◌-◌, true, IfOk, OnOk, length, chars, string_bytes, map, option_map};
 ghost use Rattle.std.specs.Str.{all_scalars};
-ghost use Rattle.view.specs.Rows.{IsRow};
-ghost use Rattle.view.specs.Granted.{part_of, window_of, caption_rendition as caption_rendition_of, caption_text as caption_text_of, first_shown as first_shown_of, shown_cell as shown_cell_of, line_cell as line_cell_of, window_cell, part_cell, box_cell};
-ghost use Rattle.view.specs.Texts.{text_at};
+ghost use Rattle.cells.specs.Line.{blank, cell_at};
+ghost use Rattle.view.specs.Rows.{IsRow, whole_cell};
+ghost use Rattle.view.specs.Granted.{part_of, window_of, caption_rendition as caption_rendition_of, caption_text as caption_text_of, first_shown as first_shown_of, shown_cell as shown_cell_of, line_cell, window_cell, part_cell, box_cell};
+ghost use Rattle.view.specs.Texts.{text_at, uncut as uncut_of};
 
 use crate::pane::{Contents, Pane};
-use crate::text::{text_row, uncut};
+use crate::text::text_row;
 use cells::{Cell, Rendition};
 use regions::Rect;
 use std::alloc::{AllocError, Global};
@@ -37,17 +38,6 @@ fn shown_cell(cell: Cell, is_inverted: bool) -> Cell
     }
 }
 
-/// The cell of a column, among so many, that shows a line of a window.
-fn line_cell(line: &[Cell], column: usize, cols: usize, is_inverted: bool) -> Cell
-    requires { column < cols }
-    ensures { result ≡ line_cell_of is_inverted line.now cols column }
-{
-    match line.get(column) {
-        Some(cell) => uncut(shown_cell(*cell, is_inverted), column, cols, Cell::BLANK),
-        None => Cell::BLANK,
-    }
-}
-
 /// The first of the lines that so many rows show, so that the cursor's is among them.
 pub(crate) fn first_shown(contents: &Contents, rows: usize) -> usize
     ensures { result ≡ first_shown_of rows (window_of contents.now).cursor }
@@ -58,6 +48,35 @@ pub(crate) fn first_shown(contents: &Contents, rows: usize) -> usize
     }
 }
 
+/// The cells of a line in so many columns, wherever they end, and blanks behind it.
+fn whole_row(
+    alloc: Global,
+    line: &[Cell],
+    cols: usize,
+    is_inverted: bool,
+) -> Result<Vec<Cell>, AllocError>
+    ensures { IfOk result (λ row. IsRow (whole_cell is_inverted line.now) cols row.items) }
+{
+    let kept = line.len().min(cols);
+    let mut row = Vec::with_capacity(alloc, cols)?;
+    row.extend_from_slice(&line[..kept])?;
+    for column in 0..kept {
+        row[column] = shown_cell(row[column], is_inverted);
+    }
+    row.resize(cols, Cell::BLANK)?;
+    Ok(row)
+}
+
+/// Puts a blank in place of half a wide character in the last column.
+fn cut_end(row: &mut [Cell])
+    ensures { IsRow (λ column. uncut_of (length row.old) column (cell_at row.old column) blank) (length row.old) row.new }
+{
+    let cols = row.len();
+    if 0 < cols && row[cols - 1].is_left() {
+        row[cols - 1] = Cell::BLANK;
+    }
+}
+
 /// The cells of a line in so many columns.
 fn line_row(
     alloc: Global,
@@ -65,12 +84,10 @@ fn line_row(
     cols: usize,
     is_inverted: bool,
 ) -> Result<Vec<Cell>, AllocError>
-    ensures { IfOk result (λ row. IsRow (line_cell_of is_inverted line.now cols) cols row.items) }
+    ensures { IfOk result (λ row. IsRow (line_cell is_inverted line.now cols) cols row.items) }
 {
-    let mut row = Vec::with_capacity(alloc, cols)?;
-    for column in 0..cols {
-        row.push(line_cell(line, column, cols, is_inverted))?;
-    }
+    let mut row = whole_row(alloc, line, cols, is_inverted)?;
+    cut_end(&mut row);
     Ok(row)
 }
 

@@ -22,7 +22,7 @@ fn visible(character: char) -> char
 }
 
 /// A cell in a column of so many, or another one where it is half a wide character at the edge.
-pub(crate) fn uncut(cell: Cell, column: usize, cols: usize, other: Cell) -> Cell
+fn uncut(cell: Cell, column: usize, cols: usize, other: Cell) -> Cell
     requires { column < cols }
     ensures { result ≡ uncut_of cols column cell other }
 {

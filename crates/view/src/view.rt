@@ -5,7 +5,7 @@ ghost use Rattle.cells.specs.Line.{blank, IsPaired};
 ghost use Rattle.cells.specs.Page.{IsGrid, IsGridSize, line_at};
 
 use cells::{Cell, Grid, GridFault};
-use std::alloc::{AllocError, Global};
+use std::alloc::Global;
 use std::marker::Model;
 
 /// Where the cursor is shown. Lines and columns count from 0.
@@ -109,22 +109,6 @@ impl View {
         ensures { result ≡ record { has_application_arrows = self.now.has_application_arrows; has_application_keypad = self.now.has_application_keypad } }
     {
         self.modes
-    }
-
-    /// The same view once more.
-    pub fn try_copy(&self, alloc: Global) -> Result<View, AllocError>
-        ensures grid { IsGrid self.now.page }
-        ensures copy { IfOk result (λ v. v ≡ self.now) }
-    {
-        let Ok(mut copy) = View::blank(alloc, self.rows(), self.cols()) else {
-            return Err(AllocError);
-        };
-        for line in 0..self.rows() {
-            copy.put(line, 0, self.row(line));
-        }
-        copy.cursor = self.cursor;
-        copy.modes = self.modes;
-        Ok(copy)
     }
 
     /// Shows the cursor at a place, or hides it; it is hidden where the page has no such place.

@@ -1,12 +1,21 @@
-use Rattle.std.proofs.Common.{List, ℕ, [], ◌++◌, ap, ◌∙◌, subst}
-use Rattle.redraw.specs.Frames.{DrawsBytes}
+use Rattle.std.proofs.Common.{subst, ap, []}
+use Rattle.std.specs.Prelude.{Some}
+use Rattle.std.proofs.lemmas.Option.{MatchOption-at_some}
+use Rattle.cells.specs.Page.{IsGrid}
+use Rattle.terminal_model.specs.Shows.{View}
+use Rattle.view.specs.Drawable.{IsDrawable}
+use Rattle.redraw.specs.Shadow.{Knowledge, NeedsDraw}
+use Rattle.redraw.specs.Frames.{CanBeShown, DrawsBytes}
 use Rattle.redraw.proofs.Ends.{redraws}
 use Rattle.redraw.proofs.frames.frame.Goals as goal
 
 pub returns-clause-drawn : goal.returns-clause-drawn
-returns-clause-drawn c od nd =
-    let v = c.args.view.now in
-    let known = c.args.shadow.now.known in
-    let bytes : List ℕ = c.draw.new.out.items in
-    let drawn : DrawsBytes known v [] bytes = subst (λ (b : List ℕ). DrawsBytes known v b bytes) c.new-bytes.ensures.items (c.in_ok-draw.ensures.draws od nd) in
-    (bytes, c.in_ok-extend_from_slice.ensures.items ∙ ap (λ (b : List ℕ). c.args.out.now.items ++ b) c.deref.ensures.value, redraws c.args.shadow.now.rows c.args.shadow.now.columns known v bytes c.requires.size c.try_copy.ensures.grid drawn)
+returns-clause-drawn c =
+    let v : View = c.args.view in
+    let k : Knowledge = c.args.shadow.now in
+    let grid : IsGrid v.page = subst IsGrid (ap (λ (w : View). w.page) c.view.view_is) c.view.invariant.grid in record {
+      needed = MatchOption-at_some _ (λ _. NeedsDraw k.known v) c.in-Some.bytes c.in-Some.is c.in_ok-bytes.ensures.needed;
+      redraws = λ od nd. redraws k.rows k.columns k.known v c.in-Some.bytes.items c.requires.size grid
+          (MatchOption-at_some _ (λ bytes. CanBeShown k.known → IsDrawable v → DrawsBytes k.known v [] bytes.items) c.in-Some.bytes c.in-Some.is c.in_ok-bytes.ensures.drawn od nd);
+      known = ap (λ (s : Knowledge). record s { known = Some v }) c.shadow.view_is;
+    }

@@ -10,7 +10,7 @@ use Rattle.redraw.proofs.painting.draw_page.Goals as goal
 
 pub loop-line-init : goal.loop-line-init
 loop-line-init c od nd =
-    page_start c.args.old.now.page c.args.new.now.page (length c.args.new.now.page) (length (line_at c.args.new.now.page 0)) c.args.pen.now c.args.out.now.items
+    page_start c.args.old.now.page c.args.new.now.page (length c.args.new.now.page) (length (line_at c.args.new.now.page 0)) c.args.pen.now c.args.from c.args.out.now.items c.requires.inside c.requires.above
 
 pub loop-line-preserved : goal.loop-line-preserved
 loop-line-preserved c od nd =

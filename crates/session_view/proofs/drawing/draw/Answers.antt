@@ -1,5 +1,6 @@
 use Rattle.std.proofs.Common.{◌∙◌, ◌++◌, ◌∷◌, [], List, ℕ, Some, ap, refl}
 use Rattle.std.specs.Prelude.{is_ok}
+use Rattle.std.proofs.lemmas.Option.{MatchOption-at_none, MatchOption-at_some}
 use Rattle.session_model.specs.declared.event.Effect.{Effect}
 use Rattle.session_model.specs.declared.event.Effect.TheVariants.{Deliver}
 use Rattle.session_model.specs.Tables.{client_at}
@@ -9,15 +10,17 @@ use Rattle.session_clients.specs.Stands.{ClientStands}
 use Rattle.session_view.proofs.Delivering.{nothing_drawn, frame_drawn}
 use Rattle.session_view.proofs.drawing.draw.Goals as goal
 
-pub returns-then-not-needs_draw-clause-ok : goal.returns-then-not-needs_draw-clause-ok
-returns-then-not-needs_draw-clause-ok c = λ t st fit.
+pub returns-in_default-2-clause-ok : goal.returns-in_default-2-clause-ok
+returns-in_default-2-clause-ok c = λ t st fit.
     let row = both_back ClientStands (client_at t c.args.client) (Some c.in-Some.row.now)
     c.in-Some.row.now (c.in-Some.ensures.stands t.clients st.clients) refl in
-    let view = c.in_ok-view.ensures.granted t row.0 st fit row.2 in (
+    let view = c.in_ok-view.ensures.granted t row.0 st fit row.2 in
+    let drawn = MatchOption-at_none _ _ c.in_default-2.is c.in_ok-bytes.ensures.needless in (
       row.0,
       row.1,
       nothing_drawn t c.args.state.now c.args.client row.0 c.in_ok-view.view st row.1 view.granted
-          c.args.made.now (c.needs_draw.ensures.shown c.if-not-needs_draw.true row.0 row.2),
+          c.args.made.now c.draw.new.self _ (drawn.needless t.clients row.0 st.clients row.1) drawn.same
+          c.in_ok-reserve.ensures.items refl,
     )
 
 pub returns-clause-ok : goal.returns-clause-ok
@@ -32,7 +35,6 @@ returns-clause-ok c = λ t st fit.
       row.0,
       row.1,
       frame_drawn t c.args.state.now c.args.client row.0 c.in_ok-view.view st row.1 view.granted
-          c.args.made.now c.new-bytes.result.items c.draw.new.out.items c.draw.new.self _
-          (c.needs_draw.ensures.needed c.if-not-needs_draw.false row.0 row.2) c.new-bytes.ensures.items
-          (c.in_ok-draw.ensures.ok view.drawable t.clients row.0 st.clients row.1) effects refl,
+          c.args.made.now c.in-Some-2.bytes.items c.draw.new.self _
+          (MatchOption-at_some _ _ c.in-Some-2.bytes c.in-Some-2.is c.in_ok-bytes.ensures.drawn view.drawable t.clients row.0 st.clients row.1) effects refl,
     )

@@ -4,7 +4,7 @@ use Rattle.cells.specs.declared.cell.Cell.{Cell}
 use Rattle.cells.specs.Line.{cell_at, unprotected}
 use Rattle.cells.proofs.Settling.{cell_at_past}
 use Rattle.terminal_model.specs.Shows.{seen_at}
-use Rattle.redraw.proofs.shadow.is_same_page.Goals as goal
+use Rattle.redraw.proofs.shadow.first_unlike.Goals as goal
 
 pub loop-line-preserved : goal.loop-line-preserved
 loop-line-preserved c k column h =
