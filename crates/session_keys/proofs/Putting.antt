@@ -11,9 +11,10 @@ use Rattle.session_model.specs.declared.message.Message.{Message}
 use Rattle.session_model.specs.Tables.{Tables, Client, client_at, row_of, with_row, with_client}
 use Rattle.session_model.specs.Sound.{Rises}
 use Rattle.session_rows.proofs.Serials.{serial_is}
-use Rattle.session_rows.proofs.Matching.{with_match}
+use Rattle.session_rows.proofs.Matching.{with_match, row_there}
 use Rattle.session_clients.specs.declared.client.Client.{Client as Row}
 use Rattle.session_clients.specs.Stands.{ClientStands, AreClients}
+use Rattle.session_clients.specs.Exchanges.{Exchanged}
 use Rattle.session_clients.proofs.Changing.{serials}
 use Rattle.session_state.specs.declared.state.State.{State}
 use Rattle.session_state.specs.Stands.{Stands}
@@ -134,3 +135,18 @@ read_stands message keys reader c row read st = record {
   known_is = st.known_is;
   screen = st.screen;
 }
+
+-- so stands the state once they were exchanged in its row
+pub stands_read : (t : Tables) (s : State) (n : ℕ) (c : Client) (keys : List ℕ)
+    (reader then_reader : Keeping) (message then_message : Message) (cs : List Row)
+    → client_at t n ≡ Some c → StandsFor reader (c.keys ++ keys)
+    → ((r : Row) → row_of row_serial s.clients n ≡ Some r
+    → Exchanged n r s.clients reader message cs then_reader then_message)
+    → Stands t s → Stands (with_client t (read_by message keys c)) (record s { clients = cs })
+stands_read t s n c keys reader then_reader message then_message cs at read put st =
+    let found = row_there ClientStands serial row_serial serials t.clients s.clients n c
+    st.clients at in
+    let d : Client = read_by message keys c in
+    let made : Row = record found.0 { keys = reader; message = message } in
+    stands_put t s n d made cs (serial_is serial t.clients n c at)
+    (read_stands message keys reader c found.0 read found.2) (put found.0 found.1).row st

@@ -1,6 +1,6 @@
 -- A step of keys: what they type, and then the command that they complete.
 use Rattle.std.proofs.Common.{◌≡◌, ℕ, zero, suc, ◌+◌, ◌<◌, ◌≤◌, Bool, true, false, List, [], ◌∷◌, ◌++◌, Option, Some, None}
-use Rattle.std.proofs.Common.{Result, Ok, Err, refl, ap, sym, subst, ◌∙◌, arith, length, append_assoc}
+use Rattle.std.proofs.Common.{Result, Ok, Err, refl, ap, sym, subst, ◌∙◌, arith, length, append-nil, append_assoc}
 use Rattle.std.proofs.lemmas.List.{length-take-le}
 use Rattle.std.specs.Prelude.{if◌then◌else◌, find, unwrap_or, OnErr}
 use Rattle.std.specs.Prelude.{slice_get}
@@ -11,7 +11,9 @@ use Rattle.regions.specs.Layouts.{Arrangement}
 use Rattle.command_lang.specs.command.Command.{Command}
 use Rattle.command_lang.specs.fault.ParseFault.{ParseFault}
 use Rattle.keys.specs.Grammar.{Item, typed as typed_item, bound as bound_item, line as line_item}
+use Rattle.keys.specs.Kept.{Keeping}
 use Rattle.acl.specs.declared.user_id.UserId.{UserId}
+use Rattle.acl.specs.declared.act.Act.{Act}
 use Rattle.acl.specs.History.{followed_by}
 use Rattle.session_model.specs.declared.event.Effect.{Effect}
 use Rattle.session_model.specs.declared.message.Message.{Message}
@@ -23,7 +25,10 @@ use Rattle.session_model.specs.Checks.{first_fault, typing_checks}
 use Rattle.session_model.specs.Deeds.{Deed, changing, hearing}
 use Rattle.session_model.specs.Keying.{items_behind, taken, typed_bytes, command_item, completes}
 use Rattle.session_model.specs.Events.{Ordered, ordered, types, typing_verdicts, reading, input_in, says_why}
+use Rattle.session_model.specs.Events.{unsaid, left_acts}
 use Rattle.session_model.specs.Texts.{text_of}
+use Rattle.session_laws.proofs.Unread.{client_read, nobody_left}
+use Rattle.session_leaving.specs.Leaving.{HasLeft}
 use Rattle.session_rows.proofs.Serials.{serial_is, with_same, with_twice}
 use Rattle.session_clients.specs.declared.client.Client.{Client as Row}
 use Rattle.session_clients.specs.Stands.{ClientStands}
@@ -35,8 +40,8 @@ use Rattle.session_state.specs.Doing.{did}
 use Rattle.session_keys.specs.Dropping.{DropsSaid}
 use Rattle.session_keys.specs.Given.{given, ordered_by}
 use Rattle.session_keys.specs.Obeying.{Obeyed}
-use Rattle.session_keys.specs.Reads.{typing, order, keys_deed, read_of}
-use Rattle.session_keys.specs.Stepping.{caller_now, read_by, AreGiven}
+use Rattle.session_keys.specs.Reads.{typing, order, keys_deed, read_of, HasEnded}
+use Rattle.session_keys.specs.Stepping.{caller_now, read_by, AreRead, AreGiven, HaveEnded}
 use Rattle.session_keys.specs.Typing.{Typed, caller_by, message_after}
 use Rattle.session_keys.proofs.Putting.{serial}
 use Rattle.session_keys.proofs.Telling.{told_there}
@@ -157,6 +162,25 @@ ordered_as t c (Some (line_item (b ∷ bytes))) = refl
 
 -- ---- both
 
+-- what its status line says is that of the tables once it has typed
+tables_are : (t : Tables) (n : ℕ) (c : Client) (keys typed : List ℕ) (message : Message)
+    → client_at t n ≡ Some c → typed ≡ typed_bytes (items_behind c.keys keys)
+    → message ≡ message_after t c typed
+    → with_client t (read_by message keys c) ≡ (typing t c keys).tables
+tables_are t n c keys typed message at typed_is message_is =
+    ap (λ (m : Message). with_client t (hearing m (reading keys c)))
+    (message_is ∙ ap (message_after t c) typed_is)
+    ∙ sym (tables_typed t n c keys at (typed_bytes (items_behind c.keys keys)))
+
+typed_now : (t : Tables) (n : ℕ) (c : Client) (keys typed : List ℕ) (before middle : List Effect)
+    → client_at t n ≡ Some c → typed ≡ typed_bytes (items_behind c.keys keys)
+    → middle ≡ before ++ (types t c typed).effects
+    → middle ≡ before ++ (typing t c keys).effects
+typed_now t n c keys typed before middle at typed_is put =
+    put ∙ ap (λ (fs : List Effect). before ++ fs)
+    (ap (λ (bs : List ℕ). (types t c bs).effects) typed_is
+    ∙ sym (effects_typed t n c keys at (typed_bytes (items_behind c.keys keys))))
+
 -- what was typed and what was obeyed are the keys' deed
 pub keys_given : (t : Tables) (n : ℕ) (c : Client) (keys typed : List ℕ) (message : Message)
     (start end : ℕ) (orders : Option (Result Command ParseFault)) (new : State) (before middle later after : Made)
@@ -179,7 +203,7 @@ keys_given t n c keys typed message start end orders new before middle later aft
             ∙ (ap (λ (xs : List _). xs ++ (ordered_by u d orders).deed.acts) quiet
             ∙ ap (λ (o : Ordered). before.acts.items ++ o.deed.acts) same));
         effects = drops before.effects.items mine.effects (order t c keys).deed.effects all
-            (sym begin) (sym (close ∙ ap length typed_now));
+            (sym begin) (sym (close ∙ ap length now));
       };
       verdicts = obeyed.verdicts
           ∙ (ap (λ (vs : List Verdict). vs ++ (ordered_by u d orders).verdicts) put.verdicts
@@ -198,37 +222,97 @@ keys_given t n c keys typed message start end orders new before middle later aft
       mine : Deed
       mine = typing t c keys
 
-      said : message ≡ message_after t c (typed_bytes (items_behind c.keys keys))
-      said = put.message_is ∙ ap (message_after t c) typed_is
-
-      tables_are : u ≡ mine.tables
-      tables_are =
-          ap (λ (m : Message). with_client t (hearing m d)) said
-          ∙ sym (tables_typed t n c keys at (typed_bytes (items_behind c.keys keys)))
-
       same : ordered_by u d orders ≡ order t c keys
       same =
           ap (ordered_by u d) orders_are
           ∙ (ordered_as u d (command_item (items_behind c.keys keys))
-          ∙ ap (λ (v : Tables). ordered v d (command_item (items_behind c.keys keys))) tables_are)
+          ∙ ap (λ (v : Tables). ordered v d (command_item (items_behind c.keys keys)))
+          (tables_are t n c keys typed message at typed_is put.message_is))
 
       tables : did u (ordered_by u d orders).deed ≡ did t (keys_deed t c keys)
       tables = ap (λ (o : Ordered). record o.deed.tables { acts = followed_by t.acts o.deed.acts }) same
 
-      typed_now : middle.effects.items ≡ before.effects.items ++ mine.effects
-      typed_now =
-          put.effects
-          ∙ ap (λ (fs : List Effect). before.effects.items ++ fs)
-          (ap (λ (bs : List ℕ). (types t c bs).effects) typed_is
-          ∙ sym (effects_typed t n c keys at (typed_bytes (items_behind c.keys keys))))
+      now : middle.effects.items ≡ before.effects.items ++ mine.effects
+      now =
+          typed_now t n c keys typed before.effects.items middle.effects.items at typed_is put.effects
 
       all : later.effects.items
           ≡ before.effects.items ++ (mine.effects ++ (order t c keys).deed.effects)
       all =
           obeyed.done.effects
           ∙ (ap (λ (o : Ordered). middle.effects.items ++ o.deed.effects) same
-          ∙ (ap (λ (fs : List Effect). fs ++ (order t c keys).deed.effects) typed_now
+          ∙ (ap (λ (fs : List Effect). fs ++ (order t c keys).deed.effects) now
           ∙ append_assoc before.effects.items mine.effects (order t c keys).deed.effects))
+
+-- ---- the step's end
+
+-- users left windows
+pub keys_ended : (t : Tables) (c : Client) (keys : List ℕ) (middle new : State)
+    (before second after : Made) (past noted : List Verdict)
+    → AreGiven t c keys middle before second past noted
+    → HasLeft t (keys_deed t c keys) new second after
+    → HaveEnded t c keys new before after past noted
+keys_ended t c keys middle new before second after past noted given left =
+    let d : Deed = keys_deed t c keys in
+    let acts : List Act = left_acts t.clients d.tables.clients in
+    record {
+      ended = record {
+        stands = left.stands;
+        acts = left.acts ∙ ap (λ (xs : List Act). xs ++ acts) given.done.acts
+            ∙ append_assoc before.acts.items d.acts acts;
+        effects = left.effects ∙ given.done.effects;
+      };
+      verdicts = given.verdicts;
+    }
+
+-- the keys give no command: they are typed, and nobody leaves a window
+pub keys_typed : (t : Tables) (n : ℕ) (c : Client) (keys typed : List ℕ) (reader : Keeping)
+    (message : Message) (new : State) (before after : Made) (past noted : List Verdict)
+    → client_at t n ≡ Some c → AreRead c keys reader typed None
+    → Typed t c typed message before after past noted
+    → after.acts.items ≡ before.acts.items
+    → Stands (with_client t (read_by message keys c)) new
+    → HaveEnded t c keys new before after past noted
+keys_typed t n c keys typed reader message new before after past noted at read put quiet st = record {
+  ended = subst (λ (o : Ordered). HasEnded t (deed_by o) new before after) none (record {
+    stands = subst (λ (acts : List Act). Stands (record mine.tables { acts = followed_by t.acts acts }) new)
+        (sym left) (subst (λ (v : Tables). Stands (record v { acts = t.acts }) new) are st);
+    acts = quiet ∙ (sym (append-nil before.acts.items)
+        ∙ ap (λ (acts : List Act). before.acts.items ++ acts) (sym left));
+    effects =
+        typed_now t n c keys typed before.effects.items after.effects.items at read.typed_is put.effects
+        ∙ ap (λ (fs : List Effect). before.effects.items ++ fs) (sym (append-nil mine.effects));
+  });
+  verdicts = put.verdicts
+      ∙ (ap (λ (bs : List ℕ). past ++ typing_verdicts t c bs) read.typed_is
+      ∙ (ap (λ (vs : List Verdict). past ++ vs) (sym (append-nil checked))
+      ∙ ap (λ (o : Ordered). past ++ (checked ++ o.verdicts)) none));
+} where
+  d : Client
+  d = reading keys c
+
+  mine : Deed
+  mine = typing t c keys
+
+  checked : List Verdict
+  checked = typing_verdicts t c (typed_bytes (items_behind c.keys keys))
+
+  deed_by : Ordered → Deed
+  deed_by o = record o.deed { effects = mine.effects ++ unsaid mine.effects o.deed.effects }
+
+  none : ordered_by mine.tables d None ≡ order t c keys
+  none =
+      ap (ordered_by mine.tables d) read.order_is
+      ∙ ordered_as mine.tables d (command_item (items_behind c.keys keys))
+
+  are : with_client t (read_by message keys c) ≡ mine.tables
+  are = tables_are t n c keys typed message at read.typed_is put.message_is
+
+  left : left_acts t.clients mine.tables.clients ≡ []
+  left =
+      ap (λ (v : Tables). left_acts t.clients v.clients) (sym are)
+      ∙ nobody_left t.clients (with_client t (read_by message keys c)).clients
+      (client_read t n c (read_by message keys c) at refl)
 
 pub err_always : {A E P : Type 0} (r : Result A E) → P → OnErr r P
 err_always (Ok a) p = tt

@@ -1,4 +1,4 @@
--- What a step of keys does, but for users who leave windows.
+-- What a step of keys does.
 use Rattle.std.specs.Prelude.{ℕ, ◌≡◌, ◌++◌, List, Option, Some, None, Result, Ok, Err, length, take}
 use Rattle.session_model.specs.declared.refusal.Refusal.{Refusal}
 use Rattle.session_model.specs.declared.refusal.Refusal.TheVariants.{NoMemory, NoWindow}
@@ -7,11 +7,12 @@ use Rattle.session_model.specs.Tables.{Tables, Client, client_at, with_client}
 use Rattle.session_model.specs.Deeds.{Deed}
 use Rattle.session_model.specs.Keying.{items_behind, taken, typed_bytes, command_item}
 use Rattle.session_model.specs.Events.{Ordered, ordered, types, typing_verdicts, reading, unsaid}
+use Rattle.session_model.specs.Events.{left_acts}
 use Rattle.session_state.specs.declared.made.Made.{Made}
 use Rattle.session_state.specs.declared.state.State.{State}
 use Rattle.session_state.specs.Stands.{Stands}
 use Rattle.session_model.specs.Sound.{AreFit}
-use Rattle.session_state.specs.Doing.{HasDone}
+use Rattle.session_leaving.specs.Leaving.{ended}
 
 -- what the keys type behind those before them
 abbrev pub typing : Tables → Client → List ℕ → Deed
@@ -40,11 +41,18 @@ keys_deed t c keys =
 abbrev pub read_of : Client → List ℕ → List ℕ
 read_of c bytes = take (taken c.keys bytes) bytes
 
--- so many were read, their deed was done, and their verdicts were noted
+-- a deed was done, and then users left windows
+pub record HasEnded (t : Tables) (d : Deed) (new : State) (before after : Made) : Type 0 where
+  pub stands : Stands (ended t d) new
+  pub acts :
+      after.acts.items ≡ before.acts.items ++ (d.acts ++ left_acts t.clients d.tables.clients)
+  pub effects : after.effects.items ≡ before.effects.items ++ d.effects
+
+-- so many were read, their step was taken to its end, and their verdicts were noted
 pub record HasRead (t : Tables) (c : Client) (read : List ℕ) (count : ℕ) (new : State)
     (before after : Made) (old noted : List Verdict) : Type 0 where
   pub count_is : count ≡ length read
-  pub done : HasDone t (keys_deed t c read) new before after
+  pub ended : HasEnded t (keys_deed t c read) new before after
   pub verdicts : noted ≡ old ++ keys_verdicts t c read
 
 -- where a client gave them; memory may be wanting

@@ -1,10 +1,11 @@
 //! A step of keys.
 
-ghost use Rattle.std.specs.Prelude.{◌≡◌, IfOk, IfErr, OnOk, OnErr};
+ghost use Rattle.std.specs.Prelude.{◌≡◌, Some, None, IfOk, IfErr, OnOk, OnErr};
 ghost use Rattle.session_model.specs.declared.refusal.Refusal.TheVariants.{NoMemory};
 ghost use Rattle.session_state.specs.Doing.{IsAsBefore, HasRoom};
 ghost use Rattle.session_keys.specs.Reads.{Reads};
-ghost use Rattle.session_keys.specs.Stepping.{caller_now, IsHere, ReadsOf, ObeysRead, Gives};
+ghost use Rattle.session_keys.specs.Stepping.{caller_now, IsHere, ReadsOf, ObeysRead};
+ghost use Rattle.session_keys.specs.Stepping.{Gives, Ends};
 
 use crate::dropping::drop_said;
 use crate::given::command_given;
@@ -13,6 +14,7 @@ use crate::typing::type_bytes;
 use command_lang::{Command, ParseFault};
 use keys::KeyReader;
 use session_clients::{Client, read_keys};
+use session_leaving::{Focuses, leave};
 use session_model::{Bytes, Message, Refusal, Verdict};
 use session_state::{Caller, Made, State};
 use std::alloc::{AllocError, Global};
@@ -20,8 +22,6 @@ use std::alloc::{AllocError, Global};
 /// What a step reads of a client's keys.
 #[derive(Drop)]
 struct KeysRead {
-    /// The client's reader, which has read them.
-    reader: KeyReader,
     /// How many there are.
     taken: usize,
     /// What they type.
@@ -41,15 +41,14 @@ fn caller_of(row: &Client) -> Caller
     }
 }
 
-/// Reads keys of a client up to the first one that completes a command or a line.
-fn read(alloc: Global, row: &Client, bytes: &[u8]) -> Result<KeysRead, AllocError>
-    ensures { IfOk result (ReadsOf row.now bytes.now) }
+/// Reads keys of a client up to the first one that completes a command or a line. At an `Err` the
+/// reader has read some of them.
+fn read(alloc: Global, reader: &mut KeyReader, bytes: &[u8]) -> Result<KeysRead, AllocError>
+    ensures { IfOk result (ReadsOf reader.old bytes.now reader.new) }
 {
-    let mut reader = row.keys.copied();
-    let reading = read_keys(alloc, &mut reader, bytes)?;
+    let reading = read_keys(alloc, reader, bytes)?;
     let order = command_given(alloc, reading.order, reader.line())?;
     Ok(KeysRead {
-        reader,
         taken: reading.taken,
         typed: reading.typed,
         order,
@@ -61,57 +60,52 @@ fn obey_read(
     state: &mut State,
     caller: Caller,
     client: u32,
-    mut reader: KeyReader,
+    reader: &mut KeyReader,
     mut message: Message,
-    order: &Option<Result<Command, ParseFault>>,
+    order: &Result<Command, ParseFault>,
     made: &mut Made,
     verdicts: &mut Vec<Verdict>,
 ) -> Result<(), Refusal>
-    ensures ok { OnOk result (ObeysRead caller client reader message order.now
+    ensures ok { OnOk result (ObeysRead caller client reader.old message order.now
         state.old state.new made.old made.new verdicts.old.items verdicts.new.items) }
     ensures err { IsHere client state.old
         → OnErr result (IsAsBefore state.old state.new made.old made.new) }
     ensures memory { IfErr result (λ refusal. refusal ≡ NoMemory) }
     ensures room { OnOk result (HasRoom 64 made.new) }
 {
-    state.clients.exchange(client, &mut reader, &mut message);
+    state.clients.exchange(client, reader, &mut message);
     match obey(state, caller, client, order, made, verdicts) {
         Ok(()) => Ok(()),
         Err(refusal) => {
-            state.clients.exchange(client, &mut reader, &mut message);
+            state.clients.exchange(client, reader, &mut message);
             Err(refusal)
         }
     }
 }
 
-/// A client gives the keys that were read: what they type, and then the command that they complete.
+/// A client gives keys that complete a command: what they type, and then the command.
 fn give(
     state: &mut State,
     caller: Caller,
     client: u32,
-    read: KeysRead,
+    reader: &mut KeyReader,
+    typed: Bytes,
+    order: &Result<Command, ParseFault>,
     made: &mut Made,
     verdicts: &mut Vec<Verdict>,
 ) -> Result<(), Refusal>
-    ensures ok { OnOk result (Gives caller client read state.old state.new made.old made.new
-        verdicts.old.items verdicts.new.items) }
+    ensures ok { OnOk result (Gives caller client reader.old typed (Some order.now)
+        state.old state.new made.old made.new verdicts.old.items verdicts.new.items) }
     ensures err { IsHere client state.old
         → OnErr result (IsAsBefore state.old state.new made.old made.new) }
     ensures memory { IfErr result (λ refusal. refusal ≡ NoMemory) }
     ensures room { OnOk result (HasRoom 64 made.new) }
 {
     let start = made.effects.len();
-    let message = type_bytes(state, caller, client, read.typed, made, verdicts)?;
+    let message = type_bytes(state, caller, client, typed, made, verdicts)?;
     let end = made.effects.len();
     match obey_read(
-        state,
-        caller,
-        client,
-        read.reader,
-        message,
-        &read.order,
-        made,
-        verdicts,
+        state, caller, client, reader, message, order, made, verdicts,
     ) {
         Ok(()) => {
             drop_said(&mut made.effects, start, end);
@@ -124,9 +118,77 @@ fn give(
     }
 }
 
+/// Keys that complete a command: users may leave windows by it.
+fn give_order(
+    state: &mut State,
+    caller: Caller,
+    client: u32,
+    reader: &mut KeyReader,
+    typed: Bytes,
+    order: &Result<Command, ParseFault>,
+    made: &mut Made,
+    verdicts: &mut Vec<Verdict>,
+) -> Result<(), Refusal>
+    ensures ok { OnOk result (Ends caller client reader.old typed (Some order.now)
+        state.old state.new made.old made.new verdicts.old.items verdicts.new.items) }
+    ensures err { IsHere client state.old
+        → OnErr result (IsAsBefore state.old state.new made.old made.new) }
+    ensures memory { IfErr result (λ refusal. refusal ≡ NoMemory) }
+{
+    let focuses = Focuses::of(state);
+    give(state, caller, client, reader, typed, order, made, verdicts)?;
+    leave(state, &focuses, made);
+    Ok(())
+}
+
+/// Keys that complete no command: they are typed. Each client shows what it showed, so nobody leaves
+/// a window.
+fn give_typed(
+    state: &mut State,
+    caller: Caller,
+    client: u32,
+    reader: &mut KeyReader,
+    typed: Bytes,
+    made: &mut Made,
+    verdicts: &mut Vec<Verdict>,
+) -> Result<(), Refusal>
+    ensures ok { OnOk result (Ends caller client reader.old typed None
+        state.old state.new made.old made.new verdicts.old.items verdicts.new.items) }
+    ensures err { OnErr result (IsAsBefore state.old state.new made.old made.new) }
+    ensures memory { IfErr result (λ refusal. refusal ≡ NoMemory) }
+{
+    let mut message = type_bytes(state, caller, client, typed, made, verdicts)?;
+    state.clients.exchange(client, reader, &mut message);
+    Ok(())
+}
+
+/// A client gives the keys that were read.
+fn give_read(
+    state: &mut State,
+    caller: Caller,
+    client: u32,
+    reader: &mut KeyReader,
+    typed: Bytes,
+    order: &Option<Result<Command, ParseFault>>,
+    made: &mut Made,
+    verdicts: &mut Vec<Verdict>,
+) -> Result<(), Refusal>
+    ensures ok { OnOk result (Ends caller client reader.old typed order.now
+        state.old state.new made.old made.new verdicts.old.items verdicts.new.items) }
+    ensures err { IsHere client state.old
+        → OnErr result (IsAsBefore state.old state.new made.old made.new) }
+    ensures memory { IfErr result (λ refusal. refusal ≡ NoMemory) }
+{
+    match order {
+        Some(order) => give_order(state, caller, client, reader, typed, order, made, verdicts),
+        None => give_typed(state, caller, client, reader, typed, made, verdicts),
+    }
+}
+
 /// A step of a client's keys: they are read up to the first one that completes a command or a line
-/// of the prompt. What they type goes to the window in focus, the command is obeyed, and the client
-/// is told of what was refused, each thing once. Gives how many keys were read.
+/// of the prompt. What they type goes to the window in focus, the command is obeyed, the client is
+/// told of what was refused, each thing once, and then users leave windows. Gives how many keys were
+/// read.
 pub fn keys(
     state: &mut State,
     client: u32,
@@ -137,14 +199,22 @@ pub fn keys(
     ensures answer { Reads client bytes.now state.old result state.new made.old made.new
         verdicts.old.items verdicts.new.items }
     ensures err { OnErr result (IsAsBefore state.old state.new made.old made.new) }
-    ensures room { OnOk result (HasRoom 64 made.new) }
 {
     let Some(row) = state.clients.get(client) else {
         return Err(Refusal::NoWindow);
     };
     let caller = caller_of(row);
-    let read = read(state.alloc, row, bytes)?;
-    let taken = read.taken;
-    give(state, caller, client, read, made, verdicts)?;
-    Ok(taken)
+    let mut reader = row.keys.copied();
+    let read = read(state.alloc, &mut reader, bytes)?;
+    give_read(
+        state,
+        caller,
+        client,
+        &mut reader,
+        read.typed,
+        &read.order,
+        made,
+        verdicts,
+    )?;
+    Ok(read.taken)
 }

@@ -57,7 +57,7 @@ fn obey_command(
 }
 
 /// A client gives a command by keys, or a line that is none.
-fn obey_order(
+pub fn obey(
     state: &mut State,
     caller: Caller,
     client: u32,
@@ -76,30 +76,6 @@ fn obey_order(
         Err(fault) => {
             made.acts.reserve(64)?;
             say_why(state, client, Refusal::Line(*fault), made)
-        }
-    }
-}
-
-/// A client gives a command by keys, or a line that is none, or nothing.
-pub fn obey(
-    state: &mut State,
-    caller: Caller,
-    client: u32,
-    given: &Option<Result<Command, ParseFault>>,
-    made: &mut Made,
-    verdicts: &mut Vec<Verdict>,
-) -> Result<(), Refusal>
-    ensures ok { OnOk result (Obeys caller client given.now state.old state.new made.old made.new
-        verdicts.old.items verdicts.new.items) }
-    ensures err { OnErr result (IsAsBefore state.old state.new made.old made.new) }
-    ensures memory { IfErr result (λ refusal. refusal ≡ NoMemory) }
-    ensures room { OnOk result (HasRoom 64 made.new) }
-{
-    match given {
-        Some(order) => obey_order(state, caller, client, order, made, verdicts),
-        None => {
-            made.acts.reserve(64)?;
-            Ok(())
         }
     }
 }

@@ -28,7 +28,7 @@ use Rattle.session_state.specs.Stands.{Stands}
 use Rattle.session_state.specs.Doing.{HasDone, IsAsBefore, did}
 use Rattle.session_leaving.specs.Leaving.{HasLeft}
 use Rattle.session_orders.specs.Ruled.{Ruled}
-use Rattle.session_keys.specs.Reads.{ReadFor, read_of, keys_deed, keys_verdicts}
+use Rattle.session_keys.specs.Reads.{ReadFor, read_of}
 use Rattle.session_steps.specs.Lines.{Parses, line_refusal, refusal_by}
 use Rattle.session_steps.specs.Stepping.{HasHappened, Stepped}
 use Rattle.session_steps.proofs.Outcomes.{was_refused, was_done, nothing_done}
@@ -155,19 +155,17 @@ of_keys t bytes o = elim o [
 ]
 
 pub was_read : (t : Tables) (o : Option Client) (bytes : List ℕ) (count : ℕ) (said : Reply)
-    (middle new : State) (before second after : Made) (past noted : List Verdict)
-    → ReadFor t o bytes (Ok count) middle before second past noted
-    → reply_of count 0 0 None ≡ said
-    → ((d : Deed) → Stands (did t d) middle → HasLeft t d new second after)
+    (new : State) (before after : Made) (past noted : List Verdict)
+    → ReadFor t o bytes (Ok count) new before after past noted → reply_of count 0 0 None ≡ said
     → HasHappened (of_keys t bytes o) said new before after past noted
-was_read t None bytes count said middle new before second after past noted read same left =
-    absurd read
-was_read t (Some c) bytes count said middle new before second after past noted read same left =
-    let keys : List ℕ = read_of c bytes in
-    was_done t (keys_verdicts t c keys) (keys_deed t c keys) (keys_outcome t c keys)
-    (reply_of (length keys) 0 0 None) said middle new before before second after past noted refl
-    (ap (λ (n : ℕ). reply_of n 0 0 None) (sym read.count_is) ∙ same) refl refl read.done
-    (left (keys_deed t c keys) read.done.stands) read.verdicts
+was_read t None bytes count said new before after past noted read same = absurd read
+was_read t (Some c) bytes count said new before after past noted read same = record {
+  replied = ap (λ (n : ℕ). reply_of n 0 0 None) (sym read.count_is) ∙ same;
+  stands = read.ended.stands;
+  acts = read.ended.acts;
+  effects = read.ended.effects;
+  verdicts = read.verdicts;
+}
 
 pub was_unread : (t : Tables) (o : Option Client) (bytes : List ℕ) (r : Refusal)
     (old new : State) (before after : Made) (past noted : List Verdict)

@@ -6,11 +6,11 @@ ghost use Rattle.session_state.specs.Doing.{IsAsBefore};
 ghost use Rattle.session_steps.specs.Stepping.{Steps};
 
 use session_keys::keys;
-use session_leaving::{Focuses, leave};
 use session_model::{Done, Reply, Verdict};
 use session_state::{Made, State};
 
-/// A client gives keys: they are read up to the first that completes a command or a line.
+/// A client gives keys: they are read up to the first that completes a command or a line. Users leave
+/// windows only where there is one.
 pub(crate) fn give_keys(
     state: &mut State,
     client: u32,
@@ -22,9 +22,7 @@ pub(crate) fn give_keys(
         verdicts.old.items verdicts.new.items }
     ensures err { OnErr result (IsAsBefore state.old state.new made.old made.new) }
 {
-    let focuses = Focuses::of(state);
     let taken = keys(state, client, bytes, made, verdicts)?;
-    leave(state, &focuses, made);
     Ok(Done {
         taken,
         made: 0,

@@ -1,29 +1,21 @@
 use Rattle.std.proofs.Common.{◌≡◌, ℕ, List, ap, ◌∙◌, refl}
 use Rattle.session_model.specs.Tables.{Client, with_client, row_of, with_row}
 use Rattle.session_rows.proofs.Serials.{serial_is, with_same}
-use Rattle.session_rows.proofs.Matching.{row_there}
 use Rattle.session_clients.specs.declared.client.Client.{Client as Row}
-use Rattle.session_clients.specs.Stands.{ClientStands}
-use Rattle.session_clients.proofs.Changing.{serials}
 use Rattle.session_state.specs.declared.state.State.{State}
 use Rattle.session_keys.specs.Stepping.{read_by}
 use Rattle.session_model.specs.Events.{reading}
-use Rattle.session_keys.proofs.Putting.{serial, row_serial, fit_put, stands_put, read_stands}
+use Rattle.session_keys.proofs.Putting.{serial, fit_put, stands_read}
 use Rattle.session_keys.proofs.key_step.obey_read.Goals as goal
 
 pub returns-in-Ok-clause-ok : goal.returns-in-Ok-clause-ok
 returns-in-Ok-clause-ok c = λ t row keys st fit at same read.
     let n : ℕ = c.args.client in
-    let s : State = c.args.state.now in
-    let found = row_there ClientStands serial row_serial serials t.clients s.clients n row
-    st.clients at in
-    let put = c.exchange.ensures.row found.0 found.1 in
     let there : row.serial ≡ n = serial_is serial t.clients n row at in
     let d : Client = read_by c.args.message keys row in
-    let made : Row = record found.0 { keys = c.args.reader; message = c.args.message } in
     c.in-Ok.ensures.ok (with_client t d) (reading keys row) d
-    (stands_put t s n d made c.exchange.new.self there
-    (read_stands c.args.message keys c.args.reader row found.0 read found.2) put.row st)
+    (stands_read t c.args.state.now n row keys c.args.reader.now c.exchange.new.keys c.args.message
+    c.exchange.new.message c.exchange.new.self at read c.exchange.ensures.row st)
     (fit_put t n row d at there refl refl fit)
     (ap (λ (k : ℕ). row_of serial (with_row serial t.clients k d) n) there
     ∙ with_same serial t.clients n row d at there)
@@ -35,7 +27,7 @@ returns-clause-err c = λ here.
     let kept = c.in-Err.ensures.err in
     let put = c.exchange.ensures.row here.0 here.1 in
     let back : c.exchange-in-Err.new.self ≡ s.clients =
-    c.exchange-in-Err.ensures.back s.clients here.0 c.args.reader c.args.message here.1
+    c.exchange-in-Err.ensures.back s.clients here.0 c.args.reader.now c.args.message here.1
     (ap (λ (x : State). x.clients) kept.state ∙ put.row) put.keys_are put.message_is in
     record {
       state = ap (λ (x : State). record x { clients = c.exchange-in-Err.new.self }) kept.state

@@ -17,6 +17,5 @@ pub returns-clause-step : goal.returns-clause-step
 returns-clause-step c = λ t st fit.
     let count = c.in_ok-taken.taken in
     was_read t (client_at t c.args.client) c.args.bytes.now count (reply_of count 0 0 None)
-    c.keys.new.state c.leave.new.state c.args.made.now c.keys.new.made c.leave.new.made
-    c.args.verdicts.now.items c.keys.new.verdicts.items (c.in_ok-taken.ensures.answer t st fit) refl
-    (λ d did. c.leave.ensures t d (c.of-focuses.ensures t st fit.sound) did)
+    c.keys.new.state c.args.made.now c.keys.new.made c.args.verdicts.now.items
+    c.keys.new.verdicts.items (c.in_ok-taken.ensures.answer t st fit) refl

@@ -12,7 +12,7 @@ use Rattle.session_rows.proofs.Serials.{on_ok}
 use Rattle.session_state.specs.Doing.{HasDone}
 use Rattle.session_keys.specs.Obeying.{Obeys}
 use Rattle.session_keys.proofs.Orders.{kept_on}
-use Rattle.session_keys.proofs.obeying.obey_order.Goals as goal
+use Rattle.session_keys.proofs.obeying.obey.Goals as goal
 
 pub returns-in-Ok-clause-ok : goal.returns-in-Ok-clause-ok
 returns-in-Ok-clause-ok c =
