@@ -8,6 +8,7 @@ use acl::Act;
 use hub_trail::Ending;
 use session_model::Verdict;
 use std::marker::Model;
+use std::mem::size_of;
 
 /// One entry of a trail: an event, what was checked, what was done, and what was answered. Contracts
 /// see it as hub_trail's `Entry`.
@@ -18,6 +19,11 @@ pub struct Filed {
     acts: Vec<Act>,
     reply: KeptReply,
 }
+
+// With the two verdicts of Keys an entry takes at most 200 bytes.
+const _: () = prove!(size_of::<Filed>() <= 88);
+
+const _: () = prove!(2 * size_of::<Verdict>() <= 112);
 
 impl Model for Filed {
     ghost use Rattle.hub_trail.specs.Trails.{Entry};
