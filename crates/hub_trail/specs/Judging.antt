@@ -1,8 +1,8 @@
 -- What tables of rights and locks can judge: entries whose acts may come after those before them,
 -- and whose verdicts speak of what is there. Of anything else tables have no rows.
-use Rattle.std.specs.Prelude.{ℕ, zero, suc, Bool, true, not, nat_lt, ◌&&◌, ◌||◌, ◌≡◌}
+use Rattle.std.specs.Prelude.{ℕ, zero, suc, Bool, true, not, nat_lt, ◌&&◌, ◌||◌, ◌==◌, ◌≡◌}
 use Rattle.std.specs.Prelude.{List, [], ◌∷◌, Option, Some, None, is_none}
-use Rattle.std.specs.List.{AllByRecursion}
+use Rattle.std.specs.List.{AllByRecursion, list_any}
 use Rattle.acl.specs.declared.act.Act.{Act}
 use Rattle.acl.specs.declared.act.Act.TheVariants as act
 use Rattle.acl.specs.declared.act.Object.TheVariants.{Window}
@@ -14,7 +14,7 @@ use Rattle.acl.specs.declared.user_id.UserId.{UserId}
 use Rattle.acl.specs.Commands.{new_name_fault, known_name_fault, group_fault}
 use Rattle.acl.specs.History.{History, followed_by, is_known, is_open, open_count, there, may}
 use Rattle.acl.specs.History.{users_of, among, leaders_of}
-use Rattle.writelock.specs.Holding.{is_off}
+use Rattle.writelock.specs.Holding.{is_off, clients_of}
 use Rattle.session_model.specs.declared.verdict.Verdict.{Verdict}
 use Rattle.session_model.specs.declared.verdict.Verdict.TheVariants.{Right as right, Lock as lock}
 use Rattle.hub_trail.specs.Trails.{Entry}
@@ -29,8 +29,12 @@ abbrev pub leader_in : Option UserId → NewLeader
 leader_in None = Nobody
 leader_in (Some u) = Named (Some u)
 
+-- whether a client of this serial is attached
+abbrev pub is_client : History → ℕ → Bool
+is_client h client = list_any (λ c. c.0 == client) (clients_of h)
+
 -- whether an act can come after these: a list command of one name does it, a known user opens a
--- window that isn't open, and locks are of open windows
+-- window that isn't open, a client that comes isn't attached yet, and locks are of open windows
 abbrev pub can_follow : Edition → UserId → History → Act → Bool
 can_follow edition owner h (act.Known u) =
     not (among (users_of owner h) u)
@@ -46,6 +50,7 @@ can_follow edition owner h (act.Masked by u bit value) =
     is_none (known_name_fault owner (users_of owner h) (Some u))
 can_follow edition owner h (act.Opened by w) =
     is_known owner h by && (not (is_open h w) && nat_lt (open_count h) 40)
+can_follow edition owner h (act.Attached client user) = not (is_client h client)
 can_follow edition owner h (act.Entered u w) = is_open h w
 can_follow edition owner h (act.Mode by w mode) =
     is_open h w && (is_off mode || may edition owner h by Write (Window w))
