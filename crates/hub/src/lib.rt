@@ -13,13 +13,12 @@ ghost use Rattle.hub_ledger.specs.Seats.{Answers};
 
 use acl::{Edition, UserId};
 use hub_ledger::Ledger;
+pub use hub_ledger::{Answer, HubFault, Receipt, Seat, Trail};
 use session_core::Session;
 use session_model::{Effect, Event};
 use std::alloc::Global;
 use std::sync::ledger::{Blank, Ledger as Roll};
 use std::sync::{Mutex, Wait};
-
-pub use hub_ledger::{Answer, HubFault, Receipt, Seat, Trail};
 
 /// A session that threads share.
 #[derive(Drop)]

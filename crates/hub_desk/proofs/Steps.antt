@@ -85,13 +85,16 @@ kept_after old new seat step kept here a =
       windows = seats_grown (length old.waiting) (opens step.event step.reply) seat old.owners.windows here kept.seats.windows;
     } in
     record {
-      past = (with_step h step, record {
-        stands = st;
-        trail = ap (λ t. with_entries t (filed step)) stood.trail ∙ sym a.trail;
-        clients = ap (λ (o : Owners). length o.clients) a.owners ∙ grown (attaches step.event step.reply) seat old.owners.clients
-            ∙ ap (one_more (attaches step.event step.reply)) stood.clients ∙ sym given.clients;
-        windows = ap (λ (o : Owners). length o.windows) a.owners ∙ grown (opens step.event step.reply) seat old.owners.windows
-            ∙ ap (one_more (opens step.event step.reply)) stood.windows ∙ sym given.windows;
-      });
+      past = (
+        with_step h step,
+        record {
+          stands = st;
+          trail = ap (λ t. with_entries t (filed step)) stood.trail ∙ sym a.trail;
+          clients = ap (λ (o : Owners). length o.clients) a.owners ∙ grown (attaches step.event step.reply) seat old.owners.clients
+              ∙ ap (one_more (attaches step.event step.reply)) stood.clients ∙ sym given.clients;
+          windows = ap (λ (o : Owners). length o.windows) a.owners ∙ grown (opens step.event step.reply) seat old.owners.windows
+              ∙ ap (one_more (opens step.event step.reply)) stood.windows ∙ sym given.windows;
+        },
+      );
       seats = subst (λ m. AreSeats m new.owners) (sym n) (subst (AreSeats (length old.waiting)) (sym a.owners) owners);
     }

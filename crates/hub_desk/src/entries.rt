@@ -37,7 +37,8 @@ impl Entries {
         if let Some(Slip { event, spare }) = slip {
             let (acts, verdicts) = notes.into_parts();
             let reply = KeptReply::of(reply, spare);
-            self.list.push_reserved(Filed::new(event, verdicts, acts, reply));
+            self.list
+                .push_reserved(Filed::new(event, verdicts, acts, reply));
         }
     }
 }

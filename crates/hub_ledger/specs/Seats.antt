@@ -36,7 +36,7 @@ HasReceipt None told old new = (told.place ≡ None) × (new ≡ old)
 HasReceipt (Some event) told old new = (place : ℕ) × (told.place ≡ Some place)
     × AllBelow old.receipts place
     × (new ≡ with_receipt old
-      record { place = place; event = event; reply = ending_of told.reply })
+    record { place = place; event = event; reply = ending_of told.reply })
 
 -- the answer is to this event, and the seat holds its receipt
 pub record Answers (event : Happening) (told : Told) (old new : Sitting) : Type 0 where

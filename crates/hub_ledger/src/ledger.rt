@@ -55,7 +55,10 @@ impl<L: Roll> Model for Ledger<L> {
 fn writes_entry(event: Event) -> bool
     ensures { result ≡ is_some (kept_of (happening event.entry)) }
 {
-    !matches!(event, Event::Resize { .. } | Event::Output { .. } | Event::Draw { .. })
+    !matches!(
+        event,
+        Event::Resize { .. } | Event::Output { .. } | Event::Draw { .. }
+    )
 }
 
 /// A seat of this number that was told nothing.
@@ -144,11 +147,7 @@ impl<L: Roll> Ledger<L> {
     }
 
     /// Takes one event that writes an entry.
-    fn file<'a>(
-        &mut self,
-        seat: &mut Seat<L>,
-        event: Event<'a>,
-    ) -> Result<Answer<'a>, HubFault>
+    fn file<'a>(&mut self, seat: &mut Seat<L>, event: Event<'a>) -> Result<Answer<'a>, HubFault>
         requires { is_some (kept_of (happening event)) ≡ true }
         ensures step { IfOk result (λ told. Takes seat.old.number (happening event.entry)
             told.reply self.old self.new) }

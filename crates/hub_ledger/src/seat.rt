@@ -45,12 +45,7 @@ impl<L: Roll> Seat<L> {
 
     /// Takes away the receipts of this place and above. How many of them name it, and whether these
     /// have the event and the reply of the entry.
-    pub(crate) fn strip(
-        &mut self,
-        book: &mut Book<L>,
-        place: usize,
-        entry: &Filed,
-    ) -> (usize, bool)
+    pub(crate) fn strip(&mut self, book: &mut Book<L>, place: usize, entry: &Filed) -> (usize, bool)
         requires { place < 4294967296 }
         ensures rest { self.new.receipts ≡ before place self.old.receipts }
         ensures total { book.new.total + length self.old.receipts

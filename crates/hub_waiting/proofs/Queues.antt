@@ -76,8 +76,8 @@ push_waits o es e k old now items here is at waits seat before was = on (k == se
       let had : Some items ≡ Some (before ++ filter (is_for o k) es) = sym at ∙ waits k before (ap (slice_get old) s ∙ was) in
       let items_are : items ≡ before ++ filter (is_for o k) es = cc (had) in
       let now_is : slice_get (set now k (items ++ e ∷ [])) k ≡ Some (before ++ filter (is_for o k) (es ++ e ∷ [])) =
-          slice_get-set_here now k (items ++ e ∷ []) here
-          ∙ ap (λ (x : List Effect). Some x) (ap (λ (x : List Effect). x ++ e ∷ []) items_are ∙ append_assoc before (filter (is_for o k) es) (e ∷ []) ∙ ap (λ (x : List Effect). before ++ x) (sym (push_here o k e es is))) in
+      slice_get-set_here now k (items ++ e ∷ []) here
+      ∙ ap (λ (x : List Effect). Some x) (ap (λ (x : List Effect). x ++ e ∷ []) items_are ∙ append_assoc before (filter (is_for o k) es) (e ∷ []) ∙ ap (λ (x : List Effect). before ++ x) (sym (push_here o k e es is))) in
       subst (λ (j : ℕ). slice_get (set now k (items ++ e ∷ [])) j ≡ Some (before ++ filter (is_for o j) (es ++ e ∷ []))) s now_is
   on false differ =
       let other : k ≢ seat = λ p. absurd (let t = itself k in let q : (k == k) ≡ false = ap (λ j. k == j) p ∙ differ in cc (t, q)) in
