@@ -6,14 +6,16 @@
 //! `ghosts-serve g a = record { name = a.blank.name; parts = a.blank.parts }`.
 #![tactic(auto)]
 
-ghost use Rattle.std.specs.Prelude.{◌≡◌, ◌<◌, ◌≤◌, length, IfOk, OnErr};
+ghost use Rattle.std.specs.Prelude.{◌≡◌, ◌↔◌, ◌<◌, ◌≤◌, length, IfOk, OnErr, None, []};
 ghost use Rattle.session_model.specs.Trace.{begun, happening};
 ghost use Rattle.session_core.specs.Stands.{StandsFor};
+ghost use Rattle.hub_trail.specs.Legal.{IsLegal};
+ghost use Rattle.hub_ledger.specs.Closing.{AreThere, IsFirstWrong, receipts_of};
 ghost use Rattle.hub_ledger.specs.Seats.{Answers};
 
 use acl::{Edition, UserId};
 use hub_ledger::Ledger;
-pub use hub_ledger::{Answer, HubFault, Receipt, Seat, Trail};
+pub use hub_ledger::{Answer, Filed, HubFault, KeptEvent, Receipt, Seat, Trail};
 use session_core::Session;
 use session_model::{Effect, Event};
 use std::alloc::Global;
@@ -40,7 +42,8 @@ impl<L: Roll> Hub<L> {
         requires parts { (blank.parts ≡ L.parts) × (seats ≡ L.parts) }
         requires seats { (0 < seats) × (seats ≤ 8) }
         requires fresh { StandsFor (begun edition owner) session }
-        ensures seats { IfOk result (λ made. length made.1.items ≡ L.parts) }
+        ensures seats { IfOk result (λ made. (length made.1.items ≡ L.parts)
+            × (receipts_of made.1.items ≡ [])) }
     {
         let (ledger, seats) = Ledger::new(alloc, blank, edition, owner, session, seats)?;
         Ok((
@@ -74,7 +77,18 @@ impl<L: Roll> Hub<L> {
 
     /// The trail, and the least place that isn't, with its event and reply, in just one receipt of
     /// these seats. It takes no memory.
-    pub fn close(self, seats: Vec<Seat<L>>) -> (Trail, Option<usize>) {
+    pub fn close(self, seats: Vec<Seat<L>>) -> (Trail, Option<usize>)
+        // The trail is a legal history of one thread.
+        ensures legal { IsLegal result.0 }
+        // Where all seats are handed back, they hold as many receipts as the trail has entries.
+        ensures counted { length seats.items ≡ L.parts
+            → length result.0.entries ≡ length (receipts_of seats.items) }
+        ensures wrong { IsFirstWrong result.0.entries (receipts_of seats.items) result.1 }
+        // Then there is no such place exactly where no two receipts name one place, and at each
+        // place stand the receipt's event and reply.
+        ensures none { length seats.items ≡ L.parts
+            → ((result.1 ≡ None) ↔ AreThere result.0.entries (receipts_of seats.items)) }
+    {
         self.ledger.into_inner().close(seats)
     }
 }

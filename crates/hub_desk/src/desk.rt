@@ -96,4 +96,12 @@ impl Desk {
         self.entries.write(slip, notes, &reply);
         Ok(reply)
     }
+
+    /// The entries alone.
+    pub fn into_entries(self) -> Entries
+        ensures { result ≡ self.entries }
+    {
+        let Desk { entries, .. } = self;
+        entries
+    }
 }

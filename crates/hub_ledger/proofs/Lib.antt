@@ -1,0 +1,4 @@
+pub mod Rising
+pub mod Stripping
+pub mod Counting
+pub mod Tellings

@@ -21,7 +21,7 @@ times place receipts = count_by (λ (r : Receipt). r.place == place) receipts
 
 -- the receipt has the event and the reply of the entry
 abbrev pub IsOf : Entry → Receipt → Type 0
-IsOf e r = (r.event ≡ e.event) × (r.reply ≡ e.reply)
+IsOf e r = (e.event ≡ r.event) × (e.reply ≡ r.reply)
 
 -- those that name the place do
 abbrev pub AreOf : ℕ → Entry → List Receipt → Type 0

@@ -1,26 +1,25 @@
 //! Receipts against the trail.
 
 ghost use Rattle.std.specs.Prelude.{◌≡◌, ◌↔◌, ◌+◌, ◌<◌, ◌≤◌, true, length};
-ghost use Rattle.hub_ledger.specs.Closing.{AreOf, IsFirstWrong, before, receipts_of, times};
+ghost use Rattle.hub_ledger.specs.Closing.{IsFirstWrong, IsTold, before, receipts_of};
 
 use crate::seat::Seat;
 use hub_record::Filed;
 use std::sync::ledger::{Book, Ledger as Roll};
 
-/// Takes away the receipts of this place and above from all seats. How many of them name it, and
-/// whether these have the event and the reply of the entry.
+/// Takes away the receipts of this place and above from all seats. Whether one of them alone names
+/// it, and has the event and the reply of the entry.
 fn strip_all<L: Roll>(
     book: &mut Book<L>,
     seats: &mut [Seat<L>],
     place: usize,
     entry: &Filed,
-) -> (usize, bool)
+) -> bool
     requires { place < 4294967296 }
     ensures rest { receipts_of seats.new ≡ before place (receipts_of seats.old) }
     ensures total { book.new.total + length (receipts_of seats.old)
         ≡ book.old.total + length (receipts_of seats.new) }
-    ensures times { result.0 ≡ times place (receipts_of seats.old) }
-    ensures right { (result.1 ≡ true) ↔ AreOf place entry.now (receipts_of seats.old) }
+    ensures told { (result ≡ true) ↔ IsTold place entry.now (receipts_of seats.old) }
 {
     let mut named = 0;
     let mut right = true;
@@ -30,7 +29,7 @@ fn strip_all<L: Roll>(
         named += times;
         right = right && is_right;
     }
-    (named, right)
+    named == 1 && right
 }
 
 /// The least place that isn't, with its event and reply, in just one receipt of these seats, which
@@ -49,8 +48,7 @@ pub fn first_wrong<L: Roll>(
     let mut place = entries.len();
     'places: while place > 0 {
         place -= 1;
-        let (named, right) = strip_all(book, seats, place, &entries[place]);
-        if named != 1 || !right {
+        if !strip_all(book, seats, place, &entries[place]) {
             wrong = Some(place);
         }
     }

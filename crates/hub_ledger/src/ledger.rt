@@ -42,6 +42,11 @@ impl<L: Roll> Model for Ledger<L> {
 
     ghost Value = { State };
 
+    ghost use Rattle.std.specs.Coded.{codes};
+    ghost use Rattle.regions.specs.Layouts.{arrangement_code};
+
+    ghost coded = { Prim.hlevel (codes, arrangement_code) };
+
     ghost view = { λ l. state_of l.desk };
 
     ghost invariant = { λ l. IsKept (state_of l.desk)
@@ -221,7 +226,7 @@ impl<L: Roll> Ledger<L> {
             → ((result.1 ≡ None) ↔ AreThere result.0.entries (receipts_of seats.items)) }
     {
         let Ledger { desk, mut book } = self;
-        let Desk { entries, .. } = desk;
+        let entries = desk.into_entries();
         let mut seats = seats;
         let wrong = first_wrong(&mut book, seats.as_mut_slice(), entries.list.as_slice());
         count(&mut book, seats);

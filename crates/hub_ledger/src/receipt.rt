@@ -52,7 +52,9 @@ pub fn are_below(receipts: &[Receipt], place: usize) -> bool
 /// Takes away the receipts of this place and above.
 fn cut(receipts: &mut Vec<Receipt>, place: usize)
     requires { Rise receipts.old.items }
-    ensures { receipts.new.items ≡ before place receipts.old.items }
+    ensures rise { Rise receipts.new.items }
+    ensures below { AllBelow receipts.new.items place }
+    ensures rest { receipts.new.items ≡ before place receipts.old.items }
 {
     'above: while !are_below(receipts.as_slice(), place) {
         let _last = receipts.pop();
@@ -64,6 +66,7 @@ fn cut(receipts: &mut Vec<Receipt>, place: usize)
 pub fn strip(receipts: &mut Vec<Receipt>, place: usize, entry: &Filed) -> (usize, bool)
     requires rise { Rise receipts.old.items }
     requires place { place < 4294967296 }
+    ensures rise { Rise receipts.new.items }
     ensures rest { receipts.new.items ≡ before place receipts.old.items }
     ensures times { result.0 ≡ times place receipts.old.items }
     ensures once { result.0 ≤ 1 }

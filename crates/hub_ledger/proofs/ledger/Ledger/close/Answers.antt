@@ -1,0 +1,4 @@
+use Rattle.hub_ledger.proofs.ledger.Ledger.close.Goals as goal
+
+pub returns : goal.returns
+returns g c = ?
