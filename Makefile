@@ -1,9 +1,12 @@
 # The toolchain's command; RT=/path/to/rt where it isn't on the PATH.
 RT ?= rt
-PROGRAMS = muxsim vtcat
+PREFIX ?= /usr/local
+# The programs that are here.
+PROGRAMS = $(notdir $(wildcard crates/muxd crates/mux crates/muxsim crates/vtcat))
 TESTS = $(notdir $(patsubst %/,%,$(dir $(wildcard crates/*_tests/src)))) scripts
+SCRIPTS = $(addprefix contrib/, mux-shell mux-attach mux-over-ssh new-token)
 
-.PHONY: demo build try check test edits
+.PHONY: demo build try check test edits examples lint install
 
 # Plays a script of examples/, without any proof: about a minute.
 SCRIPT ?= first-run
@@ -36,3 +39,41 @@ test:
 # Tries the edits of edits/ in copies of the tree: all, or make edits CRATE=acl.
 edits:
 	@tools/edits $(CRATE)
+
+# Plays the scripts of examples/ with a muxsim that is built, and compares what they print, and the pictures of docs/TEACHING.md.
+MUXSIM ?= bin/muxsim
+export MUXSIM
+examples:
+	@test -x $(firstword $(MUXSIM)) || { echo "make examples: make build makes bin/muxsim" >&2; exit 2; }
+	@for script in examples/*.mux; do \
+	    $(MUXSIM) --show own < $$script | cmp - $${script%.mux}.out || exit 1; \
+	done
+	@tools/pictures docs/TEACHING.md
+	@echo "make examples: $(words $(wildcard examples/*.mux)) scripts and the pictures agree"
+
+# Scripts, terminal descriptions and man pages: Debian's shellcheck, ncurses-bin and mandoc.
+lint:
+	shellcheck -s sh $(SCRIPTS) tests/outside/programs tests/outside/terminals tests/outside/memory
+	tic -c contrib/mux.ti
+	cd man && mandoc -Tlint *.1 *.5 *.8
+
+# Installs what make build made, with its man pages; with mux also scripts, the unit and the terminal descriptions.
+BIN = $(DESTDIR)$(PREFIX)/bin
+MAN = $(DESTDIR)$(PREFIX)/share/man
+install:
+	@for program in $(PROGRAMS); do \
+	    test -x bin/$$program || { echo "make install: make build makes bin/$$program" >&2; exit 2; }; \
+	done
+	install -d $(BIN) $(MAN)/man1
+	install -m 755 $(addprefix bin/, $(PROGRAMS)) $(BIN)
+	install -m 644 $(wildcard $(patsubst %, man/%.1, $(PROGRAMS))) $(MAN)/man1
+ifneq ($(filter mux, $(PROGRAMS)),)
+	install -d $(MAN)/man5 $(MAN)/man8 $(DESTDIR)$(PREFIX)/lib/systemd/user $(DESTDIR)$(PREFIX)/share/mux
+	install -m 755 $(SCRIPTS) $(BIN)
+	install -m 644 man/mux-users.5 $(MAN)/man5
+	install -m 644 man/muxd.8 $(MAN)/man8
+	install -m 644 contrib/mux.ti $(DESTDIR)$(PREFIX)/share/mux
+	sed 's|/usr/local/bin|$(PREFIX)/bin|' contrib/muxd.service \
+	    > $(DESTDIR)$(PREFIX)/lib/systemd/user/muxd.service
+	@echo "tic -x $(PREFIX)/share/mux/mux.ti makes TERM=mux known to programs"
+endif

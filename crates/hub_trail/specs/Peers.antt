@@ -1,6 +1,6 @@
 -- The peers of a step: clients and windows have serials from 0 on, and effects are for those that
 -- came.
-use Rattle.std.specs.Prelude.{◌≡◌, ◌<◌, ◌≤◌, length, ℕ, ◌+◌, Bool, false, if◌then◌else◌, is_ok, Ok}
+use Rattle.std.specs.Prelude.{◌≡◌, ◌<◌, ℕ, ◌+◌, Bool, false, if◌then◌else◌, is_ok, Ok}
 use Rattle.std.specs.List.{AllByRecursion}
 use Rattle.session_model.specs.declared.event.Effect.{Effect}
 use Rattle.session_model.specs.declared.event.Effect.TheVariants.{Input, Deliver, Say, Size}
@@ -54,7 +54,3 @@ HasCome t (GoneClient client why) = client < t.next_client
 abbrev pub EffectsHavePeers : Type 0
 EffectsHavePeers =
     (t : Tables) (e : Entry) → AreSound t → IsStep t e → AllByRecursion (HasCome t) e.effects
-
--- no step has more than 256 effects
-abbrev pub EffectsAreFew : Type 0
-EffectsAreFew = (t : Tables) (e : Entry) → AreSound t → IsStep t e → length e.effects ≤ 256

@@ -1,8 +1,8 @@
-//! Growths that are refused. Played as it stands it meets no refusal; `rt try --test --fail-alloc 1..` refuses
-//! each allocation in turn, and the joined effects must still be the same.
+//! Growths that are refused. Played as they stand the tests meet no refusal; `rt try --test --fail-alloc N`
+//! refuses the Nth allocation, and the joined effects must still be the same.
 
 use acl::UserId;
-use session::{Effect, Event, Reply, Session};
+use session::{Bytes, Effect, Event, Reply, Session};
 use std::alloc::{AllocError, Global};
 use std::test::Fail;
 
@@ -87,6 +87,57 @@ fn is_first_frame(effect: &Effect) -> bool {
     }
 }
 
+/// Whether the bytes are there in both, and the same, or in neither.
+fn are_same(one: &Option<Bytes>, other: &Option<Bytes>) -> bool {
+    match (one, other) {
+        (Some(one), Some(other)) => one.as_slice() == other.as_slice(),
+        (None, None) => true,
+        _ => false,
+    }
+}
+
+/// Whether two effects are the same.
+fn is_same_effect(one: &Effect, other: &Effect) -> bool {
+    match (one, other) {
+        (Effect::Input(to, bytes), Effect::Input(also, others))
+        | (Effect::Deliver(to, bytes), Effect::Deliver(also, others))
+        | (Effect::Say(to, bytes), Effect::Say(also, others)) => {
+            to == also && bytes.as_slice() == others.as_slice()
+        }
+        (Effect::Size(to, rows, cols), Effect::Size(also, other_rows, other_cols)) => {
+            to == also && rows == other_rows && cols == other_cols
+        }
+        (Effect::GoneWindow(from, why), Effect::GoneWindow(also, other_why))
+        | (Effect::GoneClient(from, why), Effect::GoneClient(also, other_why)) => {
+            from == also && why == other_why
+        }
+        _ => false,
+    }
+}
+
+/// Whether effects of each kind are among these.
+fn has_all_kinds(effects: &[Effect]) -> bool {
+    effects.iter().any(|e| matches!(e, Effect::Input(..)))
+        && effects.iter().any(|e| matches!(e, Effect::Deliver(..)))
+        && effects.iter().any(|e| matches!(e, Effect::Say(..)))
+        && effects.iter().any(|e| matches!(e, Effect::Size(..)))
+        && effects.iter().any(|e| matches!(e, Effect::GoneWindow(..)))
+        && effects.iter().any(|e| matches!(e, Effect::GoneClient(..)))
+}
+
+/// Whether two replies are the same.
+fn is_same_reply(one: &Reply, other: &Reply) -> bool {
+    match (one, other) {
+        (Ok(one), Ok(other)) => {
+            one.made == other.made
+                && one.number == other.number
+                && are_same(&one.text, &other.text)
+        }
+        (Err(one), Err(other)) => one == other,
+        _ => false,
+    }
+}
+
 fn new_session(alloc: Global, owner: UserId) -> Result<Session, AllocError> {
     match Session::new(alloc, owner) {
         Ok(session) => Ok(session),
@@ -109,5 +160,140 @@ fn nothing_is_lost_by_a_refusal(rt: HostRuntime) -> Result<(), Fail> {
     assert!(rt; is_input(&effects[0], b"\x1b[1;3R"));
     assert!(rt; is_first_frame(&effects[1]));
     assert!(rt; is_input(&effects[2], b"x\x01y"));
+    Ok(())
+}
+
+/// A line of the owner, perhaps for a window.
+fn told(owner: UserId, window: Option<u8>, line: &'static [u8]) -> Event<'static> {
+    Event::Command {
+        user: owner,
+        window,
+        line,
+    }
+}
+
+/// Windows and users come, type and are denied, and see it.
+fn users_come(own: UserId, bob: UserId) -> [Event<'static>; 24] {
+    let window = |title| Event::Open {
+        user: own,
+        rows: 24,
+        cols: 80,
+        keep: 5,
+        title,
+    };
+    let client = |user| Event::Attach {
+        user,
+        rows: 24,
+        cols: 80,
+    };
+    let typed = |client, bytes| Event::Keys { client, bytes };
+    [
+        window("zero"),
+        window("one"),
+        client(own),
+        told(own, None, b"multiuser on"),
+        told(own, None, b"acladd ann,bob"),
+        client(bob),
+        told(own, None, b"aclchg bob -w 0"),
+        typed(1, b"\x01:select 0\rdenied"),
+        told(own, None, b"aclgrp bob ann"),
+        typed(1, b"typed"),
+        typed(0, b"\x01:select 0\r\x01:writelock auto\r"),
+        typed(1, b"locked"),
+        told(own, None, b"aclumask bob-w"),
+        told(own, None, b"defwritelock on"),
+        window("two"),
+        Event::Draw { client: 0 },
+        Event::Draw { client: 1 },
+        Event::Output {
+            window: 0,
+            bytes: b"a\x1b[6n\r\n\xE6\xBC\xA2\x1b[31mred\x1b[5n",
+        },
+        Event::Draw { client: 0 },
+        Event::Draw { client: 1 },
+        told(own, None, b"windows"),
+        told(own, None, b"displays"),
+        told(own, None, b"aclgrp bob"),
+        told(own, None, b"no such command"),
+    ]
+}
+
+/// Pages are split, sizes change, and all goes.
+fn users_go(own: UserId) -> [Event<'static>; 24] {
+    let typed = |client, bytes| Event::Keys { client, bytes };
+    [
+        typed(0, b"\x01S\x01\t\x01:select 2\r\x01|"),
+        Event::Draw { client: 0 },
+        typed(0, b"\x01:wall hello\r\x01:fit\r\x01:scrollview 1\r"),
+        Event::Draw { client: 0 },
+        Event::Draw { client: 1 },
+        Event::Resize {
+            client: 0,
+            rows: 30,
+            cols: 100,
+        },
+        Event::Draw { client: 0 },
+        typed(0, b"\x01X\x01Q\x01:title new\r\x01:number 7\r\x01:unfinished"),
+        Event::Draw { client: 0 },
+        told(own, Some(1), b"stuff abc"),
+        told(own, Some(1), b"kill"),
+        told(own, None, b"aclchg bob -r #"),
+        Event::Draw { client: 1 },
+        told(own, None, b"acladd eve"),
+        told(own, None, b"aclchg * +rwx \"#?\""),
+        Event::Closed { window: 2 },
+        Event::Draw { client: 0 },
+        typed(1, b"\x01d"),
+        Event::Detach { client: 1 },
+        told(own, None, b"acldel bob"),
+        told(own, None, b"multiuser off"),
+        Event::Draw { client: 0 },
+        typed(0, b"\x07\x01:quit\r"),
+        Event::Draw { client: 0 },
+    ]
+}
+
+/// Plays two lists of events on a session that begins.
+fn play_all(
+    alloc: Global,
+    owner: UserId,
+    first: &[Event],
+    second: &[Event],
+    effects: &mut Vec<Effect>,
+    replies: &mut Vec<Reply>,
+) -> Result<(), AllocError> {
+    let mut session = new_session(alloc, owner)?;
+    for event in first {
+        play_out(&mut session, *event, effects, replies);
+    }
+    for event in second {
+        play_out(&mut session, *event, effects, replies);
+    }
+    Ok(())
+}
+
+/// Of two plays of the same events at most one meets the refusal: what they did is the same.
+#[test]
+fn joined_effects_are_the_same(rt: HostRuntime) -> Result<(), Fail> {
+    let own = UserId::of(b"own").ok_or("no name")?;
+    let bob = UserId::of(b"bob").ok_or("no name")?;
+    let come = users_come(own, bob);
+    let go = users_go(own);
+    let mut effects = Vec::new(rt.alloc());
+    let mut replies = Vec::new(rt.alloc());
+    play_all(rt.alloc(), own, &come, &go, &mut effects, &mut replies)?;
+    let mut others = Vec::new(rt.alloc());
+    let mut answers = Vec::new(rt.alloc());
+    play_all(rt.alloc(), own, &come, &go, &mut others, &mut answers)?;
+    assert_eq!(rt; replies.len(), come.len() + go.len());
+    assert_eq!(rt; answers.len(), replies.len());
+    for place in 0..replies.len() {
+        assert!(rt; is_same_reply(&replies[place], &answers[place]));
+    }
+    assert!(rt; has_all_kinds(&effects));
+    assert_eq!(rt; others.len(), effects.len());
+    for place in 0..effects.len() {
+        assert!(rt; is_same_effect(&effects[place], &others[place]));
+    }
     Ok(())
 }

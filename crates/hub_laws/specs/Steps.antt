@@ -1,0 +1,13 @@
+-- What holds of each step on tables as those of runs are.
+use Rattle.session_model.specs.Sound.{AreFit}
+use Rattle.session_model.specs.Tables.{Tables}
+use Rattle.session_model.specs.Trace as trace
+use Rattle.session_model.specs.Run.{IsStep}
+use Rattle.hub_trail.specs.Filing.{filed}
+use Rattle.hub_trail.specs.Judging.{AreJudgeable}
+
+-- tables of rights and locks can judge what a step files
+abbrev pub EntriesAreJudgeable : Type 0
+EntriesAreJudgeable =
+    (t : Tables) (step : trace.Entry) → AreFit t → IsStep t step
+    → AreJudgeable t.edition t.owner t.acts (filed step)
