@@ -3,9 +3,10 @@
 ghost use Rattle.std.specs.Prelude.{◌≡◌, ◌↔◌, IfOk, false, is_ok, true};
 ghost use Rattle.session_model.specs.Trace.{happening};
 ghost use Rattle.hub_trail.specs.Filing.{kept_of};
-ghost use Rattle.hub_record.specs.Stored.{takes_block};
+ghost use Rattle.hub_record.specs.Stored.{kept_lent, takes_block};
 
 use crate::same::{is_keys, is_same};
+use acl::UserId;
 use hub_trail::Kept;
 use session_model::Event;
 use std::alloc::{AllocError, Global};
@@ -16,6 +17,71 @@ use std::marker::Model;
 enum Form {
     Keys { client: u32 },
     Other(Box<Kept>),
+}
+
+/// An event that a trail keeps, lent.
+#[derive(Clone, Copy, Debug)]
+pub enum KeptRef<'a> {
+    Attach {
+        user: UserId,
+        rows: u16,
+        cols: u16,
+    },
+    Detach {
+        client: u32,
+    },
+    Keys {
+        client: u32,
+    },
+    Command {
+        user: UserId,
+        window: Option<u8>,
+        line: &'a [u8],
+    },
+    Open {
+        user: UserId,
+        rows: u16,
+        cols: u16,
+        keep: u16,
+        title: &'a [u8],
+    },
+    Closed {
+        window: u32,
+    },
+}
+
+/// Lends the event.
+fn lent(kept: &Kept) -> KeptRef<'_>
+    ensures { kept_lent result ≡ kept.now }
+{
+    match kept {
+        Kept::Attach { user, rows, cols } => KeptRef::Attach {
+            user: *user,
+            rows: *rows,
+            cols: *cols,
+        },
+        Kept::Detach { client } => KeptRef::Detach { client: *client },
+        Kept::Keys { client } => KeptRef::Keys { client: *client },
+        Kept::Command { user, window, line } => KeptRef::Command {
+            user: *user,
+            window: *window,
+            line: line.as_slice(),
+        },
+        Kept::Open {
+            user,
+            rows,
+            cols,
+            keep,
+            title,
+        } => KeptRef::Open {
+            user: *user,
+            rows: *rows,
+            cols: *cols,
+            keep: *keep,
+            title: title.as_slice(),
+        },
+        Kept::Closed { window } => KeptRef::Closed { window: *window },
+    }
 }
 
 /// An event that a trail keeps: 16 bytes, and a block of memory for any but Keys. Contracts see it
@@ -55,6 +121,16 @@ impl KeptEvent {
                 }))
             }
             None => Ok(None),
+        }
+    }
+
+    /// The event, lent.
+    pub fn get(&self) -> KeptRef<'_>
+        ensures { kept_lent result ≡ self.now }
+    {
+        match &self.form {
+            Form::Keys { client } => KeptRef::Keys { client: *client },
+            Form::Other(kept) => lent(kept),
         }
     }
 

@@ -7,6 +7,6 @@ mod refusals;
 mod reply;
 mod same;
 
-pub use event::KeptEvent;
+pub use event::{KeptEvent, KeptRef};
 pub use filed::Filed;
 pub use reply::KeptReply;
