@@ -62,7 +62,7 @@ all_below n (r ∷ rs) is =
 few : (rs : List Receipt) → ((k : ℕ) → times k rs ≤ 1) → (n : ℕ) → below n rs ≤ n
 few rs apart zero = let z = below_zero rs in omega (arith, z)
 few rs apart (suc n) =
-    let more : below (suc n) rs ≡ below n rs + times n rs = ap (λ m. below m rs) (sym add-one) ∙ below_more n rs in
+    let more : below (suc n) rs ≡ below n rs + times n rs = ap (λ m. below m rs) (sym (add-one n)) ∙ below_more n rs in
     let one = apart n in
     let rest = few rs apart n in
     omega (arith, more, one, rest)
@@ -73,7 +73,7 @@ last_or k n l = grind (arith, l)
 once : (rs : List Receipt) → ((k : ℕ) → times k rs ≤ 1) → (n : ℕ) → below n rs ≡ n → (k : ℕ) → k < n → times k rs ≡ 1
 once rs apart zero is k l = absurd (omega (arith, l))
 once rs apart (suc n) is k l =
-    let more : below (suc n) rs ≡ below n rs + times n rs = ap (λ m. below m rs) (sym add-one) ∙ below_more n rs in
+    let more : below (suc n) rs ≡ below n rs + times n rs = ap (λ m. below m rs) (sym (add-one n)) ∙ below_more n rs in
     let one = apart n in
     let le = few rs apart n in
     let here : times n rs ≡ 1 = omega (arith, more, one, le, is) in
@@ -81,11 +81,11 @@ once rs apart (suc n) is k l =
     elim (last_or k n l) [ inl same ↦ ap (λ j. times j rs) same ∙ here | inr less ↦ once rs apart n rest k less ]
 
 full : (rs : List Receipt) (n : ℕ) → ((k : ℕ) → k < n → times k rs ≡ 1) → below n rs ≡ n
-full rs zero one = below_zero rs
-full rs (suc n) one =
-    let more : below (suc n) rs ≡ below n rs + times n rs = ap (λ m. below m rs) (sym add-one) ∙ below_more n rs in
-    let here = one n (omega arith) in
-    let rest = full rs n (λ k l. one k (omega (arith, l))) in
+full rs zero each = below_zero rs
+full rs (suc n) each =
+    let more : below (suc n) rs ≡ below n rs + times n rs = ap (λ m. below m rs) (sym (add-one n)) ∙ below_more n rs in
+    let here = each n (omega arith) in
+    let rest = full rs n (λ k l. each k (omega (arith, l))) in
     omega (arith, more, here, rest)
 
 -- ---- receipts and entries

@@ -2,3 +2,5 @@ pub mod Rising
 pub mod Stripping
 pub mod Counting
 pub mod Tellings
+pub mod Standing
+pub mod Filing

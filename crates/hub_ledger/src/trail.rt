@@ -75,4 +75,9 @@ impl Trail {
     {
         self.entries.as_slice()
     }
+
+    /// That tables of rights and locks can judge each entry after the acts of those before it.
+    pub fn is_judgeable(&self)
+        ensures { AreJudgeable self.now.edition self.now.owner [] self.now.entries }
+    {}
 }
