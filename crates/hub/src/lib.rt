@@ -1,0 +1,94 @@
+//! A session that threads share under one lock.
+//!
+//! A program names the hub's ledger once, where it calls a function that is generic in it:
+//! `serve::<Brand, _>(rt, alloc, Blank::new(seats), ..)` with `fn serve<L: Roll + Send + Sync, R:
+//! ..>` that requires `(blank.name ≡ L.name) × (blank.parts ≡ L.parts)`; its `Invariants.antt` says
+//! `ghosts-serve g a = record { name = a.blank.name; parts = a.blank.parts }`.
+#![tactic(auto)]
+
+ghost use Rattle.std.specs.Prelude.{◌≡◌, ◌↔◌, ◌<◌, ◌≤◌, length, IfOk, OnErr, None, []};
+ghost use Rattle.session_model.specs.Trace.{begun, happening};
+ghost use Rattle.session_core.specs.Stands.{StandsFor};
+ghost use Rattle.hub_trail.specs.Legal.{IsLegal};
+ghost use Rattle.hub_ledger.specs.Closing.{AreThere, IsFirstWrong, receipts_of};
+ghost use Rattle.hub_ledger.specs.Seats.{Answers};
+
+use acl::{Edition, UserId};
+use hub_ledger::Ledger;
+pub use hub_ledger::{Answer, Filed, HubFault, KeptEvent, Receipt, Seat, Trail};
+use session_core::Session;
+use session_model::{Effect, Event};
+use std::alloc::Global;
+use std::sync::ledger::{Blank, Ledger as Roll};
+use std::sync::{Mutex, Wait};
+
+/// A session that threads share.
+#[derive(Drop)]
+pub struct Hub<L: Roll> {
+    ledger: Mutex<Ledger<L>>,
+}
+
+impl<L: Roll> Hub<L> {
+    /// A hub of a session of this edition and owner that has taken no event, and its 1 to 8 seats.
+    pub fn new(
+        alloc: Global,
+        blank: Blank,
+        edition: Edition,
+        owner: UserId,
+        session: Session,
+        seats: usize,
+    ) -> Result<(Hub<L>, Vec<Seat<L>>), HubFault>
+        requires name { blank.name ≡ L.name }
+        requires parts { (blank.parts ≡ L.parts) × (seats ≡ L.parts) }
+        requires seats { (0 < seats) × (seats ≤ 8) }
+        requires fresh { StandsFor (begun edition owner) session }
+        ensures seats { IfOk result (λ made. (length made.1.items ≡ L.parts)
+            × (receipts_of made.1.items ≡ [])) }
+    {
+        let (ledger, seats) = Ledger::new(alloc, blank, edition, owner, session, seats)?;
+        Ok((
+            Hub {
+                ledger: Mutex::new(ledger),
+            },
+            seats,
+        ))
+    }
+
+    /// Submits one event. The answer is to this event, and the seat holds its receipt.
+    pub fn submit<'a, R: Wait>(
+        &self,
+        rt: &R,
+        seat: &mut Seat<L>,
+        event: Event<'a>,
+    ) -> Result<Answer<'a>, HubFault>
+        ensures answer { IfOk result (λ told. Answers (happening event.entry) told seat.old
+            seat.new) }
+        ensures same { OnErr result (seat.new ≡ seat.old) }
+    {
+        self.ledger.lock(rt).submit(seat, event)
+    }
+
+    /// What waits for a seat, and whether a step other than a Draw came since its last take.
+    pub fn take<R: Wait>(&self, rt: &R, seat: &mut Seat<L>) -> (Vec<Effect>, bool)
+        ensures { seat.new ≡ seat.old }
+    {
+        self.ledger.lock(rt).take(seat)
+    }
+
+    /// The trail, and the least place that isn't, with its event and reply, in just one receipt of
+    /// these seats. It takes no memory.
+    pub fn close(self, seats: Vec<Seat<L>>) -> (Trail, Option<usize>)
+        // The trail is a legal history of one thread.
+        ensures legal { IsLegal result.0 }
+        // Where all seats are handed back, they hold as many receipts as the trail has entries.
+        ensures counted { length seats.items ≡ L.parts
+            → length result.0.entries ≡ length (receipts_of seats.items) }
+        ensures wrong { IsFirstWrong result.0.entries (receipts_of seats.items) result.1 }
+        // Then there is no such place exactly where no two receipts name one place, and at each
+        // place stand the receipt's event and reply.
+        ensures none { length seats.items ≡ L.parts
+            → ((result.1 ≡ None) ↔ AreThere result.0.entries (receipts_of seats.items)) }
+    {
+        self.ledger.into_inner().close(seats)
+    }
+}

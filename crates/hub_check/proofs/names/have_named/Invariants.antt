@@ -1,0 +1,11 @@
+use Rattle.std.proofs.Common.{◌≡◌, drop}
+use Rattle.std.specs.List.{list_all}
+use Rattle.acl.specs.Names.{named_by}
+use Rattle.hub_trail.specs.Legal.{has_act_of}
+use Rattle.hub_check.proofs.names.have_named.Given as goal
+
+-- what is left decides
+abbrev pub invariant-loop-word : goal.invariant-loop-word
+invariant-loop-word l =
+    list_all (λ word. has_act_of l.acts (named_by word)) l.words
+    ≡ list_all (λ word. has_act_of l.acts (named_by word)) (drop l.word-index l.words)

@@ -1,0 +1,119 @@
+//! What a Command's line asks of its entry.
+
+ghost use Rattle.std.specs.Prelude.{◌≡◌, ◌↔◌, ℕ, Option, true, IfOk};
+ghost use Rattle.hub_trail.specs.declared.kept.Kept.TheVariants as kept;
+ghost use Rattle.acl.specs.declared.edition.Edition.{Edition};
+ghost use Rattle.acl.specs.declared.user_id.UserId.{UserId};
+ghost use Rattle.acl.specs.History.{History};
+ghost use Rattle.hub_replay.specs.Following.{StandsAfter};
+ghost use Rattle.hub_record.specs.Stored.{kept_lent};
+ghost use Rattle.hub_check.specs.Parts.{IsReading, AsksIfKnown, HaveActsIfDone};
+ghost use Rattle.hub_check.specs.Parts.{FitsCommand, FitsLine};
+
+use crate::acts::{has_closed, has_come, has_gone, has_opened};
+use crate::names::have_acts;
+use crate::verdicts::asks_first;
+use acl::UserId;
+use command_lang::{Command, FaultKind, parse};
+use hub_record::{Filed, KeptRef};
+use hub_replay::Replay;
+use session_model::Verdict;
+use std::alloc::{AllocError, Global};
+
+/// The command of a line, if it is one.
+fn command_of(alloc: Global, line: &[u8]) -> Result<Option<Command>, AllocError>
+    ensures { IfOk result (λ command. IsReading line.now command) }
+{
+    match parse(alloc, line) {
+        Ok(command) => Ok(Some(command)),
+        Err(fault) => match fault.kind {
+            FaultKind::NoMemory => Err(AllocError),
+            _ => Ok(None),
+        },
+    }
+}
+
+/// Whether an entry of this command has its acts, if it was done.
+fn have_acts_if_done(owner: UserId, replay: &Replay, command: &Command, entry: &Filed) -> bool
+    ensures { (edition : Edition) (h : History) → StandsAfter replay.now edition owner h →
+        (result ≡ true)
+        ↔ HaveActsIfDone owner h command.now entry.now.reply entry.now.acts }
+{
+    match entry.ending() {
+        Ok(_) => have_acts(owner, replay, command, entry.acts()),
+        Err(_) => true,
+    }
+}
+
+/// Whether a user, if he is known, asks first for x on his command.
+fn asks_if_known(replay: &Replay, user: UserId, command: &Command, verdicts: &[Verdict]) -> bool
+    ensures { (edition : Edition) (owner : UserId) (h : History) →
+        StandsAfter replay.now edition owner h →
+        (result ≡ true) ↔ AsksIfKnown owner h user command.now verdicts.now }
+{
+    if replay.knows(user) {
+        asks_first(user, command.name(), verdicts)
+    } else {
+        true
+    }
+}
+
+/// Whether an entry of this user's command asks first for x on it, and has its acts.
+fn fits_command(
+    owner: UserId,
+    replay: &Replay,
+    user: UserId,
+    command: &Command,
+    entry: &Filed,
+) -> bool
+    ensures { (edition : Edition) (h : History) → StandsAfter replay.now edition owner h →
+        (result ≡ true) ↔ FitsCommand owner h user command.now entry.now }
+{
+    if !asks_if_known(replay, user, command, entry.verdicts()) {
+        return false;
+    }
+    have_acts_if_done(owner, replay, command, entry)
+}
+
+/// Whether an entry of this user's line asks first for x on its command, if it is one, and has its
+/// acts.
+fn fits_text(
+    alloc: Global,
+    owner: UserId,
+    replay: &Replay,
+    user: UserId,
+    line: &[u8],
+    entry: &Filed,
+) -> Result<bool, AllocError>
+    ensures { IfOk result (λ fits. (edition : Edition) (h : History) (window : Option ℕ) →
+        StandsAfter replay.now edition owner h →
+        (fits ≡ true) ↔ FitsLine owner h (kept.Command user window line.now) entry.now) }
+{
+    match command_of(alloc, line)? {
+        Some(command) => Ok(fits_command(owner, replay, user, &command, entry)),
+        None => Ok(true),
+    }
+}
+
+/// Whether an entry of this event asks first for x on its command, if it has one, and has its acts.
+pub fn fits_line(
+    alloc: Global,
+    owner: UserId,
+    replay: &Replay,
+    event: KeptRef<'_>,
+    entry: &Filed,
+) -> Result<bool, AllocError>
+    ensures { IfOk result (λ fits. (edition : Edition) (h : History) →
+        StandsAfter replay.now edition owner h →
+        (fits ≡ true) ↔ FitsLine owner h (kept_lent event.entry) entry.now) }
+{
+    let ending = entry.ending();
+    match event {
+        KeptRef::Command { user, line, .. } => fits_text(alloc, owner, replay, user, line, entry),
+        KeptRef::Attach { user, .. } => Ok(has_come(&ending, entry.acts(), user)),
+        KeptRef::Detach { client } => Ok(has_gone(&ending, entry.acts(), client)),
+        KeptRef::Keys { .. } => Ok(true),
+        KeptRef::Open { user, .. } => Ok(has_opened(&ending, entry.acts(), user)),
+        KeptRef::Closed { window } => Ok(has_closed(&ending, entry.acts(), window)),
+    }
+}

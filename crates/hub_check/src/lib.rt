@@ -1,0 +1,15 @@
+//! Whether a trail is legal: each entry is judged by the acts of those before it.
+#![tactic(auto)]
+
+mod acts;
+mod check;
+mod commands;
+mod fault;
+mod laws;
+mod names;
+mod replies;
+mod verdicts;
+
+pub use check::check_entries;
+pub use fault::CheckFault;
+pub use laws::{good_is_legal, judged_is_legal};

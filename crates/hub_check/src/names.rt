@@ -1,0 +1,98 @@
+//! Names in the lines of list commands, and the acts of those whom they name.
+
+ghost use Rattle.std.specs.Prelude.{◌≡◌, ◌↔◌, ◌||◌, true, Some, slice_get};
+ghost use Rattle.std.specs.List.{list_all};
+ghost use Rattle.std.specs.Option.{option_map_or};
+ghost use Rattle.acl.specs.declared.edition.Edition.{Edition};
+ghost use Rattle.acl.specs.declared.user_id.UserId.{UserId};
+ghost use Rattle.acl.specs.History.{History, users_of};
+ghost use Rattle.acl.specs.Names.{named_by};
+ghost use Rattle.acl.specs.Same.{same_user};
+ghost use Rattle.hub_trail.specs.Legal.{has_act_of};
+ghost use Rattle.hub_replay.specs.Following.{StandsAfter};
+ghost use Rattle.command_lang.specs.command.Command.TheVariants as command;
+ghost use Rattle.hub_check.specs.Parts.{HaveActs};
+
+use crate::acts::has_act_of;
+use acl::{Act, UserId};
+use command_lang::{Command, Text, Users};
+use hub_replay::Replay;
+
+/// Whether the user whom the word names has an act.
+fn has_named(acts: &[Act], word: &Text) -> bool
+    ensures { result ≡ has_act_of acts.now (named_by word.now) }
+{
+    has_act_of(acts, UserId::of(word.as_str().as_bytes()))
+}
+
+/// Whether each user whom a word names has an act.
+fn have_named(acts: &[Act], words: &[Text]) -> bool
+    ensures { result ≡ list_all (λ word. has_act_of acts.now (named_by word)) words.now }
+{
+    for word in words {
+        if !has_named(acts, word) {
+            return false;
+        }
+    }
+    true
+}
+
+/// Whether a user is the owner, or has an act.
+fn is_owner_or_has(owner: UserId, acts: &[Act], user: UserId) -> bool
+    ensures { result ≡ (same_user owner user || has_act_of acts.now (Some user)) }
+{
+    owner == user || has_act_of(acts, Some(user))
+}
+
+/// Whether the known user at this place, if there is one, is the owner or has an act.
+fn has_at(owner: UserId, replay: &Replay, acts: &[Act], place: usize) -> bool
+    ensures { (edition : Edition) (h : History) → StandsAfter replay.now edition owner h →
+        result ≡ option_map_or (λ u. same_user owner u || has_act_of acts.now (Some u))
+        (slice_get (users_of owner h) place) true }
+{
+    match replay.user_at(place) {
+        Some(user) => is_owner_or_has(owner, acts, user),
+        None => true,
+    }
+}
+
+/// Whether each known user but the owner has an act.
+fn have_all(owner: UserId, replay: &Replay, acts: &[Act]) -> bool
+    ensures { (edition : Edition) (h : History) → StandsAfter replay.now edition owner h →
+        result ≡ list_all (λ u. same_user owner u || has_act_of acts.now (Some u))
+        (users_of owner h) }
+{
+    for place in 0..replay.user_count() {
+        if !has_at(owner, replay, acts, place) {
+            return false;
+        }
+    }
+    true
+}
+
+/// Whether the users of an acladd have acts.
+fn have_added(owner: UserId, replay: &Replay, users: &Users, acts: &[Act]) -> bool
+    ensures { (edition : Edition) (h : History) → StandsAfter replay.now edition owner h →
+        (result ≡ true) ↔ HaveActs owner h (command.Acladd users.now) acts.now }
+{
+    match users {
+        Users::All => have_all(owner, replay, acts),
+        Users::Listed(words) => have_named(acts, words.as_slice()),
+    }
+}
+
+/// Whether the users whom the first word of a list command names have acts.
+pub fn have_acts(owner: UserId, replay: &Replay, given: &Command, acts: &[Act]) -> bool
+    ensures { (edition : Edition) (h : History) → StandsAfter replay.now edition owner h →
+        (result ≡ true) ↔ HaveActs owner h given.now acts.now }
+{
+    match given {
+        Command::Acladd(users) => have_added(owner, replay, users, acts),
+        Command::Acldel(word) => has_named(acts, word),
+        Command::Aclgrp {
+            user,
+            leader: Some(_),
+        } => has_named(acts, user),
+        _ => true,
+    }
+}

@@ -1,0 +1,101 @@
+//! Replies of an entry.
+
+ghost use Rattle.std.specs.Prelude.{◌≡◌, ◌↔◌, true, false};
+ghost use Rattle.std.specs.Option.{option_map_or};
+ghost use Rattle.hub_trail.specs.Legal.{is_denial, is_named, is_of, denies, CarriesFailed, IsDenied};
+ghost use Rattle.hub_record.specs.Stored.{kept_lent};
+
+use acl::Object;
+use hub_record::KeptRef;
+use hub_trail::Ending;
+use session_model::{Denied, Refusal, Verdict};
+
+/// Whether the refusal denies a right or a lock.
+fn is_denial(refusal: &Refusal) -> bool
+    ensures { result ≡ is_denial refusal.now }
+{
+    matches!(refusal, Refusal::EntryDenied(_) | Refusal::LockDenied(_))
+}
+
+/// Whether a denial is of this object.
+fn is_named(denied: Denied, object: Object) -> bool
+    ensures { result ≡ is_named denied object }
+{
+    match (denied, object) {
+        (Denied::Window { serial, .. }, Object::Window(window)) => serial == window,
+        (Denied::Command(denied), Object::Command(asked)) => denied == asked,
+        (Denied::Window { .. }, Object::Command(_)) => false,
+        (Denied::Command(_), Object::Window(_)) => false,
+    }
+}
+
+/// Whether a denial is of this verdict.
+fn is_of(refusal: &Refusal, verdict: Verdict) -> bool
+    ensures { result ≡ is_of refusal.now verdict }
+{
+    match verdict {
+        Verdict::Right {
+            user,
+            bit,
+            object,
+            ..
+        } => match refusal {
+            Refusal::EntryDenied(denied) => {
+                denied.user == user && denied.bit == bit && is_named(denied.on, object)
+            }
+            _ => false,
+        },
+        Verdict::Lock {
+            window,
+            holder: Some(holder),
+            ..
+        } => match refusal {
+            Refusal::LockDenied(denied) => denied.serial == window && denied.holder == holder,
+            _ => false,
+        },
+        Verdict::Lock { holder: None, .. } => false,
+    }
+}
+
+/// Whether a reply that denies carries the verdict that failed.
+pub fn carries_failed(failed: Option<Verdict>, ending: &Ending) -> bool
+    ensures { (result ≡ true) ↔ CarriesFailed failed ending.now }
+{
+    match ending {
+        Ok(_) => true,
+        Err(refusal) => !is_denial(refusal) || is_of_some(refusal, failed),
+    }
+}
+
+/// Whether a denial is of this verdict, if there is one.
+fn is_of_some(refusal: &Refusal, failed: Option<Verdict>) -> bool
+    ensures { result ≡ option_map_or (is_of refusal.now) failed false }
+{
+    match failed {
+        Some(verdict) => is_of(refusal, verdict),
+        None => false,
+    }
+}
+
+/// Whether the reply denies a right or a lock.
+fn denies(ending: &Ending) -> bool
+    ensures { result ≡ denies ending.now }
+{
+    match ending {
+        Ok(_) => false,
+        Err(refusal) => is_denial(refusal),
+    }
+}
+
+/// Whether a Command or an Open is denied, where a verdict failed.
+pub fn is_denied(event: KeptRef<'_>, failed: Option<Verdict>, ending: &Ending) -> bool
+    ensures { (result ≡ true) ↔ IsDenied (kept_lent event.entry) failed ending.now }
+{
+    match event {
+        KeptRef::Command { .. } | KeptRef::Open { .. } => failed.is_none() || denies(ending),
+        KeptRef::Attach { .. }
+        | KeptRef::Detach { .. }
+        | KeptRef::Keys { .. }
+        | KeptRef::Closed { .. } => true,
+    }
+}

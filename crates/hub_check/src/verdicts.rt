@@ -1,0 +1,142 @@
+//! Verdicts: what they say, and whether they pass.
+
+ghost use Rattle.std.specs.Prelude.{◌≡◌, ◌↔◌, true};
+ghost use Rattle.std.specs.List.{list_all};
+ghost use Rattle.acl.specs.declared.edition.Edition.{Edition};
+ghost use Rattle.acl.specs.declared.user_id.UserId.{UserId};
+ghost use Rattle.acl.specs.History.{History};
+ghost use Rattle.hub_trail.specs.Legal.{passes, failed, user_of, asks_for_command, AsksFirst};
+ghost use Rattle.hub_trail.specs.Legal.{from_command, is_client_of, is_granted};
+ghost use Rattle.hub_replay.specs.Following.{StandsAfter};
+ghost use Rattle.hub_check.specs.Parts.{AreTrue, AsksFor};
+
+use acl::{Bit, CommandName, Object, UserId};
+use hub_replay::Replay;
+use session_model::Verdict;
+
+/// Whether the verdict lets its user go on.
+fn passes(verdict: Verdict) -> bool
+    ensures { result ≡ passes verdict }
+{
+    match verdict {
+        Verdict::Right { answer, .. } => answer,
+        Verdict::Lock {
+            user,
+            holder: Some(holder),
+            ..
+        } => holder == user,
+        Verdict::Lock { holder: None, .. } => true,
+    }
+}
+
+/// Whether all verdicts pass.
+pub fn all_pass(verdicts: &[Verdict]) -> bool
+    ensures { result ≡ list_all passes verdicts.now }
+{
+    verdicts.iter().all(|verdict| passes(*verdict))
+}
+
+/// The first verdict that doesn't pass.
+pub fn failed(verdicts: &[Verdict]) -> Option<Verdict>
+    ensures { result ≡ failed verdicts.now }
+{
+    verdicts.iter().copied().find(|verdict| !passes(*verdict))
+}
+
+/// Whose verdict it is.
+fn user_of(verdict: Verdict) -> UserId
+    ensures { result ≡ user_of verdict }
+{
+    match verdict {
+        Verdict::Right { user, .. } | Verdict::Lock { user, .. } => user,
+    }
+}
+
+/// Whether each verdict is on an object that is there, and tells the truth.
+pub fn are_true(replay: &Replay, verdicts: &[Verdict]) -> bool
+    ensures { (edition : Edition) (owner : UserId) (h : History) →
+        StandsAfter replay.now edition owner h →
+        (result ≡ true) ↔ AreTrue edition owner h verdicts.now }
+{
+    for verdict in verdicts {
+        if !replay.is_true(*verdict) {
+            return false;
+        }
+    }
+    true
+}
+
+/// Whether the verdicts are of the user of this client, who is attached.
+pub fn are_of_client(replay: &Replay, client: u32, verdicts: &[Verdict]) -> bool
+    ensures { (edition : Edition) (owner : UserId) (h : History) →
+        StandsAfter replay.now edition owner h →
+        result ≡ list_all (λ v. is_client_of h client (user_of v)) verdicts.now }
+{
+    for verdict in verdicts {
+        if !replay.is_client_of(client, user_of(*verdict)) {
+            return false;
+        }
+    }
+    true
+}
+
+/// Whether the verdict asks for x on a command.
+fn asks_for_command(verdict: Verdict) -> bool
+    ensures { result ≡ asks_for_command verdict }
+{
+    matches!(
+        verdict,
+        Verdict::Right {
+            bit: Bit::Execute,
+            object: Object::Command(_),
+            ..
+        }
+    )
+}
+
+/// Whether the verdict asks whether the user has x on this command.
+fn asks_for(verdict: Verdict, user: UserId, name: CommandName) -> bool
+    ensures { (result ≡ true) ↔ AsksFor user name verdict }
+{
+    match verdict {
+        Verdict::Right {
+            user: named,
+            bit: Bit::Execute,
+            object: Object::Command(command),
+            ..
+        } => named == user && command == name,
+        _ => false,
+    }
+}
+
+/// Whether the first verdict asks whether the user has x on this command.
+pub fn asks_first(user: UserId, name: CommandName, verdicts: &[Verdict]) -> bool
+    ensures { (result ≡ true) ↔ AsksFirst user name verdicts.now }
+{
+    match verdicts {
+        [first, ..] => asks_for(*first, user, name),
+        [] => false,
+    }
+}
+
+/// Whether a command was asked for, and all verdicts pass.
+pub fn is_granted(verdicts: &[Verdict]) -> bool
+    ensures { result ≡ is_granted verdicts.now }
+{
+    match verdicts {
+        [first, ..] => asks_for_command(*first) && all_pass(verdicts),
+        [] => false,
+    }
+}
+
+/// The same of the verdicts from the first on that asks for a command.
+pub fn is_granted_behind(verdicts: &[Verdict]) -> bool
+    ensures { result ≡ is_granted (from_command verdicts.now) }
+{
+    for i in 0..verdicts.len() {
+        if asks_for_command(verdicts[i]) {
+            return is_granted(&verdicts[i..]);
+        }
+    }
+    false
+}

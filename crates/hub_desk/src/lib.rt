@@ -1,0 +1,10 @@
+//! The parts of what lies under the hub's lock: a session, its trail, and what waits for each seat.
+#![tactic(auto)]
+
+mod desk;
+mod entries;
+mod slip;
+
+pub use desk::Desk;
+pub use entries::Entries;
+pub use slip::Slip;

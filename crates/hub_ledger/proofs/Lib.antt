@@ -1,0 +1,6 @@
+pub mod Rising
+pub mod Stripping
+pub mod Counting
+pub mod Tellings
+pub mod Standing
+pub mod Filing

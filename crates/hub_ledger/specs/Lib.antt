@@ -1,0 +1,4 @@
+pub mod Faults
+pub mod Seats
+pub mod Closing
+pub mod Laws

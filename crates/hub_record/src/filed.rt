@@ -1,0 +1,92 @@
+//! Entries as they are stored.
+
+ghost use Rattle.std.specs.Prelude.{◌≡◌, ◌↔◌, true};
+
+use crate::event::KeptEvent;
+use crate::reply::KeptReply;
+use acl::Act;
+use hub_trail::Ending;
+use session_model::Verdict;
+use std::marker::Model;
+use std::mem::size_of;
+
+/// One entry of a trail: an event, what was checked, what was done, and what was answered. Contracts
+/// see it as hub_trail's `Entry`.
+#[derive(Debug, Drop)]
+pub struct Filed {
+    event: KeptEvent,
+    verdicts: Vec<Verdict>,
+    acts: Vec<Act>,
+    reply: KeptReply,
+}
+
+// With the two verdicts of Keys an entry takes at most 200 bytes.
+const _: () = prove!(size_of::<Filed>() <= 88);
+
+const _: () = prove!(2 * size_of::<Verdict>() <= 112);
+
+impl Model for Filed {
+    ghost use Rattle.hub_trail.specs.Trails.{Entry};
+
+    ghost Value = { Entry };
+
+    ghost view = { λ f. record {
+      event = f.event;
+      verdicts = f.verdicts.items;
+      acts = f.acts.items;
+      reply = f.reply;
+    } };
+}
+
+impl Filed {
+    pub fn new(event: KeptEvent, verdicts: Vec<Verdict>, acts: Vec<Act>, reply: KeptReply) -> Filed
+        ensures { result ≡ record {
+          event = event;
+          verdicts = verdicts.items;
+          acts = acts.items;
+          reply = reply;
+        } }
+    {
+        Filed {
+            event,
+            verdicts,
+            acts,
+            reply,
+        }
+    }
+
+    pub fn event(&self) -> &KeptEvent
+        ensures { result.now ≡ self.now.event }
+    {
+        &self.event
+    }
+
+    /// What was checked, in its order.
+    pub fn verdicts(&self) -> &[Verdict]
+        ensures { result.now ≡ self.now.verdicts }
+    {
+        self.verdicts.as_slice()
+    }
+
+    /// What was done, in its order.
+    pub fn acts(&self) -> &[Act]
+        ensures { result.now ≡ self.now.acts }
+    {
+        self.acts.as_slice()
+    }
+
+    /// What was answered, without the text.
+    pub fn ending(&self) -> Ending
+        ensures { result ≡ self.now.reply }
+    {
+        self.reply.ending()
+    }
+
+    /// Whether its event and its reply are these.
+    pub fn is_told(&self, event: &KeptEvent, reply: &KeptReply) -> bool
+        ensures { (result ≡ true)
+            ↔ ((self.now.event ≡ event.now) × (self.now.reply ≡ reply.now)) }
+    {
+        self.event.is_same(event) && self.reply.is_same(reply)
+    }
+}

@@ -1,0 +1,73 @@
+//! Replies as they are stored.
+
+ghost use Rattle.std.specs.Prelude.{◌≡◌, ◌↔◌, true};
+ghost use Rattle.hub_trail.specs.Filing.{ending_of};
+
+use crate::refusals::is_same;
+use hub_trail::{Ending, Finished};
+use session_model::{Refusal, Reply};
+use std::marker::Model;
+
+/// How a reply is stored.
+#[derive(Debug, Drop)]
+enum Form {
+    Done(Finished),
+    Refused(Box<Refusal>),
+}
+
+/// A reply without its text: 24 bytes, and a block of memory for a refusal. Contracts see it as
+/// hub_trail's `Ending`.
+#[derive(Debug, Drop)]
+pub struct KeptReply {
+    form: Form,
+}
+
+impl Model for KeptReply {
+    ghost use Rattle.hub_trail.specs.Trails.{Ending};
+
+    ghost Value = { Ending };
+
+    ghost use Rattle.hub_record.specs.Stored.{ending_in};
+
+    ghost view = { λ r. ending_in r.form };
+}
+
+impl KeptReply {
+    /// The reply without its text. A refusal goes into the spare block, so that this takes no
+    /// memory.
+    pub fn of(reply: &Reply, spare: Box<Refusal>) -> KeptReply
+        ensures { result ≡ ending_of reply.now }
+    {
+        let form = match reply {
+            Ok(done) => Form::Done(Finished::of(done)),
+            Err(refusal) => {
+                let mut block = spare;
+                *block = *refusal;
+                Form::Refused(block)
+            }
+        };
+        KeptReply { form }
+    }
+
+    /// The reply without its text.
+    pub fn ending(&self) -> Ending
+        ensures { result ≡ self.now }
+    {
+        match &self.form {
+            Form::Done(finished) => Ok(*finished),
+            Form::Refused(refusal) => Err(**refusal),
+        }
+    }
+
+    /// Whether the values are the same.
+    pub fn is_same(&self, other: &KeptReply) -> bool
+        ensures { (result ≡ true) ↔ (self.now ≡ other.now) }
+    {
+        match (&self.form, &other.form) {
+            (Form::Done(finished), Form::Done(other)) => *finished == *other,
+            (Form::Refused(refusal), Form::Refused(other)) => is_same(refusal, other),
+            (Form::Done(_), Form::Refused(_)) => false,
+            (Form::Refused(_), Form::Done(_)) => false,
+        }
+    }
+}

@@ -1,0 +1,272 @@
+//! A thousand steps of all kinds over two seats, beside a session that runs the same events: each
+//! seat takes what the session made for its own clients and windows.
+
+ghost use Rattle.std.specs.Prelude.{◌≡◌};
+
+use acl::{Edition, UserId};
+use hub::{Hub, Seat};
+use session_core::Session;
+use session_model::{Effect, Event, Reply};
+use std::alloc::Global;
+use std::marker::Brand;
+use std::process::Abort;
+use std::sync::Wait;
+use std::sync::ledger::{Blank, Ledger as Roll};
+use std::test::*;
+
+/// How many turns of twenty steps.
+const TURNS: u32 = 50;
+
+/// How many steps a turn has.
+const STEPS: u32 = 20;
+
+/// A step of a turn. Its window has the turn's serial, and its clients have twice that and one more.
+fn event_at(turn: u32, step: u32, owner: UserId, bob: UserId) -> Event<'static>
+    requires { turn ≤ 50 }
+{
+    let client = turn * 2;
+    let window = turn;
+    match step {
+        0 => Event::Open {
+            user: owner,
+            rows: 24,
+            cols: 80,
+            keep: 10,
+            title: "sh",
+        },
+        1 => Event::Attach {
+            user: owner,
+            rows: 24,
+            cols: 80,
+        },
+        2 => Event::Attach {
+            user: bob,
+            rows: 10,
+            cols: 40,
+        },
+        3 => Event::Output {
+            window,
+            bytes: b"hi\r\n\x1b[6n",
+        },
+        4 => Event::Keys {
+            client,
+            bytes: b"a\x01nb",
+        },
+        5 | 12 | 16 => Event::Draw { client },
+        6 | 13 => Event::Draw { client: client + 1 },
+        7 => Event::Resize {
+            client: client + 1,
+            rows: 12,
+            cols: 50,
+        },
+        8 => Event::Keys {
+            client: client + 1,
+            bytes: b"x\x01:version\r",
+        },
+        9 => Event::Command {
+            user: owner,
+            window: None,
+            line: b"wall hi",
+        },
+        10 => Event::Command {
+            user: owner,
+            window: Some(0),
+            line: b"aclchg bob -w 0",
+        },
+        11 => Event::Keys {
+            client: client + 1,
+            bytes: b"y",
+        },
+        14 => Event::Command {
+            user: owner,
+            window: Some(0),
+            line: b"aclchg bob +w 0",
+        },
+        15 => Event::Output {
+            window: 0,
+            bytes: b"there",
+        },
+        17 => Event::Closed { window },
+        18 => Event::Detach { client },
+        _ => Event::Detach { client: client + 1 },
+    }
+}
+
+/// The seat that submits a step: the second attaches bob, and opens the windows of odd serials.
+fn second_submits(turn: u32, step: u32) -> bool {
+    match step {
+        0 => turn % 2 == 1,
+        1 => false,
+        2 => true,
+        _ => step % 3 == 0,
+    }
+}
+
+/// Whether an effect is for a peer of the second seat.
+fn is_for_second(effect: &Effect) -> bool {
+    let serial = match effect {
+        Effect::Input(window, _) => *window,
+        Effect::Deliver(client, _) => *client,
+        Effect::Say(client, _) => *client,
+        Effect::Size(window, _, _) => *window,
+        Effect::GoneWindow(window, _) => *window,
+        Effect::GoneClient(client, _) => *client,
+    };
+    serial % 2 == 1
+}
+
+/// Whether two effects are the same.
+fn are_same(effect: &Effect, other: &Effect) -> bool {
+    match (effect, other) {
+        (Effect::Input(to, bytes), Effect::Input(at, text)) => {
+            to == at && bytes.as_slice() == text.as_slice()
+        }
+        (Effect::Deliver(to, bytes), Effect::Deliver(at, text)) => {
+            to == at && bytes.as_slice() == text.as_slice()
+        }
+        (Effect::Say(to, bytes), Effect::Say(at, text)) => {
+            to == at && bytes.as_slice() == text.as_slice()
+        }
+        (Effect::Size(to, rows, cols), Effect::Size(at, lines, columns)) => {
+            to == at && rows == lines && cols == columns
+        }
+        (Effect::GoneWindow(to, why), Effect::GoneWindow(at, reason)) => to == at && why == reason,
+        (Effect::GoneClient(to, why), Effect::GoneClient(at, reason)) => to == at && why == reason,
+        _ => false,
+    }
+}
+
+/// Whether a seat took the effects that the session made for it, in their order.
+fn took(taken: &[Effect], made: &[Effect], second: bool) -> bool {
+    let mut next = 0;
+    for effect in made {
+        if is_for_second(effect) == second {
+            match taken.get(next) {
+                Some(other) if are_same(effect, other) => next += 1,
+                _ => return false,
+            }
+        }
+    }
+    next == taken.len()
+}
+
+/// How many bytes of keys a step read.
+fn read_by(reply: &Reply) -> usize {
+    match reply {
+        Ok(done) => done.taken,
+        Err(_refusal) => 0,
+    }
+}
+
+/// Submits an event, and keys again until all are read. How many entries it wrote.
+fn submit_all<L: Roll, R: Wait>(
+    rt: &R,
+    hub: &Hub<L>,
+    seat: &mut Seat<L>,
+    event: Event<'static>,
+) -> Option<usize> {
+    let Event::Keys { client, bytes } = event else {
+        let answer = hub.submit(rt, seat, event).ok()?;
+        return Some(if answer.place().is_some() { 1 } else { 0 });
+    };
+    let mut rest = bytes;
+    for count in 1..100usize {
+        let keys = Event::Keys {
+            client,
+            bytes: rest,
+        };
+        let answer = hub.submit(rt, seat, keys).ok()?;
+        let read = read_by(answer.reply());
+        if read == 0 || rest.len() <= read {
+            return Some(count);
+        }
+        rest = &rest[read..];
+    }
+    None
+}
+
+/// Submits one step by its seat, and lets the session run it; then compares what both seats take.
+/// How many entries it wrote.
+fn step<L: Roll, R: Wait>(
+    rt: &R,
+    hub: &Hub<L>,
+    seats: (&mut Seat<L>, &mut Seat<L>),
+    twin: &mut Session,
+    event: Event<'static>,
+    second: bool,
+    alloc: Global,
+) -> Option<usize> {
+    let (a, b) = seats;
+    let wrote = if second {
+        submit_all(rt, hub, b, event)?
+    } else {
+        submit_all(rt, hub, a, event)?
+    };
+    let mut made = Vec::new(alloc);
+    let mut replies = Vec::new(alloc);
+    let ran = twin.run(&[event], &mut made, &mut replies);
+    if ran.stopped {
+        return None;
+    }
+    let (firsts, _marked) = hub.take(rt, a);
+    let (seconds, _other) = hub.take(rt, b);
+    let is_same = took(firsts.as_slice(), made.as_slice(), false)
+        && took(seconds.as_slice(), made.as_slice(), true);
+    if is_same { Some(wrote) } else { None }
+}
+
+fn thousand<L: Roll, R: Wait + Abort>(
+    rt: &R,
+    alloc: Global,
+    blank: Blank,
+    owner: UserId,
+    bob: UserId,
+) -> Result<(), Fail>
+    requires { (blank.name ≡ L.name) × (blank.parts ≡ L.parts) × (blank.parts ≡ 2) }
+{
+    let (Ok(session), Ok(mut twin)) = (Session::new(alloc, owner), Session::new(alloc, owner)) else {
+        return Err(Fail::from("sessions"));
+    };
+    let Ok((hub, mut seats)) = Hub::<L>::new(alloc, blank, Edition::Second, owner, session, 2) else {
+        return Err(Fail::from("hub"));
+    };
+    let (Some(mut b), Some(mut a)) = (seats.pop(), seats.pop()) else {
+        return Err(Fail::from("seats"));
+    };
+    let mut entries = 0usize;
+    for line in [b"multiuser on".as_slice(), b"acladd bob".as_slice()] {
+        let command = Event::Command {
+            user: owner,
+            window: None,
+            line,
+        };
+        let wrote = step(rt, &hub, (&mut a, &mut b), &mut twin, command, false, alloc);
+        assert_eq!(rt; wrote, Some(1), "set up");
+        entries += 1;
+    }
+    for turn in 0..TURNS {
+        for number in 0..STEPS {
+            let event = event_at(turn, number, owner, bob);
+            let second = second_submits(turn, number);
+            let wrote = step(rt, &hub, (&mut a, &mut b), &mut twin, event, second, alloc);
+            let Some(wrote) = wrote else {
+                return Err(Fail::from("a step"));
+            };
+            entries = entries.saturating_add(wrote);
+        }
+    }
+    seats.push(a)?;
+    seats.push(b)?;
+    let (trail, wrong) = hub.close(seats);
+    assert_eq!(rt; trail.len(), entries);
+    assert!(rt; wrong.is_none(), "each entry has its receipt");
+    Ok(())
+}
+
+#[test]
+fn seats_take_what_the_session_made(rt: HostRuntime) -> Result<(), Fail> {
+    let (Some(owner), Some(bob)) = (UserId::of(b"root"), UserId::of(b"bob")) else {
+        return Err(Fail::from("names"));
+    };
+    thousand::<Brand, _>(&rt, rt.alloc(), Blank::new(2), owner, bob)
+}
