@@ -1,5 +1,5 @@
 -- Receipts whose places rise.
-use Rattle.std.proofs.Common.{◌≡◌, ℕ, zero, suc, ◌<◌, ◌≤◌, ◌+◌, ◌-◌, Bool, true, false, List, [], ◌∷◌, ◌++◌, length, Some, None, refl, ap, sym, ◌∙◌, subst, arith, filter, cond}
+use Rattle.std.proofs.Common.{◌≡◌, ℕ, zero, suc, ◌<◌, ◌≤◌, ◌+◌, ◌-◌, Bool, true, false, List, [], ◌∷◌, ◌++◌, length, Some, None, refl, ap, sym, ◌∙◌, subst, arith, filter, cond, length-append}
 use Rattle.std.specs.Prelude.{◌↔◌, ◌==◌, IsSome, Option, nat_lt, option_to_list, slice_get, if◌then◌else◌}
 use Rattle.std.specs.List.{AllByRecursion, count_by, sum_by}
 use Rattle.std.proofs.lemmas.Bool.Decides.{nat_tests}
@@ -232,3 +232,8 @@ cut_end old new orig (Some r) p is rise not same =
         (λ lower. absurd (not (subst (λ (x : List Receipt). AllBelow x p) (sym is) (all_append (λ (s : Receipt). s.place < p) new (r ∷ []) (below_more new r.place p (omega (arith, lower)) front.1) (lower, tt)))))
         (λ h. h) in
     (front.0, sym (before_push p new r high) ∙ ap (before p) (sym is) ∙ same)
+
+pub rise_pushed : (rs mid new : List Receipt) (r : Receipt) → mid ≡ rs → new ≡ mid ++ r ∷ [] → Rise rs → AllBelow rs r.place → Rise new × (length new ≡ length rs + 1)
+rise_pushed rs mid new r same is rise below =
+    let e : new ≡ rs ++ r ∷ [] = is ∙ ap (λ (x : List Receipt). x ++ r ∷ []) same in
+    (subst Rise (sym e) (rise_push rs r rise below), ap (λ (x : List Receipt). length x) e ∙ length-append rs (r ∷ []))
