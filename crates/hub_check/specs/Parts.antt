@@ -39,7 +39,8 @@ IsReading line (Some c) = Relates line c × ((d : Command) → Relates line d �
 
 -- the acts of the users whom a command's first word names
 abbrev pub HaveActs : UserId → History → Command → List Act → Type 0
-HaveActs owner h c acts = AllByRecursion (λ name. has_act_of acts name ≡ true) (first_names owner h c)
+HaveActs owner h c acts =
+    AllByRecursion (λ name. has_act_of acts name ≡ true) (first_names owner h c)
 
 abbrev pub HaveActsIfDone : UserId → History → Command → Ending → List Act → Type 0
 HaveActsIfDone owner h c (Ok finished) acts = HaveActs owner h c acts

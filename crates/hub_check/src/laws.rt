@@ -8,8 +8,8 @@ pub fn good_is_legal()
     ensures not_bad { GoodIsNotBad }
 {}
 
-/// Of entries that tables can judge, those that are legal are good, and the first that isn't good is
-/// the first that isn't legal.
+/// Of entries that tables can judge, those that are legal are good, and the first that isn't good
+/// is the first that isn't legal.
 pub fn judged_is_legal()
     ensures good { LegalIsGood }
     ensures bad { BadIsIllegal }

@@ -10,8 +10,8 @@ use session_model::Verdict;
 use std::marker::Model;
 use std::mem::size_of;
 
-/// One entry of a trail: an event, what was checked, what was done, and what was answered. Contracts
-/// see it as hub_trail's `Entry`.
+/// One entry of a trail: an event, what was checked, what was done, and what was answered.
+/// Contracts see it as hub_trail's `Entry`.
 #[derive(Debug, Drop)]
 pub struct Filed {
     event: KeptEvent,

@@ -122,8 +122,8 @@ impl Replay {
         }
     }
 
-    /// Does an act again, and answers whether it can follow those before it. Where it can't, the value
-    /// stands for nothing more.
+    /// Does an act again, and answers whether it can follow those before it. Where it can't, the
+    /// value stands for nothing more.
     pub fn follow(&mut self, act: Act) -> Result<bool, AllocError>
         ensures { Redoes self.old self.new result act }
     {
