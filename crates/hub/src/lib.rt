@@ -6,6 +6,8 @@
 //! `ghosts-serve g a = record { name = a.blank.name; parts = a.blank.parts }`.
 #![tactic(auto)]
 
+mod checking;
+
 ghost use Rattle.std.specs.Prelude.{◌≡◌, ◌↔◌, ◌<◌, ◌≤◌, length, IfOk, OnErr, None, []};
 ghost use Rattle.session_model.specs.Trace.{begun, happening};
 ghost use Rattle.session_core.specs.Stands.{StandsFor};
@@ -13,7 +15,10 @@ ghost use Rattle.hub_trail.specs.Legal.{IsLegal};
 ghost use Rattle.hub_ledger.specs.Closing.{AreThere, IsFirstWrong, receipts_of};
 ghost use Rattle.hub_ledger.specs.Seats.{Answers};
 
+pub use checking::check_trail;
+
 use acl::{Edition, UserId};
+pub use hub_check::CheckFault;
 use hub_ledger::Ledger;
 pub use hub_ledger::{Answer, Filed, HubFault, KeptEvent, Receipt, Seat, Trail};
 use session_core::Session;

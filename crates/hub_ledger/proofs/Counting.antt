@@ -49,13 +49,12 @@ all_below : (n : ℕ) (rs : List Receipt) → below n rs ≡ length rs → AllBe
 all_below n [] is = tt
 all_below n (r ∷ rs) is =
     let h = at_most (nat_lt r.place n) in
-    let le = below_le n rs in
-    (
+    let le = below_le n rs in (
       lower r.place n (let e : one (nat_lt r.place n) + below n rs ≡ length (r ∷ rs) = is in omega (arith, e, h, le)),
       all_below n rs (let e : one (nat_lt r.place n) + below n rs ≡ length (r ∷ rs) = is in omega (arith, e, h, le)),
     ) where
-  lower : (p m : ℕ) → one (nat_lt p m) ≡ 1 → p < m
-  lower p m e = grind (arith, nat_tests, e)
+      lower : (p m : ℕ) → one (nat_lt p m) ≡ 1 → p < m
+      lower p m e = grind (arith, nat_tests, e)
 
 -- ---- each place once
 

@@ -96,9 +96,9 @@ before_before [] p q le = refl
 before_before (r ∷ rs) p q le =
     split {P = before p (before q (r ∷ rs)) ≡ before p (r ∷ rs)} r.place q
     (λ low. ap (before p) (keeps q r rs low)
-      ∙ split {P = before p (r ∷ before q rs) ≡ before p (r ∷ rs)} r.place p
-        (λ l. keeps p r (before q rs) l ∙ ap (λ (x : List Receipt). r ∷ x) (before_before rs p q le) ∙ sym (keeps p r rs l))
-        (λ h. drops p r (before q rs) h ∙ before_before rs p q le ∙ sym (drops p r rs h)))
+    ∙ split {P = before p (r ∷ before q rs) ≡ before p (r ∷ rs)} r.place p
+    (λ l. keeps p r (before q rs) l ∙ ap (λ (x : List Receipt). r ∷ x) (before_before rs p q le) ∙ sym (keeps p r rs l))
+    (λ h. drops p r (before q rs) h ∙ before_before rs p q le ∙ sym (drops p r rs h)))
     (λ high. ap (before p) (drops q r rs high) ∙ before_before rs p q le ∙ sym (drops p r rs (omega (arith, le, high))))
 
 -- ---- who names a place
@@ -139,7 +139,7 @@ times_before (r ∷ rs) k q l =
     split {P = times k (before q (r ∷ rs)) ≡ times k (r ∷ rs)} r.place q
     (λ low. ap (times k) (keeps q r rs low) ∙ times_cons k r (before q rs) ∙ ap (λ n. one (r.place == k) + n) (times_before rs k q l) ∙ sym (times_cons k r rs))
     (λ high. ap (times k) (drops q r rs high) ∙ times_before rs k q l
-      ∙ (let h = not_named k r (λ e. omega (arith, l, high, e)) in let c = times_cons k r rs in omega (arith, h, c)))
+    ∙ (let h = not_named k r (λ e. omega (arith, l, high, e)) in let c = times_cons k r rs in omega (arith, h, c)))
 
 pub are_of_before : (rs : List Receipt) (k q : ℕ) (e : Entry) → k < q → AreOf k e (before q rs) → AreOf k e rs
 are_of_before [] k q e l all = tt
@@ -166,8 +166,7 @@ pub strip_none : (old mid : List Receipt) (p : ℕ) (e : Entry) → mid ≡ befo
 strip_none old mid p e cut all =
     let le : p ≤ p + 1 = omega arith in
     let l : p < p + 1 = omega arith in
-    let others = others_below mid p p (omega arith) all in
-    (
+    let others = others_below mid p p (omega arith) all in (
       sym (before_all mid p all) ∙ ap (before p) cut ∙ before_before old p (p + 1) le,
       sym (times_none p mid others) ∙ ap (times p) cut ∙ times_before old p (p + 1) l,
       are_of_before old p (p + 1) e l (subst (AreOf p e) cut (others_are_of mid p e others)),
@@ -182,12 +181,11 @@ strip_one old mid rs r p e cut is rise all not =
     let le : p ≤ p + 1 = omega arith in
     let low : r.place < p + 1 = (all_parts (λ (s : Receipt). s.place < p + 1) rs (r ∷ []) (subst (λ (x : List Receipt). AllBelow x (p + 1)) is all)).1.0 in
     let high : p ≤ r.place = split {P = p ≤ r.place} r.place p
-        (λ lower. absurd (not (subst (λ (x : List Receipt). AllBelow x p) (sym is) (all_append (λ (s : Receipt). s.place < p) rs (r ∷ []) (below_more rs r.place p (omega (arith, lower)) front.1) (lower, tt)))))
-        (λ h. h) in
+    (λ lower. absurd (not (subst (λ (x : List Receipt). AllBelow x p) (sym is) (all_append (λ (s : Receipt). s.place < p) rs (r ∷ []) (below_more rs r.place p (omega (arith, lower)) front.1) (lower, tt)))))
+    (λ h. h) in
     let at : r.place ≡ p = omega (arith, low, high) in
     let below : AllBelow rs p = below_more rs r.place p (omega (arith, at)) front.1 in
-    let others = others_below rs p p (omega arith) below in
-    (
+    let others = others_below rs p p (omega arith) below in (
       front.0,
       sym (before_all rs p below) ∙ sym (before_push p rs r high) ∙ ap (before p) (sym is ∙ cut) ∙ before_before old p (p + 1) le,
       sym (times_append p rs (r ∷ []) ∙ (let a = times_none p rs others in let b = times_one p r at in omega (arith, a, b))) ∙ ap (times p) (sym is ∙ cut) ∙ times_before old p (p + 1) l,
@@ -229,8 +227,8 @@ cut_end old new orig None p is rise not same =
 cut_end old new orig (Some r) p is rise not same =
     let front = rise_front new r (subst Rise is rise) in
     let high : p ≤ r.place = split {P = p ≤ r.place} r.place p
-        (λ lower. absurd (not (subst (λ (x : List Receipt). AllBelow x p) (sym is) (all_append (λ (s : Receipt). s.place < p) new (r ∷ []) (below_more new r.place p (omega (arith, lower)) front.1) (lower, tt)))))
-        (λ h. h) in
+    (λ lower. absurd (not (subst (λ (x : List Receipt). AllBelow x p) (sym is) (all_append (λ (s : Receipt). s.place < p) new (r ∷ []) (below_more new r.place p (omega (arith, lower)) front.1) (lower, tt)))))
+    (λ h. h) in
     (front.0, sym (before_push p new r high) ∙ ap (before p) (sym is) ∙ same)
 
 pub rise_pushed : (rs mid new : List Receipt) (r : Receipt) → mid ≡ rs → new ≡ mid ++ r ∷ [] → Rise rs → AllBelow rs r.place → Rise new × (length new ≡ length rs + 1)

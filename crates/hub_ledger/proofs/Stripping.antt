@@ -63,8 +63,7 @@ times_more orig i p named t old was is here =
 pub right_more : (orig : List Sitting) (i p : ℕ) (e : Entry) (right is : Bool) (old : Sitting) → slice_get orig i ≡ Some old → ((right ≡ true) ↔ AreOf p e (receipts_of (take i orig))) → ((is ≡ true) ↔ AreOf p e old.receipts)
     → ((right && is) ≡ true) ↔ AreOf p e (receipts_of (take (i + 1) orig))
 right_more orig i p e right is old was those this =
-    let more : receipts_of (take (i + 1) orig) ≡ receipts_of (take i orig) ++ old.receipts = ap (λ n. receipts_of (take n orig)) (add-one i) ∙ one_more orig i old was in
-    (
+    let more : receipts_of (take (i + 1) orig) ≡ receipts_of (take i orig) ++ old.receipts = ap (λ n. receipts_of (take n orig)) (add-one i) ∙ one_more orig i old was in (
       (λ both. subst (AreOf p e) (sym more) (all_append (λ (r : Receipt). r.place ≡ p → IsOf e r) (receipts_of (take i orig)) old.receipts (those.0 (and_first right is both)) (this.0 (and_second right is both)))),
       (λ all. let parts = all_parts (λ (r : Receipt). r.place ≡ p → IsOf e r) (receipts_of (take i orig)) old.receipts (subst (AreOf p e) more all) in both_true right is (those.1 parts.0) (this.1 parts.1)),
     )

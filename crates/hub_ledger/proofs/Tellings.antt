@@ -15,3 +15,6 @@ pushed all rest s is =
 pub written : (new old : List Sitting) (n : ℕ) → n ≡ length old → length new ≡ length old → take n (new ++ drop (length new) old) ≡ new
 written new old n is same =
     ap (λ (x : List Sitting). take n (new ++ x)) (drop_all (length new) old (omega (arith, same))) ∙ ap (take n) (append-nil new) ∙ take_all n new (omega (arith, is, same))
+
+pub none_told : (all rest : List Sitting) (s : Sitting) → all ≡ rest ++ s ∷ [] → receipts_of rest ≡ [] → s.receipts ≡ [] → receipts_of all ≡ []
+none_told all rest s is none here = ap receipts_of is ∙ receipts_append rest (s ∷ []) ∙ (λ i. none i ++ (here i ++ []))

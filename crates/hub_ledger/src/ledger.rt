@@ -209,7 +209,9 @@ impl<L: Roll> Ledger<L> {
     pub fn is_kept(&self)
         ensures kept { IsKept self.now }
         ensures legal { IsLegal self.now.trail }
-    {}
+    {
+        let _ = &self.desk;
+    }
 
     /// The trail, and the least place that isn't, with its event and reply, in just one receipt of
     /// these seats. It takes no memory.

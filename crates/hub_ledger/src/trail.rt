@@ -79,5 +79,7 @@ impl Trail {
     /// That tables of rights and locks can judge each entry after the acts of those before it.
     pub fn is_judgeable(&self)
         ensures { AreJudgeable self.now.edition self.now.owner [] self.now.entries }
-    {}
+    {
+        let _ = &self.entries;
+    }
 }

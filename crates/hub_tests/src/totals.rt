@@ -79,7 +79,7 @@ fn four<L: Roll + Send + Sync, R: Threads + Wait + Abort + Sync>(
 }
 
 #[test]
-fn totals(rt: HostRuntime) -> Result<(), Fail> {
+fn each_entry_has_its_receipt(rt: HostRuntime) -> Result<(), Fail> {
     let Some(owner) = UserId::of(b"root") else {
         return Err(Fail::from("a name"));
     };

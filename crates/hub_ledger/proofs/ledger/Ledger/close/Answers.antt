@@ -30,12 +30,12 @@ returns-clause-counted g c = λ all.
     let same : length new ≡ length old = c.first_wrong-wrong.auto.seats ∙ ap (λ (x : List Sitting). length x) was in
     let back = written new old c.args.seats.len c.args.seats.ok.0 same in
     let merged : length new ≡ g.L.Ledger.parts → c.first_wrong-wrong.new.book.total ≡ length (receipts_of new) =
-        subst (λ (x : List Sitting). length x ≡ g.L.Ledger.parts → c.first_wrong-wrong.new.book.total ≡ length (receipts_of x)) back c.count.ensures in
+    subst (λ (x : List Sitting). length x ≡ g.L.Ledger.parts → c.first_wrong-wrong.new.book.total ≡ length (receipts_of x)) back c.count.ensures in
     let told = merged (same ∙ all) in
     let taken = c.first_wrong-wrong.ensures.total in
     let those : length (receipts_of c.as_mut_slice.result.now) ≡ length (receipts_of old) = ap (λ (x : List Sitting). length (receipts_of x)) was in
     let entries : length c.of.result.entries ≡ length c.self.inside.desk.entries.list.items =
-        ap (λ (t : Trail). length t.entries) (c.of.ensures ∙ ap trail_in c.into_entries-entries.ensures) in
+    ap (λ (t : Trail). length t.entries) (c.of.ensures ∙ ap trail_in c.into_entries-entries.ensures) in
     omega (arith, told, taken, those, entries, c.self.invariant.1)
 
 pub returns-clause-wrong : goal.returns-clause-wrong

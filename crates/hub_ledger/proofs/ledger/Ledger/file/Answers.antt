@@ -19,8 +19,7 @@ invariant_of-self-2 g c =
     let takes = c.in_ok-reply.ensures.step in
     let more = one_more c.seat.inside.number (happening c.args.event) c.in_ok-reply.reply old new takes c.requires in
     let stay = seats_stay c.seat.inside.number (happening c.args.event) c.in_ok-reply.reply old new takes in
-    let room = c.if-place-ge-FULL.false in
-    (
+    let room = c.if-place-ge-FULL.false in (
       c.take_step.ensures.kept,
       (let t = c.add.ensures.total in omega (arith, t, inv.1, more)),
       omega (arith, more, room, c.len-place.ensures, c.self.inside.desk.entries.list.ok.0),
@@ -33,8 +32,7 @@ pub invariant_of-seat-2 : goal.invariant_of-seat-2
 invariant_of-seat-2 g c =
     let inv = c.seat.invariant in
     let below : AllBelow c.seat.inside.told.items c.len-place.result = subst (λ (x : List Receipt). AllBelow x c.len-place.result) c.as_slice.ensures.value (c.are_below.ensures.0 c.if-not-are_below.false) in
-    let pushed = rise_pushed c.seat.inside.told.items c.reserve.new.self.items c.push_reserved.new.self.items _ c.reserve.ensures.items c.push_reserved.ensures.items inv.3 below in
-    (
+    let pushed = rise_pushed c.seat.inside.told.items c.reserve.new.self.items c.push_reserved.new.self.items _ c.reserve.ensures.items c.push_reserved.ensures.items inv.3 below in (
       inv.0,
       c.add.ensures.parts ∙ inv.1,
       (let a = c.add.ensures.amount in omega (arith, a, inv.2, pushed.1)),

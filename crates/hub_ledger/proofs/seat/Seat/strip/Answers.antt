@@ -14,8 +14,7 @@ overflow_sub-had g c =
 pub invariant_of-self : goal.invariant_of-self
 invariant_of-self g c =
     let i = c.self.invariant in
-    let fewer : length c.strip-found.new.receipts.items ≤ length c.self.inside.told.items = rw c.strip-found.ensures.rest (before_le c.args.place c.self.inside.told.items) in
-    (
+    let fewer : length c.strip-found.new.receipts.items ≤ length c.self.inside.told.items = rw c.strip-found.ensures.rest (before_le c.args.place c.self.inside.told.items) in (
       i.0,
       c.sub.ensures.parts ∙ i.1,
       (let a = c.sub.ensures.amount in omega (arith, a, i.2, fewer, c.len-had.ensures, c.len.ensures, c.strip-found.new.receipts.ok.0, c.self.inside.told.ok.0)),
