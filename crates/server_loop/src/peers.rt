@@ -155,12 +155,32 @@ impl<S: Read + Write + Drop, G: Gate + Drop, L: Roll> Loop<S, G, L> {
         }
     }
 
-    /// Reads on where reads were left over.
-    pub fn read_more(&mut self, rt: &impl Wait, house: &House<L>) {
+    /// A connection has something to read.
+    pub fn is_ready(&mut self, key: usize) {
+        if let Some(peer) = self.peers.get_mut(key) {
+            peer.has_more = true;
+        }
+    }
+
+    /// Reads what is there to be read, at most so much of each connection that others have their turn.
+    pub fn read_all(&mut self, rt: &impl Wait, house: &House<L>) {
         for key in 0..self.peers.capacity() {
             if self.peers.get(key).is_some_and(|peer| peer.has_more) {
                 self.read_from(rt, house, key);
             }
+        }
+    }
+
+    pub(crate) fn role_of(&self, key: usize) -> Role {
+        match self.peers.get(key) {
+            Some(peer) => peer.role,
+            None => Role::Stranger,
+        }
+    }
+
+    pub(crate) fn set_role(&mut self, key: usize, role: Role) {
+        if let Some(peer) = self.peers.get_mut(key) {
+            peer.role = role;
         }
     }
 
@@ -199,6 +219,15 @@ impl<S: Read + Write + Drop, G: Gate + Drop, L: Roll> Loop<S, G, L> {
             peer.leave();
         }
         let _ = self.tell_leaving(rt, house, key);
+    }
+
+    /// A connection that is nobody's is told to go, unless it was.
+    pub(crate) fn dismiss(&mut self, key: usize, why: Why) {
+        if let Some(peer) = self.peers.get_mut(key) {
+            if peer.listens() {
+                peer.end(why);
+            }
+        }
     }
 
     /// The connection sent what it mustn't: it is told to go, behind all that came of what it sent before.

@@ -8,15 +8,23 @@ use crate::peer::Role;
 use crate::peers::{Loop, Unanswered};
 use acl::UserId;
 use attach_proto::{Message, Text, Token, Why};
-use command_lang::{Command, parse};
-use hub::Answer;
+use command_lang::{Command, FaultKind, parse};
 use server_turn::authenticate;
 use session_model::{Event, Refusal};
+use std::alloc::{AllocError, Global};
 use std::io::{Read, Write};
 use std::sync::Wait;
 use std::sync::ledger::Ledger as Roll;
 
 const UNKNOWN: &str = "unknown user or wrong token";
+
+fn is_quit(alloc: Global, line: &[u8]) -> Result<bool, AllocError> {
+    match parse(alloc, line) {
+        Ok(Command::Quit) => Ok(true),
+        Err(fault) if fault.kind == FaultKind::NoMemory => Err(AllocError),
+        _ => Ok(false),
+    }
+}
 
 impl<S: Read + Write + Drop, G: Gate + Drop, L: Roll> Loop<S, G, L> {
     /// Does what a message of a connection asks for. One that isn't read any more asks for nothing.
@@ -147,12 +155,9 @@ impl<S: Read + Write + Drop, G: Gate + Drop, L: Roll> Loop<S, G, L> {
 
     // A connection becomes a client or a window.
     fn join(&mut self, rt: &impl Wait, house: &House<L>, key: usize, event: Event) {
-        let answer = match self.submit(rt, house, event) {
-            Ok(answer) => answer,
-            Err(_) => {
-                self.dismiss(key, Why::Fault);
-                return;
-            }
+        let Ok(answer) = self.submit(rt, house, event) else {
+            self.dismiss(key, Why::Fault);
+            return;
         };
         match answer.reply() {
             Ok(done) => {
@@ -160,9 +165,7 @@ impl<S: Read + Write + Drop, G: Gate + Drop, L: Roll> Loop<S, G, L> {
                     Event::Open { .. } => Role::Window(done.made),
                     _ => Role::Client(done.made),
                 };
-                if let Some(peer) = self.peers.get_mut(key) {
-                    peer.role = role;
-                }
+                self.set_role(key, role);
                 self.send(rt, house, key, Sending::Welcome(done.number));
             }
             Err(refusal) => {
@@ -172,14 +175,16 @@ impl<S: Read + Write + Drop, G: Gate + Drop, L: Roll> Loop<S, G, L> {
         }
     }
 
+    // No effect tells of a `quit` where nothing is open and nobody attached, so its line is read here too.
     fn command(&mut self, rt: &impl Wait, house: &House<L>, key: usize, user: UserId, window: Option<u8>, line: &[u8]) {
         let event = Event::Command { user, window, line };
-        let answer = match self.submit(rt, house, event) {
-            Ok(answer) => answer,
-            Err(_) => {
-                self.dismiss(key, Why::Fault);
-                return;
-            }
+        let Ok(is_quit) = is_quit(self.alloc, line) else {
+            self.dismiss(key, Why::Fault);
+            return;
+        };
+        let Ok(answer) = self.submit(rt, house, event) else {
+            self.dismiss(key, Why::Fault);
+            return;
         };
         self.send(rt, house, key, Sending::Welcome(0));
         match answer.reply() {
@@ -188,7 +193,7 @@ impl<S: Read + Write + Drop, G: Gate + Drop, L: Roll> Loop<S, G, L> {
                     self.send(rt, house, key, Sending::Say(text.as_slice()));
                 }
                 self.dismiss(key, Why::Detached);
-                if matches!(parse(self.alloc, line), Ok(Command::Quit)) {
+                if is_quit {
                     self.end = Some(End::Quit);
                 }
             }
