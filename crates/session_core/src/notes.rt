@@ -46,6 +46,15 @@ impl Notes {
         self.verdicts.as_slice()
     }
 
+    /// The acts and the verdicts of the step, each in their order.
+    pub fn into_parts(self) -> (Vec<Act>, Vec<Verdict>)
+        ensures acts { result.0.items ≡ self.acts }
+        ensures verdicts { result.1.items ≡ self.verdicts }
+    {
+        let Notes { acts, verdicts } = self;
+        (acts, verdicts)
+    }
+
     /// Notes of these acts and verdicts.
     pub(crate) fn of(acts: Vec<Act>, verdicts: Vec<Verdict>) -> Notes
         ensures { result ≡ record { acts = acts.items; verdicts = verdicts.items } }

@@ -14,6 +14,10 @@ use Rattle.hub_waiting.specs.Routing.{views}
 use Rattle.hub_waiting.proofs.Queues.{Waits, seat_there, seat_within, none_waits, more_waits, room_left, append_turned}
 use Rattle.hub_waiting.proofs.waiting.route.Goals as goal
 
+nothing : (es : List Effect) → length es ≡ 0 → es ≡ []
+nothing [] none = refl
+nothing (e ∷ es) none = absurd (omega (arith, none))
+
 pub loop-effect-preserved : goal.loop-effect-preserved
 loop-effect-preserved c =
     let o = owners_of c.args.peers.now in
@@ -36,7 +40,8 @@ loop-effect-preserved c =
 pub returns : goal.returns
 returns c =
     let o = owners_of c.args.peers.now in
-    let done : into_iter_items c.loop-effect.effect-iterator ≡ [] = c.in-None.ensures.steps.1 in
+    let rest = c.loop-effect.effect-iterator.rest in
+    let done : into_iter_items c.loop-effect.effect-iterator ≡ [] = nothing rest.items (omega (arith, rest.ok.0, c.in-None.ensures.steps.0)) in
     let all : c.args.effects.items ≡ c.loop-effect.yielded = c.loop-effect.invariant.all ∙ ap (λ (x : List Effect). c.loop-effect.yielded ++ x) done ∙ append-nil c.loop-effect.yielded in
     record {
       found = all_weaken (HasPeer o) (λ e. IsSome (seat_of o e)) c.args.effects.items (seat_there o) c.requires.come;
