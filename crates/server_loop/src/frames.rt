@@ -1,12 +1,19 @@
 //! What peers are sent, as frames.
 
+ghost use Rattle.std.specs.Prelude.{◌≡◌};
+ghost use Rattle.attach_proto.specs.Spelling.{spelling};
+ghost use Rattle.attach_proto.specs.declared.message.Message.TheVariants as message;
+
 use attach_proto::{Bytes, Kind, LONGEST, Message, Text, Why, WriteFault, write_message};
 use server_turn::Turn;
 use session_model::Reason;
 use std::alloc::Global;
 
 /// A GONE, which takes no memory.
-pub fn gone_frame(why: Why) -> [u8; 4] {
+#[tactic(auto, unfolding(attach_proto::specs::Spelling::spelling))]
+pub fn gone_frame(why: Why) -> [u8; 4]
+    ensures { result ≡ spelling (message.Gone why) }
+{
     [Kind::Gone.code(), 0, 1, why.number()]
 }
 

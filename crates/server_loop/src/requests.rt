@@ -99,6 +99,13 @@ impl<S: Read + Write + Drop, G: Gate + Drop, L: Roll> Loop<S, G, L> {
         }
     }
 
+    fn why_unanswered(&self, unanswered: Unanswered) -> Why {
+        match (unanswered, self.end) {
+            (Unanswered::Over, Some(end)) => end.why(),
+            (Unanswered::Over, None) | (Unanswered::NoMemory, _) => Why::Fault,
+        }
+    }
+
     // The first message of a connection.
     fn begin(&mut self, rt: &impl Wait, house: &House<L>, key: usize, message: &Message) {
         match message {
@@ -155,9 +162,13 @@ impl<S: Read + Write + Drop, G: Gate + Drop, L: Roll> Loop<S, G, L> {
 
     // A connection becomes a client or a window.
     fn join(&mut self, rt: &impl Wait, house: &House<L>, key: usize, event: Event) {
-        let Ok(answer) = self.submit(rt, house, event) else {
-            self.dismiss(key, Why::Fault);
-            return;
+        let answer = match self.submit(rt, house, event) {
+            Ok(answer) => answer,
+            Err(unanswered) => {
+                let why = self.why_unanswered(unanswered);
+                self.dismiss(key, why);
+                return;
+            }
         };
         match answer.reply() {
             Ok(done) => {
@@ -182,9 +193,13 @@ impl<S: Read + Write + Drop, G: Gate + Drop, L: Roll> Loop<S, G, L> {
             self.dismiss(key, Why::Fault);
             return;
         };
-        let Ok(answer) = self.submit(rt, house, event) else {
-            self.dismiss(key, Why::Fault);
-            return;
+        let answer = match self.submit(rt, house, event) {
+            Ok(answer) => answer,
+            Err(unanswered) => {
+                let why = self.why_unanswered(unanswered);
+                self.dismiss(key, why);
+                return;
+            }
         };
         self.send(rt, house, key, Sending::Welcome(0));
         match answer.reply() {
