@@ -2,7 +2,9 @@
 
 use crate::fault::{ClientFault, Gone};
 use crate::words;
-use attach_proto::{Bytes, LONGEST, Message, ProtoFault, Reader, Side, Text, Token, Why, write_message};
+use attach_proto::{
+    Bytes, LONGEST, Message, ProtoFault, Reader, Side, Text, Token, Why, write_message,
+};
 use clap::ArgMatches;
 use std::alloc::{AllocError, Global};
 use std::fs::Files;
@@ -42,7 +44,11 @@ fn token_of(file: &[u8]) -> Result<Token, ClientFault> {
 }
 
 // The message that a connection begins with.
-fn first_message<R: Files + AllocGlobal>(rt: &R, way: Way, matches: &ArgMatches) -> Result<Message, ClientFault> {
+fn first_message<R: Files + AllocGlobal>(
+    rt: &R,
+    way: Way,
+    matches: &ArgMatches,
+) -> Result<Message, ClientFault> {
     let alloc = rt.alloc();
     let file = fs::read(rt, word(matches, "token")?).map_err(ClientFault::NoFile)?;
     let token = token_of(&file)?;
@@ -79,7 +85,12 @@ fn send(alloc: Global, mut stream: &UnixStream, message: &Message) -> Result<(),
 }
 
 // Sends what it reads, and at the end that the peer goes.
-fn send_all<I: Read + Drop>(alloc: Global, mut input: I, stream: &UnixStream, way: Way) -> Result<(), ClientFault> {
+fn send_all<I: Read + Drop>(
+    alloc: Global,
+    mut input: I,
+    stream: &UnixStream,
+    way: Way,
+) -> Result<(), ClientFault> {
     let mut buffer = vec![in alloc; 0; LONGEST]?;
     for _ in 0..u64::MAX {
         let count = input.read(buffer.as_mut_slice())?;
@@ -97,7 +108,12 @@ fn send_all<I: Read + Drop>(alloc: Global, mut input: I, stream: &UnixStream, wa
 }
 
 // The thread isn't joined: it may wait for its input for good, and the program ends without it.
-fn start_sending<R: Threads + AllocGlobal, I: Read + Send + Drop + 'static>(rt: &R, stream: &UnixStream, input: I, way: Way) -> Result<(), ClientFault> {
+fn start_sending<R: Threads + AllocGlobal, I: Read + Send + Drop + 'static>(
+    rt: &R,
+    stream: &UnixStream,
+    input: I,
+    way: Way,
+) -> Result<(), ClientFault> {
     let alloc = rt.alloc();
     let theirs = stream.try_clone()?;
     let started = thread::spawn(rt, move || {
@@ -173,7 +189,9 @@ fn connect<R: Net + AllocGlobal>(rt: &R, path: &str) -> Result<UnixStream, Clien
     match UnixStream::connect(rt, path) {
         Ok(stream) => Ok(stream),
         Err(error) => match error.kind() {
-            ErrorKind::NotFound | ErrorKind::ConnectionRefused => Err(ClientFault::NoServer(String::from_str(rt.alloc(), path)?)),
+            ErrorKind::NotFound | ErrorKind::ConnectionRefused => Err(ClientFault::NoServer(
+                String::from_str(rt.alloc(), path)?,
+            )),
             _ => Err(ClientFault::Other(error)),
         },
     }
@@ -192,15 +210,14 @@ fn run<R: Net + Files + Threads + AllocGlobal, I: Read + Send + Drop + 'static, 
     show_all(rt, &stream, input, output, way)
 }
 
-/// `mux`: a client of the server. The first word is the program's name. The answer is the status to exit with: 0; 1 for a
-/// fault; 2 where the words aren't understood.
-pub fn client<R: Net + Files + Threads + AllocGlobal, I: Read + Send + Drop + 'static, O: Write, E: Write>(
-    rt: &R,
-    words: &[String],
-    input: I,
-    output: &mut O,
-    errors: &mut E,
-) -> u8 {
+/// `mux`: a client of the server. The first word is the program's name. The answer is the status to
+/// exit with: 0; 1 for a fault; 2 where the words aren't understood.
+pub fn client<
+    R: Net + Files + Threads + AllocGlobal,
+    I: Read + Send + Drop + 'static,
+    O: Write,
+    E: Write,
+>(rt: &R, words: &[String], input: I, output: &mut O, errors: &mut E) -> u8 {
     let matches = match words::of_client(rt.alloc(), words) {
         Ok(matches) => matches,
         Err(error) => return words::tell(&error, output, errors),

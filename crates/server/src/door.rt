@@ -91,7 +91,12 @@ impl Porter {
     }
 
     // Without memory the connection is closed.
-    fn hand<L: Roll>(&mut self, rt: &impl Wait, shared: &Shared<L>, stream: UnixStream) -> io::Result<()> {
+    fn hand<L: Roll>(
+        &mut self,
+        rt: &impl Wait,
+        shared: &Shared<L>,
+        stream: UnixStream,
+    ) -> io::Result<()> {
         if self.count >= shared.doors.len() {
             self.count = 0;
         }

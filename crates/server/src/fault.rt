@@ -12,11 +12,11 @@ use thiserror::Error;
 /// Why `muxd` doesn't serve, or ended.
 #[derive(Debug, Drop, Error)]
 pub enum ServeFault {
-    #[error("the users' file isn't read: {0}")]
+    #[error("the users' file isn't read: {0}: --users names it")]
     NoFile(io::Error),
     #[error("the users' file, {0}")]
     Users(UsersFault),
-    #[error("a server listens there already: end it with the command quit, or name another socket")]
+    #[error("a server listens there: end it with the command quit, or name another socket")]
     Taken,
     #[error("the socket's path is a file, and no socket: name another")]
     NoSocket,
@@ -86,7 +86,7 @@ pub fn outcome(end: Option<End>) -> Result<(), ServeFault> {
 pub enum ClientFault {
     #[error("a word is missing: --help shows which are needed")]
     Words,
-    #[error("the token's file isn't read: {0}")]
+    #[error("the token's file isn't read: {0}: --token names it")]
     NoFile(io::Error),
     #[error("the token's file hasn't 64 digits of 0 to 9, a to f")]
     NoToken,

@@ -33,7 +33,12 @@ struct Asked<'a> {
 }
 
 // A place for each loop, of which the first has the listener, and how others reach them.
-fn places<L: Roll, R: Net>(rt: &R, alloc: Global, seats: Vec<Seat<L>>, mut listener: UnixListener) -> Result<(Vec<Post<L>>, Vec<Door>), ServeFault> {
+fn places<L: Roll, R: Net>(
+    rt: &R,
+    alloc: Global,
+    seats: Vec<Seat<L>>,
+    mut listener: UnixListener,
+) -> Result<(Vec<Post<L>>, Vec<Door>), ServeFault> {
     let mut posts = Vec::new(alloc);
     let mut doors = Vec::new(alloc);
     let mut porter = None;
@@ -62,7 +67,12 @@ fn places<L: Roll, R: Net>(rt: &R, alloc: Global, seats: Vec<Seat<L>>, mut liste
 }
 
 // Runs every loop to its end, each in a thread.
-fn run_all<L: Roll + Send + Sync, R: Threads + Wait + Sync>(rt: &R, alloc: Global, shared: &Shared<L>, posts: Vec<Post<L>>) {
+fn run_all<L: Roll + Send + Sync, R: Threads + Wait + Sync>(
+    rt: &R,
+    alloc: Global,
+    shared: &Shared<L>,
+    posts: Vec<Post<L>>,
+) {
     thread::scope(thread::scope_env(), rt, |scope| {
         for post in posts {
             let me = post.me;
@@ -88,7 +98,8 @@ fn serve_session<L: Roll + Send + Sync, R: Net + Threads + Wait + Sync, O: Write
     listener: UnixListener,
     output: &mut O,
 ) -> Result<(), ServeFault>
-    requires { (blank.name ≡ L.name) × (blank.parts ≡ L.parts) × (loops ≡ L.parts) × (0 < loops) × (loops ≤ 8) }
+    requires { (blank.name ≡ L.name) × (blank.parts ≡ L.parts) × (loops ≡ L.parts)
+        × (0 < loops) × (loops ≤ 8) }
 {
     let owner = users.owner();
     let session = Session::new(alloc, owner)?;
@@ -117,19 +128,31 @@ fn close<L: Roll>(shared: Shared<L>) -> Result<(), ServeFault> {
     }
 }
 
-fn run<R: Net + Files + AllocGlobal + Threads + Wait + Sync, O: Write>(rt: &R, asked: Asked, output: &mut O) -> Result<(), ServeFault> {
+fn run<R: Net + Files + AllocGlobal + Threads + Wait + Sync, O: Write>(
+    rt: &R,
+    asked: Asked,
+    output: &mut O,
+) -> Result<(), ServeFault> {
     let alloc = rt.alloc();
     let file = fs::read(rt, asked.users).map_err(ServeFault::NoFile)?;
     let users = Users::read(alloc, &file)?;
     let listener = socket::listen(rt, asked.socket)?;
     let loops = asked.loops.clamp(1, 8);
-    let served = serve_session::<Brand, _, _>(rt, alloc, Blank::new(loops as u64), loops, users, listener, output);
+    let served = serve_session::<Brand, _, _>(
+        rt,
+        alloc,
+        Blank::new(loops as u64),
+        loops,
+        users,
+        listener,
+        output,
+    );
     socket::remove(rt, asked.socket);
     served
 }
 
-/// `muxd`: serves a session until `quit`. The first word is the program's name. The answer is the status to exit with:
-/// 0; 1 for a fault; 2 where the words aren't understood.
+/// `muxd`: serves a session until `quit`. The first word is the program's name. The answer is the
+/// status to exit with: 0; 1 for a fault; 2 where the words aren't understood.
 pub fn serve<R: Net + Files + AllocGlobal + Threads + Wait + Sync, O: Write, E: Write>(
     rt: &R,
     words: &[String],
@@ -140,7 +163,11 @@ pub fn serve<R: Net + Files + AllocGlobal + Threads + Wait + Sync, O: Write, E: 
         Ok(matches) => matches,
         Err(error) => return words::tell(&error, output, errors),
     };
-    let (Some(socket), Some(users), Some(loops)) = (matches.get_str("socket"), matches.get_str("users"), matches.get_one::<u8>("loops")) else {
+    let (Some(socket), Some(users), Some(loops)) = (
+        matches.get_str("socket"),
+        matches.get_str("users"),
+        matches.get_one::<u8>("loops"),
+    ) else {
         return 2;
     };
     let asked = Asked {

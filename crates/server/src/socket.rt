@@ -21,7 +21,9 @@ fn make_way<R: Net + Files>(rt: &R, path: &str) -> Result<(), ServeFault> {
     }
     match UnixStream::connect(rt, path) {
         Ok(_) => Err(ServeFault::Taken),
-        Err(error) if error.kind() == ErrorKind::ConnectionRefused => fs::remove_file(rt, path).map_err(ServeFault::Socket),
+        Err(error) if error.kind() == ErrorKind::ConnectionRefused => fs::remove_file(
+            rt, path,
+        ).map_err(ServeFault::Socket),
         Err(error) => Err(ServeFault::Socket(error)),
     }
 }

@@ -22,10 +22,17 @@ const FIRST: usize = 2;
 const PAUSE: u64 = 20;
 // So many pauses without an event, and the server ends though bytes wait.
 const PAUSES: usize = 100;
+
 const ROUNDS: usize = 10_000;
 
 // Takes in the connections that were handed to the loop. One that can't be taken in is closed.
-fn admit<L: Roll, G: Gate + Drop>(rt: &impl Wait, shared: &Shared<L>, poll: &Poll, me: usize, peers: &mut Loop<UnixStream, G, L>) {
+fn admit<L: Roll, G: Gate + Drop>(
+    rt: &impl Wait,
+    shared: &Shared<L>,
+    poll: &Poll,
+    me: usize,
+    peers: &mut Loop<UnixStream, G, L>,
+) {
     let Some(door) = shared.doors.get(me) else {
         return;
     };
@@ -113,13 +120,13 @@ fn wind_up<L: Roll, R: Wait, G: Gate + Drop>(
     end: End,
 ) -> io::Result<()> {
     peers.finish(rt, &shared.house, end);
-    let mut pauses = 0;
+    let mut pauses = PAUSES;
     for _ in 0..ROUNDS {
-        if peers.is_empty() || pauses == PAUSES {
+        if peers.is_empty() || pauses == 0 {
             return Ok(());
         }
         if !wait(&mut poll, &mut events, Some(Duration::from_millis(PAUSE)))? {
-            pauses += 1;
+            pauses = pauses.saturating_sub(1);
         }
         peers.finish(rt, &shared.house, end);
     }
@@ -127,7 +134,13 @@ fn wind_up<L: Roll, R: Wait, G: Gate + Drop>(
 }
 
 /// One loop, until the server ends.
-pub fn run_loop<L: Roll, R: Wait, G: Gate + Drop>(rt: &R, alloc: Global, shared: &Shared<L>, post: Post<L>, gate: G) -> io::Result<()> {
+pub fn run_loop<L: Roll, R: Wait, G: Gate + Drop>(
+    rt: &R,
+    alloc: Global,
+    shared: &Shared<L>,
+    post: Post<L>,
+    gate: G,
+) -> io::Result<()> {
     let Post {
         me,
         mut poll,

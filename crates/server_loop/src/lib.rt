@@ -2,13 +2,10 @@
 #![tactic(auto)]
 
 mod end;
-mod frames;
 mod gate;
 mod house;
-mod peer;
 mod peers;
 mod requests;
-mod stream;
 
 pub use end::End;
 pub use gate::{Gate, Open};

@@ -1,13 +1,11 @@
 //! One loop's connections.
 
 use crate::end::End;
-use crate::frames::{Sending, put, why_of};
 use crate::gate::Gate;
 use crate::house::House;
-use crate::peer::{Peer, Role, Stage};
-use crate::stream::Came;
 use attach_proto::Why;
 use hub::{Answer, HubFault, Seat};
+use server_peer::{Came, Peer, Role, Sending, Stage, put, why_of};
 use session_model::{Effect, Event, Reason};
 use slab::Slab;
 use std::alloc::{AllocError, Global};
@@ -17,7 +15,9 @@ use std::sync::ledger::Ledger as Roll;
 
 // A peer that sends on and on lets the others have their turn after so many reads.
 const READS: usize = 16;
+
 const READ_SIZE: usize = 8192;
+
 const MOST_UNSENT: usize = 1_048_576;
 
 /// Why a submitted event has no answer.
@@ -28,7 +28,8 @@ pub enum Unanswered {
     Over,
 }
 
-/// The connections of one loop. It is told of each turn's reads and writes, and never waits for a peer.
+/// The connections of one loop. It is told of each turn's reads and writes, and never waits for a
+/// peer.
 #[derive(Drop)]
 pub struct Loop<S, G, L: Roll> {
     pub(crate) alloc: Global,
@@ -101,7 +102,12 @@ impl<S: Read + Write + Drop, G: Gate + Drop, L: Roll> Loop<S, G, L> {
         self.seat
     }
 
-    pub(crate) fn submit<'a>(&mut self, rt: &impl Wait, house: &House<L>, event: Event<'a>) -> Result<Answer<'a>, Unanswered> {
+    pub(crate) fn submit<'a>(
+        &mut self,
+        rt: &impl Wait,
+        house: &House<L>,
+        event: Event<'a>,
+    ) -> Result<Answer<'a>, Unanswered> {
         self.gate.before();
         let answer = house.hub.submit(rt, &mut self.seat, event);
         self.gate.after();
@@ -122,7 +128,8 @@ impl<S: Read + Write + Drop, G: Gate + Drop, L: Roll> Loop<S, G, L> {
         }
     }
 
-    /// Reads what a connection sent, until it has no more for now, or others are to have their turn.
+    /// Reads what a connection sent, until it has no more for now, or others are to have their
+    /// turn.
     pub fn read_from(&mut self, rt: &impl Wait, house: &House<L>, key: usize) {
         for _ in 0..READS {
             let mut messages = Vec::new(self.alloc);
@@ -162,7 +169,8 @@ impl<S: Read + Write + Drop, G: Gate + Drop, L: Roll> Loop<S, G, L> {
         }
     }
 
-    /// Reads what is there to be read, at most so much of each connection that others have their turn.
+    /// Reads what is there to be read, at most so much of each connection that others have their
+    /// turn.
     pub fn read_all(&mut self, rt: &impl Wait, house: &House<L>) {
         for key in 0..self.peers.capacity() {
             if self.peers.get(key).is_some_and(|peer| peer.has_more) {
@@ -192,7 +200,12 @@ impl<S: Read + Write + Drop, G: Gate + Drop, L: Roll> Loop<S, G, L> {
     }
 
     // Tells the session that the connection left it. Without memory it is told in a later turn.
-    fn tell_leaving(&mut self, rt: &impl Wait, house: &House<L>, key: usize) -> Result<(), Unanswered> {
+    fn tell_leaving(
+        &mut self,
+        rt: &impl Wait,
+        house: &House<L>,
+        key: usize,
+    ) -> Result<(), Unanswered> {
         let Some(peer) = self.peers.get(key) else {
             return Ok(());
         };
@@ -230,7 +243,8 @@ impl<S: Read + Write + Drop, G: Gate + Drop, L: Roll> Loop<S, G, L> {
         }
     }
 
-    /// The connection sent what it mustn't: it is told to go, behind all that came of what it sent before.
+    /// The connection sent what it mustn't: it is told to go, behind all that came of what it sent
+    /// before.
     pub(crate) fn fault(&mut self, rt: &impl Wait, house: &House<L>, key: usize) {
         self.hand_out(rt, house);
         if self.is_open(key) {
@@ -264,7 +278,8 @@ impl<S: Read + Write + Drop, G: Gate + Drop, L: Roll> Loop<S, G, L> {
             .map(|(key, _)| key)
     }
 
-    /// Puts something behind what waits for a connection. Where it can't be had, the connection goes.
+    /// Puts something behind what waits for a connection. Where it can't be had, the connection
+    /// goes.
     pub(crate) fn send(&mut self, rt: &impl Wait, house: &House<L>, key: usize, sending: Sending) {
         let alloc = self.alloc;
         let Some(peer) = self.peers.get_mut(key) else {
@@ -300,10 +315,30 @@ impl<S: Read + Write + Drop, G: Gate + Drop, L: Roll> Loop<S, G, L> {
         let (effects, is_told) = house.hub.take(rt, &mut self.seat);
         for effect in &effects {
             match effect {
-                Effect::Input(window, bytes) => self.hand(rt, house, Role::Window(*window), Sending::Input(bytes.as_slice())),
-                Effect::Deliver(client, bytes) => self.hand(rt, house, Role::Client(*client), Sending::Draw(bytes.as_slice())),
-                Effect::Say(client, text) => self.hand(rt, house, Role::Client(*client), Sending::Say(text.as_slice())),
-                Effect::Size(window, rows, cols) => self.hand(rt, house, Role::Window(*window), Sending::Size(*rows, *cols)),
+                Effect::Input(window, bytes) => self.hand(
+                    rt,
+                    house,
+                    Role::Window(*window),
+                    Sending::Input(bytes.as_slice()),
+                ),
+                Effect::Deliver(client, bytes) => self.hand(
+                    rt,
+                    house,
+                    Role::Client(*client),
+                    Sending::Draw(bytes.as_slice()),
+                ),
+                Effect::Say(client, text) => self.hand(
+                    rt,
+                    house,
+                    Role::Client(*client),
+                    Sending::Say(text.as_slice()),
+                ),
+                Effect::Size(window, rows, cols) => self.hand(
+                    rt,
+                    house,
+                    Role::Window(*window),
+                    Sending::Size(*rows, *cols),
+                ),
                 Effect::GoneWindow(window, reason) => self.let_go(Role::Window(*window), *reason),
                 Effect::GoneClient(client, reason) => self.let_go(Role::Client(*client), *reason),
             }
@@ -344,7 +379,8 @@ impl<S: Read + Write + Drop, G: Gate + Drop, L: Roll> Loop<S, G, L> {
         }
     }
 
-    // Asks for a draw of each client that waits for one. Those that are refused for want of memory are asked in the next turn.
+    // Asks for a draw of each client that waits for one. Those that are refused for want of memory
+    // are asked in the next turn.
     fn draw(&mut self, rt: &impl Wait, house: &House<L>) {
         for key in 0..self.peers.capacity() {
             let Some(client) = self.wants_draw(key) else {

@@ -1,14 +1,13 @@
 //! What peers ask for.
 
 use crate::end::End;
-use crate::frames::Sending;
 use crate::gate::Gate;
 use crate::house::House;
-use crate::peer::Role;
 use crate::peers::{Loop, Unanswered};
 use acl::UserId;
 use attach_proto::{Message, Text, Token, Why};
 use command_lang::{Command, FaultKind, parse};
+use server_peer::{Role, Sending};
 use server_turn::authenticate;
 use session_model::{Event, Refusal};
 use std::alloc::{AllocError, Global};
@@ -34,7 +33,13 @@ impl<S: Read + Write + Drop, G: Gate + Drop, L: Roll> Loop<S, G, L> {
         }
         match (self.role_of(key), message) {
             (Role::Stranger, _) => self.begin(rt, house, key, message),
-            (Role::Client(client), Message::Keys(bytes)) => self.keys(rt, house, key, client, bytes.as_slice()),
+            (Role::Client(client), Message::Keys(bytes)) => self.keys(
+                rt,
+                house,
+                key,
+                client,
+                bytes.as_slice(),
+            ),
             (Role::Client(client), Message::Resize { rows, cols }) => {
                 let event = Event::Resize {
                     client,
@@ -88,7 +93,14 @@ impl<S: Read + Write + Drop, G: Gate + Drop, L: Roll> Loop<S, G, L> {
         }
     }
 
-    fn user_of(&mut self, rt: &impl Wait, house: &House<L>, key: usize, name: &Text, token: &Token) -> Option<UserId> {
+    fn user_of(
+        &mut self,
+        rt: &impl Wait,
+        house: &House<L>,
+        key: usize,
+        name: &Text,
+        token: &Token,
+    ) -> Option<UserId> {
         match authenticate(&house.users, name.as_str().as_bytes(), token.as_slice()) {
             Ok(user) => Some(user),
             Err(_) => {
@@ -186,8 +198,17 @@ impl<S: Read + Write + Drop, G: Gate + Drop, L: Roll> Loop<S, G, L> {
         }
     }
 
-    // No effect tells of a `quit` where nothing is open and nobody attached, so its line is read here too.
-    fn command(&mut self, rt: &impl Wait, house: &House<L>, key: usize, user: UserId, window: Option<u8>, line: &[u8]) {
+    // No effect tells of a `quit` where nothing is open and nobody attached, so its line is read
+    // here too.
+    fn command(
+        &mut self,
+        rt: &impl Wait,
+        house: &House<L>,
+        key: usize,
+        user: UserId,
+        window: Option<u8>,
+        line: &[u8],
+    ) {
         let event = Event::Command { user, window, line };
         let Ok(is_quit) = is_quit(self.alloc, line) else {
             self.dismiss(key, Why::Fault);

@@ -49,8 +49,14 @@ fn play<L: Roll, R: Wait>(rt: &R, house: &House<L>, peers: &mut Loop<Fake, Open,
     }
 }
 
-// A window of the owner, his client, which types, and another window, whose program writes. The client has the habit.
-fn run<L: Roll, R: Wait>(rt: &R, alloc: Global, blank: Blank, habit: Habit) -> Result<(Taken, Sent, Vec<u8>), Fail>
+// A window of the owner, his client, which types, and another window, whose program writes. The
+// client has the habit.
+fn run<L: Roll, R: Wait>(
+    rt: &R,
+    alloc: Global,
+    blank: Blank,
+    habit: Habit,
+) -> Result<(Taken, Sent, Vec<u8>), Fail>
     requires { (blank.name ≡ L.name) × (blank.parts ≡ L.parts) × (blank.parts ≡ 1) }
 {
     let (house, mut seats) = house::<L>(alloc, blank, 1)?;
@@ -84,8 +90,14 @@ fn one_byte_at_a_time(rt: HostRuntime) -> Result<(), Fail> {
     let alloc = rt.alloc();
     let (client, typed, aside) = run::<Brand, _>(&rt, alloc, Blank::new(1), Habit::Slow)?;
     let shown = sent(alloc, &client)?;
-    assert!(rt; matches!(shown.messages.first(), Some(Message::Welcome(0))), "it is welcome");
-    assert!(rt; matches!(shown.messages.get(1), Some(Message::Draw(_))), "it is shown its page");
+    assert!(rt;
+        matches!(shown.messages.first(), Some(Message::Welcome(0))),
+        "it is welcome"
+    );
+    assert!(rt;
+        matches!(shown.messages.get(1), Some(Message::Draw(_))),
+        "it is shown its page"
+    );
     assert_eq!(rt; typed.input.as_slice(), b"xy".as_slice());
     assert_eq!(rt; aside.as_slice(), b"y\0\x01\x01".as_slice());
     Ok(())
@@ -97,7 +109,10 @@ fn waits_at_each_place(rt: HostRuntime) -> Result<(), Fail> {
     for at in 0..120 {
         let (client, typed, aside) = run::<Brand, _>(&rt, alloc, Blank::new(1), Habit::Waits(at))?;
         let shown = sent(alloc, &client)?;
-        assert!(rt; matches!(shown.messages.first(), Some(Message::Welcome(0))), "at {at}");
+        assert!(rt;
+            matches!(shown.messages.first(), Some(Message::Welcome(0))),
+            "at {at}"
+        );
         assert_eq!(rt; typed.input.as_slice(), b"xy".as_slice(), "at {at}");
         assert_eq!(rt; aside.as_slice(), b"y\0\x01\x01".as_slice(), "at {at}");
     }
@@ -135,6 +150,9 @@ fn turned_away<L: Roll, R: Wait>(rt: &R, alloc: Global, blank: Blank) -> Result<
 #[test]
 fn a_wrong_token(rt: HostRuntime) -> Result<(), Fail> {
     let answer = turned_away::<Brand, _>(&rt, rt.alloc(), Blank::new(1))?;
-    assert_eq!(rt; answer.as_slice(), b"s\0\x1Bunknown user or wrong tokeng\0\x01\x06".as_slice());
+    assert_eq!(rt;
+        answer.as_slice(),
+        b"s\0\x1Bunknown user or wrong tokeng\0\x01\x06".as_slice()
+    );
     Ok(())
 }

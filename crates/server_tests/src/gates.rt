@@ -1,4 +1,5 @@
-//! Two loops run at once. A server whose loops take turns, one holding the session's lock round a whole turn, fails here.
+//! Two loops run at once. A server whose loops take turns, one holding the session's lock round a
+//! whole turn, fails here.
 
 ghost use Rattle.std.specs.Prelude.{◌≡◌};
 
@@ -17,7 +18,8 @@ use std::thread::Threads;
 
 const YIELDS: usize = 100_000;
 
-/// Holds the call that comes first, before it is submitted, until a call of the other loop was answered.
+/// Holds the call that comes first, before it is submitted, until a call of the other loop was
+/// answered.
 #[derive(Clone, Copy)]
 struct Latch<'a> {
     held: &'a AtomicU64,
@@ -47,7 +49,14 @@ impl Gate for Latch<'_> {
 }
 
 // A loop whose one peer gives a command: whether it was told that this was done.
-fn command<L: Roll, R: Wait>(rt: &R, alloc: Global, house: &House<L>, seat: Seat<L>, bytes: &[u8], latch: Latch) -> Result<bool, AllocError> {
+fn command<L: Roll, R: Wait>(
+    rt: &R,
+    alloc: Global,
+    house: &House<L>,
+    seat: Seat<L>,
+    bytes: &[u8],
+    latch: Latch,
+) -> Result<bool, AllocError> {
     let mut peers: Loop<Fake, Latch, L> = Loop::new(alloc, seat, latch)?;
     let (stream, taken) = fake(alloc, bytes, Habit::Steady)?;
     peers.admit(stream)?;
@@ -59,14 +68,23 @@ fn command<L: Roll, R: Wait>(rt: &R, alloc: Global, house: &House<L>, seat: Seat
     Ok(bytes_of(alloc, &taken)?.as_slice() == b"y\0\x01\0g\0\x01\0".as_slice())
 }
 
-fn two<L: Roll + Send + Sync, R: Threads + Wait + Sync>(rt: &R, alloc: Global, blank: Blank) -> Result<bool, Fail>
+fn two<L: Roll + Send + Sync, R: Threads + Wait + Sync>(
+    rt: &R,
+    alloc: Global,
+    blank: Blank,
+) -> Result<bool, Fail>
     requires { (blank.name ≡ L.name) × (blank.parts ≡ L.parts) × (blank.parts ≡ 2) }
 {
     let (house, mut seats) = house::<L>(alloc, blank, 2)?;
     let (Some(right), Some(left)) = (seats.pop(), seats.pop()) else {
         return Err(Fail::from("two seats"));
     };
-    let (held, first, second, missed) = (AtomicU64::new(0), AtomicU64::new(0), AtomicU64::new(0), AtomicU64::new(0));
+    let (held, first, second, missed) = (
+        AtomicU64::new(0),
+        AtomicU64::new(0),
+        AtomicU64::new(0),
+        AtomicU64::new(0),
+    );
     let (one, other) = (
         Latch {
             held: &held,
@@ -95,6 +113,9 @@ fn two<L: Roll + Send + Sync, R: Threads + Wait + Sync>(rt: &R, alloc: Global, b
 
 #[test]
 fn loops_take_no_turns(rt: HostRuntime) -> Result<(), Fail> {
-    assert!(rt; two::<Brand, _>(&rt, rt.alloc(), Blank::new(2))?, "each call is answered while the other is held");
+    assert!(rt;
+        two::<Brand, _>(&rt, rt.alloc(), Blank::new(2))?,
+        "each call is answered while the other is held"
+    );
     Ok(())
 }

@@ -18,8 +18,13 @@ pub const OWN: &str = "000000000000000000000000000000000000000000000000000000000
 pub const BOB: &str = "000000000000000000000000000000000000000000000000000000000000000b";
 
 /// A house of a new session of the users own and bob, and its seats.
-pub fn house<L: Roll>(alloc: Global, blank: Blank, seats: usize) -> Result<(House<L>, Vec<Seat<L>>), Fail>
-    requires { (blank.name ≡ L.name) × (blank.parts ≡ L.parts) × (seats ≡ L.parts) × (0 < seats) × (seats ≤ 8) }
+pub fn house<L: Roll>(
+    alloc: Global,
+    blank: Blank,
+    seats: usize,
+) -> Result<(House<L>, Vec<Seat<L>>), Fail>
+    requires { (blank.name ≡ L.name) × (blank.parts ≡ L.parts) × (seats ≡ L.parts)
+        × (0 < seats) × (seats ≤ 8) }
 {
     let mut file = Vec::new(alloc);
     file.extend_from_slice(b"own ")?;
@@ -33,7 +38,8 @@ pub fn house<L: Roll>(alloc: Global, blank: Blank, seats: usize) -> Result<(Hous
         return Err(Fail::from("no session"));
     };
     let owner = users.owner();
-    let Ok((hub, seats)) = Hub::<L>::new(alloc, blank, Edition::Second, owner, session, seats) else {
+    let Ok((hub, seats)) = Hub::<L>::new(alloc, blank, Edition::Second, owner, session, seats)
+    else {
         return Err(Fail::from("no hub"));
     };
     Ok((House { hub, users }, seats))

@@ -23,17 +23,21 @@ both_are_nothing a b ea eb = rw (ea, eb) refl
 front : (i : ℕ) (xs : List ℕ) → take i (take (i + 1) xs) ≡ take i xs
 front i xs = grind (arith, common_steps)
 
-same_place : (xs ys : List ℕ) (i : ℕ) → take (i + 1) xs ≡ take (i + 1) ys → get_or xs i 0 ≡ get_or ys i 0
-same_place xs ys i e = sym (get_or-take (i + 1) xs i 0 (omega arith)) ∙ (ap (λ zs. get_or zs i 0) e ∙ get_or-take (i + 1) ys i 0 (omega arith))
+same_place : (xs ys : List ℕ) (i : ℕ) → take (i + 1) xs ≡ take (i + 1) ys
+    → get_or xs i 0 ≡ get_or ys i 0
+same_place xs ys i e = sym (get_or-take (i + 1) xs i 0 (omega arith))
+    ∙ (ap (λ zs. get_or zs i 0) e ∙ get_or-take (i + 1) ys i 0 (omega arith))
 
 same_front : (xs ys : List ℕ) (i : ℕ) → take (i + 1) xs ≡ take (i + 1) ys → take i xs ≡ take i ys
 same_front xs ys i e = sym (front i xs) ∙ (ap (take i) e ∙ front i ys)
 
-joined : (xs ys : List ℕ) (i : ℕ) → i < length xs → i < length ys → take i xs ≡ take i ys → get_or xs i 0 ≡ get_or ys i 0
+joined : (xs ys : List ℕ) (i : ℕ) → i < length xs → i < length ys → take i xs ≡ take i ys
+    → get_or xs i 0 ≡ get_or ys i 0
     → take (i + 1) xs ≡ take (i + 1) ys
 joined xs ys i ix iy e f = rw (take_more xs i 0 ix, take_more ys i 0 iy, e, f) refl
 
-pub more : (xs ys : List ℕ) (i d : ℕ) → i < length xs → i < length ys → ((d ≡ 0) ↔ (take i xs ≡ take i ys))
+pub more : (xs ys : List ℕ) (i d : ℕ) → i < length xs → i < length ys
+    → ((d ≡ 0) ↔ (take i xs ≡ take i ys))
     → (bit_or d (bit_xor (get_or xs i 0) (get_or ys i 0)) ≡ 0) ↔ (take (i + 1) xs ≡ take (i + 1) ys)
 more xs ys i d ix iy so = (
   λ e. joined xs ys i ix iy (so.0 (left_is_nothing d _ e)) (same_bits _ _ (right_is_nothing d _ e)),

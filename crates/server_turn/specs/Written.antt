@@ -19,4 +19,7 @@ IsWritten put (Some written) turn = HasWritten put written turn
 
 -- the last bytes come once
 abbrev pub ended : List ℕ → Waiting → Waiting
-ended last turn = if turn.has_ended then turn else record turn { unsent = turn.unsent ++ last; has_ended = true }
+ended last turn = if turn.has_ended then turn else record turn {
+  unsent = turn.unsent ++ last;
+  has_ended = true;
+}

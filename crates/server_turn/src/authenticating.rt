@@ -10,7 +10,8 @@ use crate::users::{Users, has_name};
 use acl::UserId;
 
 fn holder(users: &[User], name: &[u8], token: &[u8]) -> Option<UserId>
-    ensures some { IsSome result ↔ Contains (entries_of users.now) (record { name = name.now; token = token.now }) }
+    ensures some { IsSome result
+        ↔ Contains (entries_of users.now) (record { name = name.now; token = token.now }) }
     ensures named { IfSome result (λ user. name_of user ≡ name.now) }
 {
     for user in users {

@@ -18,8 +18,9 @@ pub enum AuthFault {
 /// Why a users' file isn't read.
 #[derive(Clone, Copy, Debug, PartialEq, Eq, Error)]
 pub enum UsersFault {
-    /// The first line, counted from 1, that isn't a name, one blank and a token, or whose name stood before.
-    #[error("line {0}: not a name, one blank and 64 digits of 0 to 9, a to f, or a name that stood before")]
+    /// The first line, counted from 1, that isn't a name, one blank and a token, or whose name
+    /// stood before.
+    #[error("line {0}: not a new name, one blank and 64 digits of 0 to 9, a to f")]
     BadLine(usize),
     #[error("out of memory")]
     NoMemory,

@@ -1,6 +1,7 @@
 //! What a connection has still to write.
 
-ghost use Rattle.std.specs.Prelude.{◌≡◌, ◌==◌, ◌&&◌, ◌≤◌, ◌++◌, ℕ, List, [], true, false, not, length, drop, IfOk, OnOk, OnErr, if◌then◌else◌};
+ghost use Rattle.std.specs.Prelude.{◌≡◌, ◌==◌, ◌&&◌, ◌≤◌, ◌++◌, ℕ, List, [], true, false};
+ghost use Rattle.std.specs.Prelude.{length, drop, IfOk, OnOk, OnErr, if◌then◌else◌};
 ghost use Rattle.std.specs.Io.KnownBytes.{WriteAppends};
 ghost use Rattle.server_turn.specs.Written.{HasWritten, IsWritten, ended};
 
@@ -12,7 +13,8 @@ use std::marker::Model;
 /// How many bytes stand ready for the end.
 pub const LAST: usize = 4;
 
-/// The bytes that a connection has still to write, and whether something happened since its last draw.
+/// The bytes that a connection has still to write, and whether a step other than a draw was made
+/// since its last draw.
 #[derive(Drop)]
 pub struct Turn {
     bytes: Vec<u8>,
@@ -28,7 +30,11 @@ impl Model for Turn {
 
     ghost Value = { Waiting };
 
-    ghost view = { λ t. record { unsent = drop t.sent t.bytes.items; told = t.told; has_ended = t.has_ended } };
+    ghost view = { λ t. record {
+      unsent = drop t.sent t.bytes.items;
+      told = t.told;
+      has_ended = t.has_ended;
+    } };
 
     // Until the end, its bytes have room.
     ghost invariant = { λ t. (t.sent ≤ vec_len t.bytes)
@@ -38,7 +44,8 @@ impl Model for Turn {
 impl Turn {
     /// Nothing to write yet. The room for the last bytes is reserved.
     pub fn new(alloc: Global) -> Result<Turn, AllocError>
-        ensures nothing { IfOk result (λ t. t ≡ record { unsent = []; told = false; has_ended = false }) }
+        ensures nothing { IfOk result (λ t.
+            t ≡ record { unsent = []; told = false; has_ended = false }) }
         ensures written { IfOk result (HasWritten [] []) }
     {
         let mut bytes = Vec::new(alloc);
@@ -63,7 +70,8 @@ impl Turn {
 
     /// Puts the bytes behind those that wait.
     pub fn put(&mut self, bytes: &[u8]) -> Result<(), AllocError>
-        ensures ok { OnOk result (self.new ≡ record self.old { unsent = self.old.unsent ++ bytes.now }) }
+        ensures ok { OnOk result
+            (self.new ≡ record self.old { unsent = self.old.unsent ++ bytes.now }) }
         ensures err { OnErr result (self.new ≡ self.old) }
         ensures written { (put written : List ℕ) → HasWritten put written self.old
             → OnOk result (HasWritten (put ++ bytes.now) written self.new) }
@@ -89,9 +97,11 @@ impl Turn {
     /// One write of what waits. What was taken leaves; at a fault nothing does.
     pub fn send<W: Write>(&mut self, writer: &mut W) -> io::Result<usize>
         ensures count { IfOk result (λ n. n ≤ length self.old.unsent) }
-        ensures ok { IfOk result (λ n. self.new ≡ record self.old { unsent = drop n self.old.unsent }) }
+        ensures ok { IfOk result (λ n.
+            self.new ≡ record self.old { unsent = drop n self.old.unsent }) }
         ensures err { OnErr result (self.new ≡ self.old) }
-        ensures writes { WriteAppends (W.contents writer.old) (W.contents writer.new) result self.old.unsent }
+        ensures writes { WriteAppends (W.contents writer.old) (W.contents writer.new) result
+            self.old.unsent }
         ensures written { (put : List ℕ) → IsWritten put (W.contents writer.old) self.old
             → IsWritten put (W.contents writer.new) self.new }
     {
@@ -115,7 +125,8 @@ impl Turn {
         self.told = true;
     }
 
-    /// Whether a draw is to be asked for: nothing waits, and a step other than a draw was told since the last draw.
+    /// Whether a draw is to be asked for: nothing waits, and a step other than a draw was told
+    /// since the last draw.
     pub fn wants_draw(&self) -> bool
         ensures { result ≡ (self.now.told && (length self.now.unsent == 0)) }
     {

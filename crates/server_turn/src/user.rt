@@ -16,7 +16,8 @@ pub struct User {
 }
 
 fn user_of(name: &[u8], digits: &[u8]) -> Option<User>
-    ensures some { IfSome result (λ u. IsUser (entry_of u) × (entry_of u ≡ record { name = name.now; token = digits.now })) }
+    ensures some { IfSome result (λ u. IsUser (entry_of u)
+        × (entry_of u ≡ record { name = name.now; token = digits.now })) }
     ensures none { result ≡ None → IsUser (record { name = name.now; token = digits.now }) → ⊥ }
 {
     if !is_token(digits) {
@@ -33,7 +34,8 @@ fn user_of(name: &[u8], digits: &[u8]) -> Option<User>
 impl User {
     /// The user whom a line spells: a name, one blank and a token.
     pub fn of_line(line: &[u8]) -> Option<User>
-        ensures some { IfSome result (λ u. IsUser (entry_of u) × (spelled (entry_of u) ≡ line.now)) }
+        ensures some { IfSome result (λ u.
+            IsUser (entry_of u) × (spelled (entry_of u) ≡ line.now)) }
         ensures none { result ≡ None → (u : Entry) → IsUser u → spelled u ≡ line.now → ⊥ }
     {
         if line.len() < DIGITS {
@@ -54,9 +56,11 @@ impl User {
         self.id.as_bytes() == name
     }
 
-    /// Whether the user has this name and this token. The time doesn't depend on where a token differs.
+    /// Whether the user has this name and this token. The time doesn't depend on where a token
+    /// differs.
     pub fn shows(&self, name: &[u8], token: &[u8]) -> bool
-        ensures { IsTrue result ↔ (entry_of self.now ≡ record { name = name.now; token = token.now }) }
+        ensures { IsTrue result
+            ↔ (entry_of self.now ≡ record { name = name.now; token = token.now }) }
     {
         self.is_named(name) && self.token.is(token)
     }

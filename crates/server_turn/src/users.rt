@@ -1,6 +1,7 @@
 //! The users' file.
 
-ghost use Rattle.std.specs.Prelude.{◌≡◌, ◌↔◌, ◌++◌, [], IsTrue, IfOk, IfErr, Some, Contains, drop, slice_get};
+ghost use Rattle.std.specs.Prelude.{◌≡◌, ◌↔◌, ◌++◌, IsTrue, IfOk, IfErr, Some, Contains};
+ghost use Rattle.std.specs.Prelude.{drop, slice_get};
 ghost use Rattle.acl.specs.Names.{name_of};
 ghost use Rattle.server_turn.specs.Entries.{IsLine, EndsLine, AreUsers, IsFileOf, names};
 ghost use Rattle.server_turn.specs.Stands.{Breaks, entries_of};
@@ -65,8 +66,8 @@ pub(crate) fn has_name(users: &[User], name: &[u8]) -> bool
 }
 
 impl Users {
-    /// The users of a file, whose lines are each a name, one blank and 64 digits of `0` to `9`, `a` to `f`.
-    /// No name stands twice. The last line's feed may lack.
+    /// The users of a file, whose lines are each a name, one blank and 64 digits of `0` to `9`, `a`
+    /// to `f`. No name stands twice. The last line's feed may lack.
     pub fn read(alloc: Global, file: &[u8]) -> Result<Users, UsersFault>
         ensures ok { IfOk result (λ users. AreUsers users × IsFileOf users file.now) }
         ensures bad { IfErr result (Breaks file.now) }

@@ -3,4 +3,5 @@ use Rattle.server_turn.proofs.Differences.{more}
 use Rattle.server_turn.proofs.token.are_same.Goals as goal
 
 pub loop-i-preserved : goal.loop-i-preserved
-loop-i-preserved c = more c.args.ours.now c.args.theirs.now c.loop-i.i c.loop-i.difference (omega arith) (omega arith) c.loop-i.invariant
+loop-i-preserved c = more c.args.ours.now c.args.theirs.now c.loop-i.i c.loop-i.difference
+    (omega arith) (omega arith) c.loop-i.invariant
