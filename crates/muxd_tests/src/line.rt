@@ -1,0 +1,166 @@
+//! One peer's connection.
+
+use attach_proto::{Bytes, Message, Reader, Side, Text, Token, Why, write_message};
+use std::alloc::Global;
+use std::collections::VecDeque;
+use std::io::{ErrorKind, Read, Write};
+use std::net::Net;
+use std::os::unix::net::UnixStream;
+use std::time::{Clock, Duration};
+use std::{io, thread};
+
+const TRIES: usize = 1000;
+
+/// A peer's connection, and what came that wasn't looked at yet.
+#[derive(Drop)]
+pub struct Line {
+    alloc: Global,
+    stream: UnixStream,
+    reader: Reader,
+    came: VecDeque<Message>,
+}
+
+fn fault() -> io::Error {
+    io::Error::from(ErrorKind::InvalidData)
+}
+
+// The server may not listen yet.
+fn connect<R: Net + Clock>(rt: &R, path: &str) -> io::Result<UnixStream> {
+    for _ in 0..TRIES {
+        if let Ok(stream) = UnixStream::connect(rt, path) {
+            return Ok(stream);
+        }
+        thread::sleep(rt, Duration::from_millis(10));
+    }
+    Err(fault())
+}
+
+pub fn token(digits: &str) -> io::Result<Token> {
+    Token::read(digits.as_bytes()).ok_or(fault())
+}
+
+impl Line {
+    /// A connection that begins with this message.
+    pub fn new<R: Net + Clock>(
+        rt: &R,
+        alloc: Global,
+        path: &str,
+        first: &Message,
+    ) -> io::Result<Line> {
+        let stream = connect(rt, path)?;
+        stream.set_read_timeout(Some(Duration::from_secs(10)))?;
+        let mut line = Line {
+            alloc,
+            stream,
+            reader: Reader::new(alloc, Side::Peer),
+            came: VecDeque::new(alloc),
+        };
+        line.send(first)?;
+        Ok(line)
+    }
+
+    pub fn send(&mut self, message: &Message) -> io::Result<()> {
+        let mut frame = Vec::new(self.alloc);
+        if write_message(self.alloc, message, &mut frame).is_err() {
+            return Err(fault());
+        }
+        self.stream.write_all(&frame)
+    }
+
+    fn next(&mut self) -> io::Result<Message> {
+        let mut buffer = [0; 1024];
+        for _ in 0..TRIES {
+            if let Some(message) = self.came.pop_front() {
+                return Ok(message);
+            }
+            let count = self.stream.read(&mut buffer)?;
+            let mut messages = Vec::new(self.alloc);
+            if count == 0 || self.reader.feed(&buffer[..count], &mut messages).is_err() {
+                return Err(fault());
+            }
+            for message in messages {
+                self.came.push_back(message)?;
+            }
+        }
+        Err(fault())
+    }
+
+    pub fn is_welcome(&mut self) -> io::Result<bool> {
+        Ok(matches!(self.next()?, Message::Welcome(_)))
+    }
+
+    pub fn types(&mut self, bytes: &[u8]) -> io::Result<()> {
+        let bytes = Bytes::new(self.alloc, bytes)?;
+        self.send(&Message::Keys(bytes))
+    }
+
+    pub fn writes(&mut self, bytes: &[u8]) -> io::Result<()> {
+        let bytes = Bytes::new(self.alloc, bytes)?;
+        self.send(&Message::Output(bytes))
+    }
+
+    /// Whether the next input is these bytes.
+    pub fn gets(&mut self, bytes: &[u8]) -> io::Result<bool> {
+        for _ in 0..TRIES {
+            if let Message::Input(input) = self.next()? {
+                return Ok(input.as_slice() == bytes);
+            }
+        }
+        Ok(false)
+    }
+
+    /// Whether a draw comes that has these bytes.
+    pub fn is_shown(&mut self, bytes: &[u8]) -> io::Result<bool> {
+        for _ in 0..TRIES {
+            if let Message::Draw(draw) = self.next()? {
+                if draw
+                    .as_slice()
+                    .windows(bytes.len())
+                    .any(|part| part == bytes)
+                {
+                    return Ok(true);
+                }
+            }
+        }
+        Ok(false)
+    }
+
+    /// Whether the next text that is said is this one.
+    pub fn is_told(&mut self, text: &str) -> io::Result<bool> {
+        for _ in 0..TRIES {
+            if let Message::Say(said) = self.next()? {
+                return Ok(said.as_str() == text);
+            }
+        }
+        Ok(false)
+    }
+
+    /// Why it goes.
+    pub fn gone(&mut self) -> io::Result<Why> {
+        for _ in 0..TRIES {
+            if let Message::Gone(why) = self.next()? {
+                return Ok(why);
+            }
+        }
+        Err(fault())
+    }
+}
+
+/// A command of the owner, for window 0 or none: whether it was done.
+pub fn command<R: Net + Clock>(
+    rt: &R,
+    alloc: Global,
+    path: &str,
+    digits: &str,
+    window: Option<u8>,
+    line: &str,
+) -> io::Result<bool> {
+    let first = Message::Command {
+        window,
+        token: token(digits)?,
+        name: Text::new(alloc, "own")?,
+        line: Bytes::new(alloc, line.as_bytes())?,
+    };
+    let why = Line::new(rt, alloc, path, &first)?.gone()?;
+    Ok(why == Why::Detached)
+}

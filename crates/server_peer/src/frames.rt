@@ -1,0 +1,78 @@
+//! What peers are sent, as frames.
+
+ghost use Rattle.std.specs.Prelude.{◌≡◌};
+ghost use Rattle.attach_proto.specs.Spelling.{spelling};
+ghost use Rattle.attach_proto.specs.declared.message.Message.TheVariants as message;
+
+use attach_proto::{Bytes, Kind, LONGEST, Message, Text, Why, WriteFault, write_message};
+use server_turn::Turn;
+use session_model::Reason;
+use std::alloc::Global;
+
+/// A GONE, which takes no memory.
+#[tactic(auto, unfolding(attach_proto::specs::Spelling::spelling))]
+pub fn gone_frame(why: Why) -> [u8; 4]
+    ensures { result ≡ spelling (message.Gone why) }
+{
+    [Kind::Gone.code(), 0, 1, why.number()]
+}
+
+/// What a peer is told of the session's reason.
+pub fn why_of(reason: Reason) -> Why {
+    match reason {
+        Reason::Detached => Why::Detached,
+        Reason::Removed => Why::Removed,
+        Reason::SingleUser => Why::SingleUser,
+        Reason::Killed => Why::Killed,
+        Reason::Quit => Why::Quit,
+    }
+}
+
+/// What a peer is sent before its last frame.
+#[derive(Clone, Copy, Debug)]
+pub enum Sending<'a> {
+    /// The number of a window that began; 0 for others.
+    Welcome(u8),
+    /// Bytes for a client's terminal.
+    Draw(&'a [u8]),
+    /// Bytes for a window's program.
+    Input(&'a [u8]),
+    Say(&'a [u8]),
+    /// The lines and columns of a window.
+    Size(u16, u16),
+}
+
+fn put_message(alloc: Global, turn: &mut Turn, message: &Message) -> Result<(), WriteFault> {
+    let mut frame = Vec::new(alloc);
+    write_message(alloc, message, &mut frame)?;
+    turn.put(&frame)?;
+    Ok(())
+}
+
+fn put_text(alloc: Global, turn: &mut Turn, text: &[u8]) -> Result<(), WriteFault> {
+    match str::from_utf8(text) {
+        Ok(text) => put_message(alloc, turn, &Message::Say(Text::new(alloc, text)?)),
+        Err(_) => Err(WriteFault::Unspellable),
+    }
+}
+
+/// Puts it behind what waits for a peer; what is too long for one frame goes into several.
+pub fn put(alloc: Global, turn: &mut Turn, sending: Sending) -> Result<(), WriteFault> {
+    match sending {
+        Sending::Welcome(number) => put_message(alloc, turn, &Message::Welcome(number)),
+        Sending::Draw(bytes) => {
+            for piece in bytes.chunks(LONGEST) {
+                put_message(alloc, turn, &Message::Draw(Bytes::new(alloc, piece)?))?;
+            }
+            Ok(())
+        }
+        Sending::Input(bytes) => {
+            for piece in bytes.chunks(LONGEST) {
+                put_message(alloc, turn, &Message::Input(Bytes::new(alloc, piece)?))?;
+            }
+            Ok(())
+        }
+        Sending::Say(text) => put_text(alloc, turn, text),
+        Sending::Size(rows, cols) => put_message(alloc, turn, &Message::Size { rows, cols }),
+    }
+}

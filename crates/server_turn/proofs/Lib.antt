@@ -1,0 +1,5 @@
+pub mod Differences
+pub mod Lines
+pub mod Seen
+pub mod Spelled
+pub mod Writing
