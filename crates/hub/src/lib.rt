@@ -15,9 +15,8 @@ ghost use Rattle.hub_trail.specs.Legal.{IsLegal};
 ghost use Rattle.hub_ledger.specs.Closing.{AreThere, IsFirstWrong, receipts_of};
 ghost use Rattle.hub_ledger.specs.Seats.{Answers};
 
-pub use checking::check_trail;
-
 use acl::{Edition, UserId};
+pub use checking::check_trail;
 pub use hub_check::CheckFault;
 use hub_ledger::Ledger;
 pub use hub_ledger::{Answer, Filed, HubFault, KeptEvent, Receipt, Seat, Trail};

@@ -31,7 +31,13 @@ fn submits<L: Roll, R: Wait>(rt: &R, hub: &Hub<L>, seat: &mut Seat<L>, event: Ev
 }
 
 /// Three windows of the owner, who shows one, and bob, who shows the third.
-fn opens<L: Roll, R: Wait>(rt: &R, hub: &Hub<L>, seat: &mut Seat<L>, owner: UserId, bob: UserId) -> bool {
+fn opens<L: Roll, R: Wait>(
+    rt: &R,
+    hub: &Hub<L>,
+    seat: &mut Seat<L>,
+    owner: UserId,
+    bob: UserId,
+) -> bool {
     for _ in 0..3 {
         let open = Event::Open {
             user: owner,
@@ -81,7 +87,8 @@ fn freshness<L: Roll, R: Wait + Abort>(
     let Ok(session) = Session::new(alloc, owner) else {
         return Err(Fail::from("session"));
     };
-    let Ok((hub, mut seats)) = Hub::<L>::new(alloc, blank, Edition::Second, owner, session, 1) else {
+    let Ok((hub, mut seats)) = Hub::<L>::new(alloc, blank, Edition::Second, owner, session, 1)
+    else {
         return Err(Fail::from("hub"));
     };
     let Some(mut seat) = seats.pop() else {

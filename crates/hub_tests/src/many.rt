@@ -224,10 +224,12 @@ fn thousand<L: Roll, R: Wait + Abort>(
 ) -> Result<(), Fail>
     requires { (blank.name ≡ L.name) × (blank.parts ≡ L.parts) × (blank.parts ≡ 2) }
 {
-    let (Ok(session), Ok(mut twin)) = (Session::new(alloc, owner), Session::new(alloc, owner)) else {
+    let (Ok(session), Ok(mut twin)) = (Session::new(alloc, owner), Session::new(alloc, owner))
+    else {
         return Err(Fail::from("sessions"));
     };
-    let Ok((hub, mut seats)) = Hub::<L>::new(alloc, blank, Edition::Second, owner, session, 2) else {
+    let Ok((hub, mut seats)) = Hub::<L>::new(alloc, blank, Edition::Second, owner, session, 2)
+    else {
         return Err(Fail::from("hub"));
     };
     let (Some(mut b), Some(mut a)) = (seats.pop(), seats.pop()) else {

@@ -52,7 +52,8 @@ fn four<L: Roll + Send + Sync, R: Threads + Wait + Abort + Sync>(
     let Ok(session) = Session::new(alloc, owner) else {
         return Err(Fail::from("session"));
     };
-    let Ok((hub, mut seats)) = Hub::<L>::new(alloc, blank, Edition::Second, owner, session, 4) else {
+    let Ok((hub, mut seats)) = Hub::<L>::new(alloc, blank, Edition::Second, owner, session, 4)
+    else {
         return Err(Fail::from("hub"));
     };
     let (Some(mut a), Some(mut b)) = (seats.pop(), seats.pop()) else {
@@ -64,8 +65,16 @@ fn four<L: Roll + Send + Sync, R: Threads + Wait + Abort + Sync>(
     let shared = &hub;
     let ((wa, wb), (wc, wd)) = join(
         rt,
-        || join(rt, || work(rt, shared, &mut a, owner), || work(rt, shared, &mut b, owner)),
-        || join(rt, || work(rt, shared, &mut c, owner), || work(rt, shared, &mut d, owner)),
+        || join(
+            rt,
+            || work(rt, shared, &mut a, owner),
+            || work(rt, shared, &mut b, owner),
+        ),
+        || join(
+            rt,
+            || work(rt, shared, &mut c, owner),
+            || work(rt, shared, &mut d, owner),
+        ),
     );
     assert!(rt; wa && wb && wc && wd, "all are answered");
     seats.push(a)?;
