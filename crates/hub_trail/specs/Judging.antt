@@ -45,7 +45,7 @@ can_follow edition owner h (act.Set u bit object value) =
     is_none (known_name_fault owner (users_of owner h) (Some u)) && there h object
 can_follow edition owner h (act.Grouped u leader) =
     is_none (group_fault edition owner (users_of owner h) (leaders_of edition h) (Some u)
-      (leader_in leader))
+    (leader_in leader))
 can_follow edition owner h (act.Masked by u bit value) =
     is_none (known_name_fault owner (users_of owner h) (Some u))
 can_follow edition owner h (act.Opened by w) =

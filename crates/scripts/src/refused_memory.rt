@@ -129,9 +129,7 @@ fn has_all_kinds(effects: &[Effect]) -> bool {
 fn is_same_reply(one: &Reply, other: &Reply) -> bool {
     match (one, other) {
         (Ok(one), Ok(other)) => {
-            one.made == other.made
-                && one.number == other.number
-                && are_same(&one.text, &other.text)
+            one.made == other.made && one.number == other.number && are_same(&one.text, &other.text)
         }
         (Err(one), Err(other)) => one == other,
         _ => false,
@@ -233,7 +231,10 @@ fn users_go(own: UserId) -> [Event<'static>; 24] {
             cols: 100,
         },
         Event::Draw { client: 0 },
-        typed(0, b"\x01X\x01Q\x01:title new\r\x01:number 7\r\x01:unfinished"),
+        typed(
+            0,
+            b"\x01X\x01Q\x01:title new\r\x01:number 7\r\x01:unfinished",
+        ),
         Event::Draw { client: 0 },
         told(own, Some(1), b"stuff abc"),
         told(own, Some(1), b"kill"),
