@@ -4,3 +4,4 @@ pub mod Tiling
 pub mod Undone
 pub mod Halving
 pub mod Keeping
+pub mod Crossing
