@@ -4,3 +4,4 @@ pub mod Counting
 pub mod Tellings
 pub mod Standing
 pub mod Filing
+pub mod Crossing

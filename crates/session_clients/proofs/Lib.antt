@@ -5,3 +5,4 @@ pub mod Frames
 pub mod Drawing
 pub mod Exchanging
 pub mod Telling
+pub mod Crossing

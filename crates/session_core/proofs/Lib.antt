@@ -4,3 +4,4 @@ pub mod Reading
 pub mod Runs
 pub mod Seeing
 pub mod Rests
+pub mod Crossing
