@@ -1,0 +1,25 @@
+//! `muxd --socket PATH --users PATH [--loops N]`: serves a session that users share.
+#![tactic(auto)]
+
+use server::serve;
+use server_words::given;
+use std::io;
+use std::io::Write;
+use std::process::ExitCode;
+
+fn main(rt: HostRuntime) -> ExitCode {
+    let words = match given(&rt, "muxd") {
+        Ok(words) => words,
+        Err(error) => {
+            let _ = writeln!(rt.stderr(), "muxd: {error}");
+            return ExitCode::FAILURE;
+        }
+    };
+    let status = serve(
+        &rt,
+        words.as_slice(),
+        &mut io::writer(&rt),
+        &mut rt.stderr(),
+    );
+    ExitCode::from(status)
+}

@@ -1,0 +1,10 @@
+//! What `muxd` does: loops over one listener that share a session.
+#![tactic(auto)]
+
+mod door;
+mod fault;
+mod serving;
+mod socket;
+mod turns;
+
+pub use serving::serve;

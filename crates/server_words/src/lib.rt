@@ -1,0 +1,6 @@
+//! The words of the programs `muxd` and `mux`.
+#![tactic(auto)]
+
+mod words;
+
+pub use words::{given, of_client, of_server, tell};
