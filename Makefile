@@ -56,14 +56,14 @@ examples:
 
 # Scripts, terminal descriptions and man pages: Debian's shellcheck, ncurses-bin and mandoc.
 lint:
-	shellcheck -s sh $(SCRIPTS) examples/shell.sh tests/outside/programs tests/outside/terminals tests/outside/memory
+	shellcheck -s sh $(SCRIPTS) examples/shell.sh $(filter-out %.c, $(wildcard tests/outside/*))
 	tic -c contrib/mux.ti
 	cd man && mandoc -T lint *.1 *.5 *.8
 
 # Installs what make build made, with its man pages, scripts, the unit and the terminal descriptions.
 BIN = $(DESTDIR)$(PREFIX)/bin
 MAN = $(DESTDIR)$(PREFIX)/share/man
-UNITS = $(DESTDIR)$(PREFIX)/lib/systemd/user
+UNITS = $(DESTDIR)$(PREFIX)/share/systemd/user
 install:
 	@for program in $(PROGRAMS); do \
 	    test -x bin/$$program || { echo "make install: make build makes bin/$$program" >&2; exit 2; }; \

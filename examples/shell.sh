@@ -19,7 +19,9 @@ export MUX MUX_SOCKET
 rows=8 cols=42
 server=
 trap 'end' EXIT
+trap 'exit 129' HUP
 trap 'exit 130' INT
+trap 'exit 141' PIPE
 trap 'exit 143' TERM
 
 # Behind quit everything has gone; else the server is ended here, and all that is attached to it ends, too.
@@ -83,7 +85,7 @@ ended() {
 
 "$muxd" --socket "$MUX_SOCKET" --users "$folder/users" >"$folder/out" &
 server=$!
-while ! grep -q 'muxd: ready' "$folder/out"; do
+while ! grep -s -q 'muxd: ready' "$folder/out"; do
     kill -0 "$server" || exit 1
     sleep 0.1
 done
