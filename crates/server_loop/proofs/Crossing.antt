@@ -4,6 +4,7 @@ use denote.Param.Send.{IsSync}
 use denote.Param.SendFields.{declared_sync}
 use Rattle.core.specs.declared.ledger.Ledger.{Ghosts}
 use Rattle.hub.proofs.Crossing.{hub_sync}
+pub use Rattle.hub.proofs.Crossing.{seats_sync}
 use Rattle.server_turn.proofs.users.Users.TheSendSync as users
 use Rattle.server_loop.specs.contracts.house.House as House
 
