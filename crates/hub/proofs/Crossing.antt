@@ -2,9 +2,9 @@
 use denote.RattleType.{RattleType}
 use denote.Param.Send.{IsSend, IsSync}
 use denote.Param.SendFields.{declared_send, declared_sync}
-use Rattle.core.specs.declared.ledger.Ledger.{Ghosts}
-use Rattle.core.specs.contracts.sync.Mutex as Mutex
-use Rattle.core.proofs.sync.Mutex.TheSendSync as mutex
+use Rattle.std.specs.declared.sync.ledger.Ledger.{Ghosts}
+use Rattle.std.specs.contracts.sync.Mutex as Mutex
+use Rattle.std.proofs.sync.Mutex.TheSendSync as mutex
 use Rattle.std.proofs.Crossing.{Vec-send}
 use Rattle.std.specs.contracts.alloc.Global as Global
 use Rattle.std.specs.contracts.vec.Vec as Vec

@@ -2,8 +2,8 @@
 use denote.RattleType.{RattleType}
 use denote.Param.Send.{IsSync}
 use denote.Param.SendFields.{declared_sync}
-use Rattle.core.specs.declared.ledger.Ledger.{Ghosts}
-use Rattle.core.proofs.once.OnceLock.TheSendSync as once
+use Rattle.std.specs.declared.sync.ledger.Ledger.{Ghosts}
+use Rattle.std.proofs.sync.OnceLock.TheSendSync as once
 use Rattle.std.proofs.Crossing.{Vec-sync}
 use Rattle.server_loop.proofs.Crossing.{house_sync, seats_sync}
 use Rattle.server_loop.proofs.end.End.TheSendSync as end

@@ -2,7 +2,7 @@
 use denote.RattleType.{RattleType}
 use denote.Param.Send.{IsSync}
 use denote.Param.SendFields.{declared_sync}
-use Rattle.core.specs.declared.ledger.Ledger.{Ghosts}
+use Rattle.std.specs.declared.sync.ledger.Ledger.{Ghosts}
 use Rattle.hub.proofs.Crossing.{hub_sync}
 pub use Rattle.hub.proofs.Crossing.{seats_sync}
 use Rattle.server_turn.proofs.users.Users.TheSendSync as users
