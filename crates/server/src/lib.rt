@@ -3,6 +3,7 @@
 
 mod door;
 mod fault;
+mod pace;
 mod serving;
 mod socket;
 mod turns;

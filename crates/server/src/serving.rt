@@ -4,8 +4,8 @@ ghost use Rattle.std.specs.Prelude.{◌≡◌, ◌<◌, ◌≤◌};
 
 use crate::door::{Door, Porter, Post, Shared};
 use crate::fault::{ServeFault, outcome};
-use crate::turns::{LISTEN, WAKE, run_loop};
 use crate::socket;
+use crate::turns::{LISTEN, WAKE, run_loop};
 use acl::Edition;
 use mio::net::UnixListener;
 use mio::{Interest, Poll, Waker};
@@ -21,6 +21,7 @@ use std::net::Net;
 use std::sync::ledger::{Blank, Ledger as Roll};
 use std::sync::{Mutex, OnceLock, Wait};
 use std::thread::Threads;
+use std::time::Clock;
 use std::{fs, io, thread};
 
 /// What the words of `muxd` ask for.
@@ -66,7 +67,7 @@ fn places<L: Roll, R: Net>(
 }
 
 // Runs every loop to its end, each in a thread.
-fn run_all<L: Roll + Send + Sync, R: Threads + Wait + Sync>(
+fn run_all<L: Roll + Send + Sync, R: Clock + Threads + Wait + Sync>(
     rt: &R,
     alloc: Global,
     shared: &Shared<L>,
@@ -88,7 +89,7 @@ fn run_all<L: Roll + Send + Sync, R: Threads + Wait + Sync>(
 }
 
 // Serves a new session on a listener, until it ends.
-fn serve_session<L: Roll + Send + Sync, R: Net + Threads + Wait + Sync, O: Write>(
+fn serve_session<L: Roll + Send + Sync, R: Clock + Net + Threads + Wait + Sync, O: Write>(
     rt: &R,
     alloc: Global,
     blank: Blank,
@@ -108,6 +109,7 @@ fn serve_session<L: Roll + Send + Sync, R: Net + Threads + Wait + Sync, O: Write
         house: House { hub, users },
         doors,
         over: OnceLock::new(),
+        busy: Mutex::new(0),
         seats: Mutex::new(Vec::with_capacity(alloc, loops)?),
     };
     writeln!(output, "muxd: ready")?;
@@ -127,7 +129,7 @@ fn close<L: Roll>(shared: Shared<L>) -> Result<(), ServeFault> {
     }
 }
 
-fn run<R: Net + Files + AllocGlobal + Threads + Wait + Sync, O: Write>(
+fn run<R: Clock + Net + Files + AllocGlobal + Threads + Wait + Sync, O: Write>(
     rt: &R,
     asked: Asked,
     output: &mut O,
@@ -152,7 +154,7 @@ fn run<R: Net + Files + AllocGlobal + Threads + Wait + Sync, O: Write>(
 
 /// `muxd`: serves a session until `quit`. The first word is the program's name. The answer is the
 /// status to exit with: 0; 1 for a fault; 2 where the words aren't understood.
-pub fn serve<R: Net + Files + AllocGlobal + Threads + Wait + Sync, O: Write, E: Write>(
+pub fn serve<R: Clock + Net + Files + AllocGlobal + Threads + Wait + Sync, O: Write, E: Write>(
     rt: &R,
     words: &[String],
     output: &mut O,

@@ -1,6 +1,7 @@
 //! The turns of one loop.
 
 use crate::door::{Porter, Post, Shared};
+use crate::pace::Pace;
 use mio::net::UnixStream;
 use mio::{Events, Interest, Poll, Token};
 use server_loop::{End, Gate, Loop};
@@ -9,7 +10,7 @@ use std::io;
 use std::io::ErrorKind;
 use std::sync::Wait;
 use std::sync::ledger::Ledger as Roll;
-use std::time::Duration;
+use std::time::{Clock, Duration};
 
 /// The token of a loop's waker.
 pub const WAKE: Token = Token(0);
@@ -63,49 +64,77 @@ fn wait(poll: &mut Poll, events: &mut Events, timeout: Option<Duration>) -> io::
     }
 }
 
-fn is_behind(porter: &Option<Porter>) -> bool {
-    match porter {
-        Some(porter) => porter.is_behind,
-        None => false,
+// What a loop minds beside its connections.
+#[derive(Drop)]
+struct Watch {
+    me: usize,
+    porter: Option<Porter>,
+    pace: Pace,
+}
+
+impl Watch {
+    // Connections wait that couldn't be taken in.
+    fn is_behind(&self) -> bool {
+        match &self.porter {
+            Some(porter) => porter.is_behind,
+            None => false,
+        }
+    }
+
+    // How long to wait for events.
+    fn timeout(&self, has_more: bool, has_waiting: bool) -> Option<Duration> {
+        if has_more {
+            Some(Duration::ZERO)
+        } else if has_waiting || self.is_behind() || self.pace.is_holding() {
+            Some(Duration::from_millis(PAUSE))
+        } else {
+            None
+        }
     }
 }
 
-// One turn: what came is read and done, and what comes of it is written.
-fn turn<L: Roll, R: Wait, G: Gate + Drop>(
-    rt: &R,
-    shared: &Shared<L>,
-    poll: &Poll,
-    events: &Events,
-    porter: &mut Option<Porter>,
-    me: usize,
-    peers: &mut Loop<UnixStream, G, L>,
-) -> io::Result<()> {
-    let mut is_asked = is_behind(porter);
+// Marks the connections that have something to read. Whether somebody may wait to be taken in.
+fn sort<L: Roll, G: Gate + Drop>(events: &Events, peers: &mut Loop<UnixStream, G, L>) -> bool {
+    let mut is_asked = false;
     for event in events {
         match event.token() {
             WAKE => {}
             LISTEN => is_asked = true,
             Token(token) => {
-                let key = token.saturating_sub(FIRST);
                 if event.is_readable() {
-                    peers.is_ready(key);
+                    peers.is_ready(token.saturating_sub(FIRST));
                 }
             }
         }
     }
-    if let Some(porter) = porter {
+    is_asked
+}
+
+// One turn: what came is read and done, and what comes of it is written.
+fn turn<L: Roll, R: Clock + Wait, G: Gate + Drop>(
+    rt: &R,
+    shared: &Shared<L>,
+    poll: &Poll,
+    events: &Events,
+    watch: &mut Watch,
+    peers: &mut Loop<UnixStream, G, L>,
+) -> io::Result<()> {
+    let is_asked = sort(events, peers) || watch.is_behind();
+    if let Some(porter) = &mut watch.porter {
         if is_asked {
             porter.accept(rt, shared)?;
         }
     }
     peers.read_all(rt, &shared.house);
-    admit(rt, shared, poll, me, peers);
+    admit(rt, shared, poll, watch.me, peers);
+    let is_news = watch.pace.note(rt, shared, peers.has_more());
+    peers.hold_draws(watch.pace.holds(rt, shared));
     peers.settle(rt, &shared.house);
-    if peers.has_submitted() {
-        shared.wake_others(me)?;
+    if peers.has_submitted() || is_news {
+        shared.wake_others(watch.me)?;
     }
     if let Some(end) = peers.end() {
-        shared.end(me, end)?;
+        shared.end(watch.me, end)?;
     }
     Ok(())
 }
@@ -134,7 +163,7 @@ fn wind_up<L: Roll, R: Wait, G: Gate + Drop>(
 }
 
 /// One loop, until the server ends.
-pub fn run_loop<L: Roll, R: Wait, G: Gate + Drop>(
+pub fn run_loop<L: Roll, R: Clock + Wait, G: Gate + Drop>(
     rt: &R,
     alloc: Global,
     shared: &Shared<L>,
@@ -145,20 +174,19 @@ pub fn run_loop<L: Roll, R: Wait, G: Gate + Drop>(
         me,
         mut poll,
         seat,
-        mut porter,
+        porter,
     } = post;
+    let mut watch = Watch {
+        me,
+        porter,
+        pace: Pace::new(),
+    };
     let mut events = Events::with_capacity(alloc, 64)?;
     let mut peers: Loop<UnixStream, G, L> = Loop::new(alloc, seat, gate)?;
     for _ in rt.forever() {
-        let timeout = if peers.has_more() {
-            Some(Duration::ZERO)
-        } else if peers.has_waiting() || is_behind(&porter) {
-            Some(Duration::from_millis(PAUSE))
-        } else {
-            None
-        };
+        let timeout = watch.timeout(peers.has_more(), peers.has_waiting());
         wait(&mut poll, &mut events, timeout)?;
-        turn(rt, shared, &poll, &events, &mut porter, me, &mut peers)?;
+        turn(rt, shared, &poll, &events, &mut watch, &mut peers)?;
         if let Some(end) = shared.over.get() {
             let end = *end;
             wind_up(rt, shared, poll, events, &mut peers, end)?;

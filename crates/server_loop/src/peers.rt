@@ -40,6 +40,7 @@ pub struct Loop<S, G, L: Roll> {
     has_submitted: bool,
     // Something was refused for want of memory, and is tried again in the next turn.
     has_waiting: bool,
+    holds_draws: bool,
     pub(crate) end: Option<End>,
 }
 
@@ -53,6 +54,7 @@ impl<S: Read + Write + Drop, G: Gate + Drop, L: Roll> Loop<S, G, L> {
             buffer: vec![in alloc; 0; READ_SIZE]?,
             has_submitted: false,
             has_waiting: false,
+            holds_draws: false,
             end: None,
         })
     }
@@ -90,6 +92,11 @@ impl<S: Read + Write + Drop, G: Gate + Drop, L: Roll> Loop<S, G, L> {
     /// Whether a step other than a draw was submitted since the last call.
     pub fn has_submitted(&mut self) -> bool {
         std::mem::replace(&mut self.has_submitted, false)
+    }
+
+    /// Whether draws wait until a later turn: while much comes, each client is shown the last of it.
+    pub fn hold_draws(&mut self, is_held: bool) {
+        self.holds_draws = is_held;
     }
 
     /// Why the server is to end, if it is.
@@ -422,7 +429,8 @@ impl<S: Read + Write + Drop, G: Gate + Drop, L: Roll> Loop<S, G, L> {
         }
     }
 
-    /// Ends a turn: hands out what came of it, writes, asks for draws, and lets go what is closed.
+    /// Ends a turn: hands out what came of it, writes, asks for draws unless they are held, and
+    /// lets go what is closed.
     pub fn settle(&mut self, rt: &impl Wait, house: &House<L>) {
         self.has_waiting = false;
         for key in 0..self.peers.capacity() {
@@ -430,9 +438,11 @@ impl<S: Read + Write + Drop, G: Gate + Drop, L: Roll> Loop<S, G, L> {
         }
         self.hand_out(rt, house);
         self.write_all(rt, house);
-        self.draw(rt, house);
-        self.hand_out(rt, house);
-        self.write_all(rt, house);
+        if !self.holds_draws {
+            self.draw(rt, house);
+            self.hand_out(rt, house);
+            self.write_all(rt, house);
+        }
         self.cut(rt, house);
         self.sweep();
     }

@@ -1,0 +1,63 @@
+//! When draws wait.
+
+use crate::door::Shared;
+use std::sync::Wait;
+use std::sync::ledger::Ledger as Roll;
+use std::time::{Clock, Duration};
+
+// While a loop has more to read than it reads in one turn, draws wait for so many milliseconds at
+// most: of much output each client is shown the last.
+const MOST: u64 = 20;
+
+/// What a loop knows of whether draws are to wait.
+#[derive(Clone, Copy, Debug)]
+pub struct Pace {
+    is_busy: bool,
+    // When the draws that wait began to.
+    since: Option<Duration>,
+}
+
+impl Pace {
+    pub fn new() -> Pace {
+        Pace {
+            is_busy: false,
+            since: None,
+        }
+    }
+
+    /// Whether draws wait, though no event may tell when they are to be asked for.
+    pub fn is_holding(&self) -> bool {
+        self.since.is_some()
+    }
+
+    /// Tells the other loops whether this one has more to read. The answer is whether that is new.
+    pub fn note<L: Roll>(&mut self, rt: &impl Wait, shared: &Shared<L>, is_busy: bool) -> bool {
+        if is_busy == self.is_busy {
+            return false;
+        }
+        self.is_busy = is_busy;
+        let mut count = shared.busy.lock(rt);
+        *count = if is_busy {
+            count.saturating_add(1)
+        } else {
+            count.saturating_sub(1)
+        };
+        true
+    }
+
+    /// Whether the draws of this turn are to wait. Without a clock they don't.
+    pub fn holds<L: Roll, R: Clock + Wait>(&mut self, rt: &R, shared: &Shared<L>) -> bool {
+        let some_are_busy = 0 < *shared.busy.lock(rt);
+        self.since = match rt.monotonic() {
+            Ok(now) if some_are_busy => match self.since {
+                None => Some(now),
+                Some(since) if now.saturating_sub(since) < Duration::from_millis(MOST) => Some(
+                    since,
+                ),
+                Some(_) => None,
+            },
+            _ => None,
+        };
+        self.since.is_some()
+    }
+}
