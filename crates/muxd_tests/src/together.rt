@@ -150,7 +150,7 @@ fn play<R: Net + Clock>(rt: &R, alloc: Global) -> io::Result<Seen> {
 }
 
 // Whatever was seen, the server is ended.
-fn peers<R: Net + Clock>(rt: &R, alloc: Global) -> Option<Seen> {
+fn run_peers<R: Net + Clock>(rt: &R, alloc: Global) -> Option<Seen> {
     let seen = play(rt, alloc).ok();
     if seen != Some(ALL) {
         let _ = given(rt, alloc, None, "quit");
@@ -158,7 +158,7 @@ fn peers<R: Net + Clock>(rt: &R, alloc: Global) -> Option<Seen> {
     seen
 }
 
-fn server<R: Net + Files + AllocGlobal + Threads + Wait + Sync>(rt: &R, words: &[String]) -> u8 {
+fn run_server<R: Net + Files + AllocGlobal + Threads + Wait + Sync>(rt: &R, words: &[String]) -> u8 {
     let mut output: Vec<u8> = Vec::new(rt.alloc());
     let mut errors: Vec<u8> = Vec::new(rt.alloc());
     serve(rt, words, &mut output, &mut errors)
@@ -178,7 +178,7 @@ fn a_server_and_its_peers(rt: HostRuntime) -> Result<(), Fail> {
     }
     let words = words.as_slice();
     let shared = &rt;
-    let (status, seen) = thread::join(shared, || server(shared, words), || peers(shared, alloc));
+    let (status, seen) = thread::join(shared, || run_server(shared, words), || run_peers(shared, alloc));
     fs::remove_file(&rt, USERS)?;
     assert_eq!(rt; seen, Some(ALL));
     assert_eq!(rt; status, 0);
