@@ -158,7 +158,10 @@ fn run_peers<R: Net + Clock>(rt: &R, alloc: Global) -> Option<Seen> {
     seen
 }
 
-fn run_server<R: Net + Files + AllocGlobal + Threads + Wait + Sync>(rt: &R, words: &[String]) -> u8 {
+fn run_server<R: Net + Files + AllocGlobal + Threads + Wait + Sync>(
+    rt: &R,
+    words: &[String],
+) -> u8 {
     let mut output: Vec<u8> = Vec::new(rt.alloc());
     let mut errors: Vec<u8> = Vec::new(rt.alloc());
     serve(rt, words, &mut output, &mut errors)
@@ -178,7 +181,11 @@ fn a_server_and_its_peers(rt: HostRuntime) -> Result<(), Fail> {
     }
     let words = words.as_slice();
     let shared = &rt;
-    let (status, seen) = thread::join(shared, || run_server(shared, words), || run_peers(shared, alloc));
+    let (status, seen) = thread::join(
+        shared,
+        || run_server(shared, words),
+        || run_peers(shared, alloc),
+    );
     fs::remove_file(&rt, USERS)?;
     assert_eq!(rt; seen, Some(ALL));
     assert_eq!(rt; status, 0);
