@@ -1,6 +1,8 @@
-//! One peer's connection.
+//! One peer's connection, and its terminal.
 
 use attach_proto::{Bytes, Message, Reader, Side, Text, Token, Why, write_message};
+use cells::Cell;
+use emulator::Emulator;
 use std::alloc::Global;
 use std::collections::VecDeque;
 use std::io::{ErrorKind, Read, Write};
@@ -11,13 +13,22 @@ use std::{io, thread};
 
 const TRIES: usize = 1000;
 
-/// A peer's connection, and what came that wasn't looked at yet.
+/// The size of a client's terminal.
+pub const ROWS: u16 = 24;
+
+pub const COLS: u16 = 80;
+
+// The lines above a client's caption and status line.
+const REGION: usize = 22;
+
+/// A peer's connection, what came that wasn't looked at yet, and the terminal that read the draws.
 #[derive(Drop)]
 pub struct Line {
     alloc: Global,
     stream: UnixStream,
     reader: Reader,
     came: VecDeque<Message>,
+    terminal: Emulator,
 }
 
 fn fault() -> io::Error {
@@ -39,6 +50,18 @@ pub fn token(digits: &str) -> io::Result<Token> {
     Token::read(digits.as_bytes()).ok_or(fault())
 }
 
+fn terminal(alloc: Global) -> io::Result<Emulator> {
+    Emulator::new(alloc, usize::from(ROWS), usize::from(COLS), 0).map_err(|_| fault())
+}
+
+// Whether a line has these characters, and blanks behind them.
+fn is_line(line: &[Cell], text: &[u8]) -> bool {
+    line.iter().enumerate().all(|(place, cell)| {
+        let wanted = text.get(place).copied().unwrap_or(b' ');
+        cell.glyph() == char::from(wanted)
+    })
+}
+
 impl Line {
     /// A connection that begins with this message.
     pub fn new<R: Net + Clock>(
@@ -54,6 +77,7 @@ impl Line {
             stream,
             reader: Reader::new(alloc, Side::Peer),
             came: VecDeque::new(alloc),
+            terminal: terminal(alloc)?,
         };
         line.send(first)?;
         Ok(line)
@@ -85,6 +109,25 @@ impl Line {
         Err(fault())
     }
 
+    fn read_draw(&mut self, bytes: &[u8]) -> io::Result<()> {
+        let mut answers = Vec::new(self.alloc);
+        self.terminal
+            .feed_all(bytes, &mut answers)
+            .map_err(|_| fault())
+    }
+
+    // The region shows this line at its top, and nothing below.
+    fn shows(&self, text: &[u8]) -> bool {
+        let page = self.terminal.page(0);
+        for line in 0..page.rows().min(REGION) {
+            let wanted = if line == 0 { text } else { &[] };
+            if !is_line(page.line(line), wanted) {
+                return false;
+            }
+        }
+        true
+    }
+
     pub fn is_welcome(&mut self) -> io::Result<bool> {
         Ok(matches!(self.next()?, Message::Welcome(_)))
     }
@@ -109,17 +152,14 @@ impl Line {
         Ok(false)
     }
 
-    /// Whether a draw comes that has these bytes.
-    pub fn is_shown(&mut self, bytes: &[u8]) -> io::Result<bool> {
+    /// Whether draws come behind which the region shows this line at its top, and nothing below.
+    pub fn is_shown(&mut self, text: &[u8]) -> io::Result<bool> {
         for _ in 0..TRIES {
+            if self.shows(text) {
+                return Ok(true);
+            }
             if let Message::Draw(draw) = self.next()? {
-                if draw
-                    .as_slice()
-                    .windows(bytes.len())
-                    .any(|part| part == bytes)
-                {
-                    return Ok(true);
-                }
+                self.read_draw(draw.as_slice())?;
             }
         }
         Ok(false)
@@ -128,8 +168,10 @@ impl Line {
     /// Whether the next text that is said is this one.
     pub fn is_told(&mut self, text: &str) -> io::Result<bool> {
         for _ in 0..TRIES {
-            if let Message::Say(said) = self.next()? {
-                return Ok(said.as_str() == text);
+            match self.next()? {
+                Message::Say(said) => return Ok(said.as_str() == text),
+                Message::Draw(draw) => self.read_draw(draw.as_slice())?,
+                _ => {}
             }
         }
         Ok(false)

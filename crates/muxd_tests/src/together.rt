@@ -1,6 +1,6 @@
 //! A server of two loops, an owner, a second user and a window.
 
-use crate::line::{Line, command, token};
+use crate::line::{COLS, Line, ROWS, command, token};
 use attach_proto::{Message, Text, Why};
 use server::serve;
 use std::alloc::Global;
@@ -20,10 +20,16 @@ const SOCKET: &str = "muxd_tests.socket";
 
 const USERS: &str = "muxd_tests.users";
 
+#[derive(Drop)]
+struct Peers {
+    window: Line,
+    own: Line,
+    bob: Line,
+}
+
 /// What was seen, each as it must be.
 #[derive(Clone, Copy, Debug, PartialEq, Eq)]
 struct Seen {
-    begun: bool,
     typed: bool,
     shown: bool,
     hidden: bool,
@@ -32,7 +38,6 @@ struct Seen {
 }
 
 const ALL: Seen = Seen {
-    begun: true,
     typed: true,
     shown: true,
     hidden: true,
@@ -40,58 +45,123 @@ const ALL: Seen = Seen {
     gone: true,
 };
 
-fn play<R: Net + Clock>(rt: &R, alloc: Global) -> io::Result<Seen> {
-    let mut begun = command(rt, alloc, SOCKET, OWN, None, "multiuser on")?;
-    begun = command(rt, alloc, SOCKET, OWN, None, "acladd bob")? && begun;
+fn joined<R: Net + Clock>(rt: &R, alloc: Global, first: &Message) -> io::Result<Line> {
+    let mut line = Line::new(rt, alloc, SOCKET, first)?;
+    if line.is_welcome()? {
+        Ok(line)
+    } else {
+        Err(io::Error::other("no WELCOME"))
+    }
+}
+
+fn client<R: Net + Clock>(rt: &R, alloc: Global, name: &str, digits: &str) -> io::Result<Line> {
+    let attach = Message::Attach {
+        rows: ROWS,
+        cols: COLS,
+        token: token(digits)?,
+        name: Text::new(alloc, name)?,
+    };
+    joined(rt, alloc, &attach)
+}
+
+fn window<R: Net + Clock>(rt: &R, alloc: Global) -> io::Result<Line> {
     let open = Message::Window {
-        rows: 24,
-        cols: 80,
+        rows: ROWS,
+        cols: COLS,
         keep: 10,
         token: token(OWN)?,
         name: Text::new(alloc, "own")?,
         title: Text::new(alloc, "sh")?,
     };
-    let mut window = Line::new(rt, alloc, SOCKET, &open)?;
-    begun = window.is_welcome()? && begun;
-    let attach = Message::Attach {
-        rows: 24,
-        cols: 80,
-        token: token(BOB)?,
-        name: Text::new(alloc, "bob")?,
-    };
-    let mut bob = Line::new(rt, alloc, SOCKET, &attach)?;
-    begun = bob.is_welcome()? && begun;
-    bob.types(b"x")?;
-    let typed = window.gets(b"x")?;
-    window.writes(b"secret")?;
-    let shown = bob.is_shown(b"secret")?;
-    begun = command(rt, alloc, SOCKET, OWN, None, "aclchg bob -r 0")? && begun;
-    let hidden = bob.is_shown(b"0 ?")? || bob.is_shown(b"?")?;
-    begun = command(rt, alloc, SOCKET, OWN, Some(0), "writelock on")? && begun;
-    bob.types(b"y")?;
-    let locked = bob.is_told("denied: window 0 locked by own")?;
-    begun = command(rt, alloc, SOCKET, OWN, None, "quit")? && begun;
-    let gone = bob.gone()? == Why::Quit && window.gone()? == Why::Quit;
+    joined(rt, alloc, &open)
+}
+
+// A command of the owner, for window 0 or none: whether it was done.
+fn given<R: Net + Clock>(
+    rt: &R,
+    alloc: Global,
+    number: Option<u8>,
+    line: &str,
+) -> io::Result<bool> {
+    command(rt, alloc, SOCKET, OWN, number, line)
+}
+
+impl Peers {
+    fn new<R: Net + Clock>(rt: &R, alloc: Global) -> io::Result<Peers> {
+        if !given(rt, alloc, None, "multiuser on")? || !given(rt, alloc, None, "acladd bob")? {
+            return Err(io::Error::other("a command was refused"));
+        }
+        Ok(Peers {
+            window: window(rt, alloc)?,
+            own: client(rt, alloc, "own", OWN)?,
+            bob: client(rt, alloc, "bob", BOB)?,
+        })
+    }
+
+    // What either client types arrives.
+    fn typed(&mut self) -> io::Result<bool> {
+        self.own.types(b"o")?;
+        let first = self.window.gets(b"o")?;
+        self.bob.types(b"x")?;
+        Ok(first && self.window.gets(b"x")?)
+    }
+
+    // What the window prints is shown to both.
+    fn shown(&mut self) -> io::Result<bool> {
+        self.window.writes(b"secret")?;
+        Ok(self.own.is_shown(b"secret")? && self.bob.is_shown(b"secret")?)
+    }
+
+    // Without r the page is blank, and the other's isn't.
+    fn hidden<R: Net + Clock>(&mut self, rt: &R, alloc: Global) -> io::Result<bool> {
+        let is_done = given(rt, alloc, None, "aclchg bob -r 0")?;
+        let is_blank = self.bob.is_shown(b"")?;
+        Ok(is_done && is_blank && self.own.is_shown(b"secret")?)
+    }
+
+    // A lock stops the other, until it is freed.
+    fn locked<R: Net + Clock>(&mut self, rt: &R, alloc: Global) -> io::Result<bool> {
+        let is_taken = given(rt, alloc, Some(0), "writelock on")?;
+        self.bob.types(b"y")?;
+        let is_told = self.bob.is_told("denied: window 0 locked by own")?;
+        let is_freed = given(rt, alloc, Some(0), "writelock off")?;
+        self.bob.types(b"z")?;
+        Ok(is_taken && is_told && is_freed && self.window.gets(b"z")?)
+    }
+
+    fn gone<R: Net + Clock>(&mut self, rt: &R, alloc: Global) -> io::Result<bool> {
+        let is_done = given(rt, alloc, None, "quit")?;
+        let window = self.window.gone()?;
+        let own = self.own.gone()?;
+        let bob = self.bob.gone()?;
+        Ok(is_done && [window, own, bob] == [Why::Quit; 3])
+    }
+}
+
+fn play<R: Net + Clock>(rt: &R, alloc: Global) -> io::Result<Seen> {
+    let mut peers = Peers::new(rt, alloc)?;
     Ok(Seen {
-        begun,
-        typed,
-        shown,
-        hidden,
-        locked,
-        gone,
+        typed: peers.typed()?,
+        shown: peers.shown()?,
+        hidden: peers.hidden(rt, alloc)?,
+        locked: peers.locked(rt, alloc)?,
+        gone: peers.gone(rt, alloc)?,
     })
 }
 
 // Whatever was seen, the server is ended.
-fn peers<R: Net + Clock>(rt: &R, alloc: Global) -> Option<Seen> {
+fn run_peers<R: Net + Clock>(rt: &R, alloc: Global) -> Option<Seen> {
     let seen = play(rt, alloc).ok();
     if seen != Some(ALL) {
-        let _ = command(rt, alloc, SOCKET, OWN, None, "quit");
+        let _ = given(rt, alloc, None, "quit");
     }
     seen
 }
 
-fn server<R: Net + Files + AllocGlobal + Threads + Wait + Sync>(rt: &R, words: &[String]) -> u8 {
+fn run_server<R: Net + Files + AllocGlobal + Threads + Wait + Sync>(
+    rt: &R,
+    words: &[String],
+) -> u8 {
     let mut output: Vec<u8> = Vec::new(rt.alloc());
     let mut errors: Vec<u8> = Vec::new(rt.alloc());
     serve(rt, words, &mut output, &mut errors)
@@ -111,7 +181,11 @@ fn a_server_and_its_peers(rt: HostRuntime) -> Result<(), Fail> {
     }
     let words = words.as_slice();
     let shared = &rt;
-    let (status, seen) = thread::join(shared, || server(shared, words), || peers(shared, alloc));
+    let (status, seen) = thread::join(
+        shared,
+        || run_server(shared, words),
+        || run_peers(shared, alloc),
+    );
     fs::remove_file(&rt, USERS)?;
     assert_eq!(rt; seen, Some(ALL));
     assert_eq!(rt; status, 0);

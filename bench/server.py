@@ -1,0 +1,241 @@
+"""Prints how fast a server is: keys, echoes, output for many clients, memory, and what it does when idle.
+
+python3 bench/server.py --muxd PATH [--loops N]. The server is started in a temporary folder, anew for each
+measure; all peers are sockets of this one process, so the times have its own share in them.
+"""
+
+import argparse
+import datetime
+import os
+import resource
+import selectors
+import socket
+import statistics
+import subprocess
+import tempfile
+import time
+from pathlib import Path
+
+OWNER, TOKEN = b"own", b"0" * 64
+ROWS, COLS = 24, 80
+LONGEST = 8192
+MB = 1_000_000
+ATTACH, WINDOW, KEYS, OUTPUT = b"A", b"W", b"K", b"O"
+WELCOME, DRAW, INPUT = b"y", b"d", b"i"
+
+
+def two(number):
+    return number.to_bytes(2, "big")
+
+
+def frame(kind, payload):
+    return kind + two(len(payload)) + payload
+
+
+def attach():
+    return frame(ATTACH, two(ROWS) + two(COLS) + TOKEN + OWNER)
+
+
+def window(keep):
+    name = bytes([len(OWNER)]) + OWNER
+    return frame(WINDOW, two(ROWS) + two(COLS) + two(keep) + TOKEN + name + b"sh")
+
+
+def output(data):
+    return b"".join(frame(OUTPUT, data[i:i + LONGEST]) for i in range(0, len(data), LONGEST))
+
+
+class Peer:
+    """A connection, and what it was sent that wasn't looked at yet."""
+
+    def __init__(self, path, first):
+        self.socket = socket.socket(socket.AF_UNIX)
+        self.socket.settimeout(60)
+        self.socket.connect(path)
+        self.rest = b""
+        self.send(first)
+        assert self.next()[0] == WELCOME, "the server refused a peer"
+
+    def send(self, data):
+        self.socket.sendall(data)
+
+    def more(self):
+        data = self.socket.recv(65536)
+        if not data:
+            raise SystemExit("server.py: the server ended a connection")
+        self.rest += data
+
+    def next(self):
+        """The next frame's kind and payload."""
+        while len(self.rest) < 3 or len(self.rest) < 3 + int.from_bytes(self.rest[1:3], "big"):
+            self.more()
+        end = 3 + int.from_bytes(self.rest[1:3], "big")
+        kind, payload, self.rest = self.rest[:1], self.rest[3:end], self.rest[end:]
+        return kind, payload
+
+    def until(self, kind, has=b""):
+        """Reads on to a frame of this kind that has these bytes."""
+        got = self.next()
+        while got[0] != kind or has not in got[1]:
+            got = self.next()
+
+
+class Server:
+    """A server in a folder of its own, its window and its clients."""
+
+    def __init__(self, words, clients, keep=0):
+        self.folder = tempfile.TemporaryDirectory()
+        self.path = f"{self.folder.name}/socket"
+        users = Path(self.folder.name, "users")
+        users.write_bytes(OWNER + b" " + TOKEN + b"\n")
+        command = [words.muxd, "--socket", self.path, "--users", users, "--loops", str(words.loops)]
+        self.program = subprocess.Popen(command, stdout=subprocess.PIPE)
+        assert self.program.stdout.readline() == b"muxd: ready\n", "the server isn't ready"
+        self.window = Peer(self.path, window(keep))
+        self.clients = [Peer(self.path, attach()) for _ in range(clients)]
+
+    def __enter__(self):
+        return self
+
+    def __exit__(self, *_):
+        for peer in [self.window, *self.clients]:
+            peer.socket.close()
+        self.program.kill()
+        self.program.wait()
+        self.program.stdout.close()
+        self.folder.cleanup()
+
+    def seconds(self):
+        """The processor time of all its threads so far."""
+        tasks = Path("/proc", str(self.program.pid), "task").glob("*/schedstat")
+        return sum(int(task.read_text().split()[0]) for task in tasks) / 1e9
+
+    def memory(self):
+        """The resident memory, in MB."""
+        for line in Path("/proc", str(self.program.pid), "status").read_text().splitlines():
+            if line.startswith("VmRSS:"):
+                return int(line.split()[1]) * 1024 / MB
+        raise SystemExit("server.py: /proc tells of no memory")
+
+    def play(self, data, mark):
+        """Has the window write the data, which ends in a mark, until each client was sent the mark."""
+        data = memoryview(data)
+        waiting = {client.socket: b"" for client in self.clients}
+        with selectors.DefaultSelector() as ready:
+            for peer in [self.window, *self.clients]:
+                peer.socket.setblocking(False)
+                wanted = selectors.EVENT_WRITE if peer is self.window else selectors.EVENT_READ
+                ready.register(peer.socket, wanted)
+            while data or waiting:
+                for key, _ in ready.select(60):
+                    if key.fileobj is self.window.socket:
+                        data = data[key.fileobj.send(data[:LONGEST]):]
+                        if not data:
+                            ready.unregister(key.fileobj)
+                    elif key.fileobj in waiting:
+                        came = waiting[key.fileobj] + key.fileobj.recv(1 << 20)
+                        if mark in came:
+                            del waiting[key.fileobj]
+                        else:
+                            waiting[key.fileobj] = came[-len(mark):]
+
+
+def key_times(words, rounds=2000):
+    """Microseconds from a client's key to the window's program, and from a key to its echo in a draw."""
+    with Server(words, 1) as server:
+        client, shell = server.clients[0], server.window
+        client.until(DRAW)
+        plain, echoed = [], []
+        for place in range(rounds):
+            letter = b"abcdefghijklmnopqrstuvwxyz"[place % 26:][:1]
+            start = time.perf_counter_ns()
+            client.send(frame(KEYS, letter))
+            shell.until(INPUT, letter)
+            plain.append((time.perf_counter_ns() - start) / 1000)
+        for place in range(rounds):
+            letter = b"ABCDEFGHIJKLMNOPQRSTUVWXYZ"[place % 26:][:1]
+            home = b"\r" if place % 60 == 0 else b""
+            start = time.perf_counter_ns()
+            client.send(frame(KEYS, letter))
+            shell.until(INPUT, letter)
+            shell.send(frame(OUTPUT, home + letter))
+            client.until(DRAW, letter)
+            echoed.append((time.perf_counter_ns() - start) / 1000)
+    return plain, echoed
+
+
+def lines(size, width=79):
+    """So many bytes of words in lines."""
+    words = b"the quick brown fox jumps over the lazy dog and runs on through the long wet grass "
+    whole = words * (width // len(words) + 2)
+    made = [whole[place % len(words):][:width - place % 40] + b"\r\n" for place in range(size // 40)]
+    return b"".join(made)[:size]
+
+
+def megabyte_times(words, clients, rounds=5):
+    """Milliseconds of wall time and of the server's processor time for a MB of output, each round's."""
+    wall, busy = [], []
+    with Server(words, clients) as server:
+        for place in range(rounds + 1):
+            mark = (b"0123456789" if place % 2 else b"9876543210") * 2
+            # The page is empty before the mark, so that a draw has all of it.
+            data = output(lines(MB)) + output(b"\x1b[2J\x1b[H" + mark)
+            start, before = time.perf_counter(), server.seconds()
+            server.play(data, mark)
+            wall.append((time.perf_counter() - start) * 1000)
+            time.sleep(0.05)
+            busy.append((server.seconds() - before) * 1000)
+    return wall[1:], busy[1:]
+
+
+def at_rest(words, clients, idle):
+    """The memory in MB beside a window that keeps 2,000 lines, and milliseconds used while idle."""
+    with Server(words, clients, keep=2000) as server:
+        mark = b"0123456789" * 2
+        server.play(output(lines(200_000)) + output(b"\x1b[2J\x1b[H" + mark), mark)
+        time.sleep(0.5)
+        before = server.seconds()
+        time.sleep(idle)
+        return server.memory(), (server.seconds() - before) * 1000
+
+
+def row(name, value, unit, asked=""):
+    print(f"{name:52}{value:>10} {unit:4}{asked}", flush=True)
+
+
+def times(name, found, unit, asked=""):
+    ordered = sorted(found)
+    worst = ordered[len(ordered) * 9 // 10]
+    row(name, f"{statistics.median(found):.1f}", unit, f"9 of 10 in {worst:.1f}{asked}")
+
+
+def main():
+    reader = argparse.ArgumentParser(description=__doc__)
+    reader.add_argument("--muxd", required=True, help="the server's program")
+    reader.add_argument("--loops", type=int, default=2, help="how many loops it has")
+    reader.add_argument("--idle", type=float, default=10, help="how many seconds it is left idle")
+    words = reader.parse_args()
+    words.muxd = os.path.abspath(words.muxd)
+    _, most = resource.getrlimit(resource.RLIMIT_NOFILE)
+    resource.setrlimit(resource.RLIMIT_NOFILE, (most, most))
+    now = datetime.datetime.now().strftime("%Y-%m-%d %H:%M")
+    load = os.getloadavg()[0]
+    print(f"{now}, {words.loops} loops, {os.cpu_count()} processors, load {load:.1f}; medians")
+    plain, echoed = key_times(words)
+    times("a key, to the window's program", plain, "us", "; asked: under 60")
+    times("a key, its echo drawn at 24 by 80", echoed, "us", "; asked: under 300")
+    costs = {}
+    for clients in (1, 8, 64):
+        wall, busy = megabyte_times(words, clients)
+        costs[clients] = statistics.median(busy)
+        times(f"a MB of output, drawn for {clients} clients", wall, "ms")
+        times("  processor time of the server", busy, "ms")
+    row("  64 clients beside 1", f"{costs[64] / costs[1]:.1f}", "", "asked: at most 2")
+    for clients, asked in ((1, ""), (64, "asked: under 40")):
+        memory, used = at_rest(words, clients, words.idle)
+        row(f"memory, {clients} clients, 2,000 kept lines", f"{memory:.1f}", "MB", asked)
+        row(f"  processor time of {words.idle:g} idle seconds", f"{used:.2f}", "ms")
+
+
+if __name__ == "__main__":
+    main()
