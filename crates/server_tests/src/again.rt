@@ -3,7 +3,7 @@
 ghost use Rattle.std.specs.Prelude.{◌≡◌};
 
 use crate::fakes::Habit;
-use crate::frames::{ATTACH, Received, WINDOW};
+use crate::frames::{Received, WINDOW};
 use crate::pages::{are_alike, shows, terminal};
 use crate::stage::Stage;
 use crate::stop::Stop;
@@ -13,6 +13,10 @@ use std::marker::Brand;
 use std::sync::Wait;
 use std::sync::ledger::{Blank, Ledger as Roll};
 use std::test::Fail;
+
+// A client of the owner, of 24 lines by 80 columns.
+const ATTACH: &[u8] =
+    b"A\0G\0\x18\0P0000000000000000000000000000000000000000000000000000000000000000own";
 
 // Of two clients of the owner the first takes so many bytes; what both were sent.
 fn run<L: Roll, R: Wait>(
@@ -49,7 +53,7 @@ fn a_second_attachment_is_drawn_anew(rt: HostRuntime) -> Result<(), Fail> {
     );
     assert!(rt; is_one_draw, "it is welcome, and drawn once");
     let draw = received.drawn(alloc)?;
-    let fresh = terminal(alloc, b"", &draw)?;
+    let fresh = terminal(alloc, (24, 80), &[&draw])?;
     assert!(rt; shows(&fresh, "hi", ""), "the page");
     for most in 0..whole.len() {
         let (first, second) = play(&rt, alloc, most)?;
@@ -57,7 +61,7 @@ fn a_second_attachment_is_drawn_anew(rt: HostRuntime) -> Result<(), Fail> {
         assert_eq!(rt; second.as_slice(), whole.as_slice(), "at {most}");
         // A WELCOME takes four bytes, and what stands before a draw's bytes three.
         let read = draw.get(..most.saturating_sub(7)).unwrap_or(&draw);
-        let again = terminal(alloc, read, &draw)?;
+        let again = terminal(alloc, (24, 80), &[read, &draw])?;
         assert!(rt; are_alike(&fresh, &again), "at {most}");
     }
     Ok(())

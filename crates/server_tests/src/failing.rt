@@ -107,7 +107,7 @@ fn judge(rt: &impl Abort, left: &Left, is_lost: bool, title: &str) {
 
 fn shows_all(alloc: Global, bytes: &[u8]) -> Result<bool, Stop> {
     let drawn = Received::of(alloc, bytes)?.drawn(alloc)?;
-    Ok(shows(&terminal(alloc, b"", &drawn)?, "hithere", ""))
+    Ok(shows(&terminal(alloc, (4, 20), &[&drawn])?, "hithere", ""))
 }
 
 #[test]

@@ -20,9 +20,9 @@ pub enum Habit {
     Slow,
     /// One byte a call, but for the call of this number, which fails so.
     Once(usize, ErrorKind),
-    /// Takes so many bytes, and none behind them.
+    /// Takes so many bytes, and none behind them. All that is there is read.
     Takes(usize),
-    /// Takes nothing at so many writes, and then all.
+    /// Takes nothing at so many writes, and then all. All that is there is read.
     Later(usize),
 }
 
@@ -126,7 +126,7 @@ impl Passing {
         let call = self.calls;
         self.calls = call.saturating_add(1);
         match self.habit {
-            Habit::Whole => Ok(usize::MAX),
+            Habit::Whole | Habit::Takes(_) | Habit::Later(_) => Ok(usize::MAX),
             Habit::Slow if call % 2 == 0 => Err(would_wait()),
             Habit::Once(at, kind) if call == at => Err(io::Error::from(kind)),
             _ => Ok(1),

@@ -2,7 +2,7 @@
 
 ghost use Rattle.std.specs.Prelude.{◌≡◌};
 
-use crate::fakes::{Far, Habit};
+use crate::fakes::Habit;
 use crate::frames::{ATTACH, Received, WINDOW};
 use crate::stage::Stage;
 use crate::stop::Stop;
@@ -99,13 +99,14 @@ fn answer<L: Roll, R: Wait>(
     rt: &R,
     stage: &mut Stage<L>,
     habit: Habit,
+    turns: usize,
     bytes: &[u8],
 ) -> Result<Received, Stop> {
     let far = stage.connect(habit, bytes)?;
-    stage.turns(rt, 10);
+    stage.turns(rt, turns);
     let taken = far.taken(stage.alloc)?;
     far.end();
-    stage.turns(rt, 2);
+    stage.turns(rt, 1);
     Received::of(stage.alloc, &taken)
 }
 
@@ -137,8 +138,8 @@ fn play<L: Roll, R: Wait + Abort>(
         let begin = if is_client { ATTACH } else { b"".as_slice() };
         let list = numbers.list(alloc, begin)?;
         let bytes = list.strip_prefix(begin).unwrap_or(b"?");
-        for habit in [Habit::Whole, Habit::Steady] {
-            judge(rt, &answer(rt, &mut stage, habit, &list)?, is_client, bytes);
+        for (habit, turns) in [(Habit::Whole, 2), (Habit::Steady, 8)] {
+            judge(rt, &answer(rt, &mut stage, habit, turns, &list)?, is_client, bytes);
         }
         assert_eq!(rt; stage.peers.len(), 2, "the others stay");
     }

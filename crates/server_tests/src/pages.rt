@@ -5,16 +5,20 @@ use cells::Cell;
 use emulator::Emulator;
 use std::alloc::Global;
 
-/// A terminal of 24 lines by 80 columns that has read these bytes.
-pub fn terminal(alloc: Global, before: &[u8], bytes: &[u8]) -> Result<Emulator, Stop> {
-    let Ok(mut emulator) = Emulator::new(alloc, 24, 80, 0) else {
+/// A terminal of this size that has read these bytes.
+pub fn terminal(
+    alloc: Global,
+    size: (usize, usize),
+    bytes: &[&[u8]],
+) -> Result<Emulator, Stop> {
+    let Ok(mut emulator) = Emulator::new(alloc, size.0, size.1, 0) else {
         return Err(Stop::Memory);
     };
     let mut answers = Vec::new(alloc);
-    if emulator.feed_all(before, &mut answers).is_err()
-        || emulator.feed_all(bytes, &mut answers).is_err()
-    {
-        return Err(Stop::Memory);
+    for piece in bytes {
+        if emulator.feed_all(piece, &mut answers).is_err() {
+            return Err(Stop::Memory);
+        }
     }
     Ok(emulator)
 }
@@ -33,11 +37,12 @@ fn is_line(cells: &[Cell], text: &str) -> bool {
 /// last but one, this message in the last, and nothing else.
 pub fn shows(emulator: &Emulator, text: &str, message: &str) -> bool {
     let page = emulator.page(0);
-    for line in 0..page.rows() {
-        let wanted = match line {
-            0 => text,
-            22 => "0 sh",
-            23 => message,
+    let rows = page.rows();
+    for line in 0..rows {
+        let wanted = match rows - line {
+            1 => message,
+            2 => "0 sh",
+            _ if line == 0 => text,
             _ => "",
         };
         if !is_line(page.line(line), wanted) {

@@ -55,7 +55,7 @@ fn has_stayed(alloc: Global, far: &Far) -> Result<bool, Stop> {
 fn is_shown(alloc: Global, far: &Far) -> Result<bool, Stop> {
     let received = Received::of(alloc, &far.taken(alloc)?)?;
     let drawn = received.drawn(alloc)?;
-    Ok(received.says("hello") && shows(&terminal(alloc, b"", &drawn)?, "hithere", "hello"))
+    Ok(received.says("own: hello") && shows(&terminal(alloc, (4, 20), &[&drawn])?, "hithere", "own: hello"))
 }
 
 fn collect(alloc: Global, window: &Far, client: &Far, bob: &Far) -> Result<Left, Stop> {
@@ -86,7 +86,7 @@ fn scene<L: Roll, R: Wait>(rt: &R, stage: &mut Stage<L>) -> Result<Left, Stop> {
     client.send(b"K\0\x02xy")?;
     stage.turns(rt, 3);
     let bob = stage.connect(Habit::Whole, ATTACH_BOB)?;
-    bob.send(b"R\0\x04\0\x18\0P")?;
+    bob.send(b"R\0\x04\0\x04\0\x14")?;
     bob.send(b"K\0\x01z")?;
     stage.turns(rt, 3);
     window.send(b"O\0\x09there\x1b[6n")?;
