@@ -14,8 +14,8 @@ use std::sync::Wait;
 use std::sync::ledger::{Blank, Ledger as Roll};
 use std::test::Fail;
 
-/// What a connection sends, and the trail's entries once so many of its frames came whole: while the
-/// connection stays, and where it ends there.
+/// What a connection sends, and the trail's entries once so many of its frames came whole: while
+/// the connection stays, and where it ends there.
 struct Case {
     frames: &'static [&'static [u8]],
     stays: &'static [&'static str],
@@ -109,7 +109,11 @@ fn len_of(frames: &[&[u8]]) -> usize {
 }
 
 fn judge(rt: &impl Abort, left: &Left, entries: &str, has_frames: bool, title: &str) {
-    let typed = if entries.contains('K') { b"xyk".as_slice() } else { b"k".as_slice() };
+    let typed = if entries.contains('K') {
+        b"xyk".as_slice()
+    } else {
+        b"k".as_slice()
+    };
     assert_eq!(rt; left.typed.as_slice(), typed, "{title}");
     let rest = left.entries.strip_prefix(b"OA".as_slice()).unwrap_or(b"?");
     let own = rest.strip_suffix(b"K".as_slice()).unwrap_or(b"?");
@@ -127,7 +131,11 @@ fn stays(rt: &(impl Abort + Wait + AllocGlobal), case: &Case) -> Result<(), Stop
         let entries = case.stays.get(wholes).unwrap_or(&"?");
         judge(rt, &left, entries, wholes > 0, "stays");
         let gone = Received::of(alloc, &left.taken)?.gone();
-        let wanted = if count == all { Some(Why::Detached) } else { None };
+        let wanted = if count == all {
+            Some(Why::Detached)
+        } else {
+            None
+        };
         assert_eq!(rt; gone, wanted, "at {count}");
         assert_eq!(rt; left.len, if count == all { 2 } else { 3 }, "at {count}");
     }

@@ -68,12 +68,7 @@ fn run<L: Roll, R: Wait>(
     Ok(left)
 }
 
-fn play<R: Wait>(
-    rt: &R,
-    alloc: Global,
-    keys: &[u8],
-    forced: Option<End>,
-) -> Result<Left, Stop> {
+fn play<R: Wait>(rt: &R, alloc: Global, keys: &[u8], forced: Option<End>) -> Result<Left, Stop> {
     run::<Brand, _>(rt, alloc, Blank::new(1), keys, forced)
 }
 
@@ -160,8 +155,16 @@ fn floods<L: Roll, R: Wait>(rt: &R, alloc: Global, blank: Blank) -> Result<Flood
 fn too_far_behind(rt: HostRuntime) -> Result<(), Fail> {
     let alloc = rt.alloc();
     let flooded = floods::<Brand, _>(&rt, alloc, Blank::new(1))?;
-    assert_eq!(rt; flooded.before.as_slice(), WELCOME, "up to 1,048,576 bytes wait");
-    assert_eq!(rt; flooded.received.input(alloc)?.len(), 128 * 8192, "it is sent all");
+    assert_eq!(rt;
+        flooded.before.as_slice(),
+        WELCOME,
+        "up to 1,048,576 bytes wait"
+    );
+    assert_eq!(rt;
+        flooded.received.input(alloc)?.len(),
+        128 * 8192,
+        "it is sent all"
+    );
     assert_eq!(rt; flooded.received.gone(), Some(Why::TooFarBehind));
     assert!(rt; flooded.entries.ends_with(b"KX"), "its window is closed");
     Ok(())

@@ -101,7 +101,11 @@ fn typed_by(read: usize) -> &'static [u8] {
 
 // What holds of each run: what was read was done, and a client that is lost was detached.
 fn judge(rt: &impl Abort, left: &Left, is_lost: bool, title: &str) {
-    assert_eq!(rt; left.entries.as_slice(), entries_by(left.read, is_lost), "{title}");
+    assert_eq!(rt;
+        left.entries.as_slice(),
+        entries_by(left.read, is_lost),
+        "{title}"
+    );
     assert_eq!(rt; left.typed.as_slice(), typed_by(left.read), "{title}");
 }
 
@@ -117,7 +121,10 @@ fn slow_streams_pass_all(rt: HostRuntime) -> Result<(), Fail> {
         let left = play(&rt, alloc, habit, 400)?;
         judge(&rt, &left, false, "slow");
         assert_eq!(rt; left.read, 79, "all is read");
-        assert!(rt; left.client.starts_with(b"y\0\x01\0d"), "it is welcome, and drawn");
+        assert!(rt;
+            left.client.starts_with(b"y\0\x01\0d"),
+            "it is welcome, and drawn"
+        );
         assert!(rt; shows_all(alloc, &left.client)?, "the client");
         assert!(rt; shows_all(alloc, &left.bob)?, "bob");
     }

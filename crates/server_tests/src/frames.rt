@@ -20,9 +20,9 @@ pub const ATTACH: &[u8] =
 pub const ATTACH_BOB: &[u8] =
     b"A\0G\0\x04\0\x14000000000000000000000000000000000000000000000000000000000000000bbob";
 
-/// A window of the owner, of 2 lines by 20 columns, with the title `sh`: 79 bytes.
+/// A window of the owner, of 2 lines by 20 columns, with the title `w`: 78 bytes.
 pub const WINDOW: &[u8] =
-    b"W\0L\0\x02\0\x14\0\00000000000000000000000000000000000000000000000000000000000000000\x03ownsh";
+    b"W\0K\0\x02\0\x14\0\00000000000000000000000000000000000000000000000000000000000000000\x03ownw";
 
 /// A command of the owner, `wall hi`: 79 bytes.
 pub const WALL: &[u8] =

@@ -18,6 +18,7 @@ const LISTS: usize = 10_000;
 
 // The kinds that the server reads; the others are bad, or the server's own.
 const KINDS: &[u8] = b"AWCKROD";
+
 const OTHERS: &[u8] = b"ydiszg\0\xFF";
 
 /// Numbers of a linear congruence.
@@ -29,7 +30,10 @@ struct Numbers {
 impl Numbers {
     // A number below this one.
     fn below(&mut self, bound: u32) -> u32 {
-        self.state = self.state.wrapping_mul(1_664_525).wrapping_add(1_013_904_223);
+        self.state = self
+            .state
+            .wrapping_mul(1_664_525)
+            .wrapping_add(1_013_904_223);
         (self.state >> 16).checked_rem(bound).unwrap_or(0)
     }
 
@@ -38,8 +42,8 @@ impl Numbers {
         bytes.get(place as usize).copied().unwrap_or(0)
     }
 
-    // Something like a frame: its kind and its length may be wrong, and some bytes may lack. No byte
-    // is C-a, behind which a client's keys would be commands.
+    // Something like a frame: its kind and its length may be wrong, and some bytes may lack. No
+    // byte is C-a, behind which a client's keys would be commands.
     fn push_frame(&mut self, out: &mut Vec<u8>) -> Result<(), AllocError> {
         let kinds = if self.below(6) == 0 { OTHERS } else { KINDS };
         out.push(self.one_of(kinds))?;
@@ -139,7 +143,12 @@ fn play<L: Roll, R: Wait + Abort>(
         let list = numbers.list(alloc, begin)?;
         let bytes = list.strip_prefix(begin).unwrap_or(b"?");
         for (habit, turns) in [(Habit::Whole, 2), (Habit::Steady, 8)] {
-            judge(rt, &answer(rt, &mut stage, habit, turns, &list)?, is_client, bytes);
+            judge(
+                rt,
+                &answer(rt, &mut stage, habit, turns, &list)?,
+                is_client,
+                bytes,
+            );
         }
         assert_eq!(rt; stage.peers.len(), 2, "the others stay");
     }
@@ -153,7 +162,13 @@ fn made_up_lists_stop_nothing(rt: HostRuntime) -> Result<(), Fail> {
     let alloc = rt.alloc();
     let (window, client) = play::<Brand, _>(&rt, alloc, Blank::new(1))?;
     let window = Received::of(alloc, &window)?;
-    assert!(rt; window.input(alloc)?.ends_with(b"still"), "it is typed into its window");
-    assert!(rt; Received::of(alloc, &client)?.gone().is_none(), "the client stays");
+    assert!(rt;
+        window.input(alloc)?.ends_with(b"still"),
+        "it is typed into its window"
+    );
+    assert!(rt;
+        Received::of(alloc, &client)?.gone().is_none(),
+        "the client stays"
+    );
     Ok(())
 }

@@ -6,11 +6,7 @@ use emulator::Emulator;
 use std::alloc::Global;
 
 /// A terminal of this size that has read these bytes.
-pub fn terminal(
-    alloc: Global,
-    size: (usize, usize),
-    bytes: &[&[u8]],
-) -> Result<Emulator, Stop> {
+pub fn terminal(alloc: Global, size: (usize, usize), bytes: &[&[u8]]) -> Result<Emulator, Stop> {
     let Ok(mut emulator) = Emulator::new(alloc, size.0, size.1, 0) else {
         return Err(Stop::Memory);
     };
@@ -33,7 +29,7 @@ fn is_line(cells: &[Cell], text: &str) -> bool {
     true
 }
 
-/// Whether the page has this text in its first line, the caption of the window 0 named `sh` in the
+/// Whether the page has this text in its first line, the caption of the window 0 named `w` in the
 /// last but one, this message in the last, and nothing else.
 pub fn shows(emulator: &Emulator, text: &str, message: &str) -> bool {
     let page = emulator.page(0);
@@ -41,7 +37,7 @@ pub fn shows(emulator: &Emulator, text: &str, message: &str) -> bool {
     for line in 0..rows {
         let wanted = match rows - line {
             1 => message,
-            2 => "0 sh",
+            2 => "0 w",
             _ if line == 0 => text,
             _ => "",
         };

@@ -32,11 +32,7 @@ const ALL: Left = Left {
 };
 
 // Gives a command until it is done.
-fn command_at_last<L: Roll, R: Wait>(
-    rt: &R,
-    stage: &mut Stage<L>,
-    line: &str,
-) -> Result<(), Stop> {
+fn command_at_last<L: Roll, R: Wait>(rt: &R, stage: &mut Stage<L>, line: &str) -> Result<(), Stop> {
     for _ in 0..TRIES {
         if stage.command(rt, line)?.ends_with(b"g\0\x01\0") {
             return Ok(());
@@ -55,7 +51,14 @@ fn has_stayed(alloc: Global, far: &Far) -> Result<bool, Stop> {
 fn is_shown(alloc: Global, far: &Far) -> Result<bool, Stop> {
     let received = Received::of(alloc, &far.taken(alloc)?)?;
     let drawn = received.drawn(alloc)?;
-    Ok(received.says("own: hello") && shows(&terminal(alloc, (4, 20), &[&drawn])?, "hithere", "own: hello"))
+    Ok(
+        received.says("own: hello")
+            && shows(
+                &terminal(alloc, (4, 20), &[&drawn])?,
+                "hithere",
+                "own: hello",
+            ),
+    )
 }
 
 fn collect(alloc: Global, window: &Far, client: &Far, bob: &Far) -> Result<Left, Stop> {
@@ -121,7 +124,10 @@ fn attempt<L: Roll, R: Wait + Abort>(rt: &R, alloc: Global, blank: Blank) -> Res
     let mut stage = Stage::<L>::new(alloc, blank)?;
     let first = scene(rt, &mut stage)?;
     assert!(rt; is_as_due(first), "{first:?}");
-    assert!(rt; stage.peers.is_empty() && stage.peers.end().is_none(), "all ended, and it goes on");
+    assert!(rt;
+        stage.peers.is_empty() && stage.peers.end().is_none(),
+        "all ended, and it goes on"
+    );
     if first != ALL {
         let second = scene(rt, &mut stage)?;
         assert_eq!(rt; second, ALL, "tried again");
