@@ -1,18 +1,21 @@
 # The toolchain's command; RT=/path/to/rt where it isn't on the PATH.
 RT ?= rt
 PREFIX ?= /usr/local
-# The programs that are here.
-PROGRAMS = $(notdir $(wildcard crates/muxd crates/mux crates/muxsim crates/vtcat))
+PROGRAMS = muxd mux muxsim vtcat
 TESTS = $(notdir $(patsubst %/,%,$(dir $(wildcard crates/*_tests/src)))) scripts
 SCRIPTS = $(addprefix contrib/, mux-shell mux-attach mux-over-ssh new-token)
 
-.PHONY: demo build try check test edits examples lint install
+.PHONY: demo shell build try check test edits examples lint install
 
 # Plays a script of examples/, without any proof: about a minute.
 SCRIPT ?= first-run
 demo:
 	@cd crates/muxsim && $(RT) try -- --show own < ../../examples/$(SCRIPT).mux
 	@echo "make demo: nothing was proved; make build proves muxsim, make test everything" >&2
+
+# Two users and a shell in a window, with the programs that make build made.
+shell:
+	@examples/shell.sh
 
 # Proves the programs and all that they stand on, and builds them into bin/.
 build:
@@ -53,27 +56,23 @@ examples:
 
 # Scripts, terminal descriptions and man pages: Debian's shellcheck, ncurses-bin and mandoc.
 lint:
-	shellcheck -s sh $(SCRIPTS) tests/outside/programs tests/outside/terminals tests/outside/memory
+	shellcheck -s sh $(SCRIPTS) examples/shell.sh $(filter-out %.c, $(wildcard tests/outside/*))
 	tic -c contrib/mux.ti
-	cd man && mandoc -Tlint *.1 *.5 *.8
+	cd man && mandoc -T lint *.1 *.5 *.8
 
-# Installs what make build made, with its man pages; with mux also scripts, the unit and the terminal descriptions.
+# Installs what make build made, with its man pages, scripts, the unit and the terminal descriptions.
 BIN = $(DESTDIR)$(PREFIX)/bin
 MAN = $(DESTDIR)$(PREFIX)/share/man
+UNITS = $(DESTDIR)$(PREFIX)/share/systemd/user
 install:
 	@for program in $(PROGRAMS); do \
 	    test -x bin/$$program || { echo "make install: make build makes bin/$$program" >&2; exit 2; }; \
 	done
-	install -d $(BIN) $(MAN)/man1
-	install -m 755 $(addprefix bin/, $(PROGRAMS)) $(BIN)
-	install -m 644 $(wildcard $(patsubst %, man/%.1, $(PROGRAMS))) $(MAN)/man1
-ifneq ($(filter mux, $(PROGRAMS)),)
-	install -d $(MAN)/man5 $(MAN)/man8 $(DESTDIR)$(PREFIX)/lib/systemd/user $(DESTDIR)$(PREFIX)/share/mux
-	install -m 755 $(SCRIPTS) $(BIN)
+	install -d $(BIN) $(MAN)/man1 $(MAN)/man5 $(MAN)/man8 $(UNITS) $(DESTDIR)$(PREFIX)/share/mux
+	install -m 755 $(addprefix bin/, $(PROGRAMS)) $(SCRIPTS) $(BIN)
+	install -m 644 man/mux.1 man/muxsim.1 man/vtcat.1 $(MAN)/man1
 	install -m 644 man/mux-users.5 $(MAN)/man5
 	install -m 644 man/muxd.8 $(MAN)/man8
 	install -m 644 contrib/mux.ti $(DESTDIR)$(PREFIX)/share/mux
-	sed 's|/usr/local/bin|$(PREFIX)/bin|' contrib/muxd.service \
-	    > $(DESTDIR)$(PREFIX)/lib/systemd/user/muxd.service
+	sed 's|/usr/local/bin|$(PREFIX)/bin|' contrib/muxd.service > $(UNITS)/muxd.service
 	@echo "tic -x $(PREFIX)/share/mux/mux.ti makes TERM=mux known to programs"
-endif

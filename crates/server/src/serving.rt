@@ -66,7 +66,6 @@ fn places<L: Roll, R: Net>(
 }
 
 // Runs every loop to its end, each in a thread.
-#[tactic(auto, using(crate::proofs::Crossing::shared_sync))]
 fn run_all<L: Roll + Send + Sync, R: Threads + Wait + Sync>(
     rt: &R,
     alloc: Global,

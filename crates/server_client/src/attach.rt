@@ -162,7 +162,8 @@ fn show_all<R: Threads + AllocGlobal, I: Read + Send + Drop + 'static, O: Write>
                     }
                 }
                 Message::Draw(bytes) | Message::Input(bytes) => output.write_all(bytes.as_slice())?,
-                Message::Say(text) => {
+                // Once a peer is welcome, its status line says what the session says.
+                Message::Say(text) if input.is_some() => {
                     if way == Way::Command {
                         writeln!(output, "{}", text.as_str())?;
                     }
