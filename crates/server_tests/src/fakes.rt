@@ -2,106 +2,192 @@
 
 use std::alloc::{AllocError, Global};
 use std::cell::RefCell;
-use std::collections::VecDeque;
 use std::io;
 use std::io::{ErrorKind, Read, Write};
 use std::rc::Rc;
 
-/// What a stream was written.
-pub type Taken = Rc<RefCell<VecDeque<u8>>>;
+// Room that each end has from the beginning.
+const ROOM: usize = 16_384;
 
 /// How a stream behaves.
-#[derive(Clone, Copy, Debug, PartialEq, Eq)]
+#[derive(Clone, Copy, Debug)]
 pub enum Habit {
+    /// As many bytes a call as there are.
+    Whole,
     /// One byte a call.
     Steady,
     /// One byte at every other call; the others would wait.
     Slow,
-    /// Would wait at the call of this number alone.
-    Waits(usize),
-    /// Fails from the call of this number on.
-    Fails(usize),
-    /// Takes so many bytes, and none behind them.
+    /// One byte a call, but for the call of this number, which fails so.
+    Once(usize, ErrorKind),
+    /// Takes so many bytes, and none behind them. All that is there is read.
     Takes(usize),
+    /// Takes nothing at so many writes, and then all. All that is there is read.
+    Later(usize),
 }
 
-/// A stream of memory.
 #[derive(Drop)]
-pub struct Fake {
-    input: VecDeque<u8>,
-    taken: Taken,
+struct Passing {
     habit: Habit,
+    // What the loop reads, and how much of it was read.
+    input: Vec<u8>,
+    read: usize,
+    ends: bool,
+    // What the loop wrote.
+    taken: Vec<u8>,
     calls: usize,
 }
 
-/// A stream that has these bytes to read, and what it will be written.
-pub fn fake(alloc: Global, bytes: &[u8], habit: Habit) -> Result<(Fake, Taken), AllocError> {
-    let mut input = VecDeque::new(alloc);
-    for byte in bytes {
-        input.push_back(*byte)?;
-    }
-    let taken = Rc::new(alloc, RefCell::new(VecDeque::new(alloc)))?;
-    let stream = Fake {
-        input,
-        taken: taken.clone()?,
+/// The end of a stream that a loop has.
+#[derive(Drop)]
+pub struct Near {
+    passing: Rc<RefCell<Passing>>,
+}
+
+/// The end of a stream that the peer has.
+#[derive(Drop)]
+pub struct Far {
+    passing: Rc<RefCell<Passing>>,
+}
+
+/// Both ends of a stream.
+pub fn ends(alloc: Global, habit: Habit) -> Result<(Near, Far), AllocError> {
+    let mut input = Vec::new(alloc);
+    input.reserve(ROOM)?;
+    let mut taken = Vec::new(alloc);
+    taken.reserve(ROOM)?;
+    let passing = Passing {
         habit,
+        input,
+        read: 0,
+        ends: false,
+        taken,
         calls: 0,
     };
-    Ok((stream, taken))
+    let near = Rc::new(alloc, RefCell::new(passing))?;
+    let far = near.clone()?;
+    Ok((Near { passing: near }, Far { passing: far }))
 }
 
-/// The bytes that a stream was written.
-pub fn bytes_of(alloc: Global, taken: &Taken) -> Result<Vec<u8>, AllocError> {
-    let mut bytes = Vec::new(alloc);
-    if let Ok(taken) = taken.try_borrow() {
-        for byte in taken.iter() {
-            bytes.push(*byte)?;
+impl Far {
+    /// Sends bytes to the loop.
+    pub fn send(&self, bytes: &[u8]) -> Result<(), AllocError> {
+        match self.passing.try_borrow_mut() {
+            Ok(mut passing) => passing.input.extend_from_slice(bytes),
+            Err(_) => Ok(()),
         }
     }
-    Ok(bytes)
+
+    /// Ends the connection behind what was sent.
+    pub fn end(&self) {
+        if let Ok(mut passing) = self.passing.try_borrow_mut() {
+            passing.ends = true;
+        }
+    }
+
+    pub fn set_habit(&self, habit: Habit) {
+        if let Ok(mut passing) = self.passing.try_borrow_mut() {
+            passing.habit = habit;
+        }
+    }
+
+    /// What the loop wrote, as far as it was taken.
+    pub fn taken(&self, alloc: Global) -> Result<Vec<u8>, AllocError> {
+        match self.passing.try_borrow() {
+            Ok(passing) => Vec::from_slice(alloc, passing.taken.as_slice()),
+            Err(_) => Ok(Vec::new(alloc)),
+        }
+    }
+
+    /// How many calls the loop made.
+    pub fn calls(&self) -> usize {
+        match self.passing.try_borrow() {
+            Ok(passing) => passing.calls,
+            Err(_) => 0,
+        }
+    }
+
+    /// How many bytes the loop read.
+    pub fn read(&self) -> usize {
+        match self.passing.try_borrow() {
+            Ok(passing) => passing.read,
+            Err(_) => 0,
+        }
+    }
 }
 
-impl Fake {
-    // One call begins: whether it goes well.
-    fn step(&mut self) -> io::Result<()> {
+fn would_wait() -> io::Error {
+    io::Error::from(ErrorKind::WouldBlock)
+}
+
+impl Passing {
+    // One call begins: how many bytes may pass.
+    fn begin(&mut self) -> io::Result<usize> {
         let call = self.calls;
         self.calls = call.saturating_add(1);
         match self.habit {
-            Habit::Slow if call % 2 == 0 => Err(io::Error::from(ErrorKind::WouldBlock)),
-            Habit::Waits(at) if call == at => Err(io::Error::from(ErrorKind::WouldBlock)),
-            Habit::Fails(at) if call >= at => Err(io::Error::from(ErrorKind::ConnectionReset)),
-            _ => Ok(()),
+            Habit::Whole | Habit::Takes(_) | Habit::Later(_) => Ok(usize::MAX),
+            Habit::Slow if call % 2 == 0 => Err(would_wait()),
+            Habit::Once(at, kind) if call == at => Err(io::Error::from(kind)),
+            _ => Ok(1),
         }
     }
-}
 
-impl Read for Fake {
-    fn read(&mut self, buf: &mut [u8]) -> io::Result<usize> {
-        self.step()?;
-        let (Some(place), Some(byte)) = (buf.first_mut(), self.input.pop_front()) else {
-            return Err(io::Error::from(ErrorKind::WouldBlock));
+    fn read_some(&mut self, buf: &mut [u8]) -> io::Result<usize> {
+        let most = self.begin()?;
+        let Some(rest) = self.input.get(self.read..) else {
+            return Err(would_wait());
         };
-        *place = byte;
-        Ok(1)
+        if rest.is_empty() {
+            return if self.ends { Ok(0) } else { Err(would_wait()) };
+        }
+        let mut piece = match rest.get(..most) {
+            Some(piece) => piece,
+            None => rest,
+        };
+        let count = piece.read(buf)?;
+        self.read = self.read.saturating_add(count);
+        Ok(count)
     }
-}
 
-impl Write for Fake {
-    fn write(&mut self, buf: &[u8]) -> io::Result<usize> {
-        self.step()?;
-        let Some(byte) = buf.first() else {
-            return Ok(0);
-        };
-        let Ok(mut taken) = self.taken.try_borrow_mut() else {
-            return Err(io::Error::from(ErrorKind::WouldBlock));
-        };
-        if let Habit::Takes(most) = self.habit {
-            if taken.len() >= most {
-                return Err(io::Error::from(ErrorKind::WouldBlock));
+    fn write_some(&mut self, buf: &[u8]) -> io::Result<usize> {
+        let mut most = self.begin()?;
+        match self.habit {
+            Habit::Takes(all) => most = all.saturating_sub(self.taken.len()),
+            Habit::Later(0) => most = usize::MAX,
+            Habit::Later(times) => {
+                self.habit = Habit::Later(times.saturating_sub(1));
+                most = 0;
             }
+            _ => {}
         }
-        taken.push_back(*byte)?;
-        Ok(1)
+        if most == 0 {
+            return Err(would_wait());
+        }
+        let piece = match buf.get(..most) {
+            Some(piece) => piece,
+            None => buf,
+        };
+        self.taken.extend_from_slice(piece)?;
+        Ok(piece.len())
+    }
+}
+
+impl Read for Near {
+    fn read(&mut self, buf: &mut [u8]) -> io::Result<usize> {
+        match self.passing.try_borrow_mut() {
+            Ok(mut passing) => passing.read_some(buf),
+            Err(_) => Err(would_wait()),
+        }
+    }
+}
+
+impl Write for Near {
+    fn write(&mut self, buf: &[u8]) -> io::Result<usize> {
+        match self.passing.try_borrow_mut() {
+            Ok(mut passing) => passing.write_some(buf),
+            Err(_) => Err(would_wait()),
+        }
     }
 
     fn flush(&mut self) -> io::Result<()> {

@@ -1,12 +1,12 @@
-//! Two loops run at once. A server whose loops take turns, one holding the session's lock round a
-//! whole turn, fails here.
+//! Two loops run at once.
 
 ghost use Rattle.std.specs.Prelude.{◌≡◌};
 
-use crate::fakes::{Fake, Habit, bytes_of, fake};
-use crate::plays::{OWN, Script, house};
-use hub::Seat;
-use server_loop::{Gate, House, Loop};
+use crate::fakes::{Habit, Near, ends};
+use crate::frames::WALL;
+use crate::stage::new_house;
+use crate::stop::Stop;
+use server_loop::{Gate, House, Loop, Seat};
 use std::alloc::{AllocError, Global};
 use std::marker::Brand;
 use std::sync::Wait;
@@ -54,30 +54,30 @@ fn command<L: Roll, R: Wait>(
     alloc: Global,
     house: &House<L>,
     seat: Seat<L>,
-    bytes: &[u8],
     latch: Latch,
 ) -> Result<bool, AllocError> {
-    let mut peers: Loop<Fake, Latch, L> = Loop::new(alloc, seat, latch)?;
-    let (stream, taken) = fake(alloc, bytes, Habit::Steady)?;
-    peers.admit(stream)?;
-    for _ in 0..20 {
+    let mut peers: Loop<Near, Latch, L> = Loop::new(alloc, seat, latch)?;
+    let (near, far) = ends(alloc, Habit::Whole)?;
+    far.send(WALL)?;
+    peers.admit(near)?;
+    for _ in 0..4 {
         peers.is_ready(0);
         peers.read_all(rt, house);
         peers.settle(rt, house);
     }
-    Ok(bytes_of(alloc, &taken)?.as_slice() == b"y\0\x01\0g\0\x01\0".as_slice())
+    Ok(far.taken(alloc)?.as_slice() == b"y\0\x01\0g\0\x01\0".as_slice())
 }
 
 fn two<L: Roll + Send + Sync, R: Threads + Wait + Sync>(
     rt: &R,
     alloc: Global,
     blank: Blank,
-) -> Result<bool, Fail>
+) -> Result<bool, Stop>
     requires { (blank.name ≡ L.name) × (blank.parts ≡ L.parts) × (blank.parts ≡ 2) }
 {
-    let (house, mut seats) = house::<L>(alloc, blank, 2)?;
+    let (house, mut seats) = new_house::<L>(alloc, blank, 2)?;
     let (Some(right), Some(left)) = (seats.pop(), seats.pop()) else {
-        return Err(Fail::from("two seats"));
+        return Err(Stop::Other("two seats"));
     };
     let (held, first, second, missed) = (
         AtomicU64::new(0),
@@ -99,18 +99,18 @@ fn two<L: Roll + Send + Sync, R: Threads + Wait + Sync>(
             missed: &missed,
         },
     );
-    let mut script = Script::new(alloc);
-    script.command(OWN, "wall hi")?;
-    let bytes = script.bytes.as_slice();
     let shared = &house;
     let (a, b) = thread::join(
         rt,
-        || matches!(command(rt, alloc, shared, left, bytes, one), Ok(true)),
-        || matches!(command(rt, alloc, shared, right, bytes, other), Ok(true)),
+        || matches!(command(rt, alloc, shared, left, one), Ok(true)),
+        || matches!(command(rt, alloc, shared, right, other), Ok(true)),
     );
     Ok(a && b && missed.load(Ordering::SeqCst) == 0)
 }
 
+/// Loops that take turns fail here: one loop that serves all connections, or a lock of the house
+/// that each loop holds for the whole of its turn, from `read_all` to the end of `settle`. The call
+/// that is held then waits for one that can't come.
 #[test]
 fn loops_take_no_turns(rt: HostRuntime) -> Result<(), Fail> {
     assert!(rt;

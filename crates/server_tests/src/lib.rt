@@ -2,10 +2,26 @@
 #![tactic(auto)]
 
 #[cfg(test)]
+mod again;
+#[cfg(test)]
+mod cut_short;
+#[cfg(test)]
+mod ends;
+#[cfg(test)]
 mod failing;
 #[cfg(test)]
 mod fakes;
 #[cfg(test)]
+mod frames;
+#[cfg(test)]
 mod gates;
 #[cfg(test)]
-mod plays;
+mod made_up;
+#[cfg(test)]
+mod pages;
+#[cfg(test)]
+mod refusals;
+#[cfg(test)]
+mod stage;
+#[cfg(test)]
+mod stop;

@@ -1,4 +1,4 @@
-use Rattle.server_tests.proofs.failing.one_byte_at_a_time.Given as goal
+use Rattle.server_tests.proofs.ends.play.Given as goal
 
 abbrev pub ghosts-run : goal.ghosts-run
 ghosts-run g a = record { name = a.blank.name; parts = a.blank.parts }

@@ -1,4 +1,4 @@
-use Rattle.server_tests.proofs.failing.waits_at_each_place.Given as goal
+use Rattle.server_tests.proofs.cut_short.play.Given as goal
 
 abbrev pub ghosts-run : goal.ghosts-run
 ghosts-run g a = record { name = a.blank.name; parts = a.blank.parts }
