@@ -128,9 +128,12 @@ fn turn<L: Roll, R: Clock + Wait, G: Gate + Drop>(
     peers.read_all(rt, &shared.house);
     admit(rt, shared, poll, watch.me, peers);
     let is_news = watch.pace.note(rt, shared, peers.has_more());
+    if peers.has_submitted() || is_news {
+        shared.wake_others(watch.me)?;
+    }
     peers.hold_draws(watch.pace.holds(rt, shared));
     peers.settle(rt, &shared.house);
-    if peers.has_submitted() || is_news {
+    if peers.has_submitted() {
         shared.wake_others(watch.me)?;
     }
     if let Some(end) = peers.end() {

@@ -81,7 +81,9 @@ impl<S: Read + Write + Drop, G: Gate + Drop, L: Roll> Loop<S, G, L> {
 
     /// Whether a connection has more to read, though no event will tell of it.
     pub fn has_more(&self) -> bool {
-        self.peers.iter().any(|(_, peer)| peer.has_more)
+        self.peers
+            .iter()
+            .any(|(_, peer)| peer.has_more && peer.stage == Stage::Open)
     }
 
     /// Whether something is to be tried again, though no event will tell of it.
