@@ -1,11 +1,18 @@
--- Threads may share a hub.
+-- Threads may share a hub, and hand back its seats.
 use denote.RattleType.{RattleType}
 use denote.Param.Send.{IsSend, IsSync}
 use denote.Param.SendFields.{declared_send, declared_sync}
-use Rattle.core.specs.declared.ledger.Ledger.{Ghosts}
-use Rattle.core.proofs.sync.Mutex.TheSendSync as mutex
+use Rattle.std.specs.declared.sync.ledger.Ledger.{Ghosts}
+use Rattle.std.specs.contracts.sync.Mutex as Mutex
+use Rattle.std.proofs.sync.Mutex.TheSendSync as mutex
+use Rattle.std.proofs.Crossing.{Vec-send}
+use Rattle.std.specs.contracts.alloc.Global as Global
+use Rattle.std.specs.contracts.vec.Vec as Vec
+use Rattle.std.specs.contracts.impls.GlobalAllocator.TheImpl as heap
 use Rattle.hub_ledger.proofs.Crossing.{ledger_send}
+use Rattle.hub_ledger.proofs.seat.Seat.TheSendSync as seat
 use Rattle.hub_ledger.specs.contracts.ledger.Ledger as Ledger
+use Rattle.hub_ledger.specs.contracts.seat.Seat as Seat
 use Rattle.hub.specs.contracts.Hub as Hub
 
 pub hub_send : (L : RattleType) (g : Ghosts L.Denot) → IsSend (Hub.the_row L g)
@@ -13,3 +20,6 @@ hub_send L g = declared_send (Hub.the_type L g) (mutex.the_send (Ledger.the_row 
 
 pub hub_sync : (L : RattleType) (g : Ghosts L.Denot) → IsSync (Hub.the_row L g)
 hub_sync L g = declared_sync (Hub.the_type L g) (mutex.the_sync (Ledger.the_row L g) (ledger_send L g), tt)
+
+pub seats_sync : (L : RattleType) (g : Ghosts L.Denot) → IsSync (Mutex.the_row (Vec.the_row (Seat.the_row L g) Global.the_row heap.ghosts))
+seats_sync L g = mutex.the_sync (Vec.the_row (Seat.the_row L g) Global.the_row heap.ghosts) (Vec-send (Seat.the_row L g) (seat.the_send L g))

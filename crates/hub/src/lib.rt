@@ -10,17 +10,15 @@ mod checking;
 
 ghost use Rattle.std.specs.Prelude.{◌≡◌, ◌↔◌, ◌<◌, ◌≤◌, length, IfOk, OnErr, None, []};
 ghost use Rattle.session_model.specs.Trace.{begun, happening};
-ghost use Rattle.session_core.specs.Stands.{StandsFor};
 ghost use Rattle.hub_trail.specs.Legal.{IsLegal};
 ghost use Rattle.hub_ledger.specs.Closing.{AreThere, IsFirstWrong, receipts_of};
-ghost use Rattle.hub_ledger.specs.Seats.{Answers};
+ghost use Rattle.hub_ledger.specs.Seats.{Answers, StandsFor};
 
 use acl::{Edition, UserId};
 pub use checking::check_trail;
 pub use hub_check::CheckFault;
 use hub_ledger::Ledger;
-pub use hub_ledger::{Answer, Filed, HubFault, KeptEvent, Receipt, Seat, Trail};
-use session_core::Session;
+pub use hub_ledger::{Answer, Filed, HubFault, KeptEvent, Receipt, Seat, Session, Trail};
 use session_model::{Effect, Event};
 use std::alloc::Global;
 use std::sync::ledger::{Blank, Ledger as Roll};

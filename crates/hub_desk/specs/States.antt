@@ -5,7 +5,7 @@ use Rattle.session_model.specs.Trace.{Happening, Reply, Entry, Trace, with_step}
 use Rattle.session_model.specs.Run.{tables_of}
 use Rattle.session_core.specs.declared.session.Session.{Session}
 use Rattle.session_core.specs.Noted.{Noted}
-use Rattle.session_core.specs.Stands.{StandsFor, entry_of}
+pub use Rattle.session_core.specs.Stands.{StandsFor, entry_of}
 use Rattle.hub_trail.specs.Trails.{Trail}
 use Rattle.hub_trail.specs.Filing.{filed, trail_of}
 use Rattle.hub_waiting.specs.Peers.{Owners, AreSeats, owners_of, with_peers}

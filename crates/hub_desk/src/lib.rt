@@ -7,4 +7,5 @@ mod slip;
 
 pub use desk::Desk;
 pub use entries::Entries;
+pub use session_core::Session;
 pub use slip::Slip;

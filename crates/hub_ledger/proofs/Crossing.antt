@@ -2,8 +2,8 @@
 use denote.RattleType.{RattleType}
 use denote.Param.Send.{IsSend, view_send}
 use denote.Param.SendFields.{declared_send}
-use Rattle.core.specs.declared.ledger.Ledger.{Ghosts}
-use Rattle.core.proofs.ledger.Book.TheSendSync as book
+use Rattle.std.specs.declared.sync.ledger.Ledger.{Ghosts}
+use Rattle.std.proofs.sync.ledger.Book.TheSendSync as book
 use Rattle.hub_desk.proofs.Crossing.{desk_send}
 use Rattle.hub_ledger.specs.contracts.ledger.Ledger as Ledger
 use Rattle.hub_ledger.specs.contracts.ledger.Ledger.TheInside as inside

@@ -4,13 +4,12 @@ use Rattle.std.specs.Prelude.{is_some, if◌then◌else◌}
 use Rattle.std.proofs.lemmas.List.{append-nil, length-map}
 use Rattle.session_model.specs.declared.event.Effect.{Effect}
 use Rattle.session_model.specs.Trace.{Happening, Reply, Entry}
-use Rattle.session_core.specs.Stands.{entry_of}
 use Rattle.hub_trail.specs.declared.kept.Kept.{Kept}
 use Rattle.hub_trail.specs.Trails as trails
 use Rattle.hub_trail.specs.Filing as filing
 use Rattle.hub_trail.specs.Filing.{ending_of, filed, kept_of}
 use Rattle.hub_waiting.specs.Routing.{is_draw, marked}
-use Rattle.hub_desk.specs.States.{State, IsAfter, Takes}
+use Rattle.hub_desk.specs.States.{State, IsAfter, Takes, entry_of}
 use Rattle.hub_ledger.specs.declared.receipt.Receipt.{Receipt}
 use Rattle.hub_ledger.specs.Seats.{AllBelow, Answers, HasReceipt, Sitting, Told, placed, with_receipt}
 

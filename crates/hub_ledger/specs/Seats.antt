@@ -2,6 +2,7 @@
 use Rattle.std.specs.Prelude.{ℕ, ◌<◌, List, [], ◌∷◌, ◌++◌, ◌≡◌, Option, Some, None}
 use Rattle.std.specs.List.{AllByRecursion}
 use Rattle.session_model.specs.Trace.{Happening, Reply}
+pub use Rattle.hub_desk.specs.States.{StandsFor}
 use Rattle.hub_trail.specs.declared.kept.Kept.{Kept}
 use Rattle.hub_trail.specs.Filing.{kept_of, ending_of}
 use Rattle.hub_ledger.specs.declared.receipt.Receipt.{Receipt}

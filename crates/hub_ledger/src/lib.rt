@@ -12,6 +12,7 @@ mod trail;
 ghost use Rattle.hub_ledger.specs.Laws.{KeptTrailsAreLegal, KeptTrailsHaveTheActs};
 
 pub use answer::{Answer, HubFault};
+pub use hub_desk::Session;
 pub use hub_record::{Filed, KeptEvent};
 pub use ledger::Ledger;
 pub use receipt::Receipt;

@@ -1,9 +1,8 @@
 //! How connections and news come to a loop.
 
-use hub::Seat;
 use mio::net::{UnixListener, UnixStream};
 use mio::{Poll, Waker};
-use server_loop::{End, House};
+use server_loop::{End, House, Seat};
 use std::collections::VecDeque;
 use std::io;
 use std::io::ErrorKind;

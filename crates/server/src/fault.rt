@@ -1,7 +1,6 @@
 //! What can be wrong, and what to do then.
 
-use hub::HubFault;
-use server_loop::End;
+use server_loop::{End, HubFault};
 use server_turn::UsersFault;
 use session_model::Refusal;
 use std::alloc::{AllocError, AllocFailed};

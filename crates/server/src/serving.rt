@@ -7,13 +7,11 @@ use crate::fault::{ServeFault, outcome};
 use crate::turns::{LISTEN, WAKE, run_loop};
 use crate::socket;
 use acl::Edition;
-use hub::{Hub, Seat};
 use mio::net::UnixListener;
 use mio::{Interest, Poll, Waker};
-use server_loop::{End, House, Open};
+use server_loop::{End, House, Hub, Open, Seat, Session};
 use server_turn::Users;
 use server_words::{of_server, tell};
-use session_core::Session;
 use std::alloc::Global;
 use std::collections::VecDeque;
 use std::fs::Files;
@@ -68,6 +66,7 @@ fn places<L: Roll, R: Net>(
 }
 
 // Runs every loop to its end, each in a thread.
+#[tactic(auto, using(crate::proofs::Crossing::shared_sync))]
 fn run_all<L: Roll + Send + Sync, R: Threads + Wait + Sync>(
     rt: &R,
     alloc: Global,

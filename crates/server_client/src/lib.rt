@@ -1,7 +1,7 @@
 //! What `mux` does: a client, a window or a command of a session that is served.
 #![tactic(auto)]
 
-mod client;
+mod attach;
 mod fault;
 
-pub use client::client;
+pub use attach::client;

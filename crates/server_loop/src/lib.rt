@@ -10,4 +10,5 @@ mod requests;
 pub use end::End;
 pub use gate::{Gate, Open};
 pub use house::House;
+pub use hub::{Hub, HubFault, Seat, Session};
 pub use peers::Loop;

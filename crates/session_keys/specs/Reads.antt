@@ -13,6 +13,7 @@ use Rattle.session_state.specs.declared.state.State.{State}
 use Rattle.session_state.specs.Stands.{Stands}
 use Rattle.session_model.specs.Sound.{AreFit}
 use Rattle.session_leaving.specs.Leaving.{ended}
+pub use Rattle.session_orders.specs.Ruled.{Ruled}
 
 -- what the keys type behind those before them
 abbrev pub typing : Tables → Client → List ℕ → Deed

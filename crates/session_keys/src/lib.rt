@@ -11,4 +11,5 @@ mod typing;
 pub use given::command_given;
 pub use key_step::keys;
 pub use obeying::obey;
+pub use session_orders::order;
 pub use typing::type_bytes;

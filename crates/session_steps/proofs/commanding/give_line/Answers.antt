@@ -3,7 +3,7 @@ use Rattle.std.proofs.lemmas.Result.{err_from_is_err_and}
 use Rattle.session_model.specs.Tables.{Window}
 use Rattle.session_model.specs.Commands.{ruling}
 use Rattle.session_model.specs.Events.{reply_of}
-use Rattle.session_orders.specs.Ruled.{Ruled}
+use Rattle.session_keys.specs.Reads.{Ruled}
 use Rattle.session_steps.proofs.Answered.{was_ruled_out, was_obeyed}
 use Rattle.session_steps.proofs.commanding.give_line.Goals as goal
 
