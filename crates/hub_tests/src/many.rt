@@ -3,6 +3,7 @@
 
 ghost use Rattle.std.specs.Prelude.{◌≡◌};
 
+use crate::compare::are_same;
 use acl::{Edition, UserId};
 use hub::{Hub, Seat};
 use session_core::Session;
@@ -113,27 +114,6 @@ fn is_for_second(effect: &Effect) -> bool {
         Effect::GoneClient(client, _) => *client,
     };
     serial % 2 == 1
-}
-
-/// Whether two effects are the same.
-fn are_same(effect: &Effect, other: &Effect) -> bool {
-    match (effect, other) {
-        (Effect::Input(to, bytes), Effect::Input(at, text)) => {
-            to == at && bytes.as_slice() == text.as_slice()
-        }
-        (Effect::Deliver(to, bytes), Effect::Deliver(at, text)) => {
-            to == at && bytes.as_slice() == text.as_slice()
-        }
-        (Effect::Say(to, bytes), Effect::Say(at, text)) => {
-            to == at && bytes.as_slice() == text.as_slice()
-        }
-        (Effect::Size(to, rows, cols), Effect::Size(at, lines, columns)) => {
-            to == at && rows == lines && cols == columns
-        }
-        (Effect::GoneWindow(to, why), Effect::GoneWindow(at, reason)) => to == at && why == reason,
-        (Effect::GoneClient(to, why), Effect::GoneClient(at, reason)) => to == at && why == reason,
-        _ => false,
-    }
 }
 
 /// Whether a seat took the effects that the session made for it, in their order.
