@@ -1,7 +1,7 @@
 //! A thousand steps of all kinds over two seats, beside a session that runs the same events: each
 //! seat takes what the session made for its own clients and windows.
 
-ghost use Rattle.std.specs.Prelude.{◌≡◌};
+ghost use Rattle.std.specs.Prelude.{◌≡◌, ◌≤◌};
 
 use crate::compare::are_same;
 use acl::{Edition, UserId};
