@@ -49,7 +49,13 @@ fn add_users(
         value: false,
     };
     let taken = [without(bob), without(carl)];
-    let change = commanded(alloc, own, CommandName::Aclchg, b"aclchg bob,carl -w 0", &taken)?;
+    let change = commanded(
+        alloc,
+        own,
+        CommandName::Aclchg,
+        b"aclchg bob,carl -w 0",
+        &taken,
+    )?;
     push(entries, change)
 }
 
@@ -63,15 +69,24 @@ fn add_leaders(
     entries: &mut Vec<Filed>,
 ) -> Result<(), AllocError> {
     let known = [Act::Known { user: ann }];
-    push(entries, commanded(alloc, own, CommandName::Acladd, b"acladd ann", &known)?)?;
+    push(
+        entries,
+        commanded(alloc, own, CommandName::Acladd, b"acladd ann", &known)?,
+    )?;
     let led_by = |leader| Act::Grouped {
         user: bob,
         leader: Some(leader),
     };
     let first = [led_by(ann)];
-    push(entries, commanded(alloc, own, CommandName::Aclgrp, b"aclgrp bob ann", &first)?)?;
+    push(
+        entries,
+        commanded(alloc, own, CommandName::Aclgrp, b"aclgrp bob ann", &first)?,
+    )?;
     let second = [led_by(carl)];
-    push(entries, commanded(alloc, own, CommandName::Aclgrp, b"aclgrp bob carl", &second)?)
+    push(
+        entries,
+        commanded(alloc, own, CommandName::Aclgrp, b"aclgrp bob carl", &second)?,
+    )
 }
 
 /// The user comes, and types into window 0; whether he may write there.

@@ -224,7 +224,7 @@ fn thousand<L: Roll, R: Wait + Abort>(
         };
         let wrote = step(rt, &hub, (&mut a, &mut b), &mut twin, command, false, alloc);
         assert_eq!(rt; wrote, Some(1), "set up");
-        entries += 1;
+        entries = entries.saturating_add(1);
     }
     for turn in 0..TURNS {
         for number in 0..STEPS {

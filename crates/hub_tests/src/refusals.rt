@@ -108,8 +108,7 @@ fn begin<L: Roll>(alloc: Global, blank: Blank, owner: UserId) -> Option<Side<L>>
     requires { (blank.name ≡ L.name) × (blank.parts ≡ L.parts) × (blank.parts ≡ 1) }
 {
     let session = Session::new(alloc, owner).ok()?;
-    let (hub, mut rest) =
-        Hub::<L>::new(alloc, blank, Edition::Second, owner, session, 1).ok()?;
+    let (hub, mut rest) = Hub::<L>::new(alloc, blank, Edition::Second, owner, session, 1).ok()?;
     let seat = rest.pop()?;
     Some(Side { hub, seat, rest })
 }
@@ -173,7 +172,11 @@ fn step<L: Roll, M: Roll, R: Wait>(
 ) -> Option<usize> {
     let answer = submit_tried(rt, one, two, event)?;
     let other = submit_again(rt, two, event)?;
-    if is_same_answer(&answer, &other) { Some(read_by(answer.reply())) } else { None }
+    if is_same_answer(&answer, &other) {
+        Some(read_by(answer.reply()))
+    } else {
+        None
+    }
 }
 
 /// Submits an event on both sides, and keys until all are read. Whether all answers are the same.
@@ -251,9 +254,10 @@ fn play<L: Roll, M: Roll, R: Wait>(
     requires first { (first.name ≡ L.name) × (first.parts ≡ L.parts) × (first.parts ≡ 1) }
     requires second { (second.name ≡ M.name) × (second.parts ≡ M.parts) × (second.parts ≡ 1) }
 {
-    let (Some(mut one), Some(mut two)) =
-        (begin::<L>(alloc, first, own), begin::<M>(alloc, second, own))
-    else {
+    let (Some(mut one), Some(mut two)) = (
+        begin::<L>(alloc, first, own),
+        begin::<M>(alloc, second, own),
+    ) else {
         return Outcome::Unmade;
     };
     if play_part(rt, &mut one, &mut two, &users_come(own, bob))
