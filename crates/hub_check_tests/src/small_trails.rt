@@ -1,9 +1,10 @@
 //! A trail of four entries, and what the check answers when one of them differs.
 
+use crate::entries::{entry, opened, push};
 use acl::{Act, Bit, CommandName, Edition, Object, UserId};
 use hub_check::{CheckFault, check_entries};
-use hub_record::{Filed, KeptEvent, KeptReply};
-use session_model::{Done, Event, Refusal, Reply, Verdict};
+use hub_record::Filed;
+use session_model::{Event, Verdict};
 use std::alloc::{AllocError, Global};
 use std::test::Fail;
 
@@ -23,40 +24,6 @@ enum Twist {
     Stranger,
     /// A verdict on a window that isn't open.
     NoWindow,
-}
-
-fn entry(
-    alloc: Global,
-    event: Event<'_>,
-    verdicts: &[Verdict],
-    acts: &[Act],
-    made: u32,
-) -> Result<Option<Filed>, AllocError> {
-    let reply: Reply = Ok(Done {
-        taken: 0,
-        made,
-        number: 0,
-        text: None,
-    });
-    let spare = Box::new(alloc, Refusal::NoMemory)?;
-    let kept = KeptReply::of(&reply, spare);
-    let verdicts = verdicts.to_vec(alloc)?;
-    let acts = acts.to_vec(alloc)?;
-    match KeptEvent::of(alloc, event)? {
-        Some(event) => Ok(Some(Filed::new(event, verdicts, acts, kept))),
-        None => Ok(None),
-    }
-}
-
-fn opened(alloc: Global, own: UserId) -> Result<Option<Filed>, AllocError> {
-    let event = Event::Open {
-        user: own,
-        rows: 24,
-        cols: 80,
-        keep: 0,
-        title: "sh",
-    };
-    entry(alloc, event, &[], &[Act::Opened { by: own, window: 0 }], 0)
 }
 
 fn added(
@@ -133,13 +100,6 @@ fn typed(alloc: Global, bob: UserId, twist: Twist) -> Result<Option<Filed>, Allo
         holder: None,
     };
     entry(alloc, event, &[right, lock], &[], 0)
-}
-
-fn push(entries: &mut Vec<Filed>, entry: Option<Filed>) -> Result<(), AllocError> {
-    if let Some(entry) = entry {
-        entries.push(entry)?;
-    }
-    Ok(())
 }
 
 /// What the check answers of four entries with this twist; `None` where a name is none.

@@ -1,9 +1,14 @@
-//! Tests of the hub: threads that share one, what a seat takes, and trails.
+//! Tests of the hub: threads that share one, what a seat takes, trails, and growths that
+//! are refused.
 #![tactic(auto)]
 
+#[cfg(test)]
+mod compare;
 #[cfg(test)]
 mod fresh;
 #[cfg(test)]
 mod many;
+#[cfg(test)]
+mod refusals;
 #[cfg(test)]
 mod totals;

@@ -1,8 +1,9 @@
 //! A thousand steps of all kinds over two seats, beside a session that runs the same events: each
 //! seat takes what the session made for its own clients and windows.
 
-ghost use Rattle.std.specs.Prelude.{◌≡◌};
+ghost use Rattle.std.specs.Prelude.{◌≡◌, ◌≤◌};
 
+use crate::compare::are_same;
 use acl::{Edition, UserId};
 use hub::{Hub, Seat};
 use session_core::Session;
@@ -115,27 +116,6 @@ fn is_for_second(effect: &Effect) -> bool {
     serial % 2 == 1
 }
 
-/// Whether two effects are the same.
-fn are_same(effect: &Effect, other: &Effect) -> bool {
-    match (effect, other) {
-        (Effect::Input(to, bytes), Effect::Input(at, text)) => {
-            to == at && bytes.as_slice() == text.as_slice()
-        }
-        (Effect::Deliver(to, bytes), Effect::Deliver(at, text)) => {
-            to == at && bytes.as_slice() == text.as_slice()
-        }
-        (Effect::Say(to, bytes), Effect::Say(at, text)) => {
-            to == at && bytes.as_slice() == text.as_slice()
-        }
-        (Effect::Size(to, rows, cols), Effect::Size(at, lines, columns)) => {
-            to == at && rows == lines && cols == columns
-        }
-        (Effect::GoneWindow(to, why), Effect::GoneWindow(at, reason)) => to == at && why == reason,
-        (Effect::GoneClient(to, why), Effect::GoneClient(at, reason)) => to == at && why == reason,
-        _ => false,
-    }
-}
-
 /// Whether a seat took the effects that the session made for it, in their order.
 fn took(taken: &[Effect], made: &[Effect], second: bool) -> bool {
     let mut next = 0;
@@ -244,7 +224,7 @@ fn thousand<L: Roll, R: Wait + Abort>(
         };
         let wrote = step(rt, &hub, (&mut a, &mut b), &mut twin, command, false, alloc);
         assert_eq!(rt; wrote, Some(1), "set up");
-        entries += 1;
+        entries = entries.saturating_add(1);
     }
     for turn in 0..TURNS {
         for number in 0..STEPS {
