@@ -5,8 +5,7 @@ ghost use Rattle.std.specs.Prelude.{◌≡◌, ◌≤◌};
 
 use crate::compare::are_same;
 use acl::{Edition, UserId};
-use hub::{Hub, Seat};
-use session_core::Session;
+use hub::{Hub, Seat, Session};
 use session_model::{Effect, Event, Reply};
 use std::alloc::Global;
 use std::marker::Brand;

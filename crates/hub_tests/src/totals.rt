@@ -3,8 +3,7 @@
 ghost use Rattle.std.specs.Prelude.{◌≡◌};
 
 use acl::{Edition, UserId};
-use hub::{Hub, Seat};
-use session_core::Session;
+use hub::{Hub, Seat, Session};
 use session_model::Event;
 use std::alloc::Global;
 use std::marker::Brand;
