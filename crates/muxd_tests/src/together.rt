@@ -158,7 +158,7 @@ fn run_peers<R: Net + Clock>(rt: &R, alloc: Global) -> Option<Seen> {
     seen
 }
 
-fn run_server<R: Net + Files + AllocGlobal + Threads + Wait + Sync>(
+fn run_server<R: Clock + Net + Files + AllocGlobal + Threads + Wait + Sync>(
     rt: &R,
     words: &[String],
 ) -> u8 {
