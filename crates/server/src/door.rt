@@ -22,7 +22,7 @@ pub struct Shared<L: Roll> {
     pub house: House<L>,
     pub doors: Vec<Door>,
     pub over: OnceLock<End>,
-    /// How many loops have more to read than they read in one turn.
+    /// To how many loops much comes.
     pub busy: Mutex<usize>,
     /// The seats of the loops that are over.
     pub seats: Mutex<Vec<Seat<L>>>,

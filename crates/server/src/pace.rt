@@ -5,8 +5,7 @@ use std::sync::Wait;
 use std::sync::ledger::Ledger as Roll;
 use std::time::{Clock, Duration};
 
-// While a loop has more to read than it reads in one turn, draws wait for so many milliseconds at
-// most: of much output each client is shown the last.
+// While much comes, draws wait for so many milliseconds at most: each client is shown the last.
 const MOST: u64 = 20;
 
 /// What a loop knows of whether draws are to wait.
@@ -30,7 +29,12 @@ impl Pace {
         self.since.is_some()
     }
 
-    /// Tells the other loops whether this one has more to read. The answer is whether that is new.
+    /// Whether more may come at once.
+    pub fn is_busy(&self) -> bool {
+        self.is_busy
+    }
+
+    /// Tells the other loops whether much comes to this one. The answer is whether that is new.
     pub fn note<L: Roll>(&mut self, rt: &impl Wait, shared: &Shared<L>, is_busy: bool) -> bool {
         if is_busy == self.is_busy {
             return false;

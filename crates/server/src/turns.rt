@@ -21,6 +21,9 @@ const FIRST: usize = 2;
 
 // What was refused for want of memory is tried again after so many milliseconds.
 const PAUSE: u64 = 20;
+// Where much came, and nothing more for so many milliseconds, it is over.
+const LULL: u64 = 1;
+
 // So many pauses without an event, and the server ends though bytes wait.
 const PAUSES: usize = 100;
 
@@ -85,6 +88,8 @@ impl Watch {
     fn timeout(&self, has_more: bool, has_waiting: bool) -> Option<Duration> {
         if has_more {
             Some(Duration::ZERO)
+        } else if self.pace.is_busy() {
+            Some(Duration::from_millis(LULL))
         } else if has_waiting || self.is_behind() || self.pace.is_holding() {
             Some(Duration::from_millis(PAUSE))
         } else {
@@ -127,7 +132,7 @@ fn turn<L: Roll, R: Clock + Wait, G: Gate + Drop>(
     }
     peers.read_all(rt, &shared.house);
     admit(rt, shared, poll, watch.me, peers);
-    let is_news = watch.pace.note(rt, shared, peers.has_more());
+    let is_news = watch.pace.note(rt, shared, peers.has_read_much());
     if peers.has_submitted() || is_news {
         shared.wake_others(watch.me)?;
     }

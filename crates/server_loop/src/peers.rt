@@ -38,6 +38,7 @@ pub struct Loop<S, G, L: Roll> {
     pub(crate) peers: Slab<Peer<S>>,
     buffer: Vec<u8>,
     has_submitted: bool,
+    has_read_much: bool,
     // Something was refused for want of memory, and is tried again in the next turn.
     has_waiting: bool,
     holds_draws: bool,
@@ -53,6 +54,7 @@ impl<S: Read + Write + Drop, G: Gate + Drop, L: Roll> Loop<S, G, L> {
             peers: Slab::new(alloc),
             buffer: vec![in alloc; 0; READ_SIZE]?,
             has_submitted: false,
+            has_read_much: false,
             has_waiting: false,
             holds_draws: false,
             end: None,
@@ -101,6 +103,11 @@ impl<S: Read + Write + Drop, G: Gate + Drop, L: Roll> Loop<S, G, L> {
         self.holds_draws = is_held;
     }
 
+    /// Whether a connection had more for a turn than one read takes, since the last call.
+    pub fn has_read_much(&mut self) -> bool {
+        std::mem::replace(&mut self.has_read_much, false)
+    }
+
     /// Why the server is to end, if it is.
     pub fn end(&self) -> Option<End> {
         self.end
@@ -140,7 +147,7 @@ impl<S: Read + Write + Drop, G: Gate + Drop, L: Roll> Loop<S, G, L> {
     /// Reads what a connection sent, until it has no more for now, or others are to have their
     /// turn.
     pub fn read_from(&mut self, rt: &impl Wait, house: &House<L>, key: usize) {
-        for _ in 0..READS {
+        for count in 0..READS {
             let mut messages = Vec::new(self.alloc);
             let Some(peer) = self.peers.get_mut(key) else {
                 return;
@@ -154,7 +161,7 @@ impl<S: Read + Write + Drop, G: Gate + Drop, L: Roll> Loop<S, G, L> {
                 self.obey(rt, house, key, message);
             }
             match came {
-                Came::Some => {}
+                Came::Some => self.has_read_much |= 0 < count,
                 Came::Nothing => return,
                 Came::Fault => {
                     self.fault(rt, house, key);
