@@ -1,5 +1,7 @@
 //! Streams of memory.
 
+ghost use Rattle.std.specs.Io.{ReadsAtMost, WritesAtMost};
+
 use std::alloc::{AllocError, Global};
 use std::cell::RefCell;
 use std::io;
@@ -133,7 +135,9 @@ impl Passing {
         }
     }
 
-    fn read_some(&mut self, buf: &mut [u8]) -> io::Result<usize> {
+    fn read_some(&mut self, buf: &mut [u8]) -> io::Result<usize>
+        ensures { ReadsAtMost result buf.new }
+    {
         let most = self.begin()?;
         let Some(rest) = self.input.get(self.read..) else {
             return Err(would_wait());
@@ -150,7 +154,9 @@ impl Passing {
         Ok(count)
     }
 
-    fn write_some(&mut self, buf: &[u8]) -> io::Result<usize> {
+    fn write_some(&mut self, buf: &[u8]) -> io::Result<usize>
+        ensures { WritesAtMost result buf.now }
+    {
         let mut most = self.begin()?;
         match self.habit {
             Habit::Takes(all) => most = all.saturating_sub(self.taken.len()),

@@ -22,6 +22,14 @@ const KINDS: &[u8] = b"AWCKROD";
 const OTHERS: &[u8] = b"ydiszg\0\xFF";
 
 /// Numbers of a linear congruence.
+// A number below 256 as a byte.
+fn byte_of(number: usize) -> u8 {
+    match u8::try_from(number) {
+        Ok(byte) => byte,
+        Err(_) => 0,
+    }
+}
+
 #[derive(Drop)]
 struct Numbers {
     state: u32,
@@ -29,17 +37,18 @@ struct Numbers {
 
 impl Numbers {
     // A number below this one.
-    fn below(&mut self, bound: u32) -> u32 {
+    fn below(&mut self, bound: usize) -> usize {
         self.state = self
             .state
             .wrapping_mul(1_664_525)
             .wrapping_add(1_013_904_223);
-        (self.state >> 16).checked_rem(bound).unwrap_or(0)
+        let number = (self.state >> 16) as usize;
+        number.checked_rem(bound).unwrap_or(0)
     }
 
     fn one_of(&mut self, bytes: &[u8]) -> u8 {
-        let place = self.below(bytes.len() as u32);
-        bytes.get(place as usize).copied().unwrap_or(0)
+        let place = self.below(bytes.len());
+        bytes.get(place).copied().unwrap_or(0)
     }
 
     // Something like a frame: its kind and its length may be wrong, and some bytes may lack. No
@@ -49,10 +58,10 @@ impl Numbers {
         out.push(self.one_of(kinds))?;
         out.push(if self.below(12) == 0 { 0x20 } else { 0 })?;
         let len = if self.below(3) == 0 { 4 } else { self.below(9) };
-        out.push(len as u8)?;
+        out.push(byte_of(len))?;
         let lacking = if self.below(4) == 0 { self.below(3) } else { 0 };
         for _ in 0..len.saturating_sub(lacking) {
-            let byte = self.below(256) as u8;
+            let byte = byte_of(self.below(256));
             out.push(if byte == 1 { 0 } else { byte })?;
         }
         Ok(())
