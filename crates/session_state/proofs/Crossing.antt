@@ -9,5 +9,16 @@ use Rattle.session_clients.proofs.Crossing.{clients_send}
 use Rattle.session_state.specs.contracts.state.State as State
 
 pub state_send : IsSend State.the_row
-state_send = declared_send State.the_type (heap.the_send, (acl.the_send, (locks.the_send, (plain_send _ _ _ _ _,
-    (windows.the_send, (clients_send, (plain_send _ _ _ _ _, (plain_send _ _ _ _ _, tt))))))))
+state_send = declared_send State.the_type (
+  heap.the_send,
+  (
+    acl.the_send,
+    (
+      locks.the_send,
+      (
+        plain_send _ _ _ _ _,
+        (windows.the_send, (clients_send, (plain_send _ _ _ _ _, (plain_send _ _ _ _ _, tt)))),
+      ),
+    ),
+  ),
+)
