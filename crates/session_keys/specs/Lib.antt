@@ -5,3 +5,7 @@ pub mod Reads
 pub mod Said
 pub mod Stepping
 pub mod Typing
+pub use Rattle.session_orders.specs.Checked
+pub use Rattle.session_orders.specs.Leaving
+pub use Rattle.session_orders.specs.Drawn
+pub use Rattle.session_orders.specs.Viewed

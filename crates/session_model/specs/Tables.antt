@@ -10,6 +10,7 @@ use Rattle.regions.specs.declared.shown.Shown.{Shown}
 use Rattle.regions.specs.Layouts.{Arrangement}
 use Rattle.terminal_model.specs.Shows.{View}
 use Rattle.terminal_model.specs.Writing.{Writing}
+pub use Rattle.session_rows.specs.Finding.{row_of, with_row}
 use Rattle.session_model.specs.declared.message.Message.{Message}
 use Rattle.acl.specs.declared.edition.Edition.{Edition}
 
@@ -66,17 +67,6 @@ fresh edition owner = record {
 }
 
 -- ---- rows by their serials
-
-abbrev pub row_of : {A : Type 0} → (A → ℕ) → List A → ℕ → Option A
-row_of serial_of [] serial = None
-row_of serial_of (row ∷ rows) serial =
-    if serial_of row == serial then Some row else row_of serial_of rows serial
-
--- a new row in place of the first one of a serial
-abbrev pub with_row : {A : Type 0} → (A → ℕ) → List A → ℕ → A → List A
-with_row serial_of [] serial new = []
-with_row serial_of (row ∷ rows) serial new =
-    if serial_of row == serial then new ∷ rows else row ∷ with_row serial_of rows serial new
 
 abbrev pub window_at : Tables → ℕ → Option Window
 window_at t serial = row_of (λ (w : Window). w.serial) t.windows serial

@@ -5,7 +5,7 @@ use Rattle.std.proofs.Math.Seq.{take-append_seam}
 use Rattle.std.specs.Prelude.{◌==◌, IfSome, OnSome}
 use Rattle.std.specs.List.{position}
 use Rattle.std.specs.Option.{option_copied_mut}
-use Rattle.session_model.specs.Tables.{row_of}
+use Rattle.session_rows.specs.Finding.{row_of}
 use Rattle.session_rows.specs.Lending.{over}
 use Rattle.session_rows.proofs.Serials.{at_place}
 

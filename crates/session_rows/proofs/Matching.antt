@@ -1,7 +1,7 @@
 -- Two tables, row by row.
 use Rattle.std.proofs.Common.{◌≡◌, ℕ, suc, Bool, true, false, List, [], ◌∷◌, ◌++◌, Option, Some, None, map, filter, length, refl, ap, sym, subst, is_some}
 use Rattle.std.specs.Prelude.{if◌then◌else◌, ◌==◌, find, not}
-use Rattle.session_model.specs.Tables.{row_of, with_row}
+use Rattle.session_rows.specs.Finding.{row_of, with_row}
 use Rattle.session_rows.specs.Matched.{Matched, BothOrNone}
 
 -- ---- two rows that were looked for

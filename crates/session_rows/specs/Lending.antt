@@ -1,7 +1,7 @@
 -- Rows that are lent to be changed.
 use Rattle.std.specs.Prelude.{ℕ, ◌≡◌, List, ◌++◌, Option, OnSome, length, take, drop}
 use Rattle.std.specs.Borrow.{Lends, LendsSo, Array, RattleType, MutBor, Fml}
-use Rattle.session_model.specs.Tables.{with_row}
+use Rattle.session_rows.specs.Finding.{with_row}
 use Rattle.session_rows.specs.contracts.rows.Rows.{the_row}
 
 -- rows over the first of the old ones, of which as many stay as there were

@@ -6,7 +6,7 @@ ghost use Rattle.std.specs.List.{position};
 ghost use Rattle.std.specs.List.Retain.{IsFiltered};
 ghost use Rattle.std.specs.Fn.{CalledAt};
 ghost use Rattle.std.specs.Option.{option_copied_mut};
-ghost use Rattle.session_model.specs.Tables.{row_of};
+ghost use Rattle.session_rows.specs.Finding.{row_of};
 
 use std::alloc::{AllocError, Global};
 use std::marker::Model;

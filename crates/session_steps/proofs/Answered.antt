@@ -26,7 +26,7 @@ use Rattle.session_state.specs.declared.made.Made.{Made}
 use Rattle.session_state.specs.declared.state.State.{State}
 use Rattle.session_state.specs.Stands.{Stands}
 use Rattle.session_state.specs.Doing.{HasDone, IsAsBefore, did}
-use Rattle.session_leaving.specs.Leaving.{HasLeft}
+use Rattle.session_keys.specs.Leaving.{HasLeft}
 use Rattle.session_keys.specs.Reads.{Ruled}
 use Rattle.session_keys.specs.Reads.{ReadFor, read_of}
 use Rattle.session_steps.specs.Lines.{Parses, line_refusal, refusal_by}

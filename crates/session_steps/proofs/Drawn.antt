@@ -17,7 +17,7 @@ use Rattle.session_state.specs.declared.made.Made.{Made}
 use Rattle.session_state.specs.declared.state.State.{State}
 use Rattle.session_state.specs.Stands.{Stands}
 use Rattle.session_state.specs.Doing.{IsAsBefore}
-use Rattle.session_view.specs.Drawn.{HasDrawn}
+use Rattle.session_keys.specs.Drawn.{HasDrawn}
 use Rattle.session_steps.specs.Taking.{TakenAs, wants_memory}
 use Rattle.session_steps.proofs.Still.{none_left}
 

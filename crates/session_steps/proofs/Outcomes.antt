@@ -15,8 +15,8 @@ use Rattle.session_state.specs.declared.made.Made.{Made}
 use Rattle.session_state.specs.declared.state.State.{State}
 use Rattle.session_state.specs.Stands.{Stands}
 use Rattle.session_state.specs.Doing.{HasDone, IsAsBefore}
-use Rattle.session_checks.specs.Checked.{Failed}
-use Rattle.session_leaving.specs.Leaving.{HasLeft}
+use Rattle.session_keys.specs.Checked.{Failed}
+use Rattle.session_keys.specs.Leaving.{HasLeft}
 use Rattle.session_steps.specs.Stepping.{HasHappened, Stepped}
 
 pub nothing_done : (s : State) (m : Made) → IsAsBefore s s m m

@@ -8,9 +8,7 @@ ghost use Rattle.session_steps.specs.Stepping.{Steps};
 
 use acl::UserId;
 use command_lang::{Command, FaultKind, ParseFault, parse};
-use session_checks::is_known;
-use session_keys::order;
-use session_leaving::{Focuses, leave};
+use session_keys::{Focuses, is_known, leave, order};
 use session_model::{Done, Refusal, Reply, Verdict};
 use session_state::{Caller, Made, State};
 use std::alloc::Global;

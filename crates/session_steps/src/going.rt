@@ -7,7 +7,7 @@ ghost use Rattle.session_state.specs.Doing.{IsAsBefore};
 ghost use Rattle.session_steps.specs.Stepping.{Steps};
 
 use crate::coming::made_so;
-use session_leaving::{Focuses, close_window, detach_client, leave};
+use session_keys::{Focuses, close_window, detach_client, leave};
 use session_model::Reply;
 use session_state::{Made, State};
 

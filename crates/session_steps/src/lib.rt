@@ -9,4 +9,5 @@ mod programs;
 mod reading;
 mod taking;
 
+pub use session_keys::view_of;
 pub use taking::take;

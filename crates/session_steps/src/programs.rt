@@ -8,7 +8,7 @@ ghost use Rattle.session_steps.specs.Stepping.{Steps};
 
 use crate::coming::made_so;
 use session_events::output;
-use session_leaving::{Focuses, leave};
+use session_keys::{Focuses, leave};
 use session_model::{Refusal, Reply};
 use session_state::{Made, State};
 

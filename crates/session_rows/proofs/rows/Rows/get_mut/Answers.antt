@@ -1,5 +1,5 @@
 use Rattle.std.proofs.Common.{◌∙◌, ap, sym, refl, List, IsSome, rules}
-use Rattle.session_model.specs.Tables.{row_of, with_row}
+use Rattle.session_rows.specs.Finding.{row_of, with_row}
 use Rattle.session_rows.proofs.Serials.{placed, lost}
 use Rattle.session_rows.proofs.Lending.{at_some, lent_row}
 use Rattle.session_rows.proofs.rows.Rows.get_mut.Goals as goal
