@@ -134,56 +134,76 @@ fn ended(way: Way, why: Why, said: Option<String>) -> Result<(), ClientFault> {
     }
 }
 
-// Shows what comes, until the server lets the peer go.
-fn show_all<R: Threads + AllocGlobal, I: Read + Send + Drop + 'static, O: Write>(
-    rt: &R,
-    mut stream: &UnixStream,
-    input: I,
-    output: &mut O,
+/// What a peer still has to send, and what the session said last.
+#[derive(Drop)]
+struct Peer<I> {
     way: Way,
-) -> Result<(), ClientFault> {
-    let alloc = rt.alloc();
-    let mut buffer = vec![in alloc; 0; LONGEST]?;
-    let mut reader = Reader::new(alloc, Side::Peer);
-    let mut input = Some(input);
-    let mut said = None;
-    for _ in 0..u64::MAX {
-        let count = stream.read(buffer.as_mut_slice())?;
-        if count == 0 {
-            return Err(ClientFault::Ended);
+    /// Its input, until it is welcome.
+    input: Option<I>,
+    said: Option<String>,
+}
+
+impl<I: Read + Send + Drop + 'static> Peer<I> {
+    // Shows a message that isn't its last one.
+    fn show<R: Threads + AllocGlobal, O: Write>(
+        &mut self,
+        rt: &R,
+        stream: &UnixStream,
+        output: &mut O,
+        message: &Message,
+    ) -> Result<(), ClientFault> {
+        match message {
+            Message::Welcome(_) if self.way != Way::Command => {
+                if let Some(input) = self.input.take() {
+                    start_sending(rt, stream, input, self.way)?;
+                }
+            }
+            Message::Draw(bytes) | Message::Input(bytes) => output.write_all(bytes.as_slice())?,
+            // Once a peer is welcome, its status line says what the session says.
+            Message::Say(text) if self.input.is_some() => {
+                if self.way == Way::Command {
+                    writeln!(output, "{}", text.as_str())?;
+                }
+                self.said = Some(String::from_str(rt.alloc(), text.as_str())?);
+            }
+            _ => {}
         }
-        let mut messages = Vec::new(alloc);
-        let fed = reader.feed(&buffer[..count], &mut messages);
-        for message in &messages {
-            match message {
-                Message::Welcome(_) if way != Way::Command => {
-                    if let Some(input) = input.take() {
-                        start_sending(rt, stream, input, way)?;
-                    }
-                }
-                Message::Draw(bytes) | Message::Input(bytes) => output.write_all(bytes.as_slice())?,
-                // Once a peer is welcome, its status line says what the session says.
-                Message::Say(text) if input.is_some() => {
-                    if way == Way::Command {
-                        writeln!(output, "{}", text.as_str())?;
-                    }
-                    said = Some(String::from_str(alloc, text.as_str())?);
-                }
-                Message::Gone(why) => {
+        Ok(())
+    }
+
+    // Shows what comes, until the server lets the peer go.
+    fn show_all<R: Threads + AllocGlobal, O: Write>(
+        &mut self,
+        rt: &R,
+        mut stream: &UnixStream,
+        output: &mut O,
+    ) -> Result<(), ClientFault> {
+        let alloc = rt.alloc();
+        let mut buffer = vec![in alloc; 0; LONGEST]?;
+        let mut reader = Reader::new(alloc, Side::Peer);
+        for _ in 0..u64::MAX {
+            let count = stream.read(buffer.as_mut_slice())?;
+            if count == 0 {
+                return Err(ClientFault::Ended);
+            }
+            let mut messages = Vec::new(alloc);
+            let fed = reader.feed(&buffer[..count], &mut messages);
+            for message in &messages {
+                if let Message::Gone(why) = message {
                     output.flush()?;
-                    return ended(way, *why, said);
+                    return ended(self.way, *why, self.said.take());
                 }
-                _ => {}
+                self.show(rt, stream, output, message)?;
+            }
+            output.flush()?;
+            match fed {
+                Ok(()) => {}
+                Err(ProtoFault::NoMemory) => return Err(ClientFault::NoMemory),
+                Err(_) => return Err(ClientFault::NoServerOfOurs),
             }
         }
-        output.flush()?;
-        match fed {
-            Ok(()) => {}
-            Err(ProtoFault::NoMemory) => return Err(ClientFault::NoMemory),
-            Err(_) => return Err(ClientFault::NoServerOfOurs),
-        }
+        Err(ClientFault::Ended)
     }
-    Err(ClientFault::Ended)
 }
 
 fn connect<R: Net + AllocGlobal>(rt: &R, path: &str) -> Result<UnixStream, ClientFault> {
@@ -208,7 +228,12 @@ fn run<R: Net + Files + Threads + AllocGlobal, I: Read + Send + Drop + 'static, 
     let first = first_message(rt, way, matches)?;
     let stream = connect(rt, word(matches, "socket")?)?;
     send(rt.alloc(), &stream, &first)?;
-    show_all(rt, &stream, input, output, way)
+    let mut peer = Peer {
+        way,
+        input: Some(input),
+        said: None,
+    };
+    peer.show_all(rt, &stream, output)
 }
 
 /// `mux`: a client of the server. The first word is the program's name. The answer is the status to
