@@ -1,0 +1,161 @@
+//! One loop over a new session, and its peers.
+
+ghost use Rattle.std.specs.Prelude.{◌≡◌, ◌<◌, ◌≤◌};
+
+use acl::Edition;
+use hub_record::{Filed, KeptRef};
+use server_loop::{House, Hub, Loop, Open, Seat, Session};
+use server_streams::{Far, Habit, Near, Stop, TOKEN, USERS, ends};
+use server_turn::{Users, UsersFault};
+use std::alloc::Global;
+use std::marker::Brand;
+use std::sync::Wait;
+use std::sync::ledger::{Blank, Ledger as Roll};
+
+/// A house of a new session of the users own and bob, and its seats.
+pub(crate) fn new_house<L: Roll>(
+    alloc: Global,
+    blank: Blank,
+    seats: usize,
+) -> Result<(House<L>, Vec<Seat<L>>), Stop>
+    requires { (blank.name ≡ L.name) × (blank.parts ≡ L.parts) × (seats ≡ L.parts)
+        × (0 < seats) × (seats ≤ 8) }
+{
+    let users = match Users::read(alloc, USERS) {
+        Ok(users) => users,
+        Err(UsersFault::NoMemory) => return Err(Stop::Memory),
+        Err(_) => return Err(Stop::Other("the users' file")),
+    };
+    let owner = users.owner();
+    let Ok(session) = Session::new(alloc, owner) else {
+        return Err(Stop::Memory);
+    };
+    let Ok((hub, seats)) = Hub::<L>::new(alloc, blank, Edition::Second, owner, session, seats)
+    else {
+        return Err(Stop::Memory);
+    };
+    Ok((House { hub, users }, seats))
+}
+
+/// One loop over a new session.
+#[derive(Drop)]
+pub struct Stage<L: Roll> {
+    pub alloc: Global,
+    pub house: House<L>,
+    pub peers: Loop<Near, Open, L>,
+}
+
+// How many connections a stage has at most.
+const KEYS: usize = 8;
+
+fn letter(entry: &Filed) -> u8 {
+    match entry.event().get() {
+        KeptRef::Attach { .. } => b'A',
+        KeptRef::Detach { .. } => b'D',
+        KeptRef::Keys { .. } => b'K',
+        KeptRef::Command { .. } => b'C',
+        KeptRef::Open { .. } => b'O',
+        KeptRef::Closed { .. } => b'X',
+    }
+}
+
+impl<L: Roll> Stage<L> {
+    fn new(alloc: Global, blank: Blank) -> Result<Stage<L>, Stop>
+        requires { (blank.name ≡ L.name) × (blank.parts ≡ L.parts) × (blank.parts ≡ 1) }
+    {
+        let (house, mut seats) = new_house::<L>(alloc, blank, 1)?;
+        let Some(seat) = seats.pop() else {
+            return Err(Stop::Other("no seat"));
+        };
+        Ok(Stage {
+            alloc,
+            house,
+            peers: Loop::new(alloc, seat, Open)?,
+        })
+    }
+
+    /// A connection that sends these bytes. Without memory the loop closes it.
+    pub fn connect(&mut self, habit: Habit, bytes: &[u8]) -> Result<Far, Stop> {
+        let (near, far) = ends(self.alloc, habit)?;
+        far.send(bytes)?;
+        let _ = self.peers.admit(near);
+        Ok(far)
+    }
+
+    /// So many turns, in each of which all connections are ready.
+    pub fn turns<R: Wait>(&mut self, rt: &R, count: usize) {
+        for _ in 0..count {
+            for key in 0..KEYS {
+                self.peers.is_ready(key);
+            }
+            self.peers.read_all(rt, &self.house);
+            self.peers.settle(rt, &self.house);
+        }
+    }
+
+    /// A connection that gives a command of the owner: what it is sent.
+    pub fn command<R: Wait>(&mut self, rt: &R, line: &str) -> Result<Vec<u8>, Stop> {
+        let far = self.connect(Habit::Whole, b"C\0")?;
+        let Ok(len) = u8::try_from(line.len().saturating_add(69)) else {
+            return Err(Stop::Other("a line that is too long"));
+        };
+        far.send(&[len, 0xFF])?;
+        far.send(TOKEN)?;
+        far.send(b"\x03own")?;
+        far.send(line.as_bytes())?;
+        self.turns(rt, 2);
+        Ok(far.taken(self.alloc)?)
+    }
+
+    // The entries of the trail, a letter for each, once the loop is over.
+    fn entries(self) -> Result<Vec<u8>, Stop> {
+        let Stage {
+            alloc,
+            house,
+            peers,
+        } = self;
+        let mut seats = Vec::new(alloc);
+        seats.push(peers.into_seat())?;
+        let House { hub, .. } = house;
+        let (trail, wrong) = hub.close(seats);
+        if wrong.is_some() {
+            return Err(Stop::Other("an answer isn't in the trail"));
+        }
+        let mut letters = Vec::new(alloc);
+        for entry in trail.entries() {
+            letters.push(letter(entry))?;
+        }
+        Ok(letters)
+    }
+}
+
+/// What is played on a stage.
+pub trait Play {
+    /// What it leaves.
+    type Left: Drop;
+
+    fn play<L: Roll, R: Wait>(&mut self, rt: &R, stage: &mut Stage<L>) -> Result<Self::Left, Stop>;
+}
+
+fn run<L: Roll, P: Play, R: Wait>(
+    rt: &R,
+    alloc: Global,
+    blank: Blank,
+    play: &mut P,
+) -> Result<(P::Left, Vec<u8>), Stop>
+    requires { (blank.name ≡ L.name) × (blank.parts ≡ L.parts) × (blank.parts ≡ 1) }
+{
+    let mut stage = Stage::<L>::new(alloc, blank)?;
+    let left = play.play(rt, &mut stage)?;
+    let entries = stage.entries()?;
+    Ok((left, entries))
+}
+
+/// Plays on a new stage: what the play leaves, and the trail's entries, a letter for each.
+pub fn perform<P: Play, R: Wait>(
+    rt: &R,
+    alloc: Global,
+    play: &mut P,
+) -> Result<(P::Left, Vec<u8>), Stop> {
+    run::<Brand, P, R>(rt, alloc, Blank::new(1), play)
+}

@@ -1,0 +1,12 @@
+//! Tests of a server's loops: how they end, what refused memory does, an attachment after a broken
+//! one, and two of them side by side.
+#![tactic(auto)]
+
+#[cfg(test)]
+mod again;
+#[cfg(test)]
+mod ends;
+#[cfg(test)]
+mod gates;
+#[cfg(test)]
+mod refusals;
