@@ -80,5 +80,6 @@ abbrev pub TilesPage : ℕ → ℕ → List Rect → Type 0
 TilesPage rows cols rs =
     (line column : ℕ) → times rs line column ≡ one_if (among 1 rows line && among 1 cols column)
 
+-- So do the boxes with their captions, the separators and the status line.
 abbrev pub RectsTile : ℕ → ℕ → Rects → Type 0
 RectsTile rows cols r = TilesPage rows cols (parts r.boxes.items r.separators.items r.status)

@@ -181,7 +181,7 @@ impl Layout {
         ensures each { IfOk result (λ r. length r.boxes.items ≡ length self.now.shown) }
         ensures focused { IfOk result (λ r. r.focus < length r.boxes.items) }
         // They cover each place of the page once.
-        ensures tiles { IfOk result (RectsTile rows cols) }
+        ensures tiles { IfOk result (λ r. RectsTile rows cols r) }
     {
         let page = Rect::of_layout(rows, cols);
         if !self.tree.has_room(rows, cols) {
