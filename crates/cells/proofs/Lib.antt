@@ -8,3 +8,4 @@ pub mod Putting
 pub mod Grids
 pub mod Runs
 pub mod Used
+pub mod Looks

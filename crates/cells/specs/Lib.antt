@@ -4,3 +4,4 @@ pub mod Moves
 pub mod Resizing
 pub mod Glyph
 pub mod Unlike
+pub mod Look

@@ -1,6 +1,7 @@
 //! What stands at a place of a line.
 
 ghost use Rattle.std.specs.Prelude.{◌≡◌, ◌↔◌, IsTrue};
+ghost use Rattle.cells.specs.Look.{look_of};
 ghost use Rattle.cells.specs.Line.{blank, colour_number, joined, unprotected, narrow_cell, left_cell, right_cell};
 
 /// The part of its character that a cell holds (UAX #11, section 5).
@@ -251,11 +252,42 @@ impl Cell {
     pub fn is_like(&self, other: &Cell) -> bool
         ensures { IsTrue result ↔ (unprotected self.now ≡ unprotected other.now) }
     {
-        self.character == other.character
-            && is_same_shape(self.shape, other.shape)
-            && is_same_rendition(self.rendition, other.rendition)
-            && is_same_marks(self.marks, other.marks)
+        is_same_bare(self, other)
+            || (self.character == other.character
+                && is_same_shape(self.shape, other.shape)
+                && is_same_rendition(self.rendition, other.rendition)
+                && is_same_marks(self.marks, other.marks))
     }
+}
+
+/// Whether both are one cell, without marks. Most that look alike are, and few comparisons tell.
+fn is_same_bare(a: &Cell, b: &Cell) -> bool
+    ensures { IsTrue result → unprotected a.now ≡ unprotected b.now }
+{
+    a.character == b.character && look(a) == look(b) && is_bare(a.marks) && is_bare(b.marks)
+}
+
+fn is_bare(marks: Marks) -> bool
+    ensures { IsTrue result ↔ (marks ≡ Marks.Bare) }
+{
+    match marks {
+        Marks::Bare => true,
+        _ => false,
+    }
+}
+
+/// Rendition, shape and protection as one number, in the order in which a cell holds them, so that it
+/// is read as one word.
+#[tactic(auto, unfolding(crate::specs::Look::look_of))]
+fn look(cell: &Cell) -> u64
+    ensures { result ≡ look_of cell.now }
+{
+    let rendition = cell.rendition;
+    let last = cell.shape as u64 + 0x100 * cell.is_protected as u64;
+    let colours = rendition.fore as u64 + 0x100 * (rendition.back as u64 + 0x100 * last);
+    let third = rendition.is_blinking as u64
+        + 0x100 * (rendition.is_reversed as u64 + 0x100 * colours);
+    rendition.is_bold as u64 + 0x100 * (rendition.is_underlined as u64 + 0x100 * third)
 }
 
 fn is_same_shape(a: Shape, b: Shape) -> bool

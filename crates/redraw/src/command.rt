@@ -1,7 +1,7 @@
 //! The control functions that frames are made of.
 
 ghost use Rattle.std.specs.Prelude.{◌≡◌, ◌<◌, ◌++◌, [], OnOk};
-ghost use Rattle.control_parser.specs.declared.func.Func.TheVariants.{Csi, Esc};
+ghost use Rattle.control_parser.specs.declared.func.Func.TheVariants.{Print, Csi, Esc};
 ghost use Rattle.control_parser.specs.Spelling.{spelling};
 ghost use Rattle.redraw.specs.Commands.{place_params, switch, func_of, IsPlaced};
 
@@ -105,8 +105,21 @@ impl Command {
         requires { IsPlaced self }
         ensures { OnOk result (out.new.items ≡ out.old.items ++ spelling (func_of self)) }
     {
-        let func = self.func();
-        spell(&func, out)?;
+        match self {
+            Command::Glyph(character) => put_glyph(character, out),
+            _ => spell(&self.func(), out),
+        }
+    }
+}
+
+/// Appends a character: the one byte of an ASCII one at once.
+fn put_glyph(character: char, out: &mut Vec<u8>) -> Result<(), AllocError>
+    ensures { OnOk result (out.new.items ≡ out.old.items ++ spelling (Print character)) }
+{
+    if character.is_ascii() {
+        out.push(character as u8)?;
         Ok(())
+    } else {
+        spell(&Func::Print(character), out)
     }
 }

@@ -1,9 +1,10 @@
 //! From one page to another.
 
-ghost use Rattle.std.specs.Prelude.{◌≡◌, ◌+◌, ◌<◌, ◌≤◌, ℕ, ◌++◌, List, Bool, false, OnOk, IfOk, IfSome, length};
+ghost use Rattle.std.specs.Prelude.{◌≡◌, ◌+◌, ◌<◌, ◌≤◌, ℕ, ◌++◌, List, Bool, false, OnOk, IfOk, IfSome, IfNone, length};
 ghost use Rattle.cells.specs.declared.cell.Cell.{Cell};
 ghost use Rattle.cells.specs.Line.{blank, cell_at, is_right};
 ghost use Rattle.cells.specs.Page.{line_at};
+ghost use Rattle.cells.specs.Unlike.{IsNextUnlike, IsEndOfUnlike, AreAlikeFrom};
 ghost use Rattle.terminal_model.specs.Screen.{Page, IsInside};
 ghost use Rattle.terminal_model.specs.Drawable.{HaveHalves};
 ghost use Rattle.view.specs.Drawable.{IsDrawable};
@@ -77,6 +78,21 @@ fn draw_piece(
     Ok(column + columns_of(cell) as usize)
 }
 
+/// The first run of columns, not below `column`, in which lines differ: up to `known`, where `column` is
+/// below that.
+fn next_run(before: &[Cell], after: &[Cell], column: usize, known: usize) -> Option<(usize, usize)>
+    requires same_width { length before.now ≡ length after.now }
+    requires known { column < known → IsEndOfUnlike before.now after.now column known }
+    ensures found { IfSome result (λ run. IsNextUnlike before.now after.now column run.0 run.1) }
+    ensures none { IfNone result (AreAlikeFrom before.now after.now column) }
+{
+    if column < known {
+        Some((column, known))
+    } else {
+        next_unlike(before, after, column)
+    }
+}
+
 /// Draws the places of a line that differ, from left to right.
 fn draw_line(
     pen: &mut Pen,
@@ -91,9 +107,10 @@ fn draw_line(
     ensures { OnOk result ((old new : Page) (rows : ℕ) → line < rows → rows < 9999 → AreLines old new line before.now after.now →
         DrawsUpTo old new rows (length after.now) pen.old pen.new line (length after.now) out.old.items out.new.items) }
 {
-    let mut column = 0;
-    while let Some((start, end)) = next_unlike(before, after, column) {
+    let (mut column, mut known) = (0, 0);
+    while let Some((start, end)) = next_run(before, after, column, known) {
         column = draw_piece(pen, line, after, start, end, out)?;
+        known = end;
     }
     Ok(())
 }

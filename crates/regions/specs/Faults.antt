@@ -1,7 +1,8 @@
 -- The numbers of the faults.
 use Rattle.std.specs.Prelude.{ℕ}
 use Rattle.regions.specs.declared.fault.RegionFault.{RegionFault}
-use Rattle.regions.specs.declared.fault.RegionFault.TheVariants.{TooSmall, TooMany, LastRegion, NoMemory}
+use Rattle.regions.specs.declared.fault.RegionFault.TheVariants.{TooSmall, TooMany}
+use Rattle.regions.specs.declared.fault.RegionFault.TheVariants.{LastRegion, NoMemory}
 
 abbrev pub number : RegionFault → ℕ
 number TooSmall = 1

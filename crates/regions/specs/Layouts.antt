@@ -1,13 +1,15 @@
 -- What a layout is to its callers.
-use Rattle.std.specs.Prelude.{◌≡◌, ℕ, ◌+◌, ◌==◌, Bool, false, if◌then◌else◌, List, [], ◌∷◌, length, map, Option, Some, None, slice_get, unwrap_or}
+use Rattle.std.specs.Prelude.{◌≡◌, ℕ, ◌+◌, ◌<◌, ◌≤◌, ◌==◌, Bool, false, if◌then◌else◌}
+use Rattle.std.specs.Prelude.{List, [], ◌∷◌, length, map, slice_get, slice_set}
+use Rattle.std.specs.Prelude.{Option, Some, None, unwrap_or}
 use Rattle.std.specs.List.{insert, remove}
 use Rattle.std.specs.Coded.{Coded, code_by, coded×, coded_list, coded_ℕ, coded_option}
 use Rattle.std.proofs.Common.{refl, ap}
 use Rattle.regions.specs.declared.shown.Shown.{Shown}
 use Rattle.regions.specs.declared.way.Way.{Way}
 use Rattle.regions.specs.declared.fault.RegionFault.{RegionFault}
-use Rattle.regions.specs.declared.fault.RegionFault.TheVariants.{TooSmall, TooMany}
-use Rattle.regions.specs.Shapes.{Shape, region, split_at, without, after}
+use Rattle.regions.specs.declared.fault.RegionFault.TheVariants.{TooSmall, TooMany, NoMemory}
+use Rattle.regions.specs.Shapes.{Shape, region, regions, split_at, without, after}
 use Rattle.regions.specs.Pages.{has_room}
 use Rattle.regions.specs.Codes.{shape_code}
 
@@ -16,6 +18,11 @@ pub record Arrangement : Type 0 where
   pub shape : Shape
   pub focus : ℕ
   pub shown : List Shown
+
+-- One thing is shown for each region of the shape, 16 at most, and one of them has the focus.
+abbrev pub IsLaidOut : Shape → ℕ → List Shown → Type 0
+IsLaidOut s focus shown =
+    (regions s ≡ length shown) × (focus < length shown) × (length shown ≤ 16)
 
 abbrev pub empty : Shown
 empty = record { window = None; back = 0 }
@@ -27,13 +34,33 @@ one_region s = record { shape = region; focus = 0; shown = s ∷ [] }
 abbrev pub kept_alone : Arrangement → Arrangement
 kept_alone l = one_region (unwrap_or (slice_get l.shown l.focus) empty)
 
+-- The focused region shows this.
+abbrev pub put_in_focus : Shown → Arrangement → Arrangement
+put_in_focus s l = record l { shown = slice_set l.shown l.focus s }
+
+-- On a page of this size the focused region stays alone where one would be too small.
+abbrev pub resized : ℕ → ℕ → Arrangement → Arrangement
+resized rows cols l = if has_room l.shape rows cols then l else kept_alone l
+
 -- The focused region is the first half, and keeps the focus; the second half is new and empty.
 abbrev pub split_focused : Way → Arrangement → Arrangement
-split_focused way l = record { shape = split_at way l.focus l.shape; focus = l.focus; shown = insert l.shown (l.focus + 1) empty }
+split_focused way l = record {
+  shape = split_at way l.focus l.shape;
+  focus = l.focus;
+  shown = insert l.shown (l.focus + 1) empty;
+}
+
+-- The focus goes to the region behind: after a split, to the second half.
+abbrev pub second_focused : Arrangement → Arrangement
+second_focused l = record l { focus = l.focus + 1 }
 
 -- The focused region is closed. Its sibling has its room, and the sibling's first region the focus.
 abbrev pub remove_focused : Arrangement → Arrangement
-remove_focused l = record { shape = without l.focus l.shape; focus = after l.focus l.shape; shown = remove l.shown l.focus }
+remove_focused l = record {
+  shape = without l.focus l.shape;
+  focus = after l.focus l.shape;
+  shown = remove l.shown l.focus;
+}
 
 -- the next region in the order of the splits; the first one after the last
 abbrev pub next_focus : Arrangement → ℕ
@@ -45,6 +72,15 @@ split_fault way l rows cols =
     if length l.shown == 16 then Some TooMany
     else (if has_room (split_at way l.focus l.shape) rows cols then None else Some TooSmall)
 
+-- why one failed: what is refused, or memory
+abbrev pub split_error : Way → Arrangement → ℕ → ℕ → RegionFault
+split_error way l rows cols = unwrap_or (split_fault way l rows cols) NoMemory
+
+-- a split that isn't refused
+abbrev pub IsSplit : Way → ℕ → ℕ → Arrangement → Arrangement → Type 0
+IsSplit way rows cols old new =
+    (split_fault way old rows cols ≡ None) × (new ≡ split_focused way old)
+
 abbrev pub shows : ℕ → Option ℕ → Bool
 shows serial None = false
 shows serial (Some window) = window == serial
@@ -53,12 +89,24 @@ shows serial (Some window) = window == serial
 abbrev pub emptied : ℕ → Shown → Shown
 emptied serial s = if shows serial s.window then record s { window = None } else s
 
-pub shown_back : (l : List Shown) → map (λ (x : Option ℕ × ℕ). record { window = x.0; back = x.1 }) (map (λ (x : Shown). (x.window, x.back)) l) ≡ l
+-- ---- arrangements as tuples, by which a proof tells them apart
+
+abbrev pub shown_pair : Shown → Option ℕ × ℕ
+shown_pair s = (s.window, s.back)
+
+abbrev pub pair_shown : Option ℕ × ℕ → Shown
+pair_shown p = record { window = p.0; back = p.1 }
+
+pub shown_back : (l : List Shown) → map pair_shown (map shown_pair l) ≡ l
 shown_back [] = refl
 shown_back (s ∷ l) = ap (λ (xs : List Shown). s ∷ xs) (shown_back l)
 
+abbrev pub pair_code : Coded (Option ℕ × ℕ)
+pair_code = coded× (coded_option coded_ℕ) coded_ℕ
+
 abbrev pub arrangement_code : Coded Arrangement
-arrangement_code = code_by (Shape × (ℕ × List (Option ℕ × ℕ))) (coded× shape_code (coded× coded_ℕ (coded_list (coded× (coded_option coded_ℕ) coded_ℕ))))
-    (λ s. (s.shape, (s.focus, map (λ (x : Shown). (x.window, x.back)) s.shown)))
-    (λ p. record { shape = p.0; focus = p.1.0; shown = map (λ (x : Option ℕ × ℕ). record { window = x.0; back = x.1 }) p.1.1 })
-    (λ s. ap (λ (l : List Shown). record { shape = s.shape; focus = s.focus; shown = l }) (shown_back s.shown))
+arrangement_code = code_by (Shape × (ℕ × List (Option ℕ × ℕ)))
+    (coded× shape_code (coded× coded_ℕ (coded_list pair_code)))
+    (λ s. (s.shape, (s.focus, map shown_pair s.shown)))
+    (λ p. record { shape = p.0; focus = p.1.0; shown = map pair_shown p.1.1 })
+    (λ s. ap (λ (l : List Shown). record s { shown = l }) (shown_back s.shown))

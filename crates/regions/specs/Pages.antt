@@ -1,6 +1,9 @@
 -- The rectangles of a page, and the places that they cover.
-use Rattle.std.specs.Prelude.{◌≡◌, ℕ, ◌+◌, ◌-◌, Bool, ◌&&◌, nat_lt, nat_le, if◌then◌else◌, List, [], ◌∷◌, ◌++◌, map}
+use Rattle.std.specs.Prelude.{◌≡◌, ℕ, ◌+◌, ◌-◌, Bool, true, ◌&&◌, nat_lt, nat_le, if◌then◌else◌}
+use Rattle.std.specs.Prelude.{List, [], ◌∷◌, ◌++◌, map}
 use Rattle.std.specs.List.{list_all}
+use Rattle.regions.specs.declared.fault.RegionFault.{RegionFault}
+use Rattle.regions.specs.declared.fault.RegionFault.TheVariants.{TooSmall, NoMemory}
 use Rattle.regions.specs.declared.rect.Rect.{Rect}
 use Rattle.regions.specs.declared.rects.Rects.{Rects}
 use Rattle.regions.specs.Shapes.{Shape, boxes, separators}
@@ -22,6 +25,15 @@ is_roomy r = nat_lt 1 r.rows && nat_lt 1 r.cols
 abbrev pub has_room : Shape → ℕ → ℕ → Bool
 has_room s rows cols = list_all is_roomy (boxes s (box_of rows cols))
 
+-- a page of any size on which the one shape has room has it for the other too
+abbrev pub KeepsRoom : Shape → Shape → Type 0
+KeepsRoom old new =
+    (rows cols : ℕ) → has_room old rows cols ≡ true → has_room new rows cols ≡ true
+
+-- why there are no rectangles of a page
+abbrev pub rects_error : Shape → ℕ → ℕ → RegionFault
+rects_error s rows cols = if has_room s rows cols then NoMemory else TooSmall
+
 -- the rectangles of a page that is split so
 pub record IsRects (s : Shape) (focus rows cols : ℕ) (r : Rects) : Type 0 where
   pub boxes_are : r.boxes.items ≡ boxes s (box_of rows cols)
@@ -38,7 +50,13 @@ caption r = record r { line = r.line + (r.rows - 1); rows = 1 }
 
 -- regions, captions, separators and the status line
 abbrev pub parts : List Rect → List Rect → Rect → List Rect
-parts boxes separators status = (map inner boxes ++ (map caption boxes ++ separators)) ++ status ∷ []
+parts boxes separators status =
+    (map inner boxes ++ (map caption boxes ++ separators)) ++ status ∷ []
+
+-- those of a page that is split so
+abbrev pub page_parts : Shape → ℕ → ℕ → List Rect
+page_parts s rows cols =
+    parts (boxes s (box_of rows cols)) (separators s (box_of rows cols)) (status_of rows cols)
 
 -- ---- places
 
@@ -59,4 +77,9 @@ times (r ∷ rs) line column = one_if (has r line column) + times rs line column
 
 -- These cover each place of the page once, and no other place.
 abbrev pub TilesPage : ℕ → ℕ → List Rect → Type 0
-TilesPage rows cols rs = (line column : ℕ) → times rs line column ≡ one_if (among 1 rows line && among 1 cols column)
+TilesPage rows cols rs =
+    (line column : ℕ) → times rs line column ≡ one_if (among 1 rows line && among 1 cols column)
+
+-- So do the boxes with their captions, the separators and the status line.
+abbrev pub RectsTile : ℕ → ℕ → Rects → Type 0
+RectsTile rows cols r = TilesPage rows cols (parts r.boxes.items r.separators.items r.status)

@@ -1,5 +1,7 @@
--- Shapes of layouts: a region, or two halves (GNU Screen manual, "Split" and "Remove"). Lines and columns count from 1.
-use Rattle.std.specs.Prelude.{ℕ, ◌+◌, ◌-◌, ◌/◌, Bool, true, false, ◌&&◌, nat_lt, if◌then◌else◌, List, [], ◌∷◌, ◌++◌}
+-- Shapes of layouts: a region, or two halves (GNU Screen manual, "Split" and "Remove"). Lines and
+-- columns count from 1.
+use Rattle.std.specs.Prelude.{ℕ, ◌+◌, ◌-◌, ◌/◌, Bool, true, false, ◌&&◌, nat_lt, if◌then◌else◌}
+use Rattle.std.specs.Prelude.{List, [], ◌∷◌, ◌++◌, take, drop, get_or}
 use Rattle.regions.specs.declared.rect.Rect.{Rect}
 use Rattle.regions.specs.declared.way.Way.{Way}
 use Rattle.regions.specs.declared.way.Way.TheVariants.{Below, Right}
@@ -23,7 +25,8 @@ upper r = record r { rows = (r.rows + 1) / 2 }
 abbrev pub lower : Rect → Rect
 lower r = record r { line = r.line + (r.rows + 1) / 2; rows = r.rows / 2 }
 
--- Between halves side by side stands one column, over all rows; the first has the rounded-down half of the other columns.
+-- Between halves side by side stands one column, over all rows; the first has the rounded-down half
+-- of the other columns.
 abbrev pub left : Rect → Rect
 left r = record r { cols = (r.cols - 1) / 2 }
 
@@ -67,7 +70,13 @@ halves way = split way region region
 -- the n-th region of the order is split
 abbrev pub split_at : Way → ℕ → Shape → Shape
 split_at way n region = halves way
-split_at way n (split w a b) = if nat_lt n (regions a) then split w (split_at way n a) b else split w a (split_at way (n - regions a) b)
+split_at way n (split w a b) =
+    if nat_lt n (regions a) then split w (split_at way n a) b
+    else split w a (split_at way (n - regions a) b)
+
+-- boxes, with two halves in the place of the n-th
+abbrev pub with_halves : Way → ℕ → Rect → List Rect → List Rect
+with_halves way n r bs = take n bs ++ (boxes (halves way) (get_or bs n r) ++ drop (n + 1) bs)
 
 -- the n-th region goes, and its sibling has its room
 abbrev pub without : ℕ → Shape → Shape

@@ -1,9 +1,11 @@
 //! The layout of a client's page.
 
-ghost use Rattle.std.specs.Prelude.{◌≡◌, ℕ, ◌<◌, ◌≤◌, ◌+◌, ◌⊎◌, ◌↔◌, length, map, OnOk, OnErr, IfOk, IfErr, IfNone, IsOk, Some, None, Ok, Err, true, false, slice_get, slice_set, unwrap_or, if◌then◌else◌};
-ghost use Rattle.regions.specs.Shapes.{region, split_at};
-ghost use Rattle.regions.specs.Pages.{has_room, IsRects, TilesPage, parts};
-ghost use Rattle.regions.specs.Layouts.{Arrangement, one_region, split_focused, remove_focused, next_focus, split_fault, emptied, kept_alone};
+ghost use Rattle.std.specs.Prelude.{◌≡◌, ◌<◌, ◌≤◌, ◌↔◌, true, length, map, slice_get, Some};
+ghost use Rattle.std.specs.Prelude.{OnOk, OnErr, IfOk, IfErr, IsOk};
+ghost use Rattle.regions.specs.Shapes.{region};
+ghost use Rattle.regions.specs.Pages.{has_room, KeepsRoom, IsRects, RectsTile, rects_error};
+ghost use Rattle.regions.specs.Layouts.{one_region, put_in_focus, emptied, next_focus, kept_alone};
+ghost use Rattle.regions.specs.Layouts.{resized, IsSplit, split_error, remove_focused};
 
 use crate::fault::RegionFault;
 use crate::node::Node;
@@ -26,18 +28,17 @@ pub struct Layout {
 }
 
 impl Model for Layout {
-    ghost use Rattle.std.specs.Prelude.{◌≡◌, ◌<◌, ◌≤◌, length};
-    ghost use Rattle.regions.specs.Layouts.{Arrangement, arrangement_code};
+    ghost use Rattle.regions.specs.Layouts.{Arrangement, IsLaidOut, arrangement_code};
 
     ghost Value = { Arrangement };
 
     ghost coded = { arrangement_code };
 
-    ghost use Rattle.regions.specs.Shapes.{shape, regions};
+    ghost use Rattle.regions.specs.Shapes.{shape};
 
     ghost view = { λ l. record { shape = shape l.tree; focus = l.focus; shown = l.shown.items } };
 
-    ghost invariant = { λ l. (regions (shape l.tree) ≡ length l.shown.items) × (l.focus < length l.shown.items) × (length l.shown.items ≤ 16) };
+    ghost invariant = { λ l. IsLaidOut (shape l.tree) l.focus l.shown.items };
 }
 
 impl Layout {
@@ -80,7 +81,7 @@ impl Layout {
 
     /// The focused region shows this.
     pub fn set_shown(&mut self, shown: Shown)
-        ensures { self.new ≡ record self.old { shown = slice_set self.old.shown self.old.focus shown } }
+        ensures { self.new ≡ put_in_focus shown self.old }
     {
         self.shown[self.focus] = shown;
     }
@@ -94,7 +95,8 @@ impl Layout {
         }
     }
 
-    /// Gives the focus to the next region in the order of the splits, after the last one to the first.
+    /// Gives the focus to the next region in the order of the splits, after the last one to the
+    /// first.
     pub fn focus_next(&mut self)
         ensures { self.new ≡ record self.old { focus = next_focus self.old } }
     {
@@ -108,7 +110,7 @@ impl Layout {
     /// Keeps the focused region alone.
     pub fn only(&mut self)
         ensures alone { self.new ≡ kept_alone self.old }
-        ensures room { (rows cols : ℕ) → has_room self.old.shape rows cols ≡ true → has_room self.new.shape rows cols ≡ true }
+        ensures room { KeepsRoom self.old.shape self.new.shape }
     {
         let kept = self.shown[self.focus];
         self.shown.truncate(1);
@@ -119,7 +121,7 @@ impl Layout {
 
     /// The page has this size now: where a region would be too small, the focused one stays alone.
     pub fn resized(&mut self, rows: u16, cols: u16)
-        ensures fits { self.new ≡ (if has_room self.old.shape rows cols then self.old else kept_alone self.old) }
+        ensures fits { self.new ≡ resized rows cols self.old }
         ensures room { has_room region rows cols ≡ true → has_room self.new.shape rows cols ≡ true }
     {
         if !self.tree.has_room(rows, cols) {
@@ -135,10 +137,10 @@ impl Layout {
         rows: u16,
         cols: u16,
     ) -> Result<(), RegionFault>
-        ensures ok { OnOk result ((split_fault way self.old rows cols ≡ None) × (self.new ≡ split_focused way self.old)) }
+        ensures ok { OnOk result (IsSplit way rows cols self.old self.new) }
         ensures room { OnOk result (has_room self.new.shape rows cols ≡ true) }
         ensures err { OnErr result (self.new ≡ self.old) }
-        ensures fault { IfErr result (λ f. f ≡ unwrap_or (split_fault way self.old rows cols) RegionFault.NoMemory) }
+        ensures fault { IfErr result (λ f. f ≡ split_error way self.old rows cols) }
     {
         if self.shown.len() == REGIONS {
             return Err(RegionFault::TooMany);
@@ -152,10 +154,11 @@ impl Layout {
         Ok(())
     }
 
-    /// Closes the focused region. Its sibling has its room, and the sibling's first region the focus.
+    /// Closes the focused region. Its sibling has its room, and the sibling's first region the
+    /// focus.
     pub fn remove(&mut self) -> Result<(), RegionFault>
         ensures ok { OnOk result (self.new ≡ remove_focused self.old) }
-        ensures room { (rows cols : ℕ) → has_room self.old.shape rows cols ≡ true → has_room self.new.shape rows cols ≡ true }
+        ensures room { KeepsRoom self.old.shape self.new.shape }
         ensures err { IfErr result (λ f. (f ≡ RegionFault.LastRegion) × (self.new ≡ self.old)) }
         ensures last { IsOk result ↔ (1 < length self.old.shown) }
     {
@@ -173,12 +176,12 @@ impl Layout {
     pub fn rects(&self, alloc: Global, rows: u16, cols: u16) -> Result<Rects, RegionFault>
         ensures ok { IfOk result (IsRects self.now.shape self.now.focus rows cols) }
         ensures room { OnOk result (has_room self.now.shape rows cols ≡ true) }
-        ensures fault { IfErr result (λ f. f ≡ (if has_room self.now.shape rows cols then RegionFault.NoMemory else RegionFault.TooSmall)) }
+        ensures fault { IfErr result (λ f. f ≡ rects_error self.now.shape rows cols) }
         // One box a region, the focused one among them.
         ensures each { IfOk result (λ r. length r.boxes.items ≡ length self.now.shown) }
         ensures focused { IfOk result (λ r. r.focus < length r.boxes.items) }
         // They cover each place of the page once.
-        ensures tiles { IfOk result (λ r. TilesPage rows cols (parts r.boxes.items r.separators.items r.status)) }
+        ensures tiles { IfOk result (λ r. RectsTile rows cols r) }
     {
         let page = Rect::of_layout(rows, cols);
         if !self.tree.has_room(rows, cols) {

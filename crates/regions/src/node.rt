@@ -1,7 +1,8 @@
 //! The tree of splits.
 
 ghost use Rattle.std.specs.Prelude.{◌≡◌, ◌<◌, ◌≤◌, ◌+◌, ◌++◌, OnOk, IfOk, true};
-ghost use Rattle.regions.specs.Shapes.{shape, regions, fits, boxes, separators, halves, split_at, without, after, is_region};
+ghost use Rattle.regions.specs.Shapes.{shape, is_region, regions, fits, boxes, separators};
+ghost use Rattle.regions.specs.Shapes.{halves, split_at, without, after};
 ghost use Rattle.regions.specs.Pages.{has_room};
 
 use crate::rect::Rect;

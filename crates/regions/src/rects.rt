@@ -7,8 +7,8 @@ ghost use Rattle.regions.specs.Pages.{IsRects};
 use crate::rect::Rect;
 use std::alloc::{AllocError, Global};
 
-/// The boxes of a page's regions in the order of the splits, each with its caption in its last row; the
-/// separators between them; the place of the focused one among the boxes; and the status line.
+/// The boxes of a page's regions in the order of the splits, each with its caption in its last row;
+/// the separators between them; the place of the focused one among the boxes; and the status line.
 #[derive(Drop)]
 pub struct Rects {
     pub boxes: Vec<Rect>,

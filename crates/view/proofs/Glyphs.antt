@@ -11,7 +11,6 @@ use Rattle.cells.specs.declared.cell.Rendition.{Rendition}
 use Rattle.cells.specs.declared.cell.Shape.TheVariants.{Narrow, Right}
 use Rattle.cells.specs.Glyph.{glyph_columns}
 use Rattle.cells.specs.Line.{blank, cell_at, is_left, narrow_cell, left_cell, right_cell, unprotected}
-use Rattle.control_parser.specs.Grammar.{is_graphic}
 use Rattle.terminal_model.specs.Table.{columns_of, drawn, drawn_as}
 use Rattle.terminal_model.specs.Drawable.{IsGlyph, IsDrawableCell, HasHalves, IsDrawableLine}
 use Rattle.unicode_width.specs.Width.{char_width, alone}
@@ -27,20 +26,24 @@ or_true : (b : Bool) → (b || true) ≡ true
 or_true true = refl
 or_true false = refl
 
--- what has a width is a graphic character
-graphic_by : (c : ℕ) (low some high : Bool) (v w : ℕ) → ltb c 0x7F ≡ low → leb 0x20 c ≡ some → leb 0xA0 c ≡ high → cond low (cond some (Some 1) None) (cond high (Some v) None) ≡ Some w → is_graphic c ≡ true
-graphic_by c true true high v w l s h e =
+-- no control: U+0020 to U+007E, and from U+00A0 on
+abbrev is_printable : ℕ → Bool
+is_printable c = (ltb 0x1F c && ltb c 0x7F) || ltb 0x9F c
+
+-- what has a width is printable
+printable_by : (c : ℕ) (low some high : Bool) (v w : ℕ) → ltb c 0x7F ≡ low → leb 0x20 c ≡ some → leb 0xA0 c ≡ high → cond low (cond some (Some 1) None) (cond high (Some v) None) ≡ Some w → is_printable c ≡ true
+printable_by c true true high v w l s h e =
     let above : 0x1F < c = omega (arith, leb-true 0x20 c s) in
     rw (lt-ltb 0x1F c above, l) refl
-graphic_by c true false high v w l s h e = cc
-graphic_by c false some true v w l s h e =
+printable_by c true false high v w l s h e = cc
+printable_by c false some true v w l s h e =
     let above : 0x9F < c = omega (arith, leb-true 0xA0 c h) in
     rw (lt-ltb 0x9F c above) (or_true _)
-graphic_by c false some false v w l s h e = cc
+printable_by c false some false v w l s h e = cc
 
-graphic_of : (c w : ℕ) → char_width false c ≡ Some w → is_graphic c ≡ true
+printable_of : (c w : ℕ) → char_width false c ≡ Some w → is_printable c ≡ true
 unfolding char_width
-graphic_of c w e = graphic_by c (ltb c 0x7F) (leb 0x20 c) (leb 0xA0 c) (alone false c).0 w refl refl refl e
+printable_of c w e = printable_by c (ltb c 0x7F) (leb 0x20 c) (leb 0xA0 c) (alone false c).0 w refl refl refl e
 
 abbrev shown_by : Option ℕ → ℕ → ℕ
 shown_by w c = cond (eqb (glyph_columns w) 0) 0xFFFD (drawn_as w c)
@@ -52,7 +55,7 @@ visible-is c w e = ap (λ (x : Option ℕ). shown_by x c) e
 glyph_of : (c n w : ℕ) → IsScalar c → char_width false c ≡ Some w → glyph_columns (Some w) ≡ n → drawn_as (Some w) c ≡ c → IsGlyph n c
 unfolding columns_of drawn
 glyph_of c n w scalar e columns stays = record {
-  given = (graphic_of c w e, scalar);
+  given = (printable_of c w e, scalar);
   columns_are = ap glyph_columns e ∙ columns;
   stays = ap (λ (x : Option ℕ). drawn_as x c) e ∙ stays;
 }

@@ -1,6 +1,8 @@
--- What a client is granted to see, place by place. A page counts its lines and columns from 1; a view and the pieces of a
--- page count theirs from 0.
-use Rattle.std.specs.Prelude.{◌≡◌, ℕ, ◌+◌, ◌-◌, ◌<◌, Bool, true, false, not, ◌&&◌, ◌==◌, nat_lt, if◌then◌else◌, List, [], ◌∷◌, ◌++◌, length, map, slice_index_or, chars, decimal, Option, Some, None, option_map}
+-- What a client is granted to see, place by place. A page counts its lines and columns from 1; a
+-- view and the pieces of a page count theirs from 0.
+use Rattle.std.specs.Prelude.{◌≡◌, ℕ, ◌+◌, ◌-◌, ◌<◌, Bool, true, false, not, ◌&&◌, ◌==◌, nat_lt}
+use Rattle.std.specs.Prelude.{if◌then◌else◌, List, [], ◌∷◌, ◌++◌, length, map, slice_index_or}
+use Rattle.std.specs.Prelude.{chars, decimal, Option, Some, None, option_map}
 use Rattle.std.specs.List.{range_with_len}
 use Rattle.std.specs.Str.Lossy.{utf8_lossy}
 use Rattle.cells.specs.declared.cell.Cell.{Cell}
@@ -17,12 +19,14 @@ use Rattle.terminal_model.specs.Drawable.{IsDrawableLine}
 use Rattle.view.specs.declared.pane.Pane.{Pane}
 use Rattle.view.specs.declared.pane.Pane.TheVariants.{Empty, Hidden, Readable}
 use Rattle.view.specs.declared.pane.Contents.{Contents}
+use Rattle.view.specs.declared.view.KeyModes.{KeyModes}
 use Rattle.view.specs.Texts.{uncut, text_at}
 
 -- ---- what stands in a region
 
--- A window that the client's user may read: its number, the characters of its title, the lines of its page or of the page
--- moved back, its cursor, which is none where the page is moved back, and its modes DECTCEM, DECSCNM, DECCKM and DECKPAM.
+-- A window that the client's user may read: its number, the characters of its title, the lines of
+-- its page or of the page moved back, its cursor, which is none where the page is moved back, and
+-- its modes DECTCEM, DECSCNM, DECCKM and DECKPAM.
 pub record Window : Type 0 where
   pub number : ℕ
   pub title : List ℕ
@@ -56,6 +60,9 @@ part_of Empty = vacant
 part_of (Hidden number) = unread number
 part_of (Readable contents) = read (window_of contents)
 
+abbrev pub parts_of : List Pane → List Part
+parts_of panes = map part_of panes
+
 -- ---- a region's box: the lines of its window, and its caption in the last row
 
 -- the first line that so many rows show: the cursor's is among them
@@ -63,20 +70,29 @@ abbrev pub first_shown : ℕ → Option Position → ℕ
 first_shown rows None = 0
 first_shown rows (Some p) = p.line - (rows - 1)
 
--- a cell without protection; reverse is inverted where the window's screen is (DECSCNM)
+-- a rendition in which reverse is inverted where the window's screen is (DECSCNM)
+abbrev pub shown_rendition : Bool → Rendition → Rendition
+shown_rendition is_inverted r =
+    record r { is_reversed = if is_inverted then not r.is_reversed else r.is_reversed }
+
+-- a cell without protection, in that rendition
 abbrev pub shown_cell : Bool → Cell → Cell
 shown_cell is_inverted cell = record cell {
   is_protected = false;
-  rendition = record cell.rendition { is_reversed = if is_inverted then not cell.rendition.is_reversed else cell.rendition.is_reversed };
+  rendition = shown_rendition is_inverted cell.rendition;
 }
 
--- a place that shows this column of a line, among so many columns: a blank outside the window and in place of a cut half
+-- a place that shows this column of a line, among so many columns: a blank outside the window and
+-- in place of a cut half
 abbrev pub line_cell : Bool → List Cell → ℕ → ℕ → Cell
 line_cell is_inverted line cols column =
-    if nat_lt column (length line) then uncut cols column (shown_cell is_inverted (cell_at line column)) blank else blank
+    if nat_lt column (length line)
+    then uncut cols column (shown_cell is_inverted (cell_at line column)) blank
+    else blank
 
 abbrev pub window_cell : Window → ℕ → ℕ → ℕ → ℕ → Cell
-window_cell w rows cols row column = line_cell w.is_inverted (line_at w.lines (first_shown rows w.cursor + row)) cols column
+window_cell w rows cols row column =
+    line_cell w.is_inverted (line_at w.lines (first_shown rows w.cursor + row)) cols column
 
 -- Nothing of a window that may not be read is shown but its number.
 abbrev pub part_cell : Part → ℕ → ℕ → ℕ → ℕ → Cell
@@ -97,9 +113,14 @@ reverse = record plain { is_reversed = true }
 abbrev pub caption_rendition : Bool → Rendition
 caption_rendition is_focused = record reverse { is_bold = is_focused }
 
+-- a column of the caption, in so many columns
+abbrev pub caption_cell : Bool → Part → ℕ → ℕ → Cell
+caption_cell is_focused part cols column =
+    text_at (caption_rendition is_focused) (caption_text part) cols column
+
 abbrev pub box_cell : Rect → Bool → Part → ℕ → ℕ → Cell
 box_cell box is_focused part row column =
-    if row + 1 == box.rows then text_at (caption_rendition is_focused) (caption_text part) box.cols column
+    if row + 1 == box.rows then caption_cell is_focused part box.cols column
     else part_cell part (box.rows - 1) box.cols row column
 
 -- ---- the pieces of a page
@@ -109,7 +130,8 @@ pub record Piece : Type 0 where
   pub rect : Rect
   pub cell : ℕ → ℕ → Cell
 
--- the boxes of the regions, the separators between them, the place of the focused one among the boxes, and the status line
+-- the boxes of the regions, the separators between them, the place of the focused one among the
+-- boxes, and the status line
 pub record Layout : Type 0 where
   pub boxes : List Rect
   pub separators : List Rect
@@ -117,7 +139,12 @@ pub record Layout : Type 0 where
   pub status : Rect
 
 abbrev pub layout_of : Rects → Layout
-layout_of r = record { boxes = r.boxes.items; separators = r.separators.items; focus = r.focus; status = r.status }
+layout_of r = record {
+  boxes = r.boxes.items;
+  separators = r.separators.items;
+  focus = r.focus;
+  status = r.status;
+}
 
 abbrev pub box_in : Layout → ℕ → Rect
 box_in l n = slice_index_or l.boxes n l.status
@@ -128,8 +155,12 @@ box_at r n = box_in (layout_of r) n
 abbrev pub part_at : List Part → ℕ → Part
 part_at parts n = slice_index_or parts n vacant
 
+-- a region's box, which has the focus or not
+abbrev pub box_piece : Rect → Bool → Part → Piece
+box_piece rect is_focused part = record { rect = rect; cell = box_cell rect is_focused part }
+
 abbrev pub region_in : Layout → List Part → ℕ → Piece
-region_in l parts n = record { rect = box_in l n; cell = box_cell (box_in l n) (n == l.focus) (part_at parts n) }
+region_in l parts n = box_piece (box_in l n) (n == l.focus) (part_at parts n)
 
 abbrev pub region_piece : Rects → List Part → ℕ → Piece
 region_piece r parts n = region_in (layout_of r) parts n
@@ -137,10 +168,13 @@ region_piece r parts n = region_in (layout_of r) parts n
 abbrev pub separator_piece : Rect → Piece
 separator_piece rect = record { rect = rect; cell = λ row column. narrow_cell 0x7C reverse false }
 
--- the text of the status line, without rendition; U+FFFD stands for each maximal part that isn't UTF-8 (Unicode core
--- specification, 3.9)
+-- the text of the status line, without rendition; U+FFFD stands for each maximal part that isn't
+-- UTF-8 (Unicode core specification, 3.9)
 abbrev pub status_piece : Rect → List ℕ → Piece
-status_piece rect text = record { rect = rect; cell = λ row column. text_at plain (chars (utf8_lossy text)) rect.cols column }
+status_piece rect text = record {
+  rect = rect;
+  cell = λ row column. text_at plain (chars (utf8_lossy text)) rect.cols column;
+}
 
 abbrev pub pieces_in : Layout → List Part → List ℕ → List Piece
 pieces_in l parts status =
@@ -150,18 +184,24 @@ pieces_in l parts status =
 abbrev pub pieces : Rects → List Part → List ℕ → List Piece
 pieces r parts status = pieces_in (layout_of r) parts status
 
+-- the cell of a piece at one of its places on the page
+abbrev pub cell_in : Piece → ℕ → ℕ → Cell
+cell_in p line column = p.cell (line - p.rect.line) (column - p.rect.column)
+
 -- the cell of the piece that has a place, and a blank where none has it
 abbrev pub cell_of : List Piece → ℕ → ℕ → Cell
 cell_of [] line column = blank
 cell_of (p ∷ ps) line column =
-    if has p.rect line column then p.cell (line - p.rect.line) (column - p.rect.column) else cell_of ps line column
+    if has p.rect line column then cell_in p line column else cell_of ps line column
 
 -- ---- the view
 
 abbrev pub page_of : ℕ → ℕ → (ℕ → ℕ → Cell) → List (List Cell)
-page_of rows cols cell = map (λ line. map (cell line) (range_with_len 0 cols)) (range_with_len 0 rows)
+page_of rows cols cell =
+    map (λ line. map (cell line) (range_with_len 0 cols)) (range_with_len 0 rows)
 
--- The cursor of a window that may be read is shown where its mode shows it and its place lies in the region.
+-- The cursor of a window that may be read is shown where its mode shows it and its place lies in
+-- the region.
 abbrev pub cursor_in : Rect → Window → Option Position → Option Position
 cursor_in box w None = None
 cursor_in box w (Some p) =
@@ -174,7 +214,8 @@ cursor_of box vacant = None
 cursor_of box (unread number) = None
 cursor_of box (read w) = cursor_in box w w.cursor
 
--- The modes of the keyboard are those of the focused window where it may be read, and else the starting ones.
+-- The modes of the keyboard are those of the focused window where it may be read, and else the
+-- starting ones.
 abbrev pub arrows_of : Part → Bool
 arrows_of vacant = false
 arrows_of (unread number) = false
@@ -185,9 +226,20 @@ keypad_of vacant = false
 keypad_of (unread number) = false
 keypad_of (read w) = w.has_application_keypad
 
+abbrev pub key_modes_of : Part → KeyModes
+key_modes_of part = record {
+  has_application_arrows = arrows_of part;
+  has_application_keypad = keypad_of part;
+}
+
+-- the page down to its status line; its cells count from 0
+abbrev pub page_in : Layout → List Piece → List (List Cell)
+page_in l ps =
+    page_of l.status.line l.status.cols (λ line column. cell_of ps (line + 1) (column + 1))
+
 unfoldable pub view_in : Layout → List Part → List ℕ → View
 view_in l parts status = record {
-  page = page_of l.status.line l.status.cols (λ line column. cell_of (pieces_in l parts status) (line + 1) (column + 1));
+  page = page_in l (pieces_in l parts status);
   cursor = cursor_of (box_in l l.focus) (part_at parts l.focus);
   has_application_arrows = arrows_of (part_at parts l.focus);
   has_application_keypad = keypad_of (part_at parts l.focus);
@@ -198,12 +250,17 @@ view_of r parts status = view_in (layout_of r) parts status
 
 -- ---- what a view is made of
 
+-- what holds of each line
+abbrev pub EachLine : (List Cell → Type 0) → List (List Cell) → Type 0
+EachLine Is lines = (line : ℕ) → line < length lines → Is (line_at lines line)
+
 abbrev pub HasPairedLines : Part → Type 0
 HasPairedLines vacant = Prim.Unit {0}
 HasPairedLines (unread number) = Prim.Unit {0}
-HasPairedLines (read w) = (line : ℕ) → line < length w.lines → IsPaired (line_at w.lines line)
+HasPairedLines (read w) = EachLine IsPaired w.lines
 
--- the rectangles of a page on which each region has room, one part a region, and lines in which halves are paired
+-- the rectangles of a page on which each region has room, one part a region, and lines in which
+-- halves are paired
 pub record AreParts (s : Shape) (rows cols : ℕ) (r : Rects) (parts : List Part) : Type 0 where
   pub rects : IsRects s r.focus rows cols r
   pub room : has_room s rows cols ≡ true
@@ -214,7 +271,7 @@ pub record AreParts (s : Shape) (rows cols : ℕ) (r : Rects) (parts : List Part
 abbrev pub HasDrawableLines : Part → Type 0
 HasDrawableLines vacant = Prim.Unit {0}
 HasDrawableLines (unread number) = Prim.Unit {0}
-HasDrawableLines (read w) = (line : ℕ) → line < length w.lines → IsDrawableLine (line_at w.lines line)
+HasDrawableLines (read w) = EachLine IsDrawableLine w.lines
 
 -- a terminal can show the lines of the windows that are read
 abbrev pub AreDrawable : List Part → Type 0

@@ -3,3 +3,4 @@ pub mod Drawable
 pub mod Texts
 pub mod Granted
 pub mod Rows
+pub mod Composing

@@ -1,5 +1,6 @@
 -- Rows of cells, and pieces that are laid over a page.
-use Rattle.std.specs.Prelude.{◌≡◌, ℕ, ◌+◌, ◌-◌, ◌<◌, ◌≤◌, nat_lt, Bool, true, if◌then◌else◌, List, length}
+use Rattle.std.specs.Prelude.{◌≡◌, ℕ, ◌+◌, ◌<◌, ◌≤◌, nat_lt, Bool, true, if◌then◌else◌}
+use Rattle.std.specs.Prelude.{List, length}
 use Rattle.cells.specs.declared.cell.Cell.{Cell}
 use Rattle.cells.specs.Line.{blank, cell_at}
 use Rattle.cells.specs.Page.{line_at}
@@ -7,7 +8,9 @@ use Rattle.regions.specs.declared.rect.Rect.{Rect}
 use Rattle.regions.specs.Pages.{has}
 use Rattle.terminal_model.specs.Places.{place}
 use Rattle.terminal_model.specs.Shows.{View}
-use Rattle.view.specs.Granted.{Piece, Part, shown_cell, cursor_of, arrows_of, keypad_of}
+use Rattle.view.specs.Granted.{Window, Part, Piece, cursor_of, arrows_of, keypad_of}
+use Rattle.view.specs.Granted.{shown_cell, window_cell, part_cell, caption_cell, box_cell, cell_in}
+use Rattle.view.specs.Texts.{uncut}
 
 -- so many cells, one for each column
 pub record IsRow (cell : ℕ → Cell) (cols : ℕ) (cells : List Cell) : Type 0 where
@@ -18,6 +21,31 @@ pub record IsRow (cell : ℕ → Cell) (cols : ℕ) (cells : List Cell) : Type 0
 abbrev pub whole_cell : Bool → List Cell → ℕ → Cell
 whole_cell is_inverted line column =
     if nat_lt column (length line) then shown_cell is_inverted (cell_at line column) else blank
+
+-- a column of a line with a blank in place of a half that was cut at its end
+abbrev pub cut_cell : List Cell → ℕ → Cell
+cut_cell line column = uncut (length line) column (cell_at line column) blank
+
+-- ---- rows of a region
+
+-- a row, of so many, of a window
+abbrev pub IsWindowRow : Window → ℕ → ℕ → ℕ → List Cell → Type 0
+IsWindowRow w rows cols row cells = IsRow (window_cell w rows cols row) cols cells
+
+-- a row, of so many, above a caption
+abbrev pub IsPartRow : Part → ℕ → ℕ → ℕ → List Cell → Type 0
+IsPartRow part rows cols row cells = IsRow (part_cell part rows cols row) cols cells
+
+-- the row of a region's caption
+abbrev pub IsCaptionRow : Bool → Part → ℕ → List Cell → Type 0
+IsCaptionRow is_focused part cols cells = IsRow (caption_cell is_focused part cols) cols cells
+
+-- a row of a region's box
+abbrev pub IsBoxRow : Rect → Bool → Part → ℕ → List Cell → Type 0
+IsBoxRow rect is_focused part row cells =
+    IsRow (box_cell rect is_focused part row) rect.cols cells
+
+-- ---- pieces
 
 -- a place of a page, which counts its lines and columns from 1
 pub record IsOnPage (page : List (List Cell)) (line column : ℕ) : Type 0 where
@@ -36,12 +64,14 @@ pub record IsPlaced (r : Rect) (page : List (List Cell)) : Type 0 where
 pub record IsFree (r : Rect) (page : List (List Cell)) : Type 0 where
   pub wide : 0 < r.cols
   pub inside : (line column : ℕ) → has r line column ≡ true → IsOnPage page line column
-  pub blanks : (line column : ℕ) → has r (line + 1) (column + 1) ≡ true → place page line column ≡ blank
+  pub blanks : (line column : ℕ) → has r (line + 1) (column + 1) ≡ true
+      → place page line column ≡ blank
 
 -- what stands at a place of a page once a piece was laid over it
 abbrev pub laid : Piece → List (List Cell) → ℕ → ℕ → Cell
 laid p page line column =
-    if has p.rect (line + 1) (column + 1) then p.cell (line + 1 - p.rect.line) (column + 1 - p.rect.column) else place page line column
+    if has p.rect (line + 1) (column + 1) then cell_in p (line + 1) (column + 1)
+    else place page line column
 
 -- a piece was laid over the page of a view, and nothing else changed
 pub record Lays (p : Piece) (old new : View) : Type 0 where
@@ -57,6 +87,14 @@ row_of r row = record r { line = r.line + row; rows = 1 }
 abbrev pub row_piece : Rect → List Cell → Piece
 row_piece r cells = record { rect = r; cell = λ row column. cell_at cells column }
 
+-- a view with the cursor and the modes of a region
+abbrev pub focused_on : Rect → Part → View → View
+focused_on box part v = record v {
+  cursor = cursor_of box part;
+  has_application_arrows = arrows_of part;
+  has_application_keypad = keypad_of part;
+}
+
 -- the cursor and the modes of a view are those of a region, and its page is as before
 abbrev pub FocusesOn : Rect → Part → View → View → Type 0
-FocusesOn box part old new = new ≡ record old { cursor = cursor_of box part; has_application_arrows = arrows_of part; has_application_keypad = keypad_of part }
+FocusesOn box part old new = new ≡ focused_on box part old

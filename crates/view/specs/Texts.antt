@@ -1,11 +1,13 @@
 -- Texts of captions and of the status line, as cells of one rendition.
-use Rattle.std.specs.Prelude.{ℕ, ◌+◌, false, ◌&&◌, ◌==◌, if◌then◌else◌, List, [], ◌∷◌, ◌++◌, slice_index_or}
+use Rattle.std.specs.Prelude.{ℕ, ◌+◌, false, ◌&&◌, ◌==◌, if◌then◌else◌}
+use Rattle.std.specs.Prelude.{List, [], ◌∷◌, ◌++◌, slice_index_or}
 use Rattle.cells.specs.declared.cell.Cell.{Cell}
 use Rattle.cells.specs.declared.cell.Rendition.{Rendition}
 use Rattle.cells.specs.Line.{is_left, narrow_cell, left_cell, right_cell}
 use Rattle.terminal_model.specs.Table.{columns_of, drawn}
 
--- a character of width 0, such as a mark, and a control show as U+FFFD; so does what a terminal draws so (UAX #11)
+-- a character of width 0, such as a mark, and a control show as U+FFFD; so does what a terminal
+-- draws so (UAX #11)
 abbrev pub visible : ℕ → ℕ
 visible c = if columns_of c == 0 then 0xFFFD else drawn c
 
@@ -23,7 +25,8 @@ text_cells r (c ∷ cs) = char_cells r c ++ text_cells r cs
 abbrev pub uncut : ℕ → ℕ → Cell → Cell → Cell
 uncut cols column cell other = if (column + 1 == cols) && is_left cell.shape then other else cell
 
--- a column, from 0, of a text in so many columns: cut at the edge, with blanks of its rendition behind it
+-- a column, from 0, of a text in so many columns: cut at the edge, with blanks of its rendition
+-- behind it
 abbrev pub text_at : Rendition → List ℕ → ℕ → ℕ → Cell
 text_at r text cols column =
     let space : Cell = narrow_cell 32 r false in

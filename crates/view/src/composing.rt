@@ -1,15 +1,13 @@
 //! Panes, separators and the status line on one page.
 
-ghost use Rattle.std.specs.Prelude.{◌≡◌, ℕ, ◌<◌, ◌≤◌, ◌+◌, true, IfOk, OnOk, length, map, chars};
+ghost use Rattle.std.specs.Prelude.{◌≡◌, ◌<◌, true, IfOk, OnOk, chars};
 ghost use Rattle.std.specs.Str.{all_scalars};
 ghost use Rattle.std.specs.Str.Lossy.{utf8_lossy};
-ghost use Rattle.cells.specs.Line.{cell_at, IsPaired};
-ghost use Rattle.cells.specs.Page.{line_at};
-ghost use Rattle.regions.specs.Shapes.{Shape};
-ghost use Rattle.view.specs.View.{HasSize, place_of};
-ghost use Rattle.view.specs.Rows.{IsRow, IsFree, IsPlaced, Lays, FocusesOn, row_of, row_piece};
-ghost use Rattle.view.specs.Granted.{Piece, AreParts, AreDrawable, HasPairedLines, read, part_of, window_of, box_cell, caption_text, separator_piece, status_piece, cursor_of as cursor_of_part, arrows_of, keypad_of, view_of, box_at, part_at};
-ghost use Rattle.view.specs.Drawable.{IsDrawable};
+ghost use Rattle.view.specs.View.{HasSize, KeepsSize};
+ghost use Rattle.view.specs.Granted.{read, window_of, part_of, parts_of, key_modes_of};
+ghost use Rattle.view.specs.Composing.{ShowsParts, ShowsDrawable, HasScalarCaption};
+ghost use Rattle.view.specs.Composing.{LaysRow, LaysBox, LaysSeparator, LaysStatus};
+ghost use Rattle.view.specs.Composing.{TakesFocus, FocusesOnFocused, IsCursorOf};
 
 use crate::pane::{Contents, Pane};
 use crate::region_rows::{REVERSE, box_row, first_shown};
@@ -19,10 +17,10 @@ use cells::{Cell, GridFault, Rendition};
 use regions::{Rect, Rects};
 use std::alloc::{AllocError, Global};
 
-/// The view of panes in their boxes, one for each, with a status text. Nothing of a window that isn't
-/// readable stands in it but its number. Half a wide character at an edge is a blank; a text is cut
-/// there, and what isn't UTF-8 in the status text shows as U+FFFD, one for each maximal subpart
-/// (Unicode core specification, 3.9).
+/// The view of panes in their boxes, one for each, with a status text. Nothing of a window that
+/// isn't readable stands in it but its number. Half a wide character at an edge is a blank; a text
+/// is cut there, and what isn't UTF-8 in the status text shows as U+FFFD, one for each maximal
+/// subpart (Unicode core specification, 3.9).
 pub fn compose(
     alloc: Global,
     rects: &Rects,
@@ -30,8 +28,8 @@ pub fn compose(
     status: &[u8],
 ) -> Result<View, AllocError>
     ensures size { IfOk result (λ v. HasSize rects.now.status.line rects.now.status.cols v) }
-    ensures exact { IfOk result (λ v. (s : Shape) (rows cols : ℕ) → AreParts s rows cols rects.now (map part_of panes.now) → v ≡ view_of rects.now (map part_of panes.now) status.now) }
-    ensures drawable { IfOk result (λ v. (s : Shape) (rows cols : ℕ) → AreParts s rows cols rects.now (map part_of panes.now) → AreDrawable (map part_of panes.now) → IsDrawable v) }
+    ensures exact { IfOk result (λ v. ShowsParts rects.now (parts_of panes.now) status.now v) }
+    ensures drawable { IfOk result (λ v. ShowsDrawable rects.now (parts_of panes.now) v) }
 {
     let page = rects.status;
     let Ok(mut view) = View::blank(alloc, page.line as usize, page.cols as usize) else {
@@ -53,8 +51,8 @@ pub fn compose(
 impl View {
     /// Puts the cells of a row of a rectangle.
     fn put_row(&mut self, rect: Rect, row: u16, cells: &[Cell])
-        ensures size { HasSize (length self.old.page) (length (line_at self.old.page 0)) self.new }
-        ensures lays { IsFree (row_of rect row) self.old.page → IsPaired cells.now → length cells.now ≡ rect.cols → Lays (row_piece (row_of rect row) cells.now) self.old self.new }
+        ensures size { KeepsSize self.old self.new }
+        ensures lays { LaysRow rect row cells.now self.old self.new }
     {
         let line = rect.line as usize + row as usize;
         if 0 < line && 0 < rect.column {
@@ -69,9 +67,9 @@ impl View {
         pane: &Pane,
         is_focused: bool,
     ) -> Result<(), AllocError>
-        ensures size { HasSize (length self.old.page) (length (line_at self.old.page 0)) self.new }
-        ensures lays { OnOk result (HasPairedLines (part_of pane.now) → IsFree rect self.old.page → Lays (record { rect = rect; cell = box_cell rect is_focused (part_of pane.now) }) self.old self.new) }
-        ensures characters { OnOk result (0 < rect.rows → all_scalars (caption_text (part_of pane.now)) ≡ true) }
+        ensures size { KeepsSize self.old self.new }
+        ensures lays { OnOk result (LaysBox rect is_focused (part_of pane.now) self.old self.new) }
+        ensures characters { OnOk result (0 < rect.rows → HasScalarCaption (part_of pane.now)) }
     {
         for row in 0..rect.rows {
             let cells = box_row(alloc, rect, pane, is_focused, row)?;
@@ -81,8 +79,8 @@ impl View {
     }
 
     fn put_separator(&mut self, rect: Rect)
-        ensures size { HasSize (length self.old.page) (length (line_at self.old.page 0)) self.new }
-        ensures lays { rect.cols ≡ 1 → IsFree rect self.old.page → Lays (separator_piece rect) self.old self.new }
+        ensures size { KeepsSize self.old self.new }
+        ensures lays { LaysSeparator rect self.old self.new }
     {
         let bar = Cell::narrow('|', REVERSE, false);
         for row in 0..rect.rows {
@@ -91,8 +89,8 @@ impl View {
     }
 
     fn put_status(&mut self, alloc: Global, rect: Rect, text: &[u8]) -> Result<(), AllocError>
-        ensures size { HasSize (length self.old.page) (length (line_at self.old.page 0)) self.new }
-        ensures lays { OnOk result (rect.rows ≡ 1 → IsFree rect self.old.page → Lays (status_piece rect text.now) self.old self.new) }
+        ensures size { KeepsSize self.old self.new }
+        ensures lays { OnOk result (LaysStatus rect text.now self.old self.new) }
         ensures characters { OnOk result (all_scalars (chars (utf8_lossy text.now)) ≡ true) }
     {
         let text = String::from_utf8_lossy(alloc, text)?;
@@ -103,9 +101,8 @@ impl View {
 
     /// The cursor and the modes of the keyboard are those of the focused region.
     fn focus(&mut self, rects: &Rects, panes: &[Pane])
-        ensures size { HasSize (length self.old.page) (length (line_at self.old.page 0)) self.new }
-        ensures focused { rects.now.focus < length rects.now.boxes.items → rects.now.focus < length panes.now → IsPlaced (box_at rects.now rects.now.focus) self.old.page →
-            FocusesOn (box_at rects.now rects.now.focus) (part_at (map part_of panes.now) rects.now.focus) self.old self.new }
+        ensures size { KeepsSize self.old self.new }
+        ensures focused { FocusesOnFocused rects.now panes.now self.old self.new }
     {
         if rects.focus < rects.boxes.len() {
             if let Some(pane) = panes.get(rects.focus) {
@@ -116,8 +113,8 @@ impl View {
 
     /// They are those of its window, where it is readable.
     fn focus_pane(&mut self, rect: Rect, pane: &Pane)
-        ensures size { HasSize (length self.old.page) (length (line_at self.old.page 0)) self.new }
-        ensures focused { IsPlaced rect self.old.page → FocusesOn rect (part_of pane.now) self.old self.new }
+        ensures size { KeepsSize self.old self.new }
+        ensures focused { TakesFocus rect (part_of pane.now) self.old self.new }
     {
         self.modes = modes_of(pane);
         self.set_cursor(cursor_of(rect, pane));
@@ -126,7 +123,7 @@ impl View {
 
 /// The modes of the keyboard that a focused region asks for.
 fn modes_of(pane: &Pane) -> KeyModes
-    ensures { result ≡ record { has_application_arrows = arrows_of (part_of pane.now); has_application_keypad = keypad_of (part_of pane.now) } }
+    ensures { result ≡ key_modes_of (part_of pane.now) }
 {
     match pane {
         Pane::Readable(contents) => contents.modes,
@@ -136,7 +133,7 @@ fn modes_of(pane: &Pane) -> KeyModes
 
 /// Where a focused region in this box shows its cursor.
 fn cursor_of(rect: Rect, pane: &Pane) -> Cursor
-    ensures { 0 < rect.line → rect.line + rect.rows ≤ 65535 → 0 < rect.column → rect.column + rect.cols ≤ 65535 → place_of result ≡ cursor_of_part rect (part_of pane.now) }
+    ensures { IsCursorOf rect (part_of pane.now) result }
 {
     match pane {
         Pane::Readable(contents) => cursor_in(rect, contents),
@@ -146,7 +143,7 @@ fn cursor_of(rect: Rect, pane: &Pane) -> Cursor
 
 /// Where a box shows the cursor of its window.
 fn cursor_in(rect: Rect, contents: &Contents) -> Cursor
-    ensures { 0 < rect.line → rect.line + rect.rows ≤ 65535 → 0 < rect.column → rect.column + rect.cols ≤ 65535 → place_of result ≡ cursor_of_part rect (read (window_of contents.now)) }
+    ensures { IsCursorOf rect (read (window_of contents.now)) result }
 {
     let rows = rect.rows.saturating_sub(1) as usize;
     let cols = rect.cols as usize;

@@ -1,11 +1,11 @@
 //! Rows of a region: the lines of its window, and its caption.
 
-ghost use Rattle.std.specs.Prelude.{◌≡◌, ℕ, ◌<◌, ◌+◌, ◌-◌, true, IfOk, OnOk, length, chars, string_bytes, map, option_map};
-ghost use Rattle.std.specs.Str.{all_scalars};
-ghost use Rattle.cells.specs.Line.{blank, cell_at};
-ghost use Rattle.view.specs.Rows.{IsRow, whole_cell};
-ghost use Rattle.view.specs.Granted.{part_of, window_of, caption_rendition as caption_rendition_of, caption_text as caption_text_of, first_shown as first_shown_of, shown_cell as shown_cell_of, line_cell, window_cell, part_cell, box_cell};
-ghost use Rattle.view.specs.Texts.{text_at, uncut as uncut_of};
+ghost use Rattle.std.specs.Prelude.{◌≡◌, ◌<◌, ◌+◌, IfOk, OnOk, length, chars, string_bytes};
+ghost use Rattle.view.specs.Rows.{IsRow, whole_cell, cut_cell};
+ghost use Rattle.view.specs.Rows.{IsWindowRow, IsPartRow, IsCaptionRow, IsBoxRow};
+ghost use Rattle.view.specs.Granted.{part_of, window_of, line_cell, shown_cell as shown_cell_of};
+ghost use Rattle.view.specs.Granted.{first_shown as first_shown_of, caption_text as caption_of};
+ghost use Rattle.view.specs.Composing.{HasScalarCaption};
 
 use crate::pane::{Contents, Pane};
 use crate::text::text_row;
@@ -69,7 +69,7 @@ fn whole_row(
 
 /// Puts a blank in place of half a wide character in the last column.
 fn cut_end(row: &mut [Cell])
-    ensures { IsRow (λ column. uncut_of (length row.old) column (cell_at row.old column) blank) (length row.old) row.new }
+    ensures { IsRow (cut_cell row.old) (length row.old) row.new }
 {
     let cols = row.len();
     if 0 < cols && row[cols - 1].is_left() {
@@ -99,7 +99,7 @@ fn window_row(
     cols: usize,
     row: usize,
 ) -> Result<Vec<Cell>, AllocError>
-    ensures { IfOk result (λ cells. IsRow (window_cell (window_of contents.now) rows cols row) cols cells.items) }
+    ensures { IfOk result (λ r. IsWindowRow (window_of contents.now) rows cols row r.items) }
 {
     let place = first_shown(contents, rows).saturating_add(row);
     match contents.lines.get(place) {
@@ -116,7 +116,7 @@ fn part_row(
     cols: usize,
     row: usize,
 ) -> Result<Vec<Cell>, AllocError>
-    ensures { IfOk result (λ cells. IsRow (part_cell (part_of pane.now) rows cols row) cols cells.items) }
+    ensures { IfOk result (λ r. IsPartRow (part_of pane.now) rows cols row r.items) }
 {
     match pane {
         Pane::Readable(contents) => window_row(alloc, contents, rows, cols, row),
@@ -126,7 +126,7 @@ fn part_row(
 
 /// The text of a caption.
 fn caption_text(alloc: Global, pane: &Pane) -> Result<String, AllocError>
-    ensures { IfOk result (λ text. chars (string_bytes text) ≡ caption_text_of (part_of pane.now)) }
+    ensures { IfOk result (λ text. chars (string_bytes text) ≡ caption_of (part_of pane.now)) }
 {
     match pane {
         Pane::Empty => String::from_str(alloc, "--"),
@@ -149,8 +149,8 @@ fn caption_row(
     cols: usize,
     is_focused: bool,
 ) -> Result<Vec<Cell>, AllocError>
-    ensures row { IfOk result (λ cells. IsRow (text_at (caption_rendition_of is_focused) (caption_text_of (part_of pane.now)) cols) cols cells.items) }
-    ensures characters { OnOk result (all_scalars (caption_text_of (part_of pane.now)) ≡ true) }
+    ensures row { IfOk result (λ r. IsCaptionRow is_focused (part_of pane.now) cols r.items) }
+    ensures characters { OnOk result (HasScalarCaption (part_of pane.now)) }
 {
     let text = caption_text(alloc, pane)?;
     let rendition = Rendition {
@@ -169,8 +169,8 @@ pub(crate) fn box_row(
     row: u16,
 ) -> Result<Vec<Cell>, AllocError>
     requires { row < rect.rows }
-    ensures row { IfOk result (λ cells. IsRow (box_cell rect is_focused (part_of pane.now) row) rect.cols cells.items) }
-    ensures characters { OnOk result (row + 1 ≡ rect.rows → all_scalars (caption_text_of (part_of pane.now)) ≡ true) }
+    ensures row { IfOk result (λ r. IsBoxRow rect is_focused (part_of pane.now) row r.items) }
+    ensures characters { OnOk result (row + 1 ≡ rect.rows → HasScalarCaption (part_of pane.now)) }
 {
     let cols = rect.cols as usize;
     if row + 1 == rect.rows {

@@ -1,15 +1,16 @@
 //! Texts of captions and of the status line.
 
 ghost use Rattle.std.specs.Prelude.{◌≡◌, ◌<◌, ◌++◌, IfOk, OnOk, chars};
-ghost use Rattle.view.specs.Texts.{visible as visible_of, uncut as uncut_of, text_cells as text_cells_of, text_at, char_cells};
+ghost use Rattle.view.specs.Texts.{visible as visible_of, uncut as uncut_of, char_cells};
+ghost use Rattle.view.specs.Texts.{text_cells as text_cells_of, text_at};
 ghost use Rattle.view.specs.Rows.{IsRow};
 
 use cells::{Cell, Rendition, glyph_width};
 use std::alloc::{AllocError, Global};
 use unicode_width::UnicodeWidthChar;
 
-/// What a text shows of a character: U+FFFD for one without a width, and for the one of width 3, which
-/// a terminal draws so (UAX #11).
+/// What a text shows of a character: U+FFFD for one without a width, and for the one of width 3,
+/// which a terminal draws so (UAX #11).
 fn visible(character: char) -> char
     ensures { result ≡ visible_of character }
 {
@@ -61,8 +62,8 @@ fn text_cells(alloc: Global, text: &str, rendition: Rendition) -> Result<Vec<Cel
     Ok(cells)
 }
 
-/// The cells of a row of `cols` columns that holds this text, cut at the edge and filled with blanks of
-/// its rendition.
+/// The cells of a row of `cols` columns that holds this text, cut at the edge and filled with
+/// blanks of its rendition.
 pub(crate) fn text_row(
     alloc: Global,
     text: &str,

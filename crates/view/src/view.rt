@@ -1,7 +1,7 @@
 //! A client's page as it is to be shown.
 
-ghost use Rattle.std.specs.Prelude.{◌≡◌, ◌+◌, ◌<◌, ◌≤◌, ◌↔◌, Err, None, false, length, replicate, IfOk, IfSome};
-ghost use Rattle.cells.specs.Line.{blank, IsPaired};
+ghost use Rattle.std.specs.Prelude.{◌≡◌, ◌<◌, ◌≤◌, ◌↔◌, Err, length, IfOk, IfSome};
+ghost use Rattle.cells.specs.Line.{IsPaired};
 ghost use Rattle.cells.specs.Page.{IsGrid, IsGridSize, line_at};
 
 use cells::{Cell, Grid, GridFault};
@@ -40,11 +40,11 @@ pub struct View {
 
 impl Model for View {
     ghost use Rattle.terminal_model.specs.Shows.{View as Shown};
-    ghost use Rattle.view.specs.View.{place_of};
+    ghost use Rattle.view.specs.View.{place_of, view_with};
 
     ghost Value = { Shown };
 
-    ghost view = { λ v. record { page = v.grid; cursor = place_of v.cursor; has_application_arrows = v.modes.has_application_arrows; has_application_keypad = v.modes.has_application_keypad } };
+    ghost view = { λ v. view_with v.grid (place_of v.cursor) v.modes };
 
     ghost use Rattle.view.specs.View.{IsView};
 
@@ -52,13 +52,13 @@ impl Model for View {
 }
 
 impl View {
-    ghost use Rattle.view.specs.View.{HasSize, place_of, written};
-    ghost use Rattle.terminal_model.specs.Screen.{IsInside};
+    ghost use Rattle.view.specs.View.{HasSize, KeepsSize, LiesOn, blank_view, key_modes, place_of};
+    ghost use Rattle.view.specs.View.{PutsCursor, PutsCells};
 
-    /// A blank page of this size, its cursor hidden. It is `BadSize` outside 2 to 200 lines by 2 to 300
-    /// columns.
+    /// A blank page of this size, its cursor hidden. It is `BadSize` outside 2 to 200 lines by 2 to
+    /// 300 columns.
     pub fn blank(alloc: Global, rows: usize, cols: usize) -> Result<View, GridFault>
-        ensures ok { IfOk result (λ v. v ≡ record { page = replicate rows (replicate cols blank); cursor = None; has_application_arrows = false; has_application_keypad = false }) }
+        ensures ok { IfOk result (λ v. v ≡ blank_view rows cols) }
         ensures size { IfOk result (HasSize rows cols) }
         ensures bad_size { (result ≡ Err GridFault.BadSize) ↔ (¬ IsGridSize rows cols) }
     {
@@ -100,21 +100,21 @@ impl View {
     pub fn cursor(&self) -> Cursor
         ensures cursor { place_of result ≡ self.now.cursor }
         ensures grid { IsGrid self.now.page }
-        ensures inside { IfSome self.now.cursor (λ p. IsInside (length self.now.page) (length (line_at self.now.page 0)) p.line p.column) }
+        ensures inside { IfSome self.now.cursor (λ p. LiesOn self.now.page p) }
     {
         self.cursor
     }
 
     pub fn modes(&self) -> KeyModes
-        ensures { result ≡ record { has_application_arrows = self.now.has_application_arrows; has_application_keypad = self.now.has_application_keypad } }
+        ensures { result ≡ key_modes self.now }
     {
         self.modes
     }
 
     /// Shows the cursor at a place, or hides it; it is hidden where the page has no such place.
     pub(crate) fn set_cursor(&mut self, cursor: Cursor)
-        ensures size { HasSize (length self.old.page) (length (line_at self.old.page 0)) self.new }
-        ensures value { IfSome (place_of cursor) (λ p. IsInside (length self.old.page) (length (line_at self.old.page 0)) p.line p.column) → self.new ≡ record self.old { cursor = place_of cursor } }
+        ensures size { KeepsSize self.old self.new }
+        ensures value { PutsCursor cursor self.old self.new }
     {
         self.cursor = match cursor {
             Cursor::Shown { line, column }
@@ -128,8 +128,8 @@ impl View {
     /// Puts cells at a place, counted from 0; nothing where the page has no such place.
     pub(crate) fn put(&mut self, line: usize, column: usize, cells: &[Cell])
         ensures grid { IsGrid self.old.page }
-        ensures size { HasSize (length self.old.page) (length (line_at self.old.page 0)) self.new }
-        ensures value { line < length self.old.page → column + length cells.now ≤ length (line_at self.old.page 0) → self.new ≡ record self.old { page = written line column cells.now self.old.page } }
+        ensures size { KeepsSize self.old self.new }
+        ensures value { PutsCells line column cells.now self.old self.new }
     {
         let cols = self.grid.cols();
         if line < self.grid.rows() && column <= cols && cells.len() <= cols - column {

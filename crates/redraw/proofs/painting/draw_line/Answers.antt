@@ -8,6 +8,7 @@ use Rattle.redraw.proofs.painting.draw_line.Goals as goal
 pub loop-start-init : goal.loop-start-init
 loop-start-init c = record {
   inside = omega arith;
+  known = λ some. absurd (omega arith);
   draws = λ old new rows lh rh lines. line_start old new rows c.args.line c.args.before.now c.args.after.now lines c.args.pen.now c.args.out.now.items;
 }
 
@@ -19,6 +20,12 @@ loop-start-preserved c =
     let next : ℕ = c.in_ok-column.column in
     record {
       inside = omega (arith, c.in_ok-column.ensures.forth, c.requires.same_width);
+      known = λ some. record {
+        start_on = omega arith;
+        inside = run.last.inside;
+        unlike = λ column from below. run.last.unlike column (omega (arith, c.in_ok-column.ensures.forth)) below;
+        alike_after = run.last.alike_after;
+      };
       draws = λ old new rows lh rh lines.
           let drawn = c.loop-start.invariant.draws old new rows lh rh lines in
           let whole : is_right (cell_at c.args.after.now i).shape ≡ false

@@ -1,4 +1,5 @@
 use Rattle.std.proofs.Common.{◌-◌, ◌+◌, ◌<◌, ◌≤◌, length, ℕ}
+use Rattle.cells.specs.Unlike.{IsEndOfUnlike}
 use Rattle.terminal_model.specs.Screen.{Page}
 use Rattle.redraw.specs.Drawing.{AreLines, DrawsUpTo}
 use Rattle.redraw.proofs.painting.draw_line.Given as goal
@@ -6,6 +7,7 @@ use Rattle.redraw.proofs.painting.draw_line.Given as goal
 abbrev pub invariant-loop-start : goal.invariant-loop-start
 invariant-loop-start l = record {
   inside : l.column ≤ length l.before + 1;
+  known : l.column < l.known → IsEndOfUnlike l.before l.after l.column l.known;
   draws : (old new : Page) (rows : ℕ) → l.line < rows → rows < 9999 → AreLines old new l.line l.before l.after → DrawsUpTo old new rows (length l.after) l.fn.pen l.pen l.line l.column l.fn.out.items l.out.items;
 }
 

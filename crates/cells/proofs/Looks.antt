@@ -1,0 +1,112 @@
+-- Cells of one look have one rendition and one shape.
+use Rattle.std.proofs.Common.{◌≡◌, ℕ, zero, suc, ◌+◌, ◌*◌, ◌<◌, Bool, true, false, List, [], ◌∷◌, get_or, refl, sym, ap, ◌∙◌, arith}
+use Rattle.cells.specs.declared.cell.Shape.{Shape}
+use Rattle.cells.specs.declared.cell.Shape.TheVariants.{Narrow, Left, Right}
+use Rattle.cells.specs.declared.cell.Marks.{Marks}
+use Rattle.cells.specs.declared.cell.Colour.{Colour}
+use Rattle.cells.specs.declared.cell.Colour.TheVariants.{Default, Black, Red, Green, Yellow, Blue, Magenta, Cyan, White}
+use Rattle.cells.specs.declared.cell.Rendition.{Rendition}
+use Rattle.cells.specs.declared.cell.Cell.{Cell}
+use Rattle.cells.specs.Line.{unprotected}
+use Rattle.cells.specs.Look.{bit, colour_digit, shape_digit, before, look_of}
+
+first : (a b x y : ℕ) → a < 256 → b < 256 → before a x ≡ before b y → a ≡ b
+first a b x y la lb e = omega arith
+
+rest : (a b x y : ℕ) → a < 256 → b < 256 → before a x ≡ before b y → x ≡ y
+rest a b x y la lb e = omega arith
+
+bit_few : (b : Bool) → bit b < 256
+bit_few false = omega arith
+bit_few true = omega arith
+
+colour_few : (c : Colour) → colour_digit c < 256
+colour_few Default = omega arith
+colour_few Black = omega arith
+colour_few Red = omega arith
+colour_few Green = omega arith
+colour_few Yellow = omega arith
+colour_few Blue = omega arith
+colour_few Magenta = omega arith
+colour_few Cyan = omega arith
+colour_few White = omega arith
+
+shape_few : (s : Shape) → shape_digit s < 256
+shape_few Narrow = omega arith
+shape_few Left = omega arith
+shape_few Right = omega arith
+
+-- digits back
+abbrev bit_at : ℕ → Bool
+bit_at zero = false
+bit_at (suc n) = true
+
+abbrev colour_at : ℕ → Colour
+colour_at n = get_or (Default ∷ Black ∷ Red ∷ Green ∷ Yellow ∷ Blue ∷ Magenta ∷ Cyan ∷ White ∷ []) n White
+
+abbrev shape_at : ℕ → Shape
+shape_at n = get_or (Narrow ∷ Left ∷ Right ∷ []) n Right
+
+bit_back : (b : Bool) → bit_at (bit b) ≡ b
+bit_back false = refl
+bit_back true = refl
+
+colour_back : (c : Colour) → colour_at (colour_digit c) ≡ c
+colour_back Default = refl
+colour_back Black = refl
+colour_back Red = refl
+colour_back Green = refl
+colour_back Yellow = refl
+colour_back Blue = refl
+colour_back Magenta = refl
+colour_back Cyan = refl
+colour_back White = refl
+
+shape_back : (s : Shape) → shape_at (shape_digit s) ≡ s
+shape_back Narrow = refl
+shape_back Left = refl
+shape_back Right = refl
+
+same_bit : (a b : Bool) → bit a ≡ bit b → a ≡ b
+same_bit a b e = sym (bit_back a) ∙ ap bit_at e ∙ bit_back b
+
+same_colour : (a b : Colour) → colour_digit a ≡ colour_digit b → a ≡ b
+same_colour a b e = sym (colour_back a) ∙ ap colour_at e ∙ colour_back b
+
+same_shape : (a b : Shape) → shape_digit a ≡ shape_digit b → a ≡ b
+same_shape a b e = sym (shape_back a) ∙ ap shape_at e ∙ shape_back b
+
+-- a bit and what stands behind it
+module _ (a b : Bool) (x y : ℕ) (e : before (bit a) x ≡ before (bit b) y) where
+  first_bit : a ≡ b
+  first_bit = same_bit a b (first (bit a) (bit b) x y (bit_few a) (bit_few b) e)
+
+  after_bit : x ≡ y
+  after_bit = rest (bit a) (bit b) x y (bit_few a) (bit_few b) e
+
+module _ (a b : Colour) (x y : ℕ) (e : before (colour_digit a) x ≡ before (colour_digit b) y) where
+  first_colour : a ≡ b
+  first_colour = same_colour a b (first (colour_digit a) (colour_digit b) x y (colour_few a) (colour_few b) e)
+
+  after_colour : x ≡ y
+  after_colour = rest (colour_digit a) (colour_digit b) x y (colour_few a) (colour_few b) e
+
+pub same_unprotected : (a b : Cell) → a.character ≡ b.character → a.marks ≡ b.marks → look_of a ≡ look_of b → unprotected a ≡ unprotected b
+unfolding look_of
+same_unprotected a b character marks bold =
+    let p : Rendition = a.rendition in
+    let q : Rendition = b.rendition in
+    let underlined = after_bit p.is_bold q.is_bold _ _ bold in
+    let blinking = after_bit p.is_underlined q.is_underlined _ _ underlined in
+    let reversed = after_bit p.is_blinking q.is_blinking _ _ blinking in
+    let fore = after_bit p.is_reversed q.is_reversed _ _ reversed in
+    let back = after_colour p.fore q.fore _ _ fore in
+    let shape = after_colour p.back q.back _ _ back in
+    let bold_is : p.is_bold ≡ q.is_bold = first_bit p.is_bold q.is_bold _ _ bold in
+    let underlined_is : p.is_underlined ≡ q.is_underlined = first_bit p.is_underlined q.is_underlined _ _ underlined in
+    let blinking_is : p.is_blinking ≡ q.is_blinking = first_bit p.is_blinking q.is_blinking _ _ blinking in
+    let reversed_is : p.is_reversed ≡ q.is_reversed = first_bit p.is_reversed q.is_reversed _ _ reversed in
+    let fore_is : p.fore ≡ q.fore = first_colour p.fore q.fore _ _ fore in
+    let back_is : p.back ≡ q.back = first_colour p.back q.back _ _ back in
+    let shape_is : a.shape ≡ b.shape = same_shape a.shape b.shape (first (shape_digit a.shape) (shape_digit b.shape) _ _ (shape_few a.shape) (shape_few b.shape) shape) in
+    rw (character, marks, bold_is, underlined_is, blinking_is, reversed_is, fore_is, back_is, shape_is) refl

@@ -1,0 +1,38 @@
+-- Rendition, shape and protection of a cell as digits to the base 256.
+use Rattle.std.specs.Prelude.{ℕ, ◌+◌, ◌*◌, Bool, true, false}
+use Rattle.cells.specs.declared.cell.Shape.{Shape}
+use Rattle.cells.specs.declared.cell.Shape.TheVariants.{Narrow, Left, Right}
+use Rattle.cells.specs.declared.cell.Colour.{Colour}
+use Rattle.cells.specs.declared.cell.Colour.TheVariants.{Default, Black, Red, Green, Yellow, Blue, Magenta, Cyan, White}
+use Rattle.cells.specs.declared.cell.Cell.{Cell}
+
+abbrev pub bit : Bool → ℕ
+bit false = 0
+bit true = 1
+
+abbrev pub colour_digit : Colour → ℕ
+colour_digit Default = 0
+colour_digit Black = 1
+colour_digit Red = 2
+colour_digit Green = 3
+colour_digit Yellow = 4
+colour_digit Blue = 5
+colour_digit Magenta = 6
+colour_digit Cyan = 7
+colour_digit White = 8
+
+abbrev pub shape_digit : Shape → ℕ
+shape_digit Narrow = 0
+shape_digit Left = 1
+shape_digit Right = 2
+
+-- a digit, and the number of the digits behind it
+abbrev pub before : ℕ → ℕ → ℕ
+before digit rest = digit + 256 * rest
+
+unfoldable pub look_of : Cell → ℕ
+look_of c =
+    before (bit c.rendition.is_bold) (before (bit c.rendition.is_underlined)
+    (before (bit c.rendition.is_blinking) (before (bit c.rendition.is_reversed)
+    (before (colour_digit c.rendition.fore) (before (colour_digit c.rendition.back)
+    (before (shape_digit c.shape) (bit c.is_protected)))))))

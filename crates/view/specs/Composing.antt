@@ -1,0 +1,69 @@
+-- What the steps of composing do.
+use Rattle.std.specs.Prelude.{◌≡◌, ℕ, ◌+◌, ◌<◌, ◌≤◌, Bool, true, List, length}
+use Rattle.std.specs.Str.{all_scalars}
+use Rattle.cells.specs.declared.cell.Cell.{Cell}
+use Rattle.cells.specs.Line.{IsPaired}
+use Rattle.regions.specs.declared.rect.Rect.{Rect}
+use Rattle.regions.specs.declared.rects.Rects.{Rects}
+use Rattle.regions.specs.Shapes.{Shape}
+use Rattle.terminal_model.specs.Shows.{View}
+use Rattle.view.specs.declared.pane.Pane.{Pane}
+use Rattle.view.specs.declared.view.Cursor.{Cursor}
+use Rattle.view.specs.Drawable.{IsDrawable}
+use Rattle.view.specs.Granted.{Part, AreParts, AreDrawable, HasPairedLines}
+use Rattle.view.specs.Granted.{parts_of, box_at, part_at, box_piece, separator_piece, status_piece}
+use Rattle.view.specs.Granted.{caption_text, cursor_of, view_of}
+use Rattle.view.specs.Rows.{IsFree, IsPlaced, Lays, FocusesOn, row_of, row_piece}
+use Rattle.view.specs.View.{place_of}
+
+-- the granted view, where these are the parts of a page
+abbrev pub ShowsParts : Rects → List Part → List ℕ → View → Type 0
+ShowsParts r parts status v =
+    (s : Shape) (rows cols : ℕ) → AreParts s rows cols r parts → v ≡ view_of r parts status
+
+-- a view that a terminal can show, where these are the parts of a page and it can show their lines
+abbrev pub ShowsDrawable : Rects → List Part → View → Type 0
+ShowsDrawable r parts v =
+    (s : Shape) (rows cols : ℕ) → AreParts s rows cols r parts → AreDrawable parts → IsDrawable v
+
+-- Paired cells, one for each column, are laid over a row of a rectangle where it is free.
+abbrev pub LaysRow : Rect → ℕ → List Cell → View → View → Type 0
+LaysRow rect row cells old new =
+    IsFree (row_of rect row) old.page → IsPaired cells → length cells ≡ rect.cols
+    → Lays (row_piece (row_of rect row) cells) old new
+
+-- The box of a region whose lines are paired is laid over a rectangle where it is free.
+abbrev pub LaysBox : Rect → Bool → Part → View → View → Type 0
+LaysBox rect is_focused part old new =
+    HasPairedLines part → IsFree rect old.page → Lays (box_piece rect is_focused part) old new
+
+-- A separator, which is one column, is laid over a rectangle where it is free.
+abbrev pub LaysSeparator : Rect → View → View → Type 0
+LaysSeparator rect old new =
+    rect.cols ≡ 1 → IsFree rect old.page → Lays (separator_piece rect) old new
+
+-- The status line, which is one row, is laid over a rectangle where it is free.
+abbrev pub LaysStatus : Rect → List ℕ → View → View → Type 0
+LaysStatus rect text old new =
+    rect.rows ≡ 1 → IsFree rect old.page → Lays (status_piece rect text) old new
+
+-- a caption of Unicode scalar values
+abbrev pub HasScalarCaption : Part → Type 0
+HasScalarCaption part = all_scalars (caption_text part) ≡ true
+
+-- A region has the focus, where its box is on the page.
+abbrev pub TakesFocus : Rect → Part → View → View → Type 0
+TakesFocus rect part old new = IsPlaced rect old.page → FocusesOn rect part old new
+
+-- The focused region has the focus, where it has a box and a pane.
+abbrev pub FocusesOnFocused : Rects → List Pane → View → View → Type 0
+FocusesOnFocused r panes old new =
+    r.focus < length r.boxes.items → r.focus < length panes
+    → TakesFocus (box_at r r.focus) (part_at (parts_of panes) r.focus) old new
+
+-- a focused region's cursor, where its box lies on a page of at most 65534 lines and columns
+abbrev pub IsCursorOf : Rect → Part → Cursor → Type 0
+IsCursorOf rect part cursor =
+    0 < rect.line → rect.line + rect.rows ≤ 65535
+    → 0 < rect.column → rect.column + rect.cols ≤ 65535
+    → place_of cursor ≡ cursor_of rect part
