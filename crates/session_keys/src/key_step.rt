@@ -14,8 +14,8 @@ use crate::typing::type_bytes;
 use command_lang::{Command, ParseFault};
 use keys::KeyReader;
 use session_clients::{Client, read_keys};
-use session_orders::{Focuses, leave};
 use session_model::{Bytes, Message, Refusal, Verdict};
+use session_orders::{Focuses, leave};
 use session_state::{Caller, Made, State};
 use std::alloc::{AllocError, Global};
 

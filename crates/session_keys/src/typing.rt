@@ -5,8 +5,8 @@ ghost use Rattle.session_model.specs.declared.refusal.Refusal.TheVariants.{NoMem
 ghost use Rattle.session_keys.specs.Typing.{Types, Grows, input_to};
 
 use crate::saying::wants_memory;
-use session_orders::check_typing;
 use session_model::{Bytes, Effect, Message, Refusal, Verdict};
+use session_orders::check_typing;
 use session_state::{Caller, Made, State};
 use std::alloc::AllocError;
 
