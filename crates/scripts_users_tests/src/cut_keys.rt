@@ -1,6 +1,6 @@
 //! Keys that are cut in every place.
 
-use crate::play::{compare, play};
+use scripts::{compare, play};
 use std::alloc::AllocError;
 use std::str;
 use std::test::Fail;
@@ -58,7 +58,7 @@ fn keys_do_the_same_wherever_they_are_cut(rt: HostRuntime) -> Result<(), Fail> {
             writeln!(&mut kept, "{line}")?;
         }
         let title = format!(in alloc; "keys cut at {cut}")?;
-        compare(&rt, title.as_str(), kept.as_str(), LINES);
+        compare(rt.alloc(), title.as_str(), kept.as_str(), LINES)?;
     }
     Ok(())
 }

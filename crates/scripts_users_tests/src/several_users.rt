@@ -1,6 +1,6 @@
 //! Several users: entries, leaders, locks, masks, windows and keys.
 
-use crate::play::{Case, FOUR_CLIENTS, Row, compare, judge, judge_behind, play};
+use scripts::{Case, FOUR_CLIENTS, Row, compare, judge, judge_behind, play};
 use std::str;
 use std::test::Fail;
 
@@ -305,7 +305,7 @@ ok
 #[test]
 fn cases_are_printed(rt: HostRuntime) -> Result<(), Fail> {
     for case in &CASES {
-        judge_behind(&rt, FOUR_CLIENTS, case)?;
+        judge_behind(rt.alloc(), FOUR_CLIENTS, case)?;
     }
     Ok(())
 }
@@ -458,7 +458,7 @@ cursor 1 1
 #[test]
 fn rows_are_printed(rt: HostRuntime) -> Result<(), Fail> {
     for row in &ROWS {
-        judge(&rt, row)?;
+        judge(rt.alloc(), row)?;
     }
     Ok(())
 }
@@ -475,6 +475,6 @@ fn forty_windows_are_open_at_most(rt: HostRuntime) -> Result<(), Fail> {
     lines.push_str("refused windows: 1\ngone window 7 0\nok\nopened 40 7\n")?;
     let played = play(rt.alloc(), &["own"], script.as_bytes())?;
     let printed = str::from_utf8(&played.output).unwrap_or("not UTF-8");
-    compare(&rt, "40 windows", printed, lines.as_str());
+    compare(rt.alloc(), "40 windows", printed, lines.as_str())?;
     Ok(())
 }

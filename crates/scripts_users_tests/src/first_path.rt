@@ -1,6 +1,6 @@
 //! One owner, from script to page.
 
-use crate::play::{Row, judge};
+use scripts::{Row, judge};
 use std::test::Fail;
 
 const ROWS: [Row; 12] = [
@@ -342,7 +342,7 @@ cursor hidden
 #[test]
 fn rows_are_printed(rt: HostRuntime) -> Result<(), Fail> {
     for row in &ROWS {
-        judge(&rt, row)?;
+        judge(rt.alloc(), row)?;
     }
     Ok(())
 }
