@@ -95,7 +95,7 @@ cursor 13 1
         sizes: &[(24, 80)],
     },
     Row {
-        title: "of two halves beside each other the left one is the smaller: 39 and 40 of 80 columns",
+        title: "of halves beside each other the left one is the smaller: 39 and 40 of 80 columns",
         script: r"
 open own 24 80 0 sh
 attach own 24 80

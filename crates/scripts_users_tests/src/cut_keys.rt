@@ -12,7 +12,8 @@ open own 2 5 0 one
 attach own 4 20
 ";
 
-/// Typed bytes, bound commands and lines of the prompt, one with a character of two bytes that is taken back.
+/// Typed bytes, bound commands and lines of the prompt, one with a character of two bytes that is
+/// taken back.
 const KEYS: &[u8] = b"a\x01nb\x01:stuff xy\rc\x01:title h\xC3\xA4\x08i\r\x01pd\x01\x01";
 
 /// What is printed of it, but for the lines that end each event.

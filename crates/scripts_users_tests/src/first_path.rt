@@ -98,7 +98,7 @@ cursor 1 1
         sizes: &[(4, 20)],
     },
     Row {
-        title: "the command key stands at the end of one event and its key at the beginning of the next",
+        title: "the command key stands at an event's end, its key at the beginning of the next",
         script: r"
 open own 24 80 0 sh
 attach own 4 20

@@ -1,4 +1,5 @@
-//! Tests that cross crates, by scripts: one owner, several users, keys that are cut, what isn't understood.
+//! Tests that cross crates, by scripts: one owner, several users, keys that are cut, and what
+//! isn't understood.
 #![tactic(auto)]
 
 #[cfg(test)]

@@ -6,7 +6,7 @@ use std::test::Fail;
 
 const CASES: [Case; 16] = [
     Case {
-        title: "who may not write in a window by his entry may by a leader's, until that is taken too",
+        title: "who may not write in a window may by his leader's entry, until that is taken too",
         words: &["own"],
         script: r"
 command own - aclchg bob -w 2
@@ -87,7 +87,7 @@ ok
 ",
     },
     Case {
-        title: "a mask is what a user has on windows that open later, whose numbers are the lowest free",
+        title: "a mask is what a user has on windows that open later, with the lowest free numbers",
         words: &["own"],
         script: r"
 command own - aclchg bob -r 2
