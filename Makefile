@@ -2,7 +2,7 @@
 RT ?= rt
 PREFIX ?= /usr/local
 PROGRAMS = muxd mux muxsim vtcat
-TESTS = $(notdir $(patsubst %/,%,$(dir $(wildcard crates/*_tests/src)))) scripts
+TESTS = $(notdir $(patsubst %/,%,$(dir $(wildcard crates/*_tests/src))))
 SCRIPTS = $(addprefix contrib/, mux-shell mux-attach mux-over-ssh new-token)
 
 .PHONY: demo shell build try check test edits examples lint install

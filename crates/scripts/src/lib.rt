@@ -1,21 +1,11 @@
-//! Tests that cross crates: scripts of the simulator, with the lines that they must print.
+//! Plays scripts of the simulator, and judges what they print.
 #![tactic(auto)]
 
-#[cfg(test)]
-mod bad_input;
-#[cfg(test)]
-mod cut_keys;
-#[cfg(test)]
-mod draws;
-#[cfg(test)]
-mod first_path;
-#[cfg(test)]
-mod play;
-#[cfg(test)]
-mod refused_memory;
-#[cfg(test)]
-mod several_users;
-#[cfg(test)]
-mod splits;
-#[cfg(test)]
-mod views;
+mod judging;
+mod player;
+mod terminals;
+mod wrong;
+
+pub use judging::{Case, FOUR_CLIENTS, Row, compare, judge, judge_behind};
+pub use player::{Played, arguments, play};
+pub use wrong::Wrong;

@@ -1,6 +1,6 @@
 //! Draws: which bytes go out for what differs, and where all is drawn anew.
 
-use crate::play::{Case, FOUR_CLIENTS, Row, judge, judge_behind};
+use scripts::{Case, FOUR_CLIENTS, Row, judge, judge_behind};
 use std::test::Fail;
 
 /// A client that was drawn, with `hi` in its window of 2 by 5.
@@ -196,19 +196,19 @@ cursor hidden
 #[test]
 fn what_differs_is_printed(rt: HostRuntime) -> Result<(), Fail> {
     for case in &CASES {
-        judge_behind(&rt, DRAWN, case)?;
+        judge_behind(rt.alloc(), DRAWN, case)?;
     }
     Ok(())
 }
 
 #[test]
 fn revoked_places_are_erased(rt: HostRuntime) -> Result<(), Fail> {
-    judge_behind(&rt, FOUR_CLIENTS, &REVOKED)?;
+    judge_behind(rt.alloc(), FOUR_CLIENTS, &REVOKED)?;
     Ok(())
 }
 
 #[test]
 fn another_size_is_drawn_anew(rt: HostRuntime) -> Result<(), Fail> {
-    judge(&rt, &RESIZED)?;
+    judge(rt.alloc(), &RESIZED)?;
     Ok(())
 }

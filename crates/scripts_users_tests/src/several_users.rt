@@ -1,12 +1,12 @@
 //! Several users: entries, leaders, locks, masks, windows and keys.
 
-use crate::play::{Case, FOUR_CLIENTS, Row, compare, judge, judge_behind, play};
+use scripts::{Case, FOUR_CLIENTS, Row, compare, judge, judge_behind, play};
 use std::str;
 use std::test::Fail;
 
 const CASES: [Case; 16] = [
     Case {
-        title: "who may not write in a window by his entry may by a leader's, until that is taken too",
+        title: "who may not write in a window may by his leader's entry, until that is taken too",
         words: &["own"],
         script: r"
 command own - aclchg bob -w 2
@@ -87,7 +87,7 @@ ok
 ",
     },
     Case {
-        title: "a mask is what a user has on windows that open later, whose numbers are the lowest free",
+        title: "a mask is what a user has on windows that open later, with the lowest free numbers",
         words: &["own"],
         script: r"
 command own - aclchg bob -r 2
@@ -305,7 +305,7 @@ ok
 #[test]
 fn cases_are_printed(rt: HostRuntime) -> Result<(), Fail> {
     for case in &CASES {
-        judge_behind(&rt, FOUR_CLIENTS, case)?;
+        judge_behind(rt.alloc(), FOUR_CLIENTS, case)?;
     }
     Ok(())
 }
@@ -458,7 +458,7 @@ cursor 1 1
 #[test]
 fn rows_are_printed(rt: HostRuntime) -> Result<(), Fail> {
     for row in &ROWS {
-        judge(&rt, row)?;
+        judge(rt.alloc(), row)?;
     }
     Ok(())
 }
@@ -475,6 +475,6 @@ fn forty_windows_are_open_at_most(rt: HostRuntime) -> Result<(), Fail> {
     lines.push_str("refused windows: 1\ngone window 7 0\nok\nopened 40 7\n")?;
     let played = play(rt.alloc(), &["own"], script.as_bytes())?;
     let printed = str::from_utf8(&played.output).unwrap_or("not UTF-8");
-    compare(&rt, "40 windows", printed, lines.as_str());
+    compare(rt.alloc(), "40 windows", printed, lines.as_str())?;
     Ok(())
 }

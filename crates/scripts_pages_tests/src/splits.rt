@@ -1,6 +1,6 @@
 //! Regions: how pages are split, and what a region shows of its window.
 
-use crate::play::{Case, Row, judge, judge_behind};
+use scripts::{Case, Row, judge, judge_behind};
 use std::test::Fail;
 
 const ROWS: [Row; 10] = [
@@ -95,7 +95,7 @@ cursor 13 1
         sizes: &[(24, 80)],
     },
     Row {
-        title: "of two halves beside each other the left one is the smaller: 39 and 40 of 80 columns",
+        title: "of halves beside each other the left one is the smaller: 39 and 40 of 80 columns",
         script: r"
 open own 24 80 0 sh
 attach own 24 80
@@ -524,7 +524,7 @@ refused no window
 #[test]
 fn rows_are_printed(rt: HostRuntime) -> Result<(), Fail> {
     for row in &ROWS {
-        judge(&rt, row)?;
+        judge(rt.alloc(), row)?;
     }
     Ok(())
 }
@@ -532,7 +532,7 @@ fn rows_are_printed(rt: HostRuntime) -> Result<(), Fail> {
 #[test]
 fn cases_are_printed(rt: HostRuntime) -> Result<(), Fail> {
     for case in &CASES {
-        judge_behind(&rt, "", case)?;
+        judge_behind(rt.alloc(), "", case)?;
     }
     Ok(())
 }

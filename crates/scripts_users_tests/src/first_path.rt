@@ -1,6 +1,6 @@
 //! One owner, from script to page.
 
-use crate::play::{Row, judge};
+use scripts::{Row, judge};
 use std::test::Fail;
 
 const ROWS: [Row; 12] = [
@@ -98,7 +98,7 @@ cursor 1 1
         sizes: &[(4, 20)],
     },
     Row {
-        title: "the command key stands at the end of one event and its key at the beginning of the next",
+        title: "the command key stands at an event's end, its key at the beginning of the next",
         script: r"
 open own 24 80 0 sh
 attach own 4 20
@@ -342,7 +342,7 @@ cursor hidden
 #[test]
 fn rows_are_printed(rt: HostRuntime) -> Result<(), Fail> {
     for row in &ROWS {
-        judge(&rt, row)?;
+        judge(rt.alloc(), row)?;
     }
     Ok(())
 }

@@ -1,6 +1,6 @@
 //! Keys that are cut in every place.
 
-use crate::play::{compare, play};
+use scripts::{compare, play};
 use std::alloc::AllocError;
 use std::str;
 use std::test::Fail;
@@ -12,7 +12,8 @@ open own 2 5 0 one
 attach own 4 20
 ";
 
-/// Typed bytes, bound commands and lines of the prompt, one with a character of two bytes that is taken back.
+/// Typed bytes, bound commands and lines of the prompt, one with a character of two bytes that is
+/// taken back.
 const KEYS: &[u8] = b"a\x01nb\x01:stuff xy\rc\x01:title h\xC3\xA4\x08i\r\x01pd\x01\x01";
 
 /// What is printed of it, but for the lines that end each event.
@@ -58,7 +59,7 @@ fn keys_do_the_same_wherever_they_are_cut(rt: HostRuntime) -> Result<(), Fail> {
             writeln!(&mut kept, "{line}")?;
         }
         let title = format!(in alloc; "keys cut at {cut}")?;
-        compare(&rt, title.as_str(), kept.as_str(), LINES);
+        compare(rt.alloc(), title.as_str(), kept.as_str(), LINES)?;
     }
     Ok(())
 }

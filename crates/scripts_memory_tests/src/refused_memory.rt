@@ -1,5 +1,5 @@
-//! Growths that are refused. Played as they stand the tests meet no refusal; `rt try --test --fail-alloc N`
-//! refuses the Nth allocation, and the joined effects must still be the same.
+//! Growths that are refused. Played as they stand the tests meet no refusal; `rt try --test
+//! --fail-alloc N` refuses the Nth allocation, and the joined effects must still be the same.
 
 use acl::UserId;
 use session::{Bytes, Effect, Event, Reply, Session};
@@ -43,7 +43,8 @@ fn play_first_run(
     play_out(session, keys, effects, replies);
 }
 
-/// Plays an event to its end, going on behind each refusal for want of memory from where the run stopped.
+/// Plays an event to its end, going on behind each refusal for want of memory from where the run
+/// stopped.
 fn play_out(
     session: &mut Session,
     event: Event,

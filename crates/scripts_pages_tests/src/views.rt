@@ -1,6 +1,6 @@
 //! What each client sees: windows that may not be read, edges, messages, lists and the prompt.
 
-use crate::play::{Case, FOUR_CLIENTS, Row, judge, judge_behind};
+use scripts::{Case, FOUR_CLIENTS, Row, judge, judge_behind};
 use std::test::Fail;
 
 const ROWS: [Row; 6] = [
@@ -368,7 +368,7 @@ ok
 #[test]
 fn rows_are_printed(rt: HostRuntime) -> Result<(), Fail> {
     for row in &ROWS {
-        judge(&rt, row)?;
+        judge(rt.alloc(), row)?;
     }
     Ok(())
 }
@@ -376,7 +376,7 @@ fn rows_are_printed(rt: HostRuntime) -> Result<(), Fail> {
 #[test]
 fn cases_are_printed(rt: HostRuntime) -> Result<(), Fail> {
     for case in &CASES {
-        judge_behind(&rt, FOUR_CLIENTS, case)?;
+        judge_behind(rt.alloc(), FOUR_CLIENTS, case)?;
     }
     Ok(())
 }

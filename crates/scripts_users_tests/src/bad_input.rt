@@ -1,6 +1,6 @@
 //! Scripts and words that aren't understood, and readers and writers that fail.
 
-use crate::play::{arguments, play};
+use scripts::{arguments, play};
 use session::simulate;
 use std::io::{Read, Write};
 use std::test::Fail;

@@ -1,0 +1,9 @@
+//! Tests that cross crates, by scripts: what each client sees, how pages are split, and draws.
+#![tactic(auto)]
+
+#[cfg(test)]
+mod draws;
+#[cfg(test)]
+mod splits;
+#[cfg(test)]
+mod views;

@@ -1,0 +1,121 @@
+//! That what isn't as it is wanted is told.
+
+use scripts::{Case, Row, Wrong, compare, judge, judge_behind};
+use std::alloc::{AllocError, Global};
+use std::test::Fail;
+
+/// What is printed and what is wanted, with what is told of it: nothing where they agree.
+const COMPARED: [(&str, &str, &str); 9] = [
+    ("a\nb\n", "\na\nb\n", ""),
+    ("a\nb\n", "a\nc\n", "t: \"c\" is wanted, \"b\" printed"),
+    ("a\nb\n", "a\n", "t: nothing more is wanted, \"b\" printed"),
+    ("a\n", "a\nb\n", "t: \"b\" is wanted, nothing more printed"),
+    ("d 0 x\n", "d 0 ..\n", ""),
+    (
+        "d 0 \n",
+        "d 0 ..\n",
+        "t: \"d 0 ..\" is wanted, \"d 0 \" printed",
+    ),
+    (
+        "d 1 x\n",
+        "d 0 ..\n",
+        "t: \"d 0 ..\" is wanted, \"d 1 x\" printed",
+    ),
+    ("d 0 \\18\\1bc\\1b%G\\1b[?7l\n", "d 0 reset ..\n", ""),
+    (
+        "d 0 x\n",
+        "d 0 reset ..\n",
+        "t: \"d 0 reset ..\" is wanted, \"d 0 x\" printed",
+    ),
+];
+
+/// What is told.
+fn told(alloc: Global, judged: Result<(), Wrong>) -> Result<String, AllocError> {
+    match judged {
+        Ok(()) => Ok(String::new(alloc)),
+        Err(wrong) => wrong.to_string(alloc),
+    }
+}
+
+#[test]
+fn lines_that_differ_are_told(rt: HostRuntime) -> Result<(), Fail> {
+    for (printed, lines, text) in COMPARED {
+        let told = told(rt.alloc(), compare(rt.alloc(), "t", printed, lines))?;
+        assert_eq!(rt; told.as_str(), text);
+    }
+    Ok(())
+}
+
+/// A client that isn't drawn behind the last output.
+const UNDRAWN: Row = Row {
+    title: "t",
+    script: r"
+open own 2 5 0 sh
+attach own 4 20
+draw 0
+output 0 hi
+",
+    lines: r"
+opened 0 0
+attached 0
+deliver 0 reset ..
+ok
+ok
+client 0
+|hi                  |
+|                    |
+|0 sh                |
+|                    |
+cursor 1 3
+",
+    sizes: &[(4, 20)],
+};
+
+/// What terminals show where the client was drawn last.
+const STALE: &str = r"t: the terminal of client 0 shows
+|                    |
+|                    |
+|0 sh                |
+|                    |
+cursor 1 1
+";
+
+#[test]
+fn terminals_that_show_something_else_are_told(rt: HostRuntime) -> Result<(), Fail> {
+    let told = told(rt.alloc(), judge(rt.alloc(), &UNDRAWN))?;
+    assert_eq!(rt; told.as_str(), STALE);
+    Ok(())
+}
+
+/// A script that isn't understood, and views that aren't the first lines of a longer script.
+const FAILING: [(&str, Case, &str); 2] = [
+    (
+        "",
+        Case {
+            title: "t",
+            words: &["own"],
+            script: "zap\n",
+            lines: "",
+        },
+        "t: status 1, errors: muxsim: line 1: not understood\n",
+    ),
+    (
+        "attach own 4 20\n",
+        Case {
+            title: "t",
+            words: &["--show", "own"],
+            script: "detach 0\n",
+            lines: "",
+        },
+        "t: another beginning",
+    ),
+];
+
+#[test]
+fn runs_that_fail_are_told(rt: HostRuntime) -> Result<(), Fail> {
+    for (first, case, text) in &FAILING {
+        let told = told(rt.alloc(), judge_behind(rt.alloc(), first, case))?;
+        assert_eq!(rt; told.as_str(), *text);
+    }
+    Ok(())
+}
