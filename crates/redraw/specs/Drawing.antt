@@ -1,6 +1,6 @@
 -- What frames do to a terminal, step by step.
-use Rattle.std.specs.Prelude.{◌≡◌, ℕ, ◌+◌, ◌-◌, ◌==◌, ◌<◌, ◌≤◌, ◌&&◌, cond, nat_lt}
-use Rattle.std.specs.Prelude.{Bool, true, false, List, [], ◌++◌, length, Option, Some, None, is_some}
+use Rattle.std.specs.Prelude.{◌≡◌, ℕ, ◌+◌, ◌-◌, ◌==◌, ◌<◌, ◌≤◌, Bool, ◌&&◌, cond, nat_lt}
+use Rattle.std.specs.Prelude.{true, false, List, [], ◌++◌, length, Option, Some, None, is_some}
 use Rattle.cells.specs.declared.cell.Shape.{Shape}
 use Rattle.cells.specs.declared.cell.Shape.TheVariants.{Narrow, Left, Right}
 use Rattle.cells.specs.declared.cell.Marks.{Marks}

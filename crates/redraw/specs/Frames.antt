@@ -1,5 +1,6 @@
 -- What a frame does to each terminal that agrees with a shadow.
-use Rattle.std.specs.Prelude.{◌≡◌, ℕ, true, false, List, [], ◌++◌, length, Option, Some, None}
+use Rattle.std.specs.Prelude.{◌≡◌, ℕ, true, false, List, [], ◌++◌, length}
+use Rattle.std.specs.Prelude.{Option, Some, None, IfSome, IfNone}
 use Rattle.cells.specs.Line.{plain}
 use Rattle.cells.specs.Page.{line_at, IsGrid}
 use Rattle.terminal_model.specs.declared.state.Position.{Position}
@@ -12,6 +13,7 @@ use Rattle.redraw.specs.declared.pen.Pen.{Pen}
 use Rattle.view.specs.Drawable.{IsDrawable}
 use Rattle.redraw.specs.Shadow.{Knowledge, NeedsDraw, IsKnown}
 use Rattle.redraw.specs.Drawing.{Takes, Stage, ShowsView}
+use Rattle.redraw.specs.Steps.{Bytes}
 
 -- a frame begins with the reset exactly where nothing is known of the terminal
 abbrev pub beginning : Option View → List ℕ
@@ -102,3 +104,27 @@ pub record DrawsFrame (old : Knowledge) (v : View) (new : Knowledge) (bytes : Li
   pub needed : NeedsDraw old.known v
   pub redraws : CanBeShown old.known → IsDrawable v → Redraws old.rows old.columns old.known v bytes
   pub known : new ≡ record old { known = Some v }
+
+-- ---- where a frame was made
+
+-- The bytes lead from one view to another, where a terminal can show both.
+abbrev pub DrawsNext : View → View → Bytes → Bytes → Type 0
+DrawsNext old v before after =
+    HaveHalves old.page → IsDrawable v → NextBytes old v before.items after.items
+
+-- The view has to be drawn, where there are bytes.
+abbrev pub IsNeeded : Option View → View → Option Bytes → Type 0
+IsNeeded known v frame = IfSome frame (λ bytes. NeedsDraw known v)
+
+-- The bytes, where there are some, draw a view, where a terminal can show it and what is known.
+abbrev pub BytesDraw : Option View → View → Option Bytes → Type 0
+BytesDraw known v frame =
+    IfSome frame (λ bytes. CanBeShown known → IsDrawable v → DrawsBytes known v [] bytes.items)
+
+-- Where there is no frame, the terminal is known to show the view, and nothing changes.
+abbrev pub SkipsKnown : Knowledge → View → Knowledge → Option Bytes → Type 0
+SkipsKnown old v new frame = IfNone frame (DrawsNothing old v new)
+
+-- Where there is a frame, the view had to be drawn, it draws that, and that is known then.
+abbrev pub FrameDraws : Knowledge → View → Knowledge → Option Bytes → Type 0
+FrameDraws old v new frame = IfSome frame (λ bytes. DrawsFrame old v new bytes.items)
