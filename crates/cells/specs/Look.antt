@@ -3,7 +3,8 @@ use Rattle.std.specs.Prelude.{ℕ, ◌+◌, ◌*◌, Bool, true, false}
 use Rattle.cells.specs.declared.cell.Shape.{Shape}
 use Rattle.cells.specs.declared.cell.Shape.TheVariants.{Narrow, Left, Right}
 use Rattle.cells.specs.declared.cell.Colour.{Colour}
-use Rattle.cells.specs.declared.cell.Colour.TheVariants.{Default, Black, Red, Green, Yellow, Blue, Magenta, Cyan, White}
+use Rattle.cells.specs.declared.cell.Colour.TheVariants.{Default, Black, Red, Green, Yellow}
+use Rattle.cells.specs.declared.cell.Colour.TheVariants.{Blue, Magenta, Cyan, White}
 use Rattle.cells.specs.declared.cell.Cell.{Cell}
 
 abbrev pub bit : Bool → ℕ

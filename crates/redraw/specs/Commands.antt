@@ -5,7 +5,9 @@ use Rattle.control_parser.specs.declared.func.Func.TheVariants.{Print, Esc, Csi}
 use Rattle.control_parser.specs.Spelling.{IsGiven}
 use Rattle.redraw.specs.Renditions.{rendition_params}
 use Rattle.redraw.specs.declared.command.Command.{Command}
-use Rattle.redraw.specs.declared.command.Command.TheVariants.{Glyph, MoveTo, NextLine, Forward, Render, EraseCells, EraseToEnd, Arrows, ShowCursor, Keypad}
+use Rattle.redraw.specs.declared.command.Command.TheVariants.{Glyph, MoveTo, NextLine, Forward}
+use Rattle.redraw.specs.declared.command.Command.TheVariants.{Render, EraseCells, EraseToEnd}
+use Rattle.redraw.specs.declared.command.Command.TheVariants.{Arrows, ShowCursor, Keypad}
 
 -- CUP: the line, and the column where it isn't the first one (ECMA-48, 8.3.21)
 abbrev pub place_params : ℕ → ℕ → List ℕ

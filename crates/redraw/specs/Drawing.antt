@@ -1,5 +1,6 @@
 -- What frames do to a terminal, step by step.
-use Rattle.std.specs.Prelude.{◌≡◌, ℕ, ◌+◌, ◌-◌, ◌==◌, ◌<◌, ◌≤◌, length, Bool, true, ◌&&◌, cond, nat_lt, false, List, [], ◌++◌, Option, Some, None, is_some}
+use Rattle.std.specs.Prelude.{◌≡◌, ℕ, ◌+◌, ◌-◌, ◌==◌, ◌<◌, ◌≤◌, Bool, ◌&&◌, cond, nat_lt}
+use Rattle.std.specs.Prelude.{true, false, List, [], ◌++◌, length, Option, Some, None, is_some}
 use Rattle.cells.specs.declared.cell.Shape.{Shape}
 use Rattle.cells.specs.declared.cell.Shape.TheVariants.{Narrow, Left, Right}
 use Rattle.cells.specs.declared.cell.Marks.{Marks}
@@ -13,7 +14,7 @@ use Rattle.control_parser.specs.Spelling.{spelling}
 use Rattle.terminal_model.specs.Screen.{Page, Screen, IsSound, starting_tabs}
 use Rattle.terminal_model.specs.Reading.{Act, ready, reads}
 use Rattle.terminal_model.specs.declared.state.Position.{Position}
-use Rattle.terminal_model.specs.Shows.{seen_at, ShowsCursor}
+use Rattle.terminal_model.specs.Shows.{View, seen_at, ShowsCursor}
 use Rattle.terminal_model.specs.Drawing.{Draws, AreSpelled, drawn_state}
 use Rattle.terminal_model.specs.Drawable.{IsDrawableLine, HasHalves}
 use Rattle.redraw.specs.declared.pen.Pen.{Pen}
@@ -29,21 +30,30 @@ Row = ℕ → Cell
 abbrev pub seen : Screen → ℕ → Row
 seen x line column = seen_at x.page line column
 
+-- what stays of a line below a column: a left half that is cut off there is a blank
+abbrev pub kept_below : Row → ℕ → Row
+kept_below row at c = cond ((c + 1 == at) && is_left (row c).shape) blank (row c)
+
+-- what stays of a line from a column on: a right half that is cut off there is a blank
+abbrev pub kept_from : Row → ℕ → Row
+kept_from row at c = cond ((c == at) && is_right (row c).shape) blank (row c)
+
 -- New cells in n columns from `at` on: what is cut in two on either side is a blank.
 abbrev pub over : Row → ℕ → ℕ → Row → Row
 over row at n fresh c =
-    cond (nat_lt c at) (cond ((c + 1 == at) && is_left (row c).shape) blank (row c))
-    (cond (nat_lt c (at + n)) (fresh c) (cond ((c == at + n) && is_right (row c).shape) blank (row c)))
+    cond (nat_lt c at) (kept_below row at c)
+    (cond (nat_lt c (at + n)) (fresh c) (kept_from row (at + n) c))
 
 -- A line that is drawn up to a column: what was cut in two there is a blank.
 abbrev pub mixed : Row → Row → ℕ → Row
-mixed old new at c = cond (nat_lt c at) (new c) (cond ((c == at) && is_right (old c).shape) blank (old c))
+mixed old new at c = cond (nat_lt c at) (new c) (kept_from old at c)
 
 abbrev pub KnowsRendition : Option Rendition → Rendition → Type 0
 KnowsRendition None r = Prim.Unit {0}
 KnowsRendition (Some known) r = r ≡ known
 
--- A screen on which a frame is drawn, and what is known of its cursor and rendition. A line or a column past the page isn't known.
+-- A screen on which a frame is drawn, and what is known of its cursor and rendition. A line or a
+-- column past the page isn't known.
 pub record Drawing (rows columns : ℕ) (pen : Pen) (x : Screen) : Type 0 where
   pub sound : IsSound x
   pub rows_are : x.state.rows ≡ rows
@@ -55,7 +65,8 @@ pub record Drawing (rows columns : ℕ) (pen : Pen) (x : Screen) : Type 0 where
   pub column_is : pen.column < columns → x.state.column ≡ pen.column
   pub rendition_is : KnowsRendition pen.rendition x.state.rendition
 
--- the bytes lead from one screen to another, without an answer, by acts that are discreet and spare, and spell these alone
+-- the bytes lead from one screen to another, without an answer, by acts that are discreet and
+-- spare, and spell these alone
 pub record Leads (old new : Page) (x : Screen) (bytes : List ℕ) (y : Screen) : Type 0 where
   pub acts : List Act
   pub reading : reads (ready x) bytes ≡ record { terminal = ready y; reports = []; acts = acts }
@@ -63,7 +74,8 @@ pub record Leads (old new : Page) (x : Screen) (bytes : List ℕ) (y : Screen) :
   pub spelled : AreSpelled bytes acts
 
 -- bytes were appended that lead each screen of one kind to one that is related to it
-pub record Takes (old new : Page) (P : Screen → Type 0) (R : Screen → Screen → Type 0) (before after : List ℕ) : Type 0 where
+pub record Takes (old new : Page) (P : Screen → Type 0) (R : Screen → Screen → Type 0)
+    (before after : List ℕ) : Type 0 where
   pub bytes : List ℕ
   pub appended : after ≡ before ++ bytes
   pub leads : (x : Screen) → P x → (y : Screen) × Leads old new x bytes y × R x y
@@ -75,21 +87,24 @@ pub record Keeps (rows columns : ℕ) (pen : Pen) (x y : Screen) : Type 0 where
   pub modes : y.state.modes ≡ x.state.modes
 
 -- a line gets new cells in n columns from `at` on
-pub record Writes (rows columns : ℕ) (pen : Pen) (line at n : ℕ) (fresh : Row) (x y : Screen) : Type 0 where
+pub record Writes (rows columns : ℕ) (pen : Pen) (line at n : ℕ) (fresh : Row) (x y : Screen)
+    : Type 0 where
   pub drawing : Drawing rows columns pen y
   pub here : (c : ℕ) → c < columns → seen y line c ≡ over (seen x line) at n fresh c
   pub elsewhere : (l c : ℕ) → (l ≡ line → ⊥) → seen y l c ≡ seen x l c
   pub modes : y.state.modes ≡ x.state.modes
 
 -- a line is drawn up to a column
-pub record DrawsLine (rows columns : ℕ) (pen : Pen) (line : ℕ) (before after : Row) (at : ℕ) (x y : Screen) : Type 0 where
+pub record DrawsLine (rows columns : ℕ) (pen : Pen) (line : ℕ) (before after : Row) (at : ℕ)
+    (x y : Screen) : Type 0 where
   pub drawing : Drawing rows columns pen y
   pub here : (c : ℕ) → c < columns → seen y line c ≡ mixed before after at c
   pub elsewhere : (l c : ℕ) → (l ≡ line → ⊥) → seen y l c ≡ seen x l c
   pub modes : y.state.modes ≡ x.state.modes
 
 -- lines are drawn up to a line
-pub record DrawsPage (rows columns : ℕ) (pen : Pen) (old new : Page) (at : ℕ) (x y : Screen) : Type 0 where
+pub record DrawsPage (rows columns : ℕ) (pen : Pen) (old new : Page) (at : ℕ) (x y : Screen)
+    : Type 0 where
   pub drawing : Drawing rows columns pen y
   pub above : (l c : ℕ) → l < at → c < columns → seen y l c ≡ seen_at new l c
   pub below : (l c : ℕ) → (l < at → ⊥) → l < rows → c < columns → seen y l c ≡ seen_at old l c
@@ -104,14 +119,18 @@ pub record HasPage (rows columns : ℕ) (pen : Pen) (page : Page) (x : Screen) :
   pub drawing : Drawing rows columns pen x
   pub cells : (l c : ℕ) → l < rows → c < columns → seen x l c ≡ seen_at page l c
 
+-- the right half of a wide character whose left half is a cell
+abbrev pub half_of : Cell → Cell
+half_of cell = right_cell cell.character cell.rendition false
+
 -- a cell, and the right half behind it
 abbrev pub row_of : Cell → ℕ → Row
-row_of cell at c = cond (c == at) (unprotected cell) (right_cell cell.character cell.rendition false)
+row_of cell at c = cond (c == at) (unprotected cell) (half_of cell)
 
 -- a cell stands at a place, and the right half beside a left one
 pub record Stands (page : Page) (line column : ℕ) (cell : Cell) : Type 0 where
   pub here : cell_at (line_at page line) column ≡ cell
-  pub beside : is_left cell.shape ≡ true → unprotected (cell_at (line_at page line) (column + 1)) ≡ right_cell cell.character cell.rendition false
+  pub beside : is_left cell.shape ≡ true → seen_at page line (column + 1) ≡ half_of cell
 
 -- the columns that a cell's character takes
 abbrev pub width_of : Shape → ℕ
@@ -136,17 +155,27 @@ IsWay pen line column (Some NextLine) = (pen.line + 1 ≡ line) × (0 ≡ column
 IsWay pen line column (Some (Forward n)) = (pen.line ≡ line) × (pen.column + n ≡ column) × (0 < n)
 IsWay pen line column (Some other) = ⊥
 
+-- no right half stands at a place
+abbrev pub IsWhole : Page → ℕ → ℕ → Type 0
+IsWhole page line column = is_right (cell_at (line_at page line) column).shape ≡ false
+
 -- a piece of a line was drawn, from a column on and below the next one
-pub record DrawsPiece (old new : Page) (rows columns : ℕ) (p q : Pen) (line column next : ℕ) (before after : List ℕ) : Type 0 where
+pub record DrawsPiece (old new : Page) (rows columns : ℕ) (p q : Pen) (line column next : ℕ)
+    (before after : List ℕ) : Type 0 where
   pub inside : next ≤ columns
-  pub whole : is_right (cell_at (line_at new line) next).shape ≡ false
-  pub takes : Takes old new (Drawing rows columns p) (Writes rows columns q line column (next - column) (seen_at new line)) before after
+  pub whole : IsWhole new line next
+  pub takes :
+      Takes old new (Drawing rows columns p)
+      (Writes rows columns q line column (next - column) (seen_at new line)) before after
 
 -- a line was drawn up to a column
-pub record DrawsUpTo (old new : Page) (rows columns : ℕ) (p q : Pen) (line column : ℕ) (before after : List ℕ) : Type 0 where
+pub record DrawsUpTo (old new : Page) (rows columns : ℕ) (p q : Pen) (line column : ℕ)
+    (before after : List ℕ) : Type 0 where
   pub inside : column ≤ columns
-  pub whole : is_right (cell_at (line_at new line) column).shape ≡ false
-  pub takes : Takes old new (HasLine rows columns p line (seen_at old line)) (DrawsLine rows columns q line (seen_at old line) (seen_at new line) column) before after
+  pub whole : IsWhole new line column
+  pub takes :
+      Takes old new (HasLine rows columns p line (seen_at old line))
+      (DrawsLine rows columns q line (seen_at old line) (seen_at new line) column) before after
 
 -- a line of two pages, which a terminal can show
 pub record AreLines (old new : Page) (line : ℕ) (a b : List Cell) : Type 0 where
@@ -166,7 +195,8 @@ changed false true command = spelling (func_of command)
 changed false false command = []
 
 -- the screen shows a page, and has modes
-pub record Stage (rows columns : ℕ) (pen : Pen) (page : Page) (arrows keypad shows : Bool) (x : Screen) : Type 0 where
+pub record Stage (rows columns : ℕ) (pen : Pen) (page : Page) (arrows keypad shows : Bool)
+    (x : Screen) : Type 0 where
   pub drawing : Drawing rows columns pen x
   pub cells : (l c : ℕ) → l < rows → c < columns → seen x l c ≡ seen_at page l c
   pub arrows_are : x.state.modes.has_application_arrows ≡ arrows
@@ -174,6 +204,17 @@ pub record Stage (rows columns : ℕ) (pen : Pen) (page : Page) (arrows keypad s
   pub shows_are : x.state.modes.shows_cursor ≡ shows
 
 -- and its cursor is where a view has it
-pub record Final (rows columns : ℕ) (pen : Pen) (page : Page) (arrows keypad : Bool) (cursor : Option Position) (x : Screen) : Type 0 where
+pub record Final (rows columns : ℕ) (pen : Pen) (page : Page) (arrows keypad : Bool)
+    (cursor : Option Position) (x : Screen) : Type 0 where
   pub stage : Stage rows columns pen page arrows keypad (is_some cursor) x
   pub cursor_is : ShowsCursor cursor x
+
+-- the screen shows a view's page, and has its modes
+abbrev pub HasView : ℕ → ℕ → Pen → View → Bool → Screen → Type 0
+HasView rows columns pen v shows =
+    Stage rows columns pen v.page v.has_application_arrows v.has_application_keypad shows
+
+-- the screen shows a view
+abbrev pub ShowsView : ℕ → ℕ → Pen → View → Screen → Type 0
+ShowsView rows columns pen v =
+    Final rows columns pen v.page v.has_application_arrows v.has_application_keypad v.cursor

@@ -1,17 +1,19 @@
 -- What a frame does to each terminal that agrees with a shadow.
-use Rattle.std.specs.Prelude.{◌≡◌, ℕ, true, false, List, [], ◌++◌, length, Option, Some, None}
+use Rattle.std.specs.Prelude.{◌≡◌, ℕ, true, false, List, [], ◌++◌, length}
+use Rattle.std.specs.Prelude.{Option, Some, None, IfSome, IfNone}
 use Rattle.cells.specs.Line.{plain}
 use Rattle.cells.specs.Page.{line_at, IsGrid}
 use Rattle.terminal_model.specs.declared.state.Position.{Position}
 use Rattle.terminal_model.specs.Screen.{Page, Screen, blank_page}
-use Rattle.terminal_model.specs.Reading.{Terminal, reads}
+use Rattle.terminal_model.specs.Reading.{Terminal, Act, reads}
 use Rattle.terminal_model.specs.Shows.{View}
 use Rattle.terminal_model.specs.Drawing.{frame_bytes, Draws, AreSpelled, Agrees}
 use Rattle.terminal_model.specs.Drawable.{HaveHalves}
 use Rattle.redraw.specs.declared.pen.Pen.{Pen}
 use Rattle.view.specs.Drawable.{IsDrawable}
 use Rattle.redraw.specs.Shadow.{Knowledge, NeedsDraw, IsKnown}
-use Rattle.redraw.specs.Drawing.{Takes, Stage, Final}
+use Rattle.redraw.specs.Drawing.{Takes, Stage, ShowsView}
+use Rattle.redraw.specs.Steps.{Bytes}
 
 -- a frame begins with the reset exactly where nothing is known of the terminal
 abbrev pub beginning : Option View → List ℕ
@@ -28,15 +30,24 @@ abbrev pub CanBeShown : Option View → Type 0
 CanBeShown None = Prim.Unit {0}
 CanBeShown (Some v) = HaveHalves v.page
 
--- Each terminal that agrees with what is known shows the view when it has read the frame, agrees with that, and has answered
--- nothing. What follows the beginning is discreet and spare, and holds no string.
-pub record Redraws (rows columns : ℕ) (known : Option View) (v : View) (frame : List ℕ) : Type 0 where
+-- what a terminal does when it reads the rest of a frame behind its beginning
+abbrev pub acts_behind : Option View → Terminal → List ℕ → List Act
+acts_behind known t rest = (reads (reads t (beginning known)).terminal rest).acts
+
+-- Each terminal that agrees with what is known shows the view when it has read the frame, agrees
+-- with that, and has answered nothing. What follows the beginning is discreet and spare, and holds
+-- no string.
+pub record Redraws (rows columns : ℕ) (known : Option View) (v : View) (frame : List ℕ)
+    : Type 0 where
   pub rest : List ℕ
   pub begins : frame ≡ beginning known ++ rest
-  pub agrees : (t : Terminal) → Agrees rows columns known t → Agrees rows columns (Some v) (reads t frame).terminal
+  pub agrees : (t : Terminal) → Agrees rows columns known t
+      → Agrees rows columns (Some v) (reads t frame).terminal
   pub quiet : (t : Terminal) → Agrees rows columns known t → (reads t frame).reports ≡ []
-  pub draws : (t : Terminal) → Agrees rows columns known t → Draws (page_before rows columns known) v.page (reads (reads t (beginning known)).terminal rest).acts
-  pub spelled : (t : Terminal) → Agrees rows columns known t → AreSpelled rest (reads (reads t (beginning known)).terminal rest).acts
+  pub draws : (t : Terminal) → Agrees rows columns known t
+      → Draws (page_before rows columns known) v.page (acts_behind known t rest)
+  pub spelled : (t : Terminal) → Agrees rows columns known t
+      → AreSpelled rest (acts_behind known t rest)
 
 -- what is known of a pen where the cursor is shown, or hidden
 abbrev pub pen_of : Option Position → Pen
@@ -45,11 +56,11 @@ pen_of (Some p) = record { line = p.line; column = p.column; rendition = None }
 
 -- the end of a frame, wherever the pen is then
 abbrev pub EndsAs : ℕ → ℕ → View → Screen → Type 0
-EndsAs rows columns v y = Final rows columns (pen_of None) v.page v.has_application_arrows v.has_application_keypad v.cursor y
+EndsAs rows columns v y = ShowsView rows columns (pen_of None) v y
 
 -- a screen that shows a view, as a frame left it
 abbrev pub Begins : ℕ → ℕ → View → Screen → Type 0
-Begins rows columns old x = Final rows columns (pen_of old.cursor) old.page old.has_application_arrows old.has_application_keypad old.cursor x
+Begins rows columns old x = ShowsView rows columns (pen_of old.cursor) old x
 
 -- bytes from one view to another
 abbrev pub NextBytes : View → View → List ℕ → List ℕ → Type 0
@@ -58,14 +69,25 @@ NextBytes old v before after =
     let columns : ℕ = length (line_at v.page 0) in
     Takes old.page v.page (Begins rows columns old) (λ x y. EndsAs rows columns v y) before after
 
+-- a screen as the reset leaves it
+abbrev pub IsReset : ℕ → ℕ → Screen → Type 0
+IsReset rows columns =
+    let pen : Pen = record { line = 0; column = 0; rendition = Some plain } in
+    Stage rows columns pen (blank_page rows columns) false false true
+
+-- bytes from the blank page of the reset to a view
+abbrev pub BytesBehindReset : View → List ℕ → List ℕ → Type 0
+BytesBehindReset v before after =
+    let rows : ℕ = length v.page in
+    let columns : ℕ = length (line_at v.page 0) in
+    Takes (blank_page rows columns) v.page (IsReset rows columns) (λ x y. EndsAs rows columns v y)
+    before after
+
 -- bytes from the reset on
 pub record FirstBytes (v : View) (before after : List ℕ) : Type 0 where
   pub middle : List ℕ
   pub resets : middle ≡ before ++ frame_bytes
-  pub paints :
-      Takes (blank_page (length v.page) (length (line_at v.page 0))) v.page
-      (Stage (length v.page) (length (line_at v.page 0)) (record { line = 0; column = 0; rendition = Some plain }) (blank_page (length v.page) (length (line_at v.page 0))) false false true)
-      (λ x y. EndsAs (length v.page) (length (line_at v.page 0)) v y) middle after
+  pub paints : BytesBehindReset v middle after
 
 abbrev pub DrawsBytes : Option View → View → List ℕ → List ℕ → Type 0
 DrawsBytes None v before after = FirstBytes v before after
@@ -82,3 +104,27 @@ pub record DrawsFrame (old : Knowledge) (v : View) (new : Knowledge) (bytes : Li
   pub needed : NeedsDraw old.known v
   pub redraws : CanBeShown old.known → IsDrawable v → Redraws old.rows old.columns old.known v bytes
   pub known : new ≡ record old { known = Some v }
+
+-- ---- where a frame was made
+
+-- The bytes lead from one view to another, where a terminal can show both.
+abbrev pub DrawsNext : View → View → Bytes → Bytes → Type 0
+DrawsNext old v before after =
+    HaveHalves old.page → IsDrawable v → NextBytes old v before.items after.items
+
+-- The view has to be drawn, where there are bytes.
+abbrev pub IsNeeded : Option View → View → Option Bytes → Type 0
+IsNeeded known v frame = IfSome frame (λ bytes. NeedsDraw known v)
+
+-- The bytes, where there are some, draw a view, where a terminal can show it and what is known.
+abbrev pub BytesDraw : Option View → View → Option Bytes → Type 0
+BytesDraw known v frame =
+    IfSome frame (λ bytes. CanBeShown known → IsDrawable v → DrawsBytes known v [] bytes.items)
+
+-- Where there is no frame, the terminal is known to show the view, and nothing changes.
+abbrev pub SkipsKnown : Knowledge → View → Knowledge → Option Bytes → Type 0
+SkipsKnown old v new frame = IfNone frame (DrawsNothing old v new)
+
+-- Where there is a frame, the view had to be drawn, it draws that, and that is known then.
+abbrev pub FrameDraws : Knowledge → View → Knowledge → Option Bytes → Type 0
+FrameDraws old v new frame = IfSome frame (λ bytes. DrawsFrame old v new bytes.items)

@@ -1,7 +1,9 @@
 -- The values of SGR that lead to a rendition, in as few bytes as may be (ECMA-48, 8.3.117).
-use Rattle.std.specs.Prelude.{ℕ, ◌+◌, ◌==◌, nat_lt, Bool, true, false, if◌then◌else◌, List, [], ◌∷◌, ◌++◌, Option, Some, None}
+use Rattle.std.specs.Prelude.{ℕ, ◌+◌, ◌==◌, nat_lt, Bool, true, false, if◌then◌else◌}
+use Rattle.std.specs.Prelude.{List, [], ◌∷◌, ◌++◌, Option, Some, None}
 use Rattle.cells.specs.declared.cell.Colour.{Colour}
-use Rattle.cells.specs.declared.cell.Colour.TheVariants.{Default, Black, Red, Green, Yellow, Blue, Magenta, Cyan, White}
+use Rattle.cells.specs.declared.cell.Colour.TheVariants.{Default, Black, Red, Green, Yellow}
+use Rattle.cells.specs.declared.cell.Colour.TheVariants.{Blue, Magenta, Cyan, White}
 use Rattle.cells.specs.declared.cell.Rendition.{Rendition}
 use Rattle.terminal_model.specs.Places.{value_if}
 
@@ -21,10 +23,15 @@ colour_digit Default = 9
 abbrev pub coloured : ℕ → Colour → List ℕ
 coloured first colour = if colour_digit colour == 9 then [] else (first + colour_digit colour) ∷ []
 
+-- 0, and then the attributes that are on
+abbrev pub attribute_params : Rendition → List ℕ
+attribute_params r =
+    (((0 ∷ [] ++ value_if r.is_bold 1) ++ value_if r.is_underlined 4)
+    ++ value_if r.is_blinking 5) ++ value_if r.is_reversed 7
+
 -- from any rendition: 0, and then what is on
 abbrev pub whole_params : Rendition → List ℕ
-whole_params r =
-    (((((0 ∷ [] ++ value_if r.is_bold 1) ++ value_if r.is_underlined 4) ++ value_if r.is_blinking 5) ++ value_if r.is_reversed 7) ++ coloured 30 r.fore) ++ coloured 40 r.back
+whole_params r = (attribute_params r ++ coloured 30 r.fore) ++ coloured 40 r.back
 
 -- what differs
 abbrev pub switched : Bool → Bool → ℕ → ℕ → List ℕ
@@ -34,13 +41,20 @@ switched false true on off = on ∷ []
 switched false false on off = []
 
 abbrev pub recoloured : Colour → Colour → ℕ → List ℕ
-recoloured old new first = if colour_digit old == colour_digit new then [] else (first + colour_digit new) ∷ []
+recoloured old new first =
+    if colour_digit old == colour_digit new then [] else (first + colour_digit new) ∷ []
+
+-- the attributes that differ
+abbrev pub switched_params : Rendition → Rendition → List ℕ
+switched_params old new =
+    ((switched old.is_bold new.is_bold 1 22 ++ switched old.is_underlined new.is_underlined 4 24)
+    ++ switched old.is_blinking new.is_blinking 5 25)
+    ++ switched old.is_reversed new.is_reversed 7 27
 
 -- from a rendition that is known
 abbrev pub change_params : Rendition → Rendition → List ℕ
 change_params old new =
-    ((((switched old.is_bold new.is_bold 1 22 ++ switched old.is_underlined new.is_underlined 4 24) ++ switched old.is_blinking new.is_blinking 5 25)
-    ++ switched old.is_reversed new.is_reversed 7 27) ++ recoloured old.fore new.fore 30) ++ recoloured old.back new.back 40
+    (switched_params old new ++ recoloured old.fore new.fore 30) ++ recoloured old.back new.back 40
 
 -- the bytes of a value and of what stands behind it: 0 is spelled as nothing
 abbrev pub value_bytes : ℕ → ℕ
@@ -50,10 +64,12 @@ abbrev pub all_bytes : List ℕ → ℕ
 all_bytes [] = 0
 all_bytes (n ∷ values) = value_bytes n + all_bytes values
 
--- the first list, where it has a value and doesn't take more bytes: SGR without a value would be SGR 0
+-- the first list, where it has a value and doesn't take more bytes: SGR without a value would be
+-- SGR 0
 abbrev pub shorter : List ℕ → List ℕ → List ℕ
 shorter [] whole = whole
-shorter (n ∷ values) whole = if nat_lt (all_bytes whole) (all_bytes (n ∷ values)) then whole else n ∷ values
+shorter (n ∷ values) whole =
+    if nat_lt (all_bytes whole) (all_bytes (n ∷ values)) then whole else n ∷ values
 
 abbrev pub rendition_params : Option Rendition → Rendition → List ℕ
 rendition_params None r = whole_params r

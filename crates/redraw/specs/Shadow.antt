@@ -1,5 +1,5 @@
 -- What is known of a client's terminal.
-use Rattle.std.specs.Prelude.{◌≡◌, ◌<◌, ℕ, Option, Some, None}
+use Rattle.std.specs.Prelude.{◌≡◌, ◌<◌, ◌≤◌, ℕ, length, Option, Some, None}
 use Rattle.terminal_model.specs.Screen.{Page}
 use Rattle.terminal_model.specs.Shows.{View, seen_at}
 use Rattle.view.specs.View.{HasSize}
@@ -10,6 +10,10 @@ pub record Knowledge : Type 0 where
   pub columns : ℕ
   pub known : Option View
 
+-- this size, and this view
+abbrev pub knowledge_of : ℕ → ℕ → Option View → Knowledge
+knowledge_of rows columns known = record { rows = rows; columns = columns; known = known }
+
 -- a known view has the terminal's size
 abbrev pub IsSound : Knowledge → Type 0
 IsSound k = (v : View) → k.known ≡ Some v → HasSize k.rows k.columns v
@@ -17,6 +21,10 @@ IsSound k = (v : View) → k.known ≡ Some v → HasSize k.rows k.columns v
 -- two pages look the same above a line
 abbrev pub AreAlikeAbove : ℕ → Page → Page → Type 0
 AreAlikeAbove line a b = (l column : ℕ) → l < line → seen_at a l column ≡ seen_at b l column
+
+-- a line of the second page, or its end, above which both look the same
+abbrev pub AreAlikeUpTo : ℕ → Page → Page → Type 0
+AreAlikeUpTo line a b = (line ≤ length b) × AreAlikeAbove line a b
 
 -- two views show the same: protection isn't seen
 pub record LooksLike (a b : View) : Type 0 where

@@ -1,12 +1,11 @@
 //! Frames.
 
-ghost use Rattle.std.specs.Prelude.{◌≡◌, ◌≤◌, [], OnOk, OnErr, IfOk, IfNone, IfSome, length, is_some};
-ghost use Rattle.cells.specs.Page.{line_at};
-ghost use Rattle.view.specs.View.{HasSize, place_of};
-ghost use Rattle.terminal_model.specs.Drawable.{HaveHalves};
+ghost use Rattle.std.specs.Prelude.{◌≡◌, ◌≤◌, OnOk, OnErr, IfOk, IfNone, length, is_some};
+ghost use Rattle.view.specs.View.{HasSize, KeepsSize, place_of};
 ghost use Rattle.view.specs.Drawable.{IsDrawable};
-ghost use Rattle.redraw.specs.Frames.{CanBeShown, pen_of, FirstBytes, NextBytes, DrawsBytes, DrawsNothing, DrawsFrame};
-ghost use Rattle.redraw.specs.Shadow.{AreAlikeAbove, NeedsDraw, IsKnown};
+ghost use Rattle.redraw.specs.Frames.{pen_of, FirstBytes, DrawsNext, IsNeeded, BytesDraw};
+ghost use Rattle.redraw.specs.Frames.{SkipsKnown, FrameDraws};
+ghost use Rattle.redraw.specs.Shadow.{AreAlikeAbove, IsKnown};
 
 use crate::painting::paint;
 use crate::pen::Pen;
@@ -15,8 +14,8 @@ use cells::Rendition;
 use std::alloc::{AllocError, Global};
 use view::{Cursor, View};
 
-/// CAN, RIS, UTF-8 and DECRM of DECAWM: from any state a blank page, on which the last column keeps the
-/// cursor.
+/// CAN, RIS, UTF-8 and DECRM of DECAWM: from any state a blank page, on which the last column keeps
+/// the cursor.
 const RESET: &[u8] = b"\x18\x1bc\x1b%G\x1b[?7l";
 
 /// Whether a cursor is shown.
@@ -63,10 +62,10 @@ fn first_bytes(alloc: Global, view: &View, out: &mut Vec<u8>) -> Result<(), Allo
 
 /// Appends the bytes from one view to another, whose pages look the same above the line `from`.
 fn next_bytes(old: &View, view: &View, from: usize, out: &mut Vec<u8>) -> Result<(), AllocError>
-    requires size { HasSize (length old.now.page) (length (line_at old.now.page 0)) view.now }
+    requires size { KeepsSize old.now view.now }
     requires inside { from ≤ length view.now.page }
     requires above { AreAlikeAbove from old.now.page view.now.page }
-    ensures { OnOk result (HaveHalves old.now.page → IsDrawable view.now → NextBytes old.now view.now out.old.items out.new.items) }
+    ensures { OnOk result (DrawsNext old.now view.now out.old out.new) }
 {
     let cursor = old.cursor();
     let mut pen = pen_at(cursor);
@@ -78,8 +77,8 @@ fn next_bytes(old: &View, view: &View, from: usize, out: &mut Vec<u8>) -> Result
 fn draw(alloc: Global, shadow: &Shadow, view: &View) -> Result<Option<Vec<u8>>, AllocError>
     requires size { HasSize shadow.now.rows shadow.now.columns view.now }
     ensures needless { IfOk result (λ frame. IfNone frame (IsKnown shadow.now.known view.now)) }
-    ensures needed { IfOk result (λ frame. IfSome frame (λ bytes. NeedsDraw shadow.now.known view.now)) }
-    ensures drawn { IfOk result (λ frame. IfSome frame (λ bytes. CanBeShown shadow.now.known → IsDrawable view.now → DrawsBytes shadow.now.known view.now [] bytes.items)) }
+    ensures needed { IfOk result (λ frame. IsNeeded shadow.now.known view.now frame) }
+    ensures drawn { IfOk result (λ frame. BytesDraw shadow.now.known view.now frame) }
 {
     let mut bytes = Vec::new(alloc);
     match &shadow.known {
@@ -95,13 +94,13 @@ fn draw(alloc: Global, shadow: &Shadow, view: &View) -> Result<Option<Vec<u8>>, 
 }
 
 /// The bytes that lead each terminal that agrees with the shadow to one that shows the view, of the
-/// shadow's size, and that agrees with the shadow then: it keeps the view. They are discreet and spare,
-/// and begin with the reset exactly where the shadow is unknown. There are none, and the shadow stays,
-/// exactly where it is known to show the same. After an `Err` nothing has changed.
+/// shadow's size, and that agrees with the shadow then: it keeps the view. They are discreet and
+/// spare, and begin with the reset exactly where the shadow is unknown. There are none, and the
+/// shadow stays, exactly where it is known to show the same. After an `Err` nothing has changed.
 pub fn frame(alloc: Global, shadow: &mut Shadow, view: View) -> Result<Option<Vec<u8>>, AllocError>
     requires size { HasSize shadow.old.rows shadow.old.columns view }
-    ensures needless { IfOk result (λ frame. IfNone frame (DrawsNothing shadow.old view shadow.new)) }
-    ensures drawn { IfOk result (λ frame. IfSome frame (λ bytes. DrawsFrame shadow.old view shadow.new bytes.items)) }
+    ensures needless { IfOk result (λ frame. SkipsKnown shadow.old view shadow.new frame) }
+    ensures drawn { IfOk result (λ frame. FrameDraws shadow.old view shadow.new frame) }
     ensures err { OnErr result (shadow.new ≡ shadow.old) }
 {
     let Some(bytes) = draw(alloc, shadow, &view)? else {

@@ -1,18 +1,15 @@
 //! From one page to another.
 
-ghost use Rattle.std.specs.Prelude.{◌≡◌, ◌+◌, ◌<◌, ◌≤◌, ℕ, ◌++◌, List, Bool, false, OnOk, IfOk, IfSome, IfNone, length};
-ghost use Rattle.cells.specs.declared.cell.Cell.{Cell};
-ghost use Rattle.cells.specs.Line.{blank, cell_at, is_right};
-ghost use Rattle.cells.specs.Page.{line_at};
+ghost use Rattle.std.specs.Prelude.{◌≡◌, ◌+◌, ◌<◌, ◌≤◌, ℕ, ◌++◌};
+ghost use Rattle.std.specs.Prelude.{OnOk, IfOk, IfSome, IfNone, length};
+ghost use Rattle.cells.specs.Line.{blank, cell_at};
 ghost use Rattle.cells.specs.Unlike.{IsNextUnlike, IsEndOfUnlike, AreAlikeFrom};
-ghost use Rattle.terminal_model.specs.Screen.{Page, IsInside};
-ghost use Rattle.terminal_model.specs.Drawable.{HaveHalves};
-ghost use Rattle.view.specs.Drawable.{IsDrawable};
-ghost use Rattle.terminal_model.specs.Drawing.{Differs};
-ghost use Rattle.view.specs.View.{HasSize, place_of};
+ghost use Rattle.view.specs.View.{KeepsSize, place_of};
 ghost use Rattle.redraw.specs.Commands.{IsPlaced};
 ghost use Rattle.redraw.specs.Shadow.{AreAlikeAbove};
-ghost use Rattle.redraw.specs.Drawing.{AreLines, DrawsPiece, DrawsUpTo, Takes, HasPage, DrawsPage, Stage, Final, changed};
+ghost use Rattle.redraw.specs.Drawing.{changed};
+ghost use Rattle.redraw.specs.Steps.{PutsPiece, PutsLine, PutsPage, PutsView};
+ghost use Rattle.redraw.specs.Steps.{SetsModes, PutsCursor};
 
 use crate::command::Command;
 use crate::pen::{Pen, columns_of};
@@ -23,7 +20,8 @@ use view::{Cursor, KeyModes, View};
 /// So many blanks are erased where they aren't printed: the bytes of the erasure are fewer.
 const FEWEST_ERASED: usize = 5;
 
-/// So many, where more is drawn behind them: the bytes of the erasure and of the way over it are fewer.
+/// So many, where more is drawn behind them: the bytes of the erasure and of the way over it are
+/// fewer.
 const FEWEST_ERASED_WITHIN: usize = 11;
 
 /// How many blanks stand in the line from a column on.
@@ -39,8 +37,8 @@ fn blank_run(cells: &[Cell], from: usize) -> usize
     end - from
 }
 
-/// Draws a line at a column where it differs, up to the column that it returns: the differing columns end
-/// at `end`.
+/// Draws a line at a column where it differs, up to the column that it returns: the differing
+/// columns end at `end`.
 fn draw_piece(
     pen: &mut Pen,
     line: u16,
@@ -54,9 +52,8 @@ fn draw_piece(
     requires end { end ≤ length after.now }
     requires few { length after.now ≤ 300 }
     ensures forth { IfOk result (λ next. (column < next) × (next ≤ length after.now + 1)) }
-    ensures draws { IfOk result (λ next. (old new : Page) (rows : ℕ) (before : List Cell) → line < rows → rows < 9999 → AreLines old new line before after.now →
-        is_right (cell_at after.now column).shape ≡ false → Differs old new line column →
-        DrawsPiece old new rows (length after.now) pen.old pen.new line column next out.old.items out.new.items) }
+    ensures draws { IfOk result (λ next.
+        PutsPiece line after.now column next pen.old pen.new out.old out.new) }
 {
     let blanks = blank_run(after, column);
     if blanks >= FEWEST_ERASED && column + blanks == after.len() {
@@ -78,8 +75,8 @@ fn draw_piece(
     Ok(column + columns_of(cell) as usize)
 }
 
-/// The first run of columns, not below `column`, in which lines differ: up to `known`, where `column` is
-/// below that.
+/// The first run of columns, not below `column`, in which lines differ: up to `known`, where
+/// `column` is below that.
 fn next_run(before: &[Cell], after: &[Cell], column: usize, known: usize) -> Option<(usize, usize)>
     requires same_width { length before.now ≡ length after.now }
     requires known { column < known → IsEndOfUnlike before.now after.now column known }
@@ -104,8 +101,7 @@ fn draw_line(
     requires line { line < 9999 }
     requires same_width { length before.now ≡ length after.now }
     requires few { length after.now ≤ 300 }
-    ensures { OnOk result ((old new : Page) (rows : ℕ) → line < rows → rows < 9999 → AreLines old new line before.now after.now →
-        DrawsUpTo old new rows (length after.now) pen.old pen.new line (length after.now) out.old.items out.new.items) }
+    ensures { OnOk result (PutsLine line before.now after.now pen.old pen.new out.old out.new) }
 {
     let (mut column, mut known) = (0, 0);
     while let Some((start, end)) = next_run(before, after, column, known) {
@@ -123,12 +119,10 @@ fn draw_page(
     from: usize,
     out: &mut Vec<u8>,
 ) -> Result<(), AllocError>
-    requires size { HasSize (length old.now.page) (length (line_at old.now.page 0)) new.now }
+    requires size { KeepsSize old.now new.now }
     requires inside { from ≤ length new.now.page }
     requires above { AreAlikeAbove from old.now.page new.now.page }
-    ensures { OnOk result (HaveHalves old.now.page → IsDrawable new.now →
-        Takes old.now.page new.now.page (HasPage (length new.now.page) (length (line_at new.now.page 0)) pen.old old.now.page)
-        (DrawsPage (length new.now.page) (length (line_at new.now.page 0)) pen.new old.now.page new.now.page (length new.now.page)) out.old.items out.new.items) }
+    ensures { OnOk result (PutsPage old.now new.now pen.old pen.new out.old out.new) }
 {
     for line in from..new.rows() {
         draw_line(pen, line as u16, old.row(line), new.row(line), out)?;
@@ -149,9 +143,7 @@ fn change(was: bool, is: bool, command: Command, out: &mut Vec<u8>) -> Result<()
 
 /// Sets the modes of the keyboard that differ.
 fn draw_modes(old: KeyModes, new: KeyModes, out: &mut Vec<u8>) -> Result<(), AllocError>
-    ensures { OnOk result ((before after page : Page) (rows columns : ℕ) (pen : Pen) (shows : Bool) →
-        Takes before after (Stage rows columns pen page old.has_application_arrows old.has_application_keypad shows)
-        (λ x y. Stage rows columns pen page new.has_application_arrows new.has_application_keypad shows y) out.old.items out.new.items) }
+    ensures { OnOk result (SetsModes old new out.old out.new) }
 {
     let (arrows, keypad) = (new.has_application_arrows, new.has_application_keypad);
     change(
@@ -177,9 +169,7 @@ fn draw_cursor(
     out: &mut Vec<u8>,
 ) -> Result<(), AllocError>
     requires { IfSome (place_of new) (λ p. (p.line < 9999) × (p.column < 9999)) }
-    ensures { OnOk result ((before after page : Page) (rows columns : ℕ) (arrows keypad : Bool) → rows < 9999 → columns < 9999 →
-        IfSome (place_of new) (λ p. IsInside rows columns p.line p.column) →
-        Takes before after (Stage rows columns pen.old page arrows keypad was_shown) (λ x y. Final rows columns pen.new page arrows keypad (place_of new) y) out.old.items out.new.items) }
+    ensures { OnOk result (PutsCursor was_shown new pen.old pen.new out.old out.new) }
 {
     match new {
         Cursor::Hidden => change(was_shown, false, Command::ShowCursor(false), out)?,
@@ -191,8 +181,8 @@ fn draw_cursor(
     Ok(())
 }
 
-/// Draws what differs between two views of one size, whose pages look the same above the line `from`.
-/// `was_shown` says whether the cursor is shown before.
+/// Draws what differs between two views of one size, whose pages look the same above the line
+/// `from`. `was_shown` says whether the cursor is shown before.
 pub fn paint(
     pen: &mut Pen,
     old: &View,
@@ -201,14 +191,10 @@ pub fn paint(
     from: usize,
     out: &mut Vec<u8>,
 ) -> Result<(), AllocError>
-    requires size { HasSize (length old.now.page) (length (line_at old.now.page 0)) new.now }
+    requires size { KeepsSize old.now new.now }
     requires inside { from ≤ length new.now.page }
     requires above { AreAlikeAbove from old.now.page new.now.page }
-    ensures { OnOk result (HaveHalves old.now.page → IsDrawable new.now →
-        Takes old.now.page new.now.page
-        (Stage (length new.now.page) (length (line_at new.now.page 0)) pen.old old.now.page old.now.has_application_arrows old.now.has_application_keypad was_shown)
-        (λ x y. Final (length new.now.page) (length (line_at new.now.page 0)) pen.new new.now.page new.now.has_application_arrows new.now.has_application_keypad new.now.cursor y)
-        out.old.items out.new.items) }
+    ensures { OnOk result (PutsView old.now was_shown new.now pen.old pen.new out.old out.new) }
 {
     draw_page(pen, old, new, from, out)?;
     draw_modes(old.modes(), new.modes(), out)?;

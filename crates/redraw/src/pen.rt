@@ -1,11 +1,8 @@
 //! What is known of a terminal's cursor and rendition while a frame is made.
 
-ghost use Rattle.std.specs.Prelude.{◌≡◌, ◌↔◌, ◌<◌, ◌≤◌, ◌+◌, ◌++◌, ℕ, false, Some, OnOk, IsTrue};
-ghost use Rattle.cells.specs.Line.{blank, is_right};
-ghost use Rattle.terminal_model.specs.Screen.{Page};
-ghost use Rattle.terminal_model.specs.Drawing.{Differs};
-ghost use Rattle.terminal_model.specs.Drawable.{IsDrawableCell};
-ghost use Rattle.redraw.specs.Drawing.{IsWay, Drawing, Takes, Keeps, Writes, Stands, row_of, width_of, glyph_bytes};
+ghost use Rattle.std.specs.Prelude.{◌≡◌, ◌↔◌, ◌<◌, ◌≤◌, ◌++◌, Some, OnOk, IsTrue};
+ghost use Rattle.redraw.specs.Drawing.{IsWay, width_of, glyph_bytes};
+ghost use Rattle.redraw.specs.Steps.{MovesTo, Renders, PutsCell, Erases, ErasesToEnd, aimed_at};
 
 use crate::command::Command;
 use cells::{Cell, Marks, Rendition, Shape};
@@ -42,8 +39,7 @@ impl Pen {
     pub fn move_to(&mut self, line: u16, column: u16, out: &mut Vec<u8>) -> Result<(), AllocError>
         requires { (line < 9999) × (column < 9999) }
         ensures place { OnOk result (self.new ≡ record self.old { line = line; column = column }) }
-        ensures takes { OnOk result ((old new : Page) (rows columns : ℕ) → line < rows → rows < 9999 → column < columns → columns < 9999 →
-            Takes old new (Drawing rows columns self.old) (Keeps rows columns self.new) out.old.items out.new.items) }
+        ensures takes { OnOk result (MovesTo line column self.old self.new out.old out.new) }
     {
         let Some(way) = self.way_to(line, column) else {
             return Ok(());
@@ -70,8 +66,7 @@ impl Pen {
     /// Takes up a rendition, if it isn't the present one.
     pub fn render(&mut self, rendition: Rendition, out: &mut Vec<u8>) -> Result<(), AllocError>
         ensures place { OnOk result (self.new ≡ record self.old { rendition = Some rendition }) }
-        ensures takes { OnOk result ((old new : Page) (rows columns : ℕ) →
-            Takes old new (Drawing rows columns self.old) (Keeps rows columns self.new) out.old.items out.new.items) }
+        ensures takes { OnOk result (Renders self.old self.new out.old out.new) }
     {
         if self.has(rendition) {
             return Ok(());
@@ -91,9 +86,8 @@ impl Pen {
         out: &mut Vec<u8>,
     ) -> Result<(), AllocError>
         requires { (line < 9999) × (column < 9999) }
-        ensures place { OnOk result (self.new ≡ record { line = line; column = column; rendition = Some rendition }) }
-        ensures takes { OnOk result ((old new : Page) (rows columns : ℕ) → line < rows → rows < 9999 → column < columns → columns < 9999 →
-            Takes old new (Drawing rows columns self.old) (Keeps rows columns self.new) out.old.items out.new.items) }
+        ensures place { OnOk result (self.new ≡ aimed_at line column rendition) }
+        ensures takes { OnOk result (MovesTo line column self.old self.new out.old out.new) }
     {
         self.move_to(line, column, out)?;
         self.render(rendition, out)?;
@@ -109,9 +103,7 @@ impl Pen {
         out: &mut Vec<u8>,
     ) -> Result<(), AllocError>
         requires { (line < 9999) × (column < 9999) }
-        ensures takes { OnOk result ((old new : Page) (rows columns : ℕ) → line < rows → rows < 9999 → column + width_of cell.shape ≤ columns → columns < 9999 →
-            IsDrawableCell cell → is_right cell.shape ≡ false → Stands new line column cell → Differs old new line column →
-            Takes old new (Drawing rows columns self.old) (Writes rows columns self.new line column (width_of cell.shape) (row_of cell column)) out.old.items out.new.items) }
+        ensures takes { OnOk result (PutsCell line column cell self.old self.new out.old out.new) }
     {
         self.aim(line, column, cell.rendition, out)?;
         put_glyphs(cell, out)?;
@@ -128,8 +120,7 @@ impl Pen {
         out: &mut Vec<u8>,
     ) -> Result<(), AllocError>
         requires { (line < 9999) × (column < 9999) }
-        ensures takes { OnOk result ((old new : Page) (rows columns : ℕ) → line < rows → rows < 9999 → 0 < count → column + count ≤ columns → columns < 9999 →
-            Takes old new (Drawing rows columns self.old) (Writes rows columns self.new line column count (λ c. blank)) out.old.items out.new.items) }
+        ensures takes { OnOk result (Erases line column count self.old self.new out.old out.new) }
     {
         self.move_to(line, column, out)?;
         Command::EraseCells(count).put(out)?;
@@ -144,8 +135,7 @@ impl Pen {
         out: &mut Vec<u8>,
     ) -> Result<(), AllocError>
         requires { (line < 9999) × (column < 9999) }
-        ensures takes { OnOk result ((old new : Page) (rows columns n : ℕ) → line < rows → rows < 9999 → 0 < n → column + n ≡ columns → columns < 9999 →
-            Takes old new (Drawing rows columns self.old) (Writes rows columns self.new line column n (λ c. blank)) out.old.items out.new.items) }
+        ensures takes { OnOk result (ErasesToEnd line column self.old self.new out.old out.new) }
     {
         self.move_to(line, column, out)?;
         Command::EraseToEnd.put(out)?;

@@ -2,7 +2,9 @@
 
 ghost use Rattle.std.specs.Prelude.{◌≡◌, ◌<◌, ◌≤◌, ◌+◌, [], ◌∷◌, ◌++◌, length};
 ghost use Rattle.terminal_model.specs.Places.{value_if};
-ghost use Rattle.redraw.specs.Renditions.{switched, colour_digit, coloured, recoloured, whole_params, change_params, rendition_params, listed, value_bytes, all_bytes, shorter};
+ghost use Rattle.redraw.specs.Renditions.{switched, colour_digit, coloured, recoloured};
+ghost use Rattle.redraw.specs.Renditions.{whole_params, change_params, rendition_params, listed};
+ghost use Rattle.redraw.specs.Renditions.{value_bytes, all_bytes, shorter};
 
 use cells::{Colour, Rendition};
 use control_parser::Params;

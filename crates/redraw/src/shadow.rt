@@ -1,9 +1,9 @@
 //! What is known of a client's terminal.
 
 ghost use Rattle.std.specs.Prelude.{◌≡◌, ◌<◌, ◌≤◌, ◌↔◌, None, IsTrue, IfNone, IfSome, length};
-ghost use Rattle.cells.specs.Page.{line_at, IsGrid};
-ghost use Rattle.view.specs.View.{HasSize, place_of};
-ghost use Rattle.redraw.specs.Shadow.{AreAlikeAbove, LooksLike};
+ghost use Rattle.cells.specs.Page.{IsGrid};
+ghost use Rattle.view.specs.View.{KeepsSize, place_of};
+ghost use Rattle.redraw.specs.Shadow.{AreAlikeAbove, AreAlikeUpTo, LooksLike};
 
 use cells::next_unlike;
 use std::marker::Model;
@@ -18,13 +18,13 @@ pub struct Shadow {
 }
 
 impl Model for Shadow {
-    ghost use Rattle.redraw.specs.Shadow.{Knowledge, IsSound};
+    ghost use Rattle.redraw.specs.Shadow.{Knowledge, IsSound, knowledge_of};
 
     ghost Value = { Knowledge };
 
-    ghost view = { λ s. record { rows = s.rows; columns = s.cols; known = s.known } };
+    ghost view = { λ s. knowledge_of s.rows s.cols s.known };
 
-    ghost invariant = { λ s. IsSound (record { rows = s.rows; columns = s.cols; known = s.known }) };
+    ghost invariant = { λ s. IsSound (knowledge_of s.rows s.cols s.known) };
 }
 
 impl Shadow {
@@ -74,9 +74,10 @@ fn is_same_modes(a: KeyModes, b: KeyModes) -> bool
     a == b
 }
 
-/// The first line in which two pages look different, protection aside, or the number of their lines.
+/// The first line in which two pages look different, protection aside, or the number of their
+/// lines.
 fn first_unlike(old: &View, new: &View) -> usize
-    requires { HasSize (length old.now.page) (length (line_at old.now.page 0)) new.now }
+    requires { KeepsSize old.now new.now }
     ensures inside { result ≤ length new.now.page }
     ensures above { AreAlikeAbove result old.now.page new.now.page }
     ensures unlike { result < length new.now.page → LooksLike old.now new.now → ⊥ }
@@ -92,10 +93,10 @@ fn first_unlike(old: &View, new: &View) -> usize
 /// The line from which a page is to be drawn that leads from one view to another; none where they
 /// show the same.
 pub fn first_change(old: &View, new: &View) -> Option<usize>
-    requires { HasSize (length old.now.page) (length (line_at old.now.page 0)) new.now }
+    requires { KeepsSize old.now new.now }
     ensures none { IfNone result (LooksLike old.now new.now) }
     ensures unlike { IfSome result (λ line. LooksLike old.now new.now → ⊥) }
-    ensures from { IfSome result (λ line. (line ≤ length new.now.page) × AreAlikeAbove line old.now.page new.now.page) }
+    ensures from { IfSome result (λ line. AreAlikeUpTo line old.now.page new.now.page) }
     ensures grid { IsGrid new.now.page }
 {
     let line = first_unlike(old, new);
