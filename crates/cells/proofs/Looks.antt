@@ -8,7 +8,7 @@ use Rattle.cells.specs.declared.cell.Colour.TheVariants.{Default, Black, Red, Gr
 use Rattle.cells.specs.declared.cell.Rendition.{Rendition}
 use Rattle.cells.specs.declared.cell.Cell.{Cell}
 use Rattle.cells.specs.Line.{unprotected}
-use Rattle.cells.specs.Look.{bit, colour_digit, shape_digit, before, look_of}
+use Rattle.cells.specs.Look.{bit, colour_digit, shape_digit, before, attributes_of, colours_of}
 
 first : (a b x y : ℕ) → a < 256 → b < 256 → before a x ≡ before b y → a ≡ b
 first a b x y la lb e = omega arith
@@ -91,22 +91,40 @@ module _ (a b : Colour) (x y : ℕ) (e : before (colour_digit a) x ≡ before (c
   after_colour : x ≡ y
   after_colour = rest (colour_digit a) (colour_digit b) x y (colour_few a) (colour_few b) e
 
-pub same_unprotected : (a b : Cell) → a.character ≡ b.character → a.marks ≡ b.marks → look_of a ≡ look_of b → unprotected a ≡ unprotected b
-unfolding look_of
-same_unprotected a b character marks bold =
-    let p : Rendition = a.rendition in
-    let q : Rendition = b.rendition in
-    let underlined = after_bit p.is_bold q.is_bold _ _ bold in
-    let blinking = after_bit p.is_underlined q.is_underlined _ _ underlined in
-    let reversed = after_bit p.is_blinking q.is_blinking _ _ blinking in
-    let fore = after_bit p.is_reversed q.is_reversed _ _ reversed in
-    let back = after_colour p.fore q.fore _ _ fore in
-    let shape = after_colour p.back q.back _ _ back in
-    let bold_is : p.is_bold ≡ q.is_bold = first_bit p.is_bold q.is_bold _ _ bold in
-    let underlined_is : p.is_underlined ≡ q.is_underlined = first_bit p.is_underlined q.is_underlined _ _ underlined in
-    let blinking_is : p.is_blinking ≡ q.is_blinking = first_bit p.is_blinking q.is_blinking _ _ blinking in
-    let reversed_is : p.is_reversed ≡ q.is_reversed = first_bit p.is_reversed q.is_reversed _ _ reversed in
-    let fore_is : p.fore ≡ q.fore = first_colour p.fore q.fore _ _ fore in
-    let back_is : p.back ≡ q.back = first_colour p.back q.back _ _ back in
-    let shape_is : a.shape ≡ b.shape = same_shape a.shape b.shape (first (shape_digit a.shape) (shape_digit b.shape) _ _ (shape_few a.shape) (shape_few b.shape) shape) in
-    rw (character, marks, bold_is, underlined_is, blinking_is, reversed_is, fore_is, back_is, shape_is) refl
+-- the attributes of cells of one number
+module _ (a b : Cell) (e : attributes_of a ≡ attributes_of b) where
+  same_attributes : (a.rendition.is_bold ≡ b.rendition.is_bold) × (a.rendition.is_underlined ≡ b.rendition.is_underlined)
+      × (a.rendition.is_blinking ≡ b.rendition.is_blinking) × (a.rendition.is_reversed ≡ b.rendition.is_reversed)
+  unfolding attributes_of
+  same_attributes =
+      let p : Rendition = a.rendition in
+      let q : Rendition = b.rendition in
+      let underlined = after_bit p.is_bold q.is_bold _ _ e in
+      let blinking = after_bit p.is_underlined q.is_underlined _ _ underlined in
+      let reversed = after_bit p.is_blinking q.is_blinking _ _ blinking in (
+        first_bit p.is_bold q.is_bold _ _ e,
+        first_bit p.is_underlined q.is_underlined _ _ underlined,
+        first_bit p.is_blinking q.is_blinking _ _ blinking,
+        same_bit p.is_reversed q.is_reversed reversed,
+      )
+
+-- their colours and shapes
+module _ (a b : Cell) (e : colours_of a ≡ colours_of b) where
+  same_colours : (a.rendition.fore ≡ b.rendition.fore) × (a.rendition.back ≡ b.rendition.back) × (a.shape ≡ b.shape)
+  unfolding colours_of
+  same_colours =
+      let p : Rendition = a.rendition in
+      let q : Rendition = b.rendition in
+      let back = after_colour p.fore q.fore _ _ e in
+      let shape = after_colour p.back q.back _ _ back in (
+        first_colour p.fore q.fore _ _ e,
+        first_colour p.back q.back _ _ back,
+        same_shape a.shape b.shape (first (shape_digit a.shape) (shape_digit b.shape) _ _ (shape_few a.shape) (shape_few b.shape) shape),
+      )
+
+pub same_unprotected : (a b : Cell) → a.character ≡ b.character → a.marks ≡ b.marks → attributes_of a ≡ attributes_of b → colours_of a ≡ colours_of b →
+    unprotected a ≡ unprotected b
+same_unprotected a b character marks attributes colours =
+    let s = same_attributes a b attributes in
+    let t = same_colours a b colours in
+    rw (character, marks, s.0, s.1, s.2, s.3, t.0, t.1, t.2) refl

@@ -1,4 +1,4 @@
--- Rendition, shape and protection of a cell as digits to the base 256.
+-- Parts of a cell as numbers: digits to the base 256, in the order in which a cell holds them.
 use Rattle.std.specs.Prelude.{ℕ, ◌+◌, ◌*◌, Bool, true, false}
 use Rattle.cells.specs.declared.cell.Shape.{Shape}
 use Rattle.cells.specs.declared.cell.Shape.TheVariants.{Narrow, Left, Right}
@@ -31,9 +31,14 @@ shape_digit Right = 2
 abbrev pub before : ℕ → ℕ → ℕ
 before digit rest = digit + 256 * rest
 
-unfoldable pub look_of : Cell → ℕ
-look_of c =
+-- bold, underlined, blinking, reversed
+unfoldable pub attributes_of : Cell → ℕ
+attributes_of c =
     before (bit c.rendition.is_bold) (before (bit c.rendition.is_underlined)
-    (before (bit c.rendition.is_blinking) (before (bit c.rendition.is_reversed)
-    (before (colour_digit c.rendition.fore) (before (colour_digit c.rendition.back)
-    (before (shape_digit c.shape) (bit c.is_protected)))))))
+    (before (bit c.rendition.is_blinking) (bit c.rendition.is_reversed)))
+
+-- foreground and background, shape and protection
+unfoldable pub colours_of : Cell → ℕ
+colours_of c =
+    before (colour_digit c.rendition.fore) (before (colour_digit c.rendition.back)
+    (before (shape_digit c.shape) (bit c.is_protected)))

@@ -1,7 +1,7 @@
 //! What stands at a place of a line.
 
 ghost use Rattle.std.specs.Prelude.{◌≡◌, ◌↔◌, IsTrue};
-ghost use Rattle.cells.specs.Look.{look_of};
+ghost use Rattle.cells.specs.Look.{attributes_of, colours_of};
 ghost use Rattle.cells.specs.Line.{blank, colour_number, joined, unprotected, narrow_cell, left_cell, right_cell};
 
 /// The part of its character that a cell holds (UAX #11, section 5).
@@ -264,7 +264,11 @@ impl Cell {
 fn is_same_bare(a: &Cell, b: &Cell) -> bool
     ensures { IsTrue result → unprotected a.now ≡ unprotected b.now }
 {
-    a.character == b.character && look(a) == look(b) && is_bare(a.marks) && is_bare(b.marks)
+    a.character == b.character
+        && attributes(a) == attributes(b)
+        && colours(a) == colours(b)
+        && is_bare(a.marks)
+        && is_bare(b.marks)
 }
 
 fn is_bare(marks: Marks) -> bool
@@ -276,18 +280,27 @@ fn is_bare(marks: Marks) -> bool
     }
 }
 
-/// Rendition, shape and protection as one number, in the order in which a cell holds them, so that it
-/// is read as one word.
-#[tactic(auto, unfolding(crate::specs::Look::look_of))]
-fn look(cell: &Cell) -> u64
-    ensures { result ≡ look_of cell.now }
+/// The attributes as one number, in the order in which a cell holds them: a comparison of two reads
+/// each as one word.
+#[tactic(auto, unfolding(crate::specs::Look::attributes_of))]
+fn attributes(cell: &Cell) -> u32
+    ensures { result ≡ attributes_of cell.now }
 {
-    let rendition = cell.rendition;
-    let last = cell.shape as u64 + 0x100 * cell.is_protected as u64;
-    let colours = rendition.fore as u64 + 0x100 * (rendition.back as u64 + 0x100 * last);
-    let third = rendition.is_blinking as u64
-        + 0x100 * (rendition.is_reversed as u64 + 0x100 * colours);
-    rendition.is_bold as u64 + 0x100 * (rendition.is_underlined as u64 + 0x100 * third)
+    cell.rendition.is_bold as u32
+        + 0x100 * cell.rendition.is_underlined as u32
+        + 0x10000 * cell.rendition.is_blinking as u32
+        + 0x1000000 * cell.rendition.is_reversed as u32
+}
+
+/// Colours, shape and protection as one number, in the same way.
+#[tactic(auto, unfolding(crate::specs::Look::colours_of))]
+fn colours(cell: &Cell) -> u32
+    ensures { result ≡ colours_of cell.now }
+{
+    cell.rendition.fore as u32
+        + 0x100 * cell.rendition.back as u32
+        + 0x10000 * cell.shape as u32
+        + 0x1000000 * cell.is_protected as u32
 }
 
 fn is_same_shape(a: Shape, b: Shape) -> bool
