@@ -56,7 +56,7 @@ examples:
 
 # Scripts, terminal descriptions and man pages: Debian's shellcheck, ncurses-bin and mandoc.
 lint:
-	shellcheck -s sh $(SCRIPTS) examples/shell.sh $(filter-out %.c, $(wildcard tests/outside/*))
+	shellcheck -s sh $(SCRIPTS) examples/shell.sh $(filter-out %.c %.py, $(wildcard tests/outside/*))
 	tic -c contrib/mux.ti
 	cd man && mandoc -T lint *.1 *.5 *.8
 
