@@ -5,7 +5,7 @@ ghost use Rattle.std.specs.Prelude.{◌≡◌, ◌≤◌};
 
 use crate::compare::are_same;
 use acl::{Edition, UserId};
-use hub::{Hub, Seat, Session};
+use hub::{CheckFault, Hub, Seat, Session, Trail, check_trail};
 use session_model::{Effect, Event, Reply};
 use std::alloc::Global;
 use std::marker::Brand;
@@ -20,7 +20,8 @@ const TURNS: u32 = 50;
 /// How many steps a turn has.
 const STEPS: u32 = 20;
 
-/// A step of a turn. Its window has the turn's serial, and its clients have twice that and one more.
+/// A step of a turn. Its window has the turn's serial, and its clients have twice that and one
+/// more.
 fn event_at(turn: u32, step: u32, owner: UserId, bob: UserId) -> Event<'static>
     requires { turn ≤ 50 }
 {
@@ -241,7 +242,19 @@ fn thousand<L: Roll, R: Wait + Abort>(
     let (trail, wrong) = hub.close(seats);
     assert_eq!(rt; trail.len(), entries);
     assert!(rt; wrong.is_none(), "each entry has its receipt");
+    judge(rt, alloc, &trail, owner, bob);
     Ok(())
+}
+
+/// The trail begins with a command of its owner: it is legal as his, and as another's its first
+/// entry isn't.
+fn judge(rt: &impl Abort, alloc: Global, trail: &Trail, owner: UserId, other: UserId) {
+    assert_eq!(rt; check_trail(alloc, trail, owner), Ok(()), "it is legal");
+    assert_eq!(rt;
+        check_trail(alloc, trail, other),
+        Err(CheckFault::BadEntry { place: 0 }),
+        "of another owner it isn't"
+    );
 }
 
 #[test]
