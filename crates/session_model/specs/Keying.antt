@@ -1,6 +1,6 @@
 -- What the keys of a client give, in steps: each reads up to the first key that completes a command
 -- or a line of the prompt.
-use Rattle.std.specs.Prelude.{ℕ, ◌+◌, Bool, true, false, List, [], ◌∷◌, ◌++◌, Option, Some, None}
+use Rattle.std.specs.Prelude.{ℕ, ◌+◌, Bool, true, false, List, [], ◌∷◌, ◌++◌, Option}
 use Rattle.std.specs.Prelude.{length, take, drop, find, unwrap_or}
 use Rattle.std.specs.List.{list_any, flat_map, range_with_len}
 pub use Rattle.keys.specs.Grammar.{open_line}
