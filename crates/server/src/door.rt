@@ -2,11 +2,10 @@
 
 use mio::net::{UnixListener, UnixStream};
 use mio::{Poll, Waker};
-use server_loop::{End, House, Seat};
+use server_loop::End;
 use std::collections::VecDeque;
 use std::io;
 use std::io::ErrorKind;
-use std::sync::ledger::Ledger as Roll;
 use std::sync::{Mutex, OnceLock, Wait};
 
 /// How others reach a loop.
@@ -16,28 +15,24 @@ pub struct Door {
     pub handed: Mutex<VecDeque<UnixStream>>,
 }
 
-/// What the loops share.
+/// What the loops share beside their house.
 #[derive(Drop)]
-pub struct Shared<L: Roll> {
-    pub house: House<L>,
+pub struct Shared {
     pub doors: Vec<Door>,
     pub over: OnceLock<End>,
     /// To how many loops much comes.
     pub busy: Mutex<usize>,
-    /// The seats of the loops that are over.
-    pub seats: Mutex<Vec<Seat<L>>>,
 }
 
 /// What a loop is begun with.
 #[derive(Drop)]
-pub struct Post<L: Roll> {
+pub struct Post {
     pub me: usize,
     pub poll: Poll,
-    pub seat: Seat<L>,
     pub porter: Option<Porter>,
 }
 
-impl<L: Roll> Shared<L> {
+impl Shared {
     pub fn wake_others(&self, me: usize) -> io::Result<()> {
         for (place, door) in self.doors.iter().enumerate() {
             if place != me {
@@ -47,10 +42,13 @@ impl<L: Roll> Shared<L> {
         Ok(())
     }
 
-    /// The server ends: the first cause holds.
-    pub fn end(&self, me: usize, end: End) -> io::Result<()> {
+    /// The server ends: the first cause holds. All loops are woken.
+    pub fn end(&self, end: End) -> io::Result<()> {
         let _ = self.over.try_set(end);
-        self.wake_others(me)
+        for door in &self.doors {
+            door.waker.wake()?;
+        }
+        Ok(())
     }
 }
 
@@ -73,7 +71,7 @@ impl Porter {
     }
 
     /// Takes in all that wait. Where the system refuses, it tries again later.
-    pub fn accept<L: Roll>(&mut self, rt: &impl Wait, shared: &Shared<L>) -> io::Result<()> {
+    pub fn accept(&mut self, rt: &impl Wait, shared: &Shared) -> io::Result<()> {
         self.is_behind = false;
         for _ in 0..u64::MAX {
             match self.listener.accept() {
@@ -92,12 +90,7 @@ impl Porter {
     }
 
     // Without memory the connection is closed.
-    fn hand<L: Roll>(
-        &mut self,
-        rt: &impl Wait,
-        shared: &Shared<L>,
-        stream: UnixStream,
-    ) -> io::Result<()> {
+    fn hand(&mut self, rt: &impl Wait, shared: &Shared, stream: UnixStream) -> io::Result<()> {
         if self.count >= shared.doors.len() {
             self.count = 0;
         }

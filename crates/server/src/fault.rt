@@ -1,8 +1,7 @@
 //! What can be wrong, and what to do then.
 
-use server_loop::{End, HubFault};
+use server_loop::{End, HouseFault};
 use server_turn::UsersFault;
-use session_model::Refusal;
 use std::alloc::{AllocError, AllocFailed};
 use std::io;
 use thiserror::Error;
@@ -44,17 +43,12 @@ impl From<UsersFault> for ServeFault {
     }
 }
 
-impl From<Refusal> for ServeFault {
-    // A new session is refused for want of memory alone.
-    fn from(_refusal: Refusal) -> ServeFault {
-        ServeFault::NoMemory
-    }
-}
-
-impl From<HubFault> for ServeFault {
-    // So is a new hub.
-    fn from(_fault: HubFault) -> ServeFault {
-        ServeFault::NoMemory
+impl From<HouseFault> for ServeFault {
+    fn from(fault: HouseFault) -> ServeFault {
+        match fault {
+            HouseFault::NoMemory => ServeFault::NoMemory,
+            HouseFault::Untold(error) => ServeFault::Other(error),
+        }
     }
 }
 
@@ -70,10 +64,11 @@ impl<T: Drop> From<AllocFailed<T>> for ServeFault {
     }
 }
 
-/// What a server's end says of how it went.
-pub fn outcome(end: Option<End>) -> Result<(), ServeFault> {
+/// What a server's end says of how it went, and whether each answer stands in the trail.
+pub fn outcome(end: Option<End>, agrees: bool) -> Result<(), ServeFault> {
     match end {
-        Some(End::Quit) => Ok(()),
+        Some(End::Quit) if agrees => Ok(()),
+        Some(End::Quit) => Err(ServeFault::Trail),
         Some(End::TrailFull) => Err(ServeFault::TrailFull),
         Some(End::Fault) | None => Err(ServeFault::Loop),
     }

@@ -2,16 +2,17 @@
 
 use crate::door::Shared;
 use std::sync::Wait;
-use std::sync::ledger::Ledger as Roll;
 use std::time::{Clock, Duration};
 
-// While much comes, draws wait for so many milliseconds at most: each client is shown the last.
+// While more may come at once, draws wait for so many milliseconds at most: each client is shown the
+// last.
 const MOST: u64 = 20;
 
 /// What a loop knows of whether draws are to wait.
 #[derive(Clone, Copy, Debug)]
 pub struct Pace {
     is_busy: bool,
+    awaits_echo: bool,
     // When the draws that wait began to.
     since: Option<Duration>,
 }
@@ -20,6 +21,7 @@ impl Pace {
     pub fn new() -> Pace {
         Pace {
             is_busy: false,
+            awaits_echo: false,
             since: None,
         }
     }
@@ -30,12 +32,12 @@ impl Pace {
     }
 
     /// Whether more may come at once.
-    pub fn is_busy(&self) -> bool {
-        self.is_busy
+    pub fn expects_more(&self) -> bool {
+        self.is_busy || self.awaits_echo
     }
 
     /// Tells the other loops whether much comes to this one. The answer is whether that is new.
-    pub fn note<L: Roll>(&mut self, rt: &impl Wait, shared: &Shared<L>, is_busy: bool) -> bool {
+    pub fn note(&mut self, rt: &impl Wait, shared: &Shared, is_busy: bool) -> bool {
         if is_busy == self.is_busy {
             return false;
         }
@@ -49,11 +51,13 @@ impl Pace {
         true
     }
 
-    /// Whether the draws of this turn are to wait. Without a clock they don't.
-    pub fn holds<L: Roll, R: Clock + Wait>(&mut self, rt: &R, shared: &Shared<L>) -> bool {
-        let some_are_busy = 0 < *shared.busy.lock(rt);
+    /// Whether the draws of this turn are to wait, as they do where keys were typed in it, whose echo
+    /// may come at once. Without a clock they don't.
+    pub fn holds<R: Clock + Wait>(&mut self, rt: &R, shared: &Shared, is_typed: bool) -> bool {
+        self.awaits_echo = is_typed;
+        let is_much = is_typed || 0 < *shared.busy.lock(rt);
         self.since = match rt.monotonic() {
-            Ok(now) if some_are_busy => match self.since {
+            Ok(now) if is_much => match self.since {
                 None => Some(now),
                 Some(since) if now.saturating_sub(since) < Duration::from_millis(MOST) => Some(
                     since,

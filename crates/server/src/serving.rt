@@ -1,28 +1,23 @@
 //! `muxd`: the session, its listener and its loops.
 
-ghost use Rattle.std.specs.Prelude.{◌≡◌, ◌<◌, ◌≤◌};
-
 use crate::door::{Door, Porter, Post, Shared};
 use crate::fault::{ServeFault, outcome};
 use crate::socket;
-use crate::turns::{LISTEN, WAKE, run_loop};
-use acl::Edition;
+use crate::turns::{LISTEN, WAKE};
 use mio::net::UnixListener;
 use mio::{Interest, Poll, Waker};
-use server_loop::{End, House, Hub, Open, Seat, Session};
+use server_loop::keep;
 use server_turn::Users;
 use server_words::{of_server, tell};
 use std::alloc::Global;
 use std::collections::VecDeque;
 use std::fs::Files;
 use std::io::Write;
-use std::marker::Brand;
 use std::net::Net;
-use std::sync::ledger::{Blank, Ledger as Roll};
 use std::sync::{Mutex, OnceLock, Wait};
 use std::thread::Threads;
 use std::time::Clock;
-use std::{fs, io, thread};
+use std::{fs, io};
 
 /// What the words of `muxd` ask for.
 #[derive(Clone, Copy, Debug)]
@@ -33,17 +28,17 @@ struct Asked<'a> {
 }
 
 // A place for each loop, of which the first has the listener, and how others reach them.
-fn places<L: Roll, R: Net>(
+fn places<R: Net>(
     rt: &R,
     alloc: Global,
-    seats: Vec<Seat<L>>,
+    loops: usize,
     mut listener: UnixListener,
-) -> Result<(Vec<Post<L>>, Vec<Door>), ServeFault> {
+) -> Result<(Vec<Post>, Vec<Door>), ServeFault> {
     let mut posts = Vec::new(alloc);
     let mut doors = Vec::new(alloc);
     let mut porter = None;
     let mut polls = Vec::new(alloc);
-    for _ in 0..seats.len() {
+    for _ in 0..loops {
         polls.push(Poll::new(rt)?)?;
     }
     if let Some(poll) = polls.first() {
@@ -51,7 +46,7 @@ fn places<L: Roll, R: Net>(
             .register(&mut listener, LISTEN, Interest::READABLE)?;
         porter = Some(Porter::new(listener));
     }
-    for (poll, seat) in polls.into_iter().zip(seats) {
+    for poll in polls {
         let waker = Waker::new(poll.registry(), WAKE)?;
         let handed = Mutex::new(VecDeque::new(alloc));
         doors.push(Door { waker, handed })?;
@@ -59,74 +54,32 @@ fn places<L: Roll, R: Net>(
         posts.push(Post {
             me,
             poll,
-            seat,
             porter: porter.take(),
         })?;
     }
     Ok((posts, doors))
 }
 
-// Runs every loop to its end, each in a thread.
-fn run_all<L: Roll + Send + Sync, R: Clock + Threads + Wait + Sync>(
-    rt: &R,
-    alloc: Global,
-    shared: &Shared<L>,
-    posts: Vec<Post<L>>,
-) {
-    thread::scope(thread::scope_env(), rt, |scope| {
-        for post in posts {
-            let me = post.me;
-            let started = scope.spawn(move || {
-                if run_loop(rt, alloc, shared, post, Open).is_err() {
-                    let _ = shared.end(me, End::Fault);
-                }
-            });
-            if started.is_err() {
-                let _ = shared.end(me, End::Fault);
-            }
-        }
-    });
-}
-
 // Serves a new session on a listener, until it ends.
-fn serve_session<L: Roll + Send + Sync, R: Clock + Net + Threads + Wait + Sync, O: Write>(
+fn serve_on<R: Clock + Net + Threads + Wait + Sync, O: Write>(
     rt: &R,
     alloc: Global,
-    blank: Blank,
-    loops: usize,
     users: Users,
     listener: UnixListener,
+    loops: usize,
     output: &mut O,
-) -> Result<(), ServeFault>
-    requires { (blank.name ≡ L.name) × (blank.parts ≡ L.parts) × (loops ≡ L.parts)
-        × (0 < loops) × (loops ≤ 8) }
-{
-    let owner = users.owner();
-    let session = Session::new(alloc, owner)?;
-    let (hub, seats) = Hub::<L>::new(alloc, blank, Edition::Second, owner, session, loops)?;
-    let (posts, doors) = places(rt, alloc, seats, listener)?;
+) -> Result<(), ServeFault> {
+    let (posts, doors) = places(rt, alloc, loops, listener)?;
     let shared = Shared {
-        house: House { hub, users },
         doors,
         over: OnceLock::new(),
         busy: Mutex::new(0),
-        seats: Mutex::new(Vec::with_capacity(alloc, loops)?),
     };
-    writeln!(output, "muxd: ready")?;
-    output.flush()?;
-    run_all(rt, alloc, &shared, posts);
-    outcome(shared.over.get().copied())?;
-    close(shared)
-}
-
-// Each answer that a loop was given stands in the trail.
-fn close<L: Roll>(shared: Shared<L>) -> Result<(), ServeFault> {
-    let Shared { house, seats, .. } = shared;
-    let House { hub, .. } = house;
-    match hub.close(seats.into_inner()) {
-        (_, None) => Ok(()),
-        (_, Some(_)) => Err(ServeFault::Trail),
-    }
+    let agrees = keep(rt, alloc, users, posts, &shared, || {
+        writeln!(output, "muxd: ready")?;
+        output.flush()
+    })?;
+    outcome(shared.over.get().copied(), agrees)
 }
 
 fn run<R: Clock + Net + Files + AllocGlobal + Threads + Wait + Sync, O: Write>(
@@ -139,15 +92,7 @@ fn run<R: Clock + Net + Files + AllocGlobal + Threads + Wait + Sync, O: Write>(
     let users = Users::read(alloc, &file)?;
     let listener = socket::listen(rt, asked.socket)?;
     let loops = asked.loops.clamp(1, 8);
-    let served = serve_session::<Brand, _, _>(
-        rt,
-        alloc,
-        Blank::new(loops as u64),
-        loops,
-        users,
-        listener,
-        output,
-    );
+    let served = serve_on(rt, alloc, users, listener, loops, output);
     socket::remove(rt, asked.socket);
     served
 }

@@ -4,7 +4,7 @@ use crate::door::{Porter, Post, Shared};
 use crate::pace::Pace;
 use mio::net::UnixStream;
 use mio::{Events, Interest, Poll, Token};
-use server_loop::{End, Gate, Loop};
+use server_loop::{End, House, Keeper, Loop, Open, Seat};
 use std::alloc::Global;
 use std::io;
 use std::io::ErrorKind;
@@ -30,12 +30,12 @@ const PAUSES: usize = 100;
 const ROUNDS: usize = 10_000;
 
 // Takes in the connections that were handed to the loop. One that can't be taken in is closed.
-fn admit<L: Roll, G: Gate + Drop>(
+fn admit<L: Roll>(
     rt: &impl Wait,
-    shared: &Shared<L>,
+    shared: &Shared,
     poll: &Poll,
     me: usize,
-    peers: &mut Loop<UnixStream, G, L>,
+    own: &mut Loop<UnixStream, Open, L>,
 ) {
     let Some(door) = shared.doors.get(me) else {
         return;
@@ -44,13 +44,13 @@ fn admit<L: Roll, G: Gate + Drop>(
         let Some(mut stream) = door.handed.lock(rt).pop_front() else {
             return;
         };
-        let token = Token(peers.next_key().saturating_add(FIRST));
+        let token = Token(own.peers.next_key().saturating_add(FIRST));
         let is_known = poll
             .registry()
             .register(&mut stream, token, Interest::READABLE | Interest::WRITABLE)
             .is_ok();
         if is_known {
-            let _ = peers.admit(stream);
+            let _ = own.peers.admit(stream);
         }
     }
 }
@@ -69,13 +69,14 @@ fn wait(poll: &mut Poll, events: &mut Events, timeout: Option<Duration>) -> io::
 
 // What a loop minds beside its connections.
 #[derive(Drop)]
-struct Watch {
+struct Watch<'a> {
+    shared: &'a Shared,
     me: usize,
     porter: Option<Porter>,
     pace: Pace,
 }
 
-impl Watch {
+impl Watch<'_> {
     // Connections wait that couldn't be taken in.
     fn is_behind(&self) -> bool {
         match &self.porter {
@@ -88,7 +89,7 @@ impl Watch {
     fn timeout(&self, has_more: bool, has_waiting: bool) -> Option<Duration> {
         if has_more {
             Some(Duration::ZERO)
-        } else if self.pace.is_busy() {
+        } else if self.pace.expects_more() {
             Some(Duration::from_millis(LULL))
         } else if has_waiting || self.is_behind() || self.pace.is_holding() {
             Some(Duration::from_millis(PAUSE))
@@ -99,7 +100,7 @@ impl Watch {
 }
 
 // Marks the connections that have something to read. Whether somebody may wait to be taken in.
-fn sort<L: Roll, G: Gate + Drop>(events: &Events, peers: &mut Loop<UnixStream, G, L>) -> bool {
+fn sort<L: Roll>(events: &Events, own: &mut Loop<UnixStream, Open, L>) -> bool {
     let mut is_asked = false;
     for event in events {
         match event.token() {
@@ -107,7 +108,7 @@ fn sort<L: Roll, G: Gate + Drop>(events: &Events, peers: &mut Loop<UnixStream, G
             LISTEN => is_asked = true,
             Token(token) => {
                 if event.is_readable() {
-                    peers.is_ready(token.saturating_sub(FIRST));
+                    own.peers.is_ready(token.saturating_sub(FIRST));
                 }
             }
         }
@@ -116,91 +117,115 @@ fn sort<L: Roll, G: Gate + Drop>(events: &Events, peers: &mut Loop<UnixStream, G
 }
 
 // One turn: what came is read and done, and what comes of it is written.
-fn turn<L: Roll, R: Clock + Wait, G: Gate + Drop>(
+fn turn<L: Roll, R: Clock + Wait>(
     rt: &R,
-    shared: &Shared<L>,
+    house: &House<L>,
     poll: &Poll,
     events: &Events,
     watch: &mut Watch,
-    peers: &mut Loop<UnixStream, G, L>,
+    own: &mut Loop<UnixStream, Open, L>,
 ) -> io::Result<()> {
-    let is_asked = sort(events, peers) || watch.is_behind();
+    let shared = watch.shared;
+    let is_asked = sort(events, own) || watch.is_behind();
     if let Some(porter) = &mut watch.porter {
         if is_asked {
             porter.accept(rt, shared)?;
         }
     }
-    peers.read_all(rt, &shared.house);
-    admit(rt, shared, poll, watch.me, peers);
-    let is_news = watch.pace.note(rt, shared, peers.has_read_much());
-    if peers.has_submitted() || is_news {
+    own.read_all(rt, house);
+    admit(rt, shared, poll, watch.me, own);
+    let is_news = watch.pace.note(rt, shared, own.has_read_much());
+    if own.peers.has_submitted() || is_news {
         shared.wake_others(watch.me)?;
     }
-    peers.hold_draws(watch.pace.holds(rt, shared));
-    peers.settle(rt, &shared.house);
-    if peers.has_submitted() {
+    let holds_draws = watch.pace.holds(rt, shared, own.has_typed());
+    own.peers.settle(rt, house, holds_draws);
+    if own.peers.has_submitted() {
         shared.wake_others(watch.me)?;
     }
-    if let Some(end) = peers.end() {
-        shared.end(watch.me, end)?;
+    if let Some(end) = own.peers.end() {
+        shared.end(end)?;
     }
     Ok(())
 }
 
 // The peers are told of the end, and get some time to read it.
-fn wind_up<L: Roll, R: Wait, G: Gate + Drop>(
+fn wind_up<L: Roll, R: Wait>(
     rt: &R,
-    shared: &Shared<L>,
+    house: &House<L>,
     mut poll: Poll,
     mut events: Events,
-    peers: &mut Loop<UnixStream, G, L>,
+    own: &mut Loop<UnixStream, Open, L>,
     end: End,
 ) -> io::Result<()> {
-    peers.finish(rt, &shared.house, end);
+    own.peers.finish(rt, house, end);
     let mut pauses = PAUSES;
     for _ in 0..ROUNDS {
-        if peers.is_empty() || pauses == 0 {
+        if own.peers.is_empty() || pauses == 0 {
             return Ok(());
         }
         if !wait(&mut poll, &mut events, Some(Duration::from_millis(PAUSE)))? {
             pauses = pauses.saturating_sub(1);
         }
-        peers.finish(rt, &shared.house, end);
+        own.peers.finish(rt, house, end);
     }
     Ok(())
 }
 
-/// One loop, until the server ends.
-pub fn run_loop<L: Roll, R: Clock + Wait, G: Gate + Drop>(
+// One loop, until the server ends: its seat.
+fn run_loop<L: Roll, R: Clock + Wait>(
     rt: &R,
     alloc: Global,
-    shared: &Shared<L>,
-    post: Post<L>,
-    gate: G,
-) -> io::Result<()> {
+    shared: &Shared,
+    house: &House<L>,
+    seat: Seat<L>,
+    post: Post,
+) -> io::Result<Seat<L>> {
     let Post {
         me,
         mut poll,
-        seat,
         porter,
     } = post;
     let mut watch = Watch {
+        shared,
         me,
         porter,
         pace: Pace::new(),
     };
     let mut events = Events::with_capacity(alloc, 64)?;
-    let mut peers: Loop<UnixStream, G, L> = Loop::new(alloc, seat, gate)?;
+    let mut own: Loop<UnixStream, Open, L> = Loop::new(alloc, seat, Open)?;
     for _ in rt.forever() {
-        let timeout = watch.timeout(peers.has_more(), peers.has_waiting());
+        let timeout = watch.timeout(own.peers.has_more(), own.peers.has_waiting());
         wait(&mut poll, &mut events, timeout)?;
-        turn(rt, shared, &poll, &events, &mut watch, &mut peers)?;
+        turn(rt, house, &poll, &events, &mut watch, &mut own)?;
         if let Some(end) = shared.over.get() {
             let end = *end;
-            wind_up(rt, shared, poll, events, &mut peers, end)?;
+            wind_up(rt, house, poll, events, &mut own, end)?;
             break;
         }
     }
-    let _ = shared.seats.lock(rt).push(peers.into_seat());
-    Ok(())
+    Ok(own.into_seat())
+}
+
+impl Keeper<Post> for Shared {
+    fn run<L: Roll, R: Clock + Wait>(
+        &self,
+        rt: &R,
+        alloc: Global,
+        house: &House<L>,
+        seat: Seat<L>,
+        post: Post,
+    ) -> Option<Seat<L>> {
+        match run_loop(rt, alloc, self, house, seat, post) {
+            Ok(seat) => Some(seat),
+            Err(_) => {
+                self.fail();
+                None
+            }
+        }
+    }
+
+    fn fail(&self) {
+        let _ = self.end(End::Fault);
+    }
 }

@@ -1,14 +1,10 @@
-//! The connections of one loop of the server: what their frames ask for, and what they are sent.
+//! One loop of the server: what it reads of its connections, and what their frames ask for.
 #![tactic(auto)]
 
-mod end;
-mod gate;
-mod house;
-mod peers;
 mod requests;
+mod turn;
 
-pub use end::End;
-pub use gate::{Gate, Open};
-pub use house::House;
-pub use hub::{Hub, HubFault, Seat, Session};
-pub use peers::Loop;
+pub use server_peers::{
+    End, Gate, House, HouseFault, Hub, Keeper, Open, Peers, Seat, Session, keep,
+};
+pub use turn::Loop;

@@ -1,13 +1,10 @@
 //! What peers ask for.
 
-use crate::end::End;
-use crate::gate::Gate;
-use crate::house::House;
-use crate::peers::{Loop, Unanswered};
+use crate::turn::Loop;
 use acl::UserId;
 use attach_proto::{Message, Text, Token, Why};
 use command_lang::{Command, FaultKind, parse};
-use server_peer::{Role, Sending};
+use server_peers::{Gate, House, Role, Sending, Unanswered};
 use server_turn::authenticate;
 use session_model::{Event, Refusal};
 use std::alloc::{AllocError, Global};
@@ -28,10 +25,10 @@ fn is_quit(alloc: Global, line: &[u8]) -> Result<bool, AllocError> {
 impl<S: Read + Write + Drop, G: Gate + Drop, L: Roll> Loop<S, G, L> {
     /// Does what a message of a connection asks for. One that isn't read any more asks for nothing.
     pub(crate) fn obey(&mut self, rt: &impl Wait, house: &House<L>, key: usize, message: &Message) {
-        if !self.is_open(key) {
+        if !self.peers.is_open(key) {
             return;
         }
-        match (self.role_of(key), message) {
+        match (self.peers.role_of(key), message) {
             (Role::Stranger, _) => self.begin(rt, house, key, message),
             (Role::Client(client), Message::Keys(bytes)) => self.keys(
                 rt,
@@ -55,33 +52,36 @@ impl<S: Read + Write + Drop, G: Gate + Drop, L: Roll> Loop<S, G, L> {
                 };
                 self.change(rt, house, key, event)
             }
-            (Role::Client(_) | Role::Window(_), Message::Detach) => self.detach(rt, house, key),
-            _ => self.fault(rt, house, key),
+            (Role::Client(_) | Role::Window(_), Message::Detach) => self
+                .peers
+                .detach(rt, house, key),
+            _ => self.peers.fault(rt, house, key),
         }
     }
 
     // What is refused for another cause than memory is passed over.
     fn change(&mut self, rt: &impl Wait, house: &House<L>, key: usize, event: Event) {
-        if let Err(Unanswered::NoMemory) = self.submit(rt, house, event) {
-            self.fault(rt, house, key);
+        if let Err(Unanswered::NoMemory) = self.peers.submit(rt, house, event) {
+            self.peers.fault(rt, house, key);
         }
     }
 
     // A step reads up to the first command; the rest is the next step's.
     fn keys(&mut self, rt: &impl Wait, house: &House<L>, key: usize, client: u32, bytes: &[u8]) {
         let mut rest = bytes;
+        self.has_typed = true;
         for _ in 0..bytes.len() {
             let event = Event::Keys {
                 client,
                 bytes: rest,
             };
-            let taken = match self.submit(rt, house, event) {
+            let taken = match self.peers.submit(rt, house, event) {
                 Ok(answer) => match answer.reply() {
                     Ok(done) => done.taken,
                     Err(_) => return,
                 },
                 Err(Unanswered::NoMemory) => {
-                    self.fault(rt, house, key);
+                    self.peers.fault(rt, house, key);
                     return;
                 }
                 Err(Unanswered::Over) => return,
@@ -104,15 +104,16 @@ impl<S: Read + Write + Drop, G: Gate + Drop, L: Roll> Loop<S, G, L> {
         match authenticate(&house.users, name.as_str().as_bytes(), token.as_slice()) {
             Ok(user) => Some(user),
             Err(_) => {
-                self.send(rt, house, key, Sending::Say(UNKNOWN.as_bytes()));
-                self.dismiss(key, Why::Fault);
+                self.peers
+                    .send(rt, house, key, Sending::Say(UNKNOWN.as_bytes()));
+                self.peers.dismiss(key, Why::Fault);
                 None
             }
         }
     }
 
     fn why_unanswered(&self, unanswered: Unanswered) -> Why {
-        match (unanswered, self.end) {
+        match (unanswered, self.peers.end()) {
             (Unanswered::Over, Some(end)) => end.why(),
             (Unanswered::Over, None) | (Unanswered::NoMemory, _) => Why::Fault,
         }
@@ -168,17 +169,17 @@ impl<S: Read + Write + Drop, G: Gate + Drop, L: Roll> Loop<S, G, L> {
                 };
                 self.command(rt, house, key, user, *window, line.as_slice())
             }
-            _ => self.fault(rt, house, key),
+            _ => self.peers.fault(rt, house, key),
         }
     }
 
     // A connection becomes a client or a window.
     fn join(&mut self, rt: &impl Wait, house: &House<L>, key: usize, event: Event) {
-        let answer = match self.submit(rt, house, event) {
+        let answer = match self.peers.submit(rt, house, event) {
             Ok(answer) => answer,
             Err(unanswered) => {
                 let why = self.why_unanswered(unanswered);
-                self.dismiss(key, why);
+                self.peers.dismiss(key, why);
                 return;
             }
         };
@@ -188,12 +189,13 @@ impl<S: Read + Write + Drop, G: Gate + Drop, L: Roll> Loop<S, G, L> {
                     Event::Open { .. } => Role::Window(done.made),
                     _ => Role::Client(done.made),
                 };
-                self.set_role(key, role);
-                self.send(rt, house, key, Sending::Welcome(done.number));
+                self.peers.set_role(key, role);
+                self.peers
+                    .send(rt, house, key, Sending::Welcome(done.number));
             }
             Err(refusal) => {
                 self.say_refusal(rt, house, key, refusal);
-                self.dismiss(key, Why::Fault);
+                self.peers.dismiss(key, Why::Fault);
             }
         }
     }
@@ -211,31 +213,32 @@ impl<S: Read + Write + Drop, G: Gate + Drop, L: Roll> Loop<S, G, L> {
     ) {
         let event = Event::Command { user, window, line };
         let Ok(is_quit) = is_quit(self.alloc, line) else {
-            self.dismiss(key, Why::Fault);
+            self.peers.dismiss(key, Why::Fault);
             return;
         };
-        let answer = match self.submit(rt, house, event) {
+        let answer = match self.peers.submit(rt, house, event) {
             Ok(answer) => answer,
             Err(unanswered) => {
                 let why = self.why_unanswered(unanswered);
-                self.dismiss(key, why);
+                self.peers.dismiss(key, why);
                 return;
             }
         };
-        self.send(rt, house, key, Sending::Welcome(0));
+        self.peers.send(rt, house, key, Sending::Welcome(0));
         match answer.reply() {
             Ok(done) => {
                 if let Some(text) = &done.text {
-                    self.send(rt, house, key, Sending::Say(text.as_slice()));
+                    self.peers
+                        .send(rt, house, key, Sending::Say(text.as_slice()));
                 }
-                self.dismiss(key, Why::Detached);
+                self.peers.dismiss(key, Why::Detached);
                 if is_quit {
-                    self.end = Some(End::Quit);
+                    self.peers.quit();
                 }
             }
             Err(refusal) => {
                 self.say_refusal(rt, house, key, refusal);
-                self.dismiss(key, Why::Fault);
+                self.peers.dismiss(key, Why::Fault);
             }
         }
     }
@@ -243,7 +246,7 @@ impl<S: Read + Write + Drop, G: Gate + Drop, L: Roll> Loop<S, G, L> {
     fn say_refusal(&mut self, rt: &impl Wait, house: &House<L>, key: usize, refusal: &Refusal) {
         let mut text = Vec::new(self.alloc);
         if refusal.text(&mut text).is_ok() {
-            self.send(rt, house, key, Sending::Say(&text));
+            self.peers.send(rt, house, key, Sending::Say(&text));
         }
     }
 }

@@ -1,17 +1,15 @@
 //! Two loops in one house, of which one's call is held until the other's was answered.
 
-ghost use Rattle.std.specs.Prelude.{◌≡◌};
-
-use crate::stage::new_house;
-use server_loop::{Gate, House, Loop, Seat};
+use crate::stage::users;
+use server_loop::{Gate, House, HouseFault, Keeper, Loop, Seat, keep};
 use server_streams::{Habit, Near, Stop, WALL, ends};
 use std::alloc::{AllocError, Global};
-use std::marker::Brand;
 use std::sync::Wait;
 use std::sync::atomic::{AtomicU64, Ordering};
-use std::sync::ledger::{Blank, Ledger as Roll};
+use std::sync::ledger::Ledger as Roll;
 use std::thread;
 use std::thread::Threads;
+use std::time::Clock;
 
 const YIELDS: usize = 100_000;
 
@@ -45,68 +43,87 @@ impl Gate for Latch<'_> {
     }
 }
 
-// A loop whose one peer gives a command: whether it was told that this was done.
+// A loop whose one peer gives a command: its seat, once that peer was told that this was done.
 fn command<L: Roll, R: Wait>(
     rt: &R,
     alloc: Global,
     house: &House<L>,
     seat: Seat<L>,
     latch: Latch,
-) -> Result<bool, AllocError> {
-    let mut peers: Loop<Near, Latch, L> = Loop::new(alloc, seat, latch)?;
+) -> Result<Option<Seat<L>>, AllocError> {
+    let mut own: Loop<Near, Latch, L> = Loop::new(alloc, seat, latch)?;
     let (near, far) = ends(alloc, Habit::Whole)?;
     far.send(WALL)?;
-    peers.admit(near)?;
+    own.peers.admit(near)?;
     for _ in 0..4 {
-        peers.is_ready(0);
-        peers.read_all(rt, house);
-        peers.settle(rt, house);
+        own.peers.is_ready(0);
+        own.read_all(rt, house);
+        own.peers.settle(rt, house, false);
     }
-    Ok(far.taken(alloc)?.as_slice() == b"y\0\x01\0g\0\x01\0".as_slice())
+    let is_told = far.taken(alloc)?.as_slice() == b"y\0\x01\0g\0\x01\0".as_slice();
+    Ok(is_told.then_some(own.into_seat()))
 }
 
-fn two<L: Roll + Send + Sync, R: Threads + Wait + Sync>(
-    rt: &R,
-    alloc: Global,
-    blank: Blank,
-) -> Result<bool, Stop>
-    requires { (blank.name ≡ L.name) × (blank.parts ≡ L.parts) × (blank.parts ≡ 2) }
-{
-    let (house, mut seats) = new_house::<L>(alloc, blank, 2)?;
-    let (Some(right), Some(left)) = (seats.pop(), seats.pop()) else {
-        return Err(Stop::Other("two seats"));
-    };
-    let (held, first, second, missed) = (
-        AtomicU64::new(0),
-        AtomicU64::new(0),
-        AtomicU64::new(0),
-        AtomicU64::new(0),
-    );
-    let (one, other) = (
-        Latch {
-            held: &held,
-            mine: &first,
-            theirs: &second,
-            missed: &missed,
-        },
-        Latch {
-            held: &held,
-            mine: &second,
-            theirs: &first,
-            missed: &missed,
-        },
-    );
-    let shared = &house;
-    let (a, b) = thread::join(
-        rt,
-        || matches!(command(rt, alloc, shared, left, one), Ok(true)),
-        || matches!(command(rt, alloc, shared, right, other), Ok(true)),
-    );
-    Ok(a && b && missed.load(Ordering::SeqCst) == 0)
+// Two loops, of which the first is begun with true.
+#[derive(Drop)]
+struct Pair {
+    held: AtomicU64,
+    first: AtomicU64,
+    second: AtomicU64,
+    missed: AtomicU64,
+    // How many had their command answered.
+    told: AtomicU64,
+}
+
+impl Keeper<bool> for Pair {
+    fn run<L: Roll, R: Clock + Wait>(
+        &self,
+        rt: &R,
+        alloc: Global,
+        house: &House<L>,
+        seat: Seat<L>,
+        is_first: bool,
+    ) -> Option<Seat<L>> {
+        let (mine, theirs) = if is_first {
+            (&self.first, &self.second)
+        } else {
+            (&self.second, &self.first)
+        };
+        let latch = Latch {
+            held: &self.held,
+            mine,
+            theirs,
+            missed: &self.missed,
+        };
+        let seat = command(rt, alloc, house, seat, latch).ok().flatten()?;
+        self.told.fetch_add(1, Ordering::SeqCst);
+        Some(seat)
+    }
+
+    fn fail(&self) {}
 }
 
 /// Whether two loops that run at once each have a command answered, while the call that came first
-/// is held until the other's was answered.
-pub fn both_are_answered<R: Threads + Wait + Sync>(rt: &R, alloc: Global) -> Result<bool, Stop> {
-    two::<Brand, R>(rt, alloc, Blank::new(2))
+/// is held until the other's was answered, and each answer stands in the trail.
+pub fn both_are_answered<R: Clock + Threads + Wait + Sync>(
+    rt: &R,
+    alloc: Global,
+) -> Result<bool, Stop> {
+    let mut places = Vec::new(alloc);
+    places.push(true)?;
+    places.push(false)?;
+    let pair = Pair {
+        held: AtomicU64::new(0),
+        first: AtomicU64::new(0),
+        second: AtomicU64::new(0),
+        missed: AtomicU64::new(0),
+        told: AtomicU64::new(0),
+    };
+    let agrees = match keep(rt, alloc, users(alloc)?, places, &pair, || Ok(())) {
+        Ok(agrees) => agrees,
+        Err(HouseFault::NoMemory) => return Err(Stop::Memory),
+        Err(HouseFault::Untold(_)) => return Err(Stop::Other("begun")),
+    };
+    let is_missed = pair.missed.load(Ordering::SeqCst) != 0;
+    Ok(agrees && !is_missed && pair.told.load(Ordering::SeqCst) == 2)
 }

@@ -12,26 +12,25 @@ use std::marker::Brand;
 use std::sync::Wait;
 use std::sync::ledger::{Blank, Ledger as Roll};
 
-/// A house of a new session of the users own and bob, and its seats.
-pub(crate) fn new_house<L: Roll>(
-    alloc: Global,
-    blank: Blank,
-    seats: usize,
-) -> Result<(House<L>, Vec<Seat<L>>), Stop>
-    requires { (blank.name ≡ L.name) × (blank.parts ≡ L.parts) × (seats ≡ L.parts)
-        × (0 < seats) × (seats ≤ 8) }
+/// The users own and bob.
+pub(crate) fn users(alloc: Global) -> Result<Users, Stop> {
+    match Users::read(alloc, USERS) {
+        Ok(users) => Ok(users),
+        Err(UsersFault::NoMemory) => Err(Stop::Memory),
+        Err(_) => Err(Stop::Other("the users' file")),
+    }
+}
+
+// A house of a new session of these users, and its seat.
+fn new_house<L: Roll>(alloc: Global, blank: Blank) -> Result<(House<L>, Vec<Seat<L>>), Stop>
+    requires { (blank.name ≡ L.name) × (blank.parts ≡ L.parts) × (blank.parts ≡ 1) }
 {
-    let users = match Users::read(alloc, USERS) {
-        Ok(users) => users,
-        Err(UsersFault::NoMemory) => return Err(Stop::Memory),
-        Err(_) => return Err(Stop::Other("the users' file")),
-    };
+    let users = users(alloc)?;
     let owner = users.owner();
     let Ok(session) = Session::new(alloc, owner) else {
         return Err(Stop::Memory);
     };
-    let Ok((hub, seats)) = Hub::<L>::new(alloc, blank, Edition::Second, owner, session, seats)
-    else {
+    let Ok((hub, seats)) = Hub::<L>::new(alloc, blank, Edition::Second, owner, session, 1) else {
         return Err(Stop::Memory);
     };
     Ok((House { hub, users }, seats))
@@ -42,7 +41,7 @@ pub(crate) fn new_house<L: Roll>(
 pub struct Stage<L: Roll> {
     pub alloc: Global,
     pub house: House<L>,
-    pub peers: Loop<Near, Open, L>,
+    pub own: Loop<Near, Open, L>,
 }
 
 // How many connections a stage has at most.
@@ -63,14 +62,14 @@ impl<L: Roll> Stage<L> {
     fn new(alloc: Global, blank: Blank) -> Result<Stage<L>, Stop>
         requires { (blank.name ≡ L.name) × (blank.parts ≡ L.parts) × (blank.parts ≡ 1) }
     {
-        let (house, mut seats) = new_house::<L>(alloc, blank, 1)?;
+        let (house, mut seats) = new_house::<L>(alloc, blank)?;
         let Some(seat) = seats.pop() else {
             return Err(Stop::Other("no seat"));
         };
         Ok(Stage {
             alloc,
             house,
-            peers: Loop::new(alloc, seat, Open)?,
+            own: Loop::new(alloc, seat, Open)?,
         })
     }
 
@@ -78,7 +77,7 @@ impl<L: Roll> Stage<L> {
     pub fn connect(&mut self, habit: Habit, bytes: &[u8]) -> Result<Far, Stop> {
         let (near, far) = ends(self.alloc, habit)?;
         far.send(bytes)?;
-        let _ = self.peers.admit(near);
+        let _ = self.own.peers.admit(near);
         Ok(far)
     }
 
@@ -86,10 +85,10 @@ impl<L: Roll> Stage<L> {
     pub fn turns<R: Wait>(&mut self, rt: &R, count: usize) {
         for _ in 0..count {
             for key in 0..KEYS {
-                self.peers.is_ready(key);
+                self.own.peers.is_ready(key);
             }
-            self.peers.read_all(rt, &self.house);
-            self.peers.settle(rt, &self.house);
+            self.own.read_all(rt, &self.house);
+            self.own.peers.settle(rt, &self.house, false);
         }
     }
 
@@ -109,13 +108,9 @@ impl<L: Roll> Stage<L> {
 
     // The entries of the trail, a letter for each, once the loop is over.
     fn entries(self) -> Result<Vec<u8>, Stop> {
-        let Stage {
-            alloc,
-            house,
-            peers,
-        } = self;
+        let Stage { alloc, house, own } = self;
         let mut seats = Vec::new(alloc);
-        seats.push(peers.into_seat())?;
+        seats.push(own.into_seat())?;
         let House { hub, .. } = house;
         let (trail, wrong) = hub.close(seats);
         if wrong.is_some() {

@@ -65,7 +65,7 @@ impl Play for Sends<'_> {
             other.end();
         }
         stage.turns(rt, 3);
-        let len = stage.peers.len();
+        let len = stage.own.peers.len();
         client.send(b"K\0\x01k")?;
         stage.turns(rt, 3);
         Ok(Left {

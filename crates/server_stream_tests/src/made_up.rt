@@ -153,7 +153,7 @@ impl Lists {
                 return Ok(false);
             }
         }
-        Ok(stage.peers.len() == 2)
+        Ok(stage.own.peers.len() == 2)
     }
 
     fn first_wrong<L: Roll, R: Wait>(

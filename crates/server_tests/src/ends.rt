@@ -37,16 +37,16 @@ impl Play for Ending {
         let silent = stage.connect(Habit::Whole, b"")?;
         client.send(self.keys)?;
         stage.turns(rt, 3);
-        let end = stage.peers.end();
+        let end = stage.own.peers.end();
         if let Some(end) = end.or(self.forced) {
-            stage.peers.finish(rt, &stage.house, end);
+            stage.own.peers.finish(rt, &stage.house, end);
         }
         Ok(Ended {
             end,
             window: Received::of(alloc, &window.taken(alloc)?)?.gone(),
             client: Received::of(alloc, &client.taken(alloc)?)?.gone(),
             silent: silent.taken(alloc)?,
-            len: stage.peers.len(),
+            len: stage.own.peers.len(),
         })
     }
 }
@@ -93,7 +93,7 @@ impl Play for Alone {
         stage: &mut Stage<L>,
     ) -> Result<(Vec<u8>, Option<End>), Stop> {
         let answer = stage.command(rt, "quit")?;
-        Ok((answer, stage.peers.end()))
+        Ok((answer, stage.own.peers.end()))
     }
 }
 

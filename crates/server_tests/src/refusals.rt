@@ -123,7 +123,7 @@ impl Play for Scenes {
 
     fn play<L: Roll, R: Wait>(&mut self, rt: &R, stage: &mut Stage<L>) -> Result<Played, Stop> {
         let first = scene(rt, stage)?;
-        let has_ended = stage.peers.is_empty() && stage.peers.end().is_none();
+        let has_ended = stage.own.peers.is_empty() && stage.own.peers.end().is_none();
         let second = if first == ALL {
             None
         } else {
