@@ -53,9 +53,9 @@ impl Pace {
 
     /// Whether the draws of this turn are to wait, as they do where keys were typed in it, whose echo
     /// may come at once. Without a clock they don't.
-    pub fn holds<R: Clock + Wait>(&mut self, rt: &R, shared: &Shared, is_typed: bool) -> bool {
-        self.awaits_echo = is_typed;
-        let is_much = is_typed || 0 < *shared.busy.lock(rt);
+    pub fn holds<R: Clock + Wait>(&mut self, rt: &R, shared: &Shared, awaits_echo: bool) -> bool {
+        self.awaits_echo = awaits_echo;
+        let is_much = awaits_echo || 0 < *shared.busy.lock(rt);
         self.since = match rt.monotonic() {
             Ok(now) if is_much => match self.since {
                 None => Some(now),

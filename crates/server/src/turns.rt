@@ -138,7 +138,9 @@ fn turn<L: Roll, R: Clock + Wait>(
     if own.peers.has_submitted() || is_news {
         shared.wake_others(watch.me)?;
     }
-    let holds_draws = watch.pace.holds(rt, shared, own.has_typed());
+    // A loop that is alone has handed the keys out before it asks for a draw.
+    let awaits_echo = own.has_typed() && 1 < shared.doors.len();
+    let holds_draws = watch.pace.holds(rt, shared, awaits_echo);
     own.peers.settle(rt, house, holds_draws);
     if own.peers.has_submitted() {
         shared.wake_others(watch.me)?;
