@@ -1,10 +1,10 @@
 -- Acts of clients and locks leave what the lists stand for, and acts of list commands the open windows.
 use Rattle.std.proofs.Common.{◌≡◌, ◌∙◌, ℕ, refl, [], ◌∷◌, List}
 use Rattle.std.specs.List.{AllByRecursion}
-use Rattle.acl.specs.declared.edition.Edition.{Edition}
-use Rattle.acl.specs.declared.user_id.UserId.{UserId}
-use Rattle.acl.specs.declared.act.Act.{Act}
-use Rattle.acl.specs.declared.act.Act.TheVariants.{Known, Gone, Set, Grouped, Masked, Preset, Opened, Closed, Attached, Parted, Entered, Left, Mode, Default}
+use Rattle.acl_words.specs.declared.edition.Edition.{Edition}
+use Rattle.acl_words.specs.declared.user_id.UserId.{UserId}
+use Rattle.acl_words.specs.declared.act.Act.{Act}
+use Rattle.acl_words.specs.declared.act.Act.TheVariants.{Known, Gone, Set, Grouped, Masked, Preset, Opened, Closed, Attached, Parted, Entered, Left, Mode, Default}
 use Rattle.acl.specs.History.{History, followed_by, is_open, open_count}
 use Rattle.acl.specs.Commands.{IsAside, MayFollow, AllMayFollow}
 use Rattle.acl.specs.Table.{Table, StandsFor}

@@ -2,29 +2,30 @@
 use Rattle.std.proofs.Common.{◌≡◌, ◌∙◌, ◌≤◌, ◌&&◌, not, nat_le, sym, ℕ, ap, Bool, true, false, ◌||◌, List, [], ◌∷◌, ◌++◌, Option, Some, None, unwrap_or, All, suc, arith, slice_index_or, length, drop, refl, Result, Ok, Err, OnOk, subst}
 use Rattle.std.proofs.Math.Seq.{drop-append_seam}
 use Rattle.std.specs.Option.{option_or}
-use Rattle.acl.specs.Same.{same_user}
-use Rattle.acl.specs.declared.edition.Edition.{Edition}
-use Rattle.acl.specs.declared.user_id.UserId.{UserId}
-use Rattle.acl.specs.declared.bits.Bit.{Bit}
-use Rattle.acl.specs.declared.bits.BitChange.{BitChange}
-use Rattle.acl.specs.declared.act.Object.{Object}
-use Rattle.acl.specs.declared.act.Object.TheVariants.{Window, Command}
-use Rattle.acl.specs.declared.act.Act.{Act}
-use Rattle.acl.specs.declared.act.Act.TheVariants.{Known, Set}
-use Rattle.acl.specs.declared.entries.MaskEntry.{MaskEntry}
-use Rattle.acl.specs.declared.entries.MaskScope.{MaskScope}
-use Rattle.acl.specs.declared.entries.MaskScope.TheVariants as scope
-use Rattle.acl.specs.declared.entries.NewLeader.{NewLeader}
-use Rattle.acl.specs.declared.entries.NewLeader.TheVariants.{Nobody, Named}
+use Rattle.acl_words.specs.Same.{same_user}
+use Rattle.acl_words.specs.declared.edition.Edition.{Edition}
+use Rattle.acl_words.specs.declared.user_id.UserId.{UserId}
+use Rattle.acl_words.specs.declared.bits.Bit.{Bit}
+use Rattle.acl_words.specs.declared.bits.BitChange.{BitChange}
+use Rattle.acl_words.specs.declared.act.Object.{Object}
+use Rattle.acl_words.specs.declared.act.Object.TheVariants.{Window, Command}
+use Rattle.acl_words.specs.declared.act.Act.{Act}
+use Rattle.acl_words.specs.declared.act.Act.TheVariants.{Known, Set}
+use Rattle.acl_words.specs.declared.entries.MaskEntry.{MaskEntry}
+use Rattle.acl_words.specs.declared.entries.MaskScope.{MaskScope}
+use Rattle.acl_words.specs.declared.entries.MaskScope.TheVariants as scope
+use Rattle.acl_words.specs.declared.entries.NewLeader.{NewLeader}
+use Rattle.acl_words.specs.declared.entries.NewLeader.TheVariants.{Nobody, Named}
 use borrow.Author.Tests.{leb-true}
 use Rattle.std.proofs.Common.{if◌then◌else◌}
-use Rattle.acl.specs.declared.faults.AclFault.{AclFault}
-use Rattle.acl.specs.declared.faults.AclFault.TheVariants.{UnknownUser, OwnerKept, NoSuchGroup, TooManyGroups}
+use Rattle.acl_words.specs.declared.faults.AclFault.{AclFault}
+use Rattle.acl_words.specs.declared.faults.AclFault.TheVariants.{UnknownUser, OwnerKept, NoSuchGroup, TooManyGroups}
 use Rattle.acl.specs.History.{History, followed_by, leaders_of, leaders_with, is_known, users_of, among, there, decided, latest, decides_known}
 use Rattle.acl.specs.Commands.{Answers, AllMayFollow, sets_on, sets, user_acts, change_acts, new_acts, known_acts, names_sets, add_acts, added, chosen_leader, with_name, with_names, names_user, scope_acts, mask_acts, known_name_fault, group_fault, leader_fault, group_acts, removal_acts}
 use Rattle.acl.specs.Table.{Table, StandsFor}
 use Rattle.acl.specs.Deeds.{IsDone, TakesAll, FollowsAll}
 use Rattle.acl.proofs.StandsForLemmas.{same_user-true, same_user-refl}
+pub use Rattle.acl_words.proofs.SameLemmas.{same_user-sym}
 use Rattle.std.specs.List.{list_any}
 use Rattle.std.proofs.lemmas.List.Folds.{list_any-append}
 use Rattle.acl.proofs.NameLemmas.{among-with_name, among-with_names}
@@ -45,15 +46,6 @@ or-true false = refl
 or-false : (c : Bool) → (c || false) ≡ c
 or-false true = refl
 or-false false = refl
-
-pub same_user-sym : (u v : UserId) → same_user u v ≡ same_user v u
-same_user-sym u v = by (same_user u v) (same_user v u) refl refl
-  where
-    by : (c d : Bool) → same_user u v ≡ c → same_user v u ≡ d → c ≡ d
-    by true true e f = refl
-    by false false e f = refl
-    by true false e f = sym (sym f ∙ (λ i. same_user v (same_user-true u v e i)) ∙ same_user-refl v)
-    by false true e f = sym e ∙ (λ i. same_user u (same_user-true v u f i)) ∙ same_user-refl u
 
 -- a set leaves what is there
 there-Set : (h : History) (u : UserId) (bit : Bit) (place : Object) (value : Bool) (object : Object) → there (Set u bit place value ∷ h) object ≡ there h object

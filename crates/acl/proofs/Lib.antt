@@ -1,11 +1,8 @@
 pub mod AsideLemmas
-pub mod BitSetLemmas
 pub mod FollowingLemmas
 pub mod InPlace
-pub mod LeaderLemmas
 pub mod NameLemmas
 pub mod OpenSlots
 pub mod PlanLemmas
 pub mod RowLemmas
 pub mod StandsForLemmas
-pub mod WordLemmas

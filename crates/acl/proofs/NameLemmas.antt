@@ -3,10 +3,10 @@ use Rattle.std.proofs.Common.{◌≡◌, ◌∙◌, ap, sym, refl, Bool, true, f
 use Rattle.std.proofs.Math.Seq.{take-suc}
 use Rattle.std.specs.List.{list_any}
 use Rattle.std.proofs.lemmas.List.Folds.{list_any-append}
-use Rattle.acl.specs.Same.{same_user}
+use Rattle.acl_words.specs.Same.{same_user}
 use Rattle.acl.specs.History.{among}
 use Rattle.acl.specs.Commands.{with_name, with_names, names_user}
-use Rattle.acl.specs.declared.user_id.UserId.{UserId}
+use Rattle.acl_words.specs.declared.user_id.UserId.{UserId}
 use Rattle.acl.proofs.StandsForLemmas.{same_user-true}
 
 or-false : (c : Bool) → (c || false) ≡ c

@@ -3,13 +3,13 @@ use Rattle.std.proofs.Common.{◌≡◌, ◌∙◌, ◌+◌, ◌<◌, ℕ, Bool,
 use Rattle.std.specs.Option.{option_or}
 use Rattle.std.proofs.lemmas.List.Sums.{sum_by-cons}
 use Rattle.acl.proofs.InPlace.{drop-next}
-use Rattle.acl.specs.declared.faults.AclFault.{AclFault}
-use Rattle.acl.specs.declared.faults.AclFault.TheVariants.{UnknownUser, OwnerKept, TooManyUsers, ReservedName, NoSuchGroup, NoMemory, TooManyGroups}
-use Rattle.acl.specs.declared.act.Act.{Act}
-use Rattle.acl.specs.declared.user_id.UserId.{UserId}
-use Rattle.acl.specs.declared.bits.BitChange.{BitChange}
-use Rattle.acl.specs.declared.act.Object.{Object}
-use Rattle.acl.specs.declared.act.Act.TheVariants.{Known}
+use Rattle.acl_words.specs.declared.faults.AclFault.{AclFault}
+use Rattle.acl_words.specs.declared.faults.AclFault.TheVariants.{UnknownUser, OwnerKept, TooManyUsers, ReservedName, NoSuchGroup, NoMemory, TooManyGroups}
+use Rattle.acl_words.specs.declared.act.Act.{Act}
+use Rattle.acl_words.specs.declared.user_id.UserId.{UserId}
+use Rattle.acl_words.specs.declared.bits.BitChange.{BitChange}
+use Rattle.acl_words.specs.declared.act.Object.{Object}
+use Rattle.acl_words.specs.declared.act.Act.TheVariants.{Known}
 use Rattle.acl.specs.History.{among}
 use Rattle.acl.specs.Commands.{Keeps, Answers, sets, user_acts, name_acts, new_acts, name_sets}
 

@@ -5,8 +5,8 @@ use Rattle.std.specs.Option.{option_map_or, option_map}
 use Rattle.std.specs.Map.{lookup}
 use Rattle.std.proofs.lemmas.Map.Entries.{lookup-filter-keys}
 use borrow.Author.Tests.{eqb-true}
-use Rattle.acl.specs.Same.{same_user, same_bit, same_object, index_of_command}
-use Rattle.acl.specs.BitSets.{allows, with_bit, no_bits, all_bits}
+use Rattle.acl_words.specs.Same.{same_user, same_bit, same_object, index_of_command}
+use Rattle.acl_words.specs.BitSets.{allows, with_bit, no_bits, all_bits}
 use Rattle.acl_slots.specs.Slots.{slot_of, is_window}
 use Rattle.acl_slots.proofs.SlotLemmas.{slots-new}
 use Rattle.std.specs.Map.{keys_of}
@@ -15,19 +15,19 @@ use Rattle.std.proofs.Common.{◌++◌}
 use Rattle.std.specs.List.{list_any}
 use Rattle.indexmap.specs.IndexSet.{remove_key}
 use Rattle.acl.specs.History.{without_user}
-use Rattle.acl.specs.declared.act.PresetKind.{PresetKind}
-use Rattle.acl.specs.declared.act.PresetKind.TheVariants as preset
-use Rattle.acl.proofs.BitSetLemmas.{allows-with_bit, allows-no_bits, allows-all_bits}
+use Rattle.acl_words.specs.declared.act.PresetKind.{PresetKind}
+use Rattle.acl_words.specs.declared.act.PresetKind.TheVariants as preset
+use Rattle.acl_words.proofs.BitSetLemmas.{allows-with_bit, allows-no_bits, allows-all_bits}
 use Rattle.acl_slots.proofs.SlotLemmas.{found, slot_of-apart}
 use Rattle.acl.proofs.StandsForLemmas.{same_user-true}
-use Rattle.acl.specs.declared.edition.Edition.{Edition}
-use Rattle.acl.specs.declared.user_id.UserId.{UserId}
-use Rattle.acl.specs.declared.bits.Bit.{Bit}
-use Rattle.acl.specs.declared.bits.Bits.{Bits}
-use Rattle.acl.specs.declared.command_name.CommandName.{CommandName}
-use Rattle.acl.specs.declared.command_name.CommandName.TheVariants as command
-use Rattle.acl.specs.declared.act.Object.{Object}
-use Rattle.acl.specs.declared.act.Object.TheVariants.{Window, Command}
+use Rattle.acl_words.specs.declared.edition.Edition.{Edition}
+use Rattle.acl_words.specs.declared.user_id.UserId.{UserId}
+use Rattle.acl_words.specs.declared.bits.Bit.{Bit}
+use Rattle.acl_words.specs.declared.bits.Bits.{Bits}
+use Rattle.acl_words.specs.declared.command_name.CommandName.{CommandName}
+use Rattle.acl_words.specs.declared.command_name.CommandName.TheVariants as command
+use Rattle.acl_words.specs.declared.act.Object.{Object}
+use Rattle.acl_words.specs.declared.act.Object.TheVariants.{Window, Command}
 use Rattle.acl.specs.declared.rows.Row.{Row}
 
 chosen-and : (c d : Bool) (value x : Bool) → (if c then value else x) ≡ (if c && true then value else x)

@@ -3,30 +3,23 @@ use Rattle.std.proofs.Common.{◌≡◌, ◌≢◌, ◌∙◌, ℕ, ◌<◌, Boo
 use Rattle.std.specs.Option.{option_map_or, option_map}
 use Rattle.std.specs.List.{list_any}
 use Rattle.std.specs.Map.{lookup, keys_of}
-use Rattle.std.proofs.lemmas.Slice.Eq.{bytes_eq-Decides}
-use Rattle.acl.specs.Same.{same_user, same_bit, same_object, same_preset}
-use Rattle.acl.specs.BitSets.{allows, with_bit, all_bits, no_bits}
+use Rattle.acl_words.specs.Same.{same_user, same_bit, same_object, same_preset}
+use Rattle.acl_words.specs.BitSets.{allows, with_bit, all_bits, no_bits}
 use Rattle.acl_slots.specs.Slots.{slot_of, SlotsStandFor}
 use Rattle.acl.specs.History.{History, without_user, open_count, there, decided, is_known, is_open, mask, preset_of, has, leaders_of, leaders_with, greeting, opening, may}
 use Rattle.acl.specs.Table.{Table, StandsFor, row_of, users_in, knows, bits_on, granted, same_pair, preset_bits, is_there, without_leader, opening_bits, mask_bits, with_window, lets}
-use Rattle.acl.proofs.BitSetLemmas.{allows-with_bit, allows-all_bits}
-use Rattle.acl.specs.declared.edition.Edition.{Edition}
-use Rattle.acl.specs.declared.user_id.UserId.{UserId}
-use Rattle.acl.specs.declared.bits.Bit.{Bit}
-use Rattle.acl.specs.declared.bits.Bits.{Bits}
-use Rattle.acl.specs.declared.act.Object.{Object}
-use Rattle.acl.specs.declared.act.Object.TheVariants.{Window, Command}
-use Rattle.acl.specs.declared.act.PresetKind.{PresetKind}
-use Rattle.acl.specs.declared.act.PresetKind.TheVariants as preset
-use Rattle.acl.specs.declared.act.Act.TheVariants.{Known, Gone, Set, Grouped, Masked, Preset, Opened, Closed}
+pub use Rattle.acl_words.proofs.SameLemmas.{same_user-true, same_user-refl}
+use Rattle.acl_words.proofs.BitSetLemmas.{allows-with_bit, allows-all_bits}
+use Rattle.acl_words.specs.declared.edition.Edition.{Edition}
+use Rattle.acl_words.specs.declared.user_id.UserId.{UserId}
+use Rattle.acl_words.specs.declared.bits.Bit.{Bit}
+use Rattle.acl_words.specs.declared.bits.Bits.{Bits}
+use Rattle.acl_words.specs.declared.act.Object.{Object}
+use Rattle.acl_words.specs.declared.act.Object.TheVariants.{Window, Command}
+use Rattle.acl_words.specs.declared.act.PresetKind.{PresetKind}
+use Rattle.acl_words.specs.declared.act.PresetKind.TheVariants as preset
+use Rattle.acl_words.specs.declared.act.Act.TheVariants.{Known, Gone, Set, Grouped, Masked, Preset, Opened, Closed}
 use Rattle.acl.specs.declared.rows.Row.{Row}
-
--- names that the test finds the same are equal
-pub same_user-true : (u v : UserId) → same_user u v ≡ true → u ≡ v
-same_user-true u v h = ap {A = List ℕ} {B = UserId} (λ l. record { name = l }) ((bytes_eq-Decides u.name v.name).0 h)
-
-pub same_user-refl : (u : UserId) → same_user u u ≡ true
-same_user-refl u = (bytes_eq-Decides u.name u.name).1 refl
 
 -- what is read of a choice, where an act decides
 step : {X Y : Type 0} (f : X → Y) (c : Bool) (x y : X) (g : Option Y) (r : Y) → (c ≡ true → f x ≡ unwrap_or g r) → f y ≡ r → f (if c then x else y) ≡ unwrap_or (if c then g else None) r

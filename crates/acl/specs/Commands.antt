@@ -1,40 +1,31 @@
 -- The list commands of the GNU Screen manual (acladd, aclchg, acldel, aclgrp, aclumask): the fault that refuses one, which is the
 -- first from the left, and the acts of one that is done. A name is none where its word is no name.
-use Rattle.std.specs.Prelude.{◌≡◌, ◌≤◌, ℕ, Bool, true, false, not, ◌||◌, ◌&&◌, nat_lt, nat_le, List, [], ◌∷◌, ◌++◌, Option, Some, None, Result, Ok, Err, map, length, if◌then◌else◌}
+use Rattle.std.specs.Prelude.{◌≡◌, ◌≤◌, Bool, true, false, not, ◌||◌, ◌&&◌, nat_lt, nat_le, List, [], ◌∷◌, ◌++◌, Option, Some, None, Result, Ok, Err, map, length, if◌then◌else◌}
 use Rattle.std.specs.Option.{option_or}
-use Rattle.acl.specs.Same.{same_user}
+use Rattle.acl_words.specs.Same.{same_user}
+pub use Rattle.acl_words.specs.Faults.{number_of_fault}
 use Rattle.acl.specs.History.{History, is_known, among, there, leaders_of, leaders_with}
-use Rattle.acl.specs.declared.user_id.UserId.{UserId}
-use Rattle.acl.specs.declared.bits.Bit.{Bit}
-use Rattle.acl.specs.declared.bits.Bit.TheVariants.{Read, Write, Execute}
-use Rattle.acl.specs.declared.bits.BitChange.{BitChange}
-use Rattle.acl.specs.declared.act.Object.{Object}
-use Rattle.acl.specs.declared.act.Act.{Act}
-use Rattle.acl.specs.declared.act.Act.TheVariants.{Known, Gone, Set, Grouped, Masked, Preset, Attached, Parted, Entered, Left, Mode, Default}
-use Rattle.acl.specs.declared.faults.AclFault.{AclFault}
-use Rattle.acl.specs.declared.faults.AclFault.TheVariants.{UnknownUser, OwnerKept, TooManyUsers, ReservedName, NoSuchGroup, NoMemory, TooManyGroups}
-use Rattle.acl.specs.declared.edition.Edition.{Edition}
-use Rattle.acl.specs.declared.entries.NewLeader.{NewLeader}
-use Rattle.acl.specs.declared.entries.NewLeader.TheVariants.{Nobody, Named}
-use Rattle.acl.specs.declared.entries.MaskEntry.{MaskEntry}
-use Rattle.acl.specs.declared.entries.MaskScope.{MaskScope}
-use Rattle.acl.specs.declared.entries.MaskScope.TheVariants as scope
+use Rattle.acl_words.specs.declared.user_id.UserId.{UserId}
+use Rattle.acl_words.specs.declared.bits.Bit.{Bit}
+use Rattle.acl_words.specs.declared.bits.Bit.TheVariants.{Read, Write, Execute}
+use Rattle.acl_words.specs.declared.bits.BitChange.{BitChange}
+use Rattle.acl_words.specs.declared.act.Object.{Object}
+use Rattle.acl_words.specs.declared.act.Act.{Act}
+use Rattle.acl_words.specs.declared.act.Act.TheVariants.{Known, Gone, Set, Grouped, Masked, Preset, Attached, Parted, Entered, Left, Mode, Default}
+use Rattle.acl_words.specs.declared.faults.AclFault.{AclFault}
+use Rattle.acl_words.specs.declared.faults.AclFault.TheVariants.{UnknownUser, OwnerKept, TooManyUsers, ReservedName, NoSuchGroup, NoMemory, TooManyGroups}
+use Rattle.acl_words.specs.declared.edition.Edition.{Edition}
+use Rattle.acl_words.specs.declared.entries.NewLeader.{NewLeader}
+use Rattle.acl_words.specs.declared.entries.NewLeader.TheVariants.{Nobody, Named}
+use Rattle.acl_words.specs.declared.entries.MaskEntry.{MaskEntry}
+use Rattle.acl_words.specs.declared.entries.MaskScope.{MaskScope}
+use Rattle.acl_words.specs.declared.entries.MaskScope.TheVariants as scope
 
 -- the answer is the fault, where there is one, or that memory was refused
 abbrev pub Answers : {X : Type 0} → Result X AclFault → Option AclFault → Type 0
 Answers (Ok x) fault = fault ≡ None
 Answers (Err NoMemory) fault = Unit {0}
 Answers (Err f) fault = fault ≡ Some f
-
--- a fault's number
-abbrev pub number_of_fault : AclFault → ℕ
-number_of_fault UnknownUser = 1
-number_of_fault OwnerKept = 2
-number_of_fault TooManyUsers = 3
-number_of_fault ReservedName = 4
-number_of_fault NoSuchGroup = 5
-number_of_fault NoMemory = 6
-number_of_fault TooManyGroups = 7
 
 -- the list of acts is the old one, with perhaps more at its end
 abbrev pub Keeps : List Act → List Act → Type 0

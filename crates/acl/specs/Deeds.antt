@@ -3,11 +3,11 @@ use Rattle.std.specs.Prelude.{◌≡◌, true, List, ◌∷◌, ◌++◌, Option
 use Rattle.acl.specs.History.{History, there, followed_by}
 use Rattle.acl.specs.Commands.{Answers, MayFollow, AllMayFollow}
 use Rattle.acl.specs.Table.{Table, StandsFor}
-use Rattle.acl.specs.declared.edition.Edition.{Edition}
-use Rattle.acl.specs.declared.user_id.UserId.{UserId}
-use Rattle.acl.specs.declared.act.Object.{Object}
-use Rattle.acl.specs.declared.act.Act.{Act}
-use Rattle.acl.specs.declared.faults.AclFault.{AclFault}
+use Rattle.acl_words.specs.declared.edition.Edition.{Edition}
+use Rattle.acl_words.specs.declared.user_id.UserId.{UserId}
+use Rattle.acl_words.specs.declared.act.Object.{Object}
+use Rattle.acl_words.specs.declared.act.Act.{Act}
+use Rattle.acl_words.specs.declared.faults.AclFault.{AclFault}
 
 -- where the table stood for a history that the act may follow, it stands for that history and the act
 abbrev pub Takes : Table → Table → Act → Type 0

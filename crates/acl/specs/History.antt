@@ -3,17 +3,17 @@
 -- open (what a name that becomes known gets, when a mask counts, how many leaders a user has) is this project's own profile.
 use Rattle.std.specs.Prelude.{ℕ, Bool, true, false, not, ◌||◌, ◌&&◌, ◌==◌, ◌+◌, ◌-◌, List, [], ◌∷◌, Option, Some, None, unwrap_or, filter, ◌++◌, if◌then◌else◌}
 use Rattle.std.specs.List.{list_any}
-use Rattle.acl.specs.Same.{same_user, same_bit, same_object, same_preset}
-use Rattle.acl.specs.declared.user_id.UserId.{UserId}
-use Rattle.acl.specs.declared.bits.Bit.{Bit}
-use Rattle.acl.specs.declared.act.Object.{Object}
-use Rattle.acl.specs.declared.act.Object.TheVariants.{Window, Command}
-use Rattle.acl.specs.declared.act.PresetKind.{PresetKind}
-use Rattle.acl.specs.declared.act.PresetKind.TheVariants as preset
-use Rattle.acl.specs.declared.act.Act.{Act}
-use Rattle.acl.specs.declared.act.Act.TheVariants.{Known, Gone, Set, Grouped, Masked, Preset, Opened, Closed}
-use Rattle.acl.specs.declared.edition.Edition.{Edition}
-use Rattle.acl.specs.declared.edition.Edition.TheVariants.{First, Second}
+use Rattle.acl_words.specs.Same.{same_user, same_bit, same_object, same_preset}
+use Rattle.acl_words.specs.declared.user_id.UserId.{UserId}
+use Rattle.acl_words.specs.declared.bits.Bit.{Bit}
+use Rattle.acl_words.specs.declared.act.Object.{Object}
+use Rattle.acl_words.specs.declared.act.Object.TheVariants.{Window, Command}
+use Rattle.acl_words.specs.declared.act.PresetKind.{PresetKind}
+use Rattle.acl_words.specs.declared.act.PresetKind.TheVariants as preset
+use Rattle.acl_words.specs.declared.act.Act.{Act}
+use Rattle.acl_words.specs.declared.act.Act.TheVariants.{Known, Gone, Set, Grouped, Masked, Preset, Opened, Closed}
+use Rattle.acl_words.specs.declared.edition.Edition.{Edition}
+pub use Rattle.acl_words.specs.Leaders.{among, leaders_with}
 
 abbrev pub History : Type 0
 History = List Act
@@ -41,10 +41,6 @@ decides_known u _ = None
 -- the owner is known from the start
 abbrev pub is_known : UserId → History → UserId → Bool
 is_known owner h u = same_user owner u || latest (decides_known u) false h
-
--- whether the name is among these
-abbrev pub among : List UserId → UserId → Bool
-among users u = list_any (same_user u) users
 
 -- the users, without this one
 abbrev pub without_user : UserId → List UserId → List UserId
@@ -115,13 +111,6 @@ decision owner _ h u bit object = None
 abbrev pub has : UserId → History → UserId → Bit → Object → Bool
 has owner [] u bit object = false
 has owner (a ∷ h) u bit object = unwrap_or (decision owner a h u bit object) (has owner h u bit object)
-
--- aclgrp: a user's leaders, once he is given one, or none. In the first edition a new leader takes the former one's place; in the
--- second he comes last, and one who leads the user already keeps his place
-abbrev pub leaders_with : Edition → Option UserId → List UserId → List UserId
-leaders_with edition None before = []
-leaders_with First (Some leader) before = leader ∷ []
-leaders_with Second (Some leader) before = if among before leader then before else before ++ leader ∷ []
 
 -- the leaders of u after an act. Nobody leads a user who is gone, and one who is gone leads nobody
 abbrev pub leaders_after : Edition → Act → UserId → List UserId → List UserId

@@ -1,10 +1,9 @@
-pub mod BitSets
+pub use Rattle.acl_words.specs.declared.command_name
+pub use Rattle.acl_words.specs.Names
+pub use Rattle.acl_words.specs.Same
 pub mod Commands
 pub mod Deeds
 pub mod History
-pub mod Leaders
 pub mod Lists
-pub mod Names
-pub mod Same
 pub mod Slots
 pub mod Table

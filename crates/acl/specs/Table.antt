@@ -1,21 +1,22 @@
 -- The table that the code keeps, and the histories that it stands for.
-use Rattle.std.specs.Prelude.{◌≡◌, ℕ, Bool, true, false, not, ◌&&◌, ◌||◌, All, filter, List, [], Option, is_some, slice_index_or, slice_set, replicate, unwrap_or, if◌then◌else◌}
+use Rattle.std.specs.Prelude.{◌≡◌, ℕ, Bool, true, false, ◌&&◌, ◌||◌, All, List, [], Option, is_some, slice_index_or, slice_set, replicate, unwrap_or, if◌then◌else◌}
 use Rattle.std.specs.Option.{option_map_or}
 use Rattle.std.specs.List.{list_any}
 use Rattle.std.specs.Map.{lookup, keys_of}
-use Rattle.acl.specs.Same.{same_user, index_of_command}
-use Rattle.acl.specs.BitSets.{allows, with_bit, no_bits, all_bits}
+use Rattle.acl_words.specs.Same.{same_user, index_of_command}
+use Rattle.acl_words.specs.Leaders.{remaining_leaders}
+use Rattle.acl_words.specs.BitSets.{allows, with_bit, no_bits, all_bits}
 use Rattle.acl_slots.specs.Slots.{slot_of, SlotsStandFor}
 use Rattle.acl.specs.History.{History, is_known, users_of, is_open, open_count, mask, preset_of, has, leaders_of}
-use Rattle.acl.specs.declared.user_id.UserId.{UserId}
-use Rattle.acl.specs.declared.bits.Bit.{Bit}
-use Rattle.acl.specs.declared.bits.Bits.{Bits}
-use Rattle.acl.specs.declared.act.Object.{Object}
-use Rattle.acl.specs.declared.act.Object.TheVariants.{Window, Command}
-use Rattle.acl.specs.declared.act.PresetKind.{PresetKind}
-use Rattle.acl.specs.declared.act.PresetKind.TheVariants as preset
-use Rattle.acl.specs.declared.edition.Edition.{Edition}
-use Rattle.acl.specs.declared.entries.EntryDenial.{EntryDenial}
+use Rattle.acl_words.specs.declared.user_id.UserId.{UserId}
+use Rattle.acl_words.specs.declared.bits.Bit.{Bit}
+use Rattle.acl_words.specs.declared.bits.Bits.{Bits}
+use Rattle.acl_words.specs.declared.act.Object.{Object}
+use Rattle.acl_words.specs.declared.act.Object.TheVariants.{Window, Command}
+use Rattle.acl_words.specs.declared.act.PresetKind.{PresetKind}
+use Rattle.acl_words.specs.declared.act.PresetKind.TheVariants as preset
+use Rattle.acl_words.specs.declared.edition.Edition.{Edition}
+use Rattle.acl_words.specs.declared.entries.EntryDenial.{EntryDenial}
 use Rattle.acl.specs.declared.rows.Row.{Row}
 
 -- a session's rights: a row for each known user, masks by opener and user, and the slots of open windows
@@ -70,10 +71,6 @@ is_there t (Command c) = true
 -- what a name that becomes known has
 abbrev pub new_row : Bits → Bits → Row
 new_row command_preset window_preset = record { commands = replicate 31 command_preset; windows = replicate 40 window_preset; leaders = [] }
-
--- the leaders, without the one who is gone
-abbrev pub remaining_leaders : UserId → List UserId → List UserId
-remaining_leaders gone leaders = filter (λ leader. not (same_user gone leader)) leaders
 
 -- the row, once `gone` leads nobody any more
 abbrev pub without_leader : UserId → Row → Row

@@ -1,17 +1,14 @@
 ghost use Rattle.std.specs.Prelude.{◌≡◌, ◌+◌, ◌≤◌, [], is_ok, IfOk, IfErr, OnOk, OnErr, length, slice_get, true, false, vec_len};
 ghost use Rattle.std.specs.Vec.{vec_capacity};
 
-use crate::act::{Act, Object};
-use crate::bits::{Bit, BitChange};
 use crate::carry::conclude;
-use crate::edition::Edition;
-use crate::entries::{EntryDenial, MaskEntry, NewLeader};
-use crate::faults::AclFault;
 use crate::follower::Follower;
-use crate::leaders::Leaders;
 use crate::lists::Lists;
 use crate::plan::{change_fault, plan_addition, plan_change, plan_group, plan_masks, plan_removal};
-use crate::user_id::UserId;
+use acl_words::{
+    AclFault, Act, Bit, BitChange, Edition, EntryDenial, Leaders, MaskEntry, NewLeader, Object,
+    UserId,
+};
 use std::alloc::{AllocError, Global};
 use std::marker::Model;
 
@@ -45,8 +42,8 @@ impl Acl {
     ghost use Rattle.acl.specs.Deeds.{Refuses, Does, DoesOn};
     ghost use Rattle.acl.specs.Table.{StandsFor, IsDenial, knows, led_by, lets, users_in};
     ghost use Rattle.acl.specs.Lists.{table_of};
-    ghost use Rattle.acl.specs.declared.edition.Edition.{Edition};
-    ghost use Rattle.acl.specs.declared.act.Act.TheVariants.{Opened, Closed};
+    ghost use Rattle.acl_words.specs.declared.edition.Edition.{Edition};
+    ghost use Rattle.acl_words.specs.declared.act.Act.TheVariants.{Opened, Closed};
 
     /// The lists of a session that only its owner has entered.
     pub fn new(alloc: Global, owner: UserId, edition: Edition) -> Result<Self, AllocError>

@@ -7,11 +7,9 @@ ghost use Rattle.acl.specs.Commands.{Answers, makes_known, sets_mask};
 ghost use Rattle.acl.specs.Deeds.{TakesAll, FollowsAll};
 ghost use Rattle.acl.specs.Lists.{table_of};
 
-use crate::act::Act;
-use crate::faults::AclFault;
 use crate::follower::Follower;
 use crate::lists::Lists;
-use crate::user_id::UserId;
+use acl_words::{AclFault, Act, UserId};
 
 /// How many names become known.
 fn count_known(acts: &[Act]) -> usize

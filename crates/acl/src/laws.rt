@@ -1,15 +1,14 @@
 //! Laws of the definitions, for the crates above. Each function here does nothing; its contract says
 //! what holds.
 
-ghost use Rattle.std.specs.Prelude.{◌≡◌, ◌∷◌, ◌++◌, ℕ, List, true};
+ghost use Rattle.std.specs.Prelude.{◌≡◌, ◌∷◌, ◌++◌, ℕ, List};
 ghost use Rattle.std.specs.List.{AllByRecursion};
-ghost use Rattle.acl.specs.Same.{same_user};
 ghost use Rattle.acl.specs.History.{History, followed_by, is_known, is_open, open_count, users_of, among};
 ghost use Rattle.acl.specs.Commands.{IsAside, AllMayFollow};
 ghost use Rattle.acl.specs.Table.{Table, StandsFor};
-ghost use Rattle.acl.specs.declared.act.Act.{Act};
-ghost use Rattle.acl.specs.declared.edition.Edition.{Edition};
-ghost use Rattle.acl.specs.declared.user_id.UserId.{UserId};
+ghost use Rattle.acl_words.specs.declared.act.Act.{Act};
+ghost use Rattle.acl_words.specs.declared.edition.Edition.{Edition};
+ghost use Rattle.acl_words.specs.declared.user_id.UserId.{UserId};
 
 /// Acts of clients and locks leave all rights as they are.
 pub fn acts_aside()
@@ -39,11 +38,4 @@ pub fn acts_in_order()
 pub fn users_listed()
     ensures { (t : Table) (edition : Edition) (owner : UserId) (h : History) (u : UserId) →
         StandsFor t edition owner h → is_known owner h u ≡ among (users_of owner h) u }
-{}
-
-/// Names that the test finds the same are equal.
-pub fn names_equal()
-    ensures equal { (u v : UserId) → same_user u v ≡ true → u ≡ v }
-    ensures reflexive { (u : UserId) → same_user u u ≡ true }
-    ensures symmetric { (u v : UserId) → same_user u v ≡ same_user v u }
 {}

@@ -2,24 +2,20 @@
 #![tactic(auto)]
 
 mod acl;
-mod act;
-mod bits;
 mod carry;
-mod command_name;
-mod edition;
-mod entries;
-mod faults;
 mod follower;
 mod laws;
-mod leaders;
-mod limits;
 mod lists;
 mod plan;
 mod rows;
-mod user_id;
 
 pub use acl::Acl;
 pub use acl_slots::Slots;
+// With the modules of words, by whose paths definitions name the words.
+pub use acl_words::{
+    Leaders, USERS, WINDOWS, act, bits, command_name, edition, entries, faults, names_equal,
+    user_id,
+};
 pub use act::{Act, LockMode, Object, PresetKind};
 pub use bits::{Bit, BitChange, Bits};
 pub use command_name::CommandName;
@@ -27,8 +23,6 @@ pub use edition::Edition;
 pub use entries::{EntryDenial, MaskEntry, MaskScope, NewLeader};
 pub use faults::AclFault;
 pub use follower::Follower;
-pub use laws::{acts_aside, acts_in_order, names_equal, users_listed, windows_stay};
-pub use leaders::Leaders;
-pub use limits::{USERS, WINDOWS};
+pub use laws::{acts_aside, acts_in_order, users_listed, windows_stay};
 pub use lists::Lists;
 pub use user_id::UserId;

@@ -1,16 +1,11 @@
 //! The rights of a session's users, act by act.
 
-use crate::act::{Act, Object, PresetKind};
-use crate::bits::{Bit, Bits};
-use crate::edition::Edition;
-use crate::entries::EntryDenial;
-use crate::leaders::Leaders;
 use crate::rows::{
     Masks, Row, Rows, bits_on, forget_leader, forget_masks, give_window, mask_bits, regroup,
     set_right,
 };
-use crate::user_id::UserId;
 use acl_slots::Slots;
+use acl_words::{Act, Bit, Bits, Edition, EntryDenial, Leaders, Object, PresetKind, UserId};
 use indexmap::IndexMap;
 use std::alloc::{AllocError, Global};
 
@@ -35,8 +30,8 @@ impl Lists {
     ghost use Rattle.acl.specs.Deeds.{Takes};
     ghost use Rattle.acl.specs.Table.{StandsFor, IsDenial, knows, granted, led_by, lets, users_in};
     ghost use Rattle.acl.specs.Lists.{table_of};
-    ghost use Rattle.acl.specs.declared.edition.Edition.{Edition};
-    ghost use Rattle.acl.specs.declared.act.Act.TheVariants.{Known, Gone, Set, Grouped, Masked, Preset, Opened, Closed};
+    ghost use Rattle.acl_words.specs.declared.edition.Edition.{Edition};
+    ghost use Rattle.acl_words.specs.declared.act.Act.TheVariants.{Known, Gone, Set, Grouped, Masked, Preset, Opened, Closed};
 
     /// The lists of a session that only its owner has entered.
     pub(crate) fn new(alloc: Global, owner: UserId, edition: Edition) -> Result<Self, AllocError>

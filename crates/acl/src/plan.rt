@@ -3,18 +3,15 @@
 ghost use Rattle.std.specs.Prelude.{◌≡◌, ◌&&◌, ◌||◌, ◌++◌, ◌∷◌, [], not, Some, None, IfOk, IfErr, OnOk, OnErr, length};
 ghost use Rattle.std.specs.List.{list_any};
 ghost use Rattle.acl.specs.Commands.{Answers, Keeps, names_user, with_name, with_names, new_name, new_name_fault, new_acts, known_acts, name_sets, names_sets, name_acts, added, add_acts, change_fault, sets_on, sets, change_acts, known_name_fault, removal_acts, leader_fault, chosen_leader, group_fault, group_acts, scope_fault, scope_acts, mask_fault, mask_acts};
-ghost use Rattle.acl.specs.Same.{same_user};
+ghost use Rattle.acl_words.specs.Same.{same_user};
 ghost use Rattle.acl.specs.History.{among};
 ghost use Rattle.acl.specs.Table.{users_in, led_by};
 ghost use Rattle.acl.specs.Lists.{table_of};
 
-use crate::act::{Act, Object};
-use crate::bits::{Bit, BitChange};
-use crate::entries::{MaskEntry, MaskScope, NewLeader};
-use crate::faults::AclFault;
-use crate::limits::USERS;
 use crate::lists::Lists;
-use crate::user_id::UserId;
+use acl_words::{
+    AclFault, Act, Bit, BitChange, MaskEntry, MaskScope, NewLeader, Object, USERS, UserId,
+};
 
 /// What a name that is added gets on each object.
 const ADDED: [BitChange; 3] = [

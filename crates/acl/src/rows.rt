@@ -4,15 +4,11 @@ ghost use Rattle.std.specs.Prelude.{◌≡◌, ◌<◌, ◌≤◌, ◌||◌, not
 ghost use Rattle.acl.specs.History.{leaders_with};
 ghost use Rattle.std.specs.Map.{lookup};
 ghost use Rattle.indexmap.specs.IndexMap.{spare};
-ghost use Rattle.acl.specs.Same.{same_user};
+ghost use Rattle.acl_words.specs.Same.{same_user};
 ghost use Rattle.acl.specs.Table.{mask_bits, opening_bits, with_window, without_leader, bits_on, with_right};
 
-use crate::act::Object;
-use crate::bits::{Bit, Bits};
-use crate::edition::Edition;
-use crate::leaders::Leaders;
-use crate::user_id::UserId;
 use acl_slots::Slots;
+use acl_words::{Bit, Bits, Edition, Leaders, Object, UserId};
 use indexmap::IndexMap;
 
 /// What a known user has, and his leaders.

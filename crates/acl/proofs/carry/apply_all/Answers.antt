@@ -1,6 +1,6 @@
 use Rattle.std.proofs.Common.{[], ◌∙◌, ◌∷◌, sym, subst, arith, slice_index_or}
-use Rattle.acl.specs.declared.act.Act.{Act}
-use Rattle.acl.specs.declared.act.Act.TheVariants.{Known}
+use Rattle.acl_words.specs.declared.act.Act.{Act}
+use Rattle.acl_words.specs.declared.act.Act.TheVariants.{Known}
 use Rattle.acl.specs.History.{followed_by}
 use Rattle.acl.specs.Commands.{AllMayFollow, makes_known, sets_mask}
 use Rattle.acl.proofs.PlanLemmas.{counted}

@@ -1,5 +1,5 @@
 use Rattle.std.proofs.Common.{◌≡◌, ◌<◌, ℕ, slice_get, length, Some}
-use Rattle.acl.specs.declared.user_id.UserId.{UserId}
+use Rattle.acl_words.specs.declared.user_id.UserId.{UserId}
 use Rattle.acl.specs.declared.rows.Row.{Row}
 use Rattle.acl.specs.Table.{opening_bits, with_window}
 use Rattle.acl_slots.proofs.InPlace.{mapped_below}

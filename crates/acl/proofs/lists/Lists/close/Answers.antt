@@ -1,5 +1,5 @@
 use Rattle.std.proofs.Common.{subst, sym, ◌∷◌}
-use Rattle.acl.specs.declared.act.Act.TheVariants.{Closed}
+use Rattle.acl_words.specs.declared.act.Act.TheVariants.{Closed}
 use Rattle.acl.specs.Table.{StandsFor, Table}
 use Rattle.acl.specs.History.{is_open, open_count}
 use Rattle.acl.specs.Lists.{table_of}

@@ -3,7 +3,7 @@ use Rattle.std.specs.Option.{option_map}
 use Rattle.std.specs.Map.{lookup, keys_of}
 use Rattle.indexmap.proofs.CallerLemmas.{keys-shift_remove_entry}
 use Rattle.acl.specs.declared.rows.Row.{Row}
-use Rattle.acl.specs.Same.{same_user}
+use Rattle.acl_words.specs.Same.{same_user}
 use Rattle.acl.specs.Table.{without_leader, same_pair, users_in}
 use Rattle.acl.specs.Lists.{table_of}
 use Rattle.acl.proofs.RowLemmas.{lookup-revalued, lookup-without_user, keys_of-revalued, remove_key-user}

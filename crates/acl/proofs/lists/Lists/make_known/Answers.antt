@@ -2,7 +2,7 @@ use Rattle.std.proofs.Common.{◌≡◌, ◌∙◌, ap, refl, Option, None, Some
 use Rattle.std.specs.Map.{lookup, keys_of}
 use Rattle.indexmap.proofs.CallerLemmas.{insert_entry-new}
 use Rattle.acl.specs.declared.rows.Row.{Row}
-use Rattle.acl.specs.Same.{same_user}
+use Rattle.acl_words.specs.Same.{same_user}
 use Rattle.acl.specs.Table.{same_pair, row_of, new_row}
 use Rattle.acl.specs.Lists.{table_of}
 use Rattle.acl.proofs.RowLemmas.{lookup-without_user, bits_on-new_row, keys_of-push}

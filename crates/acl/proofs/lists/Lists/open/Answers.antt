@@ -1,7 +1,7 @@
 use Rattle.std.proofs.Common.{◌≡◌, ◌∙◌, ◌∷◌, ap, sym, subst, refl, arith, Option, None, Some, is_some, false, true≢false, ℕ, ◌<◌, length}
 use Rattle.std.specs.Map.{lookup, keys_of}
-use Rattle.acl.specs.declared.act.Act.TheVariants.{Opened}
-use Rattle.acl.specs.Same.{same_user}
+use Rattle.acl_words.specs.declared.act.Act.TheVariants.{Opened}
+use Rattle.acl_words.specs.Same.{same_user}
 use Rattle.acl_slots.specs.Slots.{slot_of}
 use Rattle.acl.specs.Table.{with_window, opening_bits, StandsFor, Table}
 use Rattle.acl.specs.History.{is_open, open_count}

@@ -1,5 +1,5 @@
 use Rattle.std.proofs.Common.{◌∙◌, ap, sym, subst, IsSome, is_some, refl, true≢false}
-use Rattle.acl.specs.BitSets.{allows}
+use Rattle.acl_words.specs.BitSets.{allows}
 use Rattle.acl.specs.Table.{bits_on}
 use Rattle.acl.specs.Lists.{table_of}
 use Rattle.acl.proofs.RowLemmas.{allows-with_right, leaders-with_right}

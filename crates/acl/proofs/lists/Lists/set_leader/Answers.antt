@@ -1,6 +1,6 @@
 use Rattle.std.proofs.Common.{◌≡◌, ◌∙◌, ◌≤◌, [], ap, sym, subst, IsSome, is_some, refl, true≢false, Some, length, if◌then◌else◌}
 use Rattle.std.specs.Option.{option_map_or}
-use Rattle.acl.specs.Same.{same_user}
+use Rattle.acl_words.specs.Same.{same_user}
 use Rattle.acl.specs.History.{leaders_with, leaders_of}
 use Rattle.acl.specs.Table.{row_of}
 use Rattle.acl.specs.Lists.{table_of}

@@ -1,6 +1,6 @@
 use Rattle.std.proofs.Common.{◌∙◌, ap, Some, if◌then◌else◌}
 use Rattle.std.specs.Map.{lookup}
-use Rattle.acl.specs.BitSets.{with_bit}
+use Rattle.acl_words.specs.BitSets.{with_bit}
 use Rattle.acl.specs.Table.{same_pair}
 use Rattle.acl.specs.Lists.{table_of}
 use Rattle.acl.proofs.StandsForLemmas.{StandsFor-Masked}

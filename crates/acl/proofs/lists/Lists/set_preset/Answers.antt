@@ -1,7 +1,7 @@
 use Rattle.std.proofs.Common.{◌∷◌, sym, subst}
-use Rattle.acl.specs.declared.act.Act.TheVariants.{Preset}
-use Rattle.acl.specs.declared.act.PresetKind.TheVariants as preset
-use Rattle.acl.specs.declared.bits.Bits.{Bits}
+use Rattle.acl_words.specs.declared.act.Act.TheVariants.{Preset}
+use Rattle.acl_words.specs.declared.act.PresetKind.TheVariants as preset
+use Rattle.acl_words.specs.declared.bits.Bits.{Bits}
 use Rattle.acl.specs.Table.{StandsFor}
 use Rattle.acl.specs.Lists.{table_of}
 use Rattle.acl.proofs.StandsForLemmas.{StandsFor-Preset-windows, StandsFor-Preset-commands}

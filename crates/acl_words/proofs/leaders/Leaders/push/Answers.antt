@@ -1,7 +1,7 @@
 use Rattle.std.proofs.Common.{◌≡◌, length, take, ap, arith}
-use Rattle.acl.specs.Leaders.{length-front}
-use Rattle.acl.proofs.LeaderLemmas.{front_pushed}
-use Rattle.acl.proofs.leaders.Leaders.push.Goals as goal
+use Rattle.acl_words.specs.Leaders.{length-front}
+use Rattle.acl_words.proofs.LeaderLemmas.{front_pushed}
+use Rattle.acl_words.proofs.leaders.Leaders.push.Goals as goal
 
 pub invariant_of-self : goal.invariant_of-self
 invariant_of-self c =

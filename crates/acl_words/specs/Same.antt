@@ -1,15 +1,15 @@
 -- Equality of the parts of an act, as `==` answers it.
 use Rattle.std.specs.Prelude.{ℕ, Bool, true, false, nat_eq, ◌==◌}
 use Rattle.std.specs.Cmp.Lexicographic.{pointwise}
-use Rattle.acl.specs.declared.user_id.UserId.{UserId}
-use Rattle.acl.specs.declared.bits.Bit.{Bit}
-use Rattle.acl.specs.declared.bits.Bit.TheVariants.{Read, Write, Execute}
-use Rattle.acl.specs.declared.act.Object.{Object}
-use Rattle.acl.specs.declared.act.Object.TheVariants as object
-use Rattle.acl.specs.declared.act.PresetKind.{PresetKind}
-use Rattle.acl.specs.declared.act.PresetKind.TheVariants as preset
-use Rattle.acl.specs.declared.command_name.CommandName.{CommandName}
-use Rattle.acl.specs.declared.command_name.CommandName.TheVariants as command
+use Rattle.acl_words.specs.declared.user_id.UserId.{UserId}
+use Rattle.acl_words.specs.declared.bits.Bit.{Bit}
+use Rattle.acl_words.specs.declared.bits.Bit.TheVariants.{Read, Write, Execute}
+use Rattle.acl_words.specs.declared.act.Object.{Object}
+use Rattle.acl_words.specs.declared.act.Object.TheVariants as object
+use Rattle.acl_words.specs.declared.act.PresetKind.{PresetKind}
+use Rattle.acl_words.specs.declared.act.PresetKind.TheVariants as preset
+use Rattle.acl_words.specs.declared.command_name.CommandName.{CommandName}
+use Rattle.acl_words.specs.declared.command_name.CommandName.TheVariants as command
 
 -- whether two names are the same
 abbrev pub same_user : UserId → UserId → Bool

@@ -1,5 +1,5 @@
 use Rattle.std.proofs.Common.{◌≡◌, ◌++◌, ◌-◌, take, replicate}
-use Rattle.acl.proofs.user_id.UserId.of.Given as goal
+use Rattle.acl_words.proofs.user_id.UserId.of.Given as goal
 
 -- the bytes so far, and then zeros
 abbrev pub invariant-loop-i : goal.invariant-loop-i

@@ -1,8 +1,8 @@
 -- Names at the front of a fixed array.
 use Rattle.std.proofs.Common.{ℕ, ◌+◌, ◌-◌, ◌<◌, List, drop, replicate, arith, ap, ◌∙◌, sym, set}
 use Rattle.std.proofs.lemmas.List.{drop-set-lt, drop-replicate, length-set, drop-drop}
-use Rattle.acl.specs.Leaders.{AreFront, blank}
-use Rattle.acl.specs.declared.user_id.UserId.{UserId}
+use Rattle.acl_words.specs.Leaders.{AreFront, blank}
+use Rattle.acl_words.specs.declared.user_id.UserId.{UserId}
 
 pub front_pushed : (count : ℕ) (x : UserId) (names : List UserId) → AreFront count names → count < 8 → AreFront (count + 1) (set names count x)
 front_pushed count x names h k = (

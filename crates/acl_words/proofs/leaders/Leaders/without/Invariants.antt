@@ -1,6 +1,6 @@
 use Rattle.std.proofs.Common.{◌≡◌, ◌≤◌, take, length}
-use Rattle.acl.specs.Table.{remaining_leaders}
-use Rattle.acl.proofs.leaders.Leaders.without.Given as goal
+use Rattle.acl_words.specs.Leaders.{remaining_leaders}
+use Rattle.acl_words.proofs.leaders.Leaders.without.Given as goal
 
 -- those so far who aren't gone
 abbrev pub invariant-loop-leader : goal.invariant-loop-leader

@@ -4,7 +4,7 @@ use Rattle.std.specs.List.{list_all, position_from}
 use Rattle.std.specs.Cmp.Lexicographic.{pointwise}
 use Rattle.std.proofs.lemmas.Iterator.Adapters.{position_from-zero}
 use borrow.Author.Tests.{eqb-true, leb-true}
-use Rattle.acl.specs.Names.{is_name_byte, is_name, begins_with_letter, before_zero}
+use Rattle.acl_words.specs.Names.{is_name_byte, is_name, begins_with_letter, before_zero}
 
 -- a byte more of the word, in place of a zero
 put-next : (word : List ℕ) (i k : ℕ) → i < length word → slice_set (take i word ++ replicate (suc k) 0) i (slice_index_or word i 0) ≡ take (suc i) word ++ replicate k 0

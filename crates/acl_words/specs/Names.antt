@@ -2,7 +2,7 @@
 use Rattle.std.specs.Prelude.{ℕ, Bool, false, not, ◌||◌, ◌&&◌, ◌==◌, ◌-◌, nat_eq, nat_le, List, [], ◌∷◌, ◌++◌, Option, Some, None, length, replicate, codes, if◌then◌else◌}
 use Rattle.std.specs.List.{list_all}
 use Rattle.std.specs.Cmp.Lexicographic.{pointwise}
-use Rattle.acl.specs.declared.user_id.UserId.{UserId}
+use Rattle.acl_words.specs.declared.user_id.UserId.{UserId}
 
 -- a to z
 abbrev pub is_letter : ℕ → Bool

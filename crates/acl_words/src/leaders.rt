@@ -1,9 +1,8 @@
 //! The leaders of a user.
 
 ghost use Rattle.std.specs.Prelude.{◌≡◌, ◌<◌, ◌≤◌, ◌∷◌, ◌++◌, [], None, Some, not, filter, length, nat_le, if◌then◌else◌};
-ghost use Rattle.acl.specs.Same.{same_user};
-ghost use Rattle.acl.specs.History.{among, leaders_with};
-ghost use Rattle.acl.specs.Table.{remaining_leaders};
+ghost use Rattle.acl_words.specs.Same.{same_user};
+ghost use Rattle.acl_words.specs.Leaders.{among, leaders_with, remaining_leaders};
 
 use crate::edition::Edition;
 use crate::user_id::UserId;
@@ -28,8 +27,8 @@ fn is_among(users: &[UserId], user: UserId) -> bool
 
 impl Model for Leaders {
     ghost use Rattle.std.specs.Prelude.{List, ◌≤◌, take, length};
-    ghost use Rattle.acl.specs.declared.user_id.UserId.{UserId};
-    ghost use Rattle.acl.specs.Leaders.{AreFront, array_of, array_of-take, length-front};
+    ghost use Rattle.acl_words.specs.declared.user_id.UserId.{UserId};
+    ghost use Rattle.acl_words.specs.Leaders.{AreFront, array_of, array_of-take, length-front};
 
     ghost Value = { List UserId };
 
@@ -95,7 +94,7 @@ impl Leaders {
 
     /// The leaders of a user who is given this one, or none, in this edition; none where they would
     /// be more than eight.
-    pub(crate) fn with(self, edition: Edition, leader: Option<UserId>) -> Option<Leaders>
+    pub fn with(self, edition: Edition, leader: Option<UserId>) -> Option<Leaders>
         ensures { result ≡ (if nat_le (length (leaders_with edition leader self)) 8
             then Some (leaders_with edition leader self) else None) }
     {
@@ -113,7 +112,7 @@ impl Leaders {
     }
 
     /// The leaders, without this one.
-    pub(crate) fn without(self, gone: UserId) -> Leaders
+    pub fn without(self, gone: UserId) -> Leaders
         ensures { result ≡ remaining_leaders gone self }
     {
         let mut left = Leaders::none();

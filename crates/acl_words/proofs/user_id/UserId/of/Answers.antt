@@ -1,8 +1,8 @@
 use Rattle.std.proofs.Common.{◌≡◌, ◌∙◌, ◌-◌, ap, sym, refl, arith, Some, None, true, Option, if◌then◌else◌, replicate, ◌++◌, length}
-use Rattle.acl.specs.declared.user_id.UserId.{UserId}
-use Rattle.acl.specs.Names.{is_name, before_zero}
-use Rattle.acl.proofs.WordLemmas.{put-more, name_of-named, few_bytes, filled_in}
-use Rattle.acl.proofs.user_id.UserId.of.Goals as goal
+use Rattle.acl_words.specs.declared.user_id.UserId.{UserId}
+use Rattle.acl_words.specs.Names.{is_name, before_zero}
+use Rattle.acl_words.proofs.WordLemmas.{put-more, name_of-named, few_bytes, filled_in}
+use Rattle.acl_words.proofs.user_id.UserId.of.Goals as goal
 
 pub loop-i-preserved : goal.loop-i-preserved
 loop-i-preserved c = put-more c.args.word.now _ c.loop-i.i _ c.loop-i.invariant (omega arith) (few_bytes c.args.word.now (sym c.is_name.ensures ∙ c.if-not-is_name.false)) refl

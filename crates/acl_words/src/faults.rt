@@ -21,7 +21,7 @@ pub enum AclFault {
 
 impl AclFault {
     ghost use Rattle.std.specs.Prelude.{◌≡◌};
-    ghost use Rattle.acl.specs.Commands.{number_of_fault};
+    ghost use Rattle.acl_words.specs.Faults.{number_of_fault};
 
     /// The fault's number, 1 to 7.
     pub fn number(self) -> u8

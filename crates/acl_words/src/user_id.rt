@@ -1,7 +1,7 @@
 ghost use Rattle.std.specs.Prelude.{◌≡◌, ◌≤◌, ◌<◌, ◌==◌, IfSome, nat_eq, codes, position, unwrap_or};
 ghost use Rattle.std.specs.List.{list_all};
 ghost use Rattle.std.specs.Cmp.Lexicographic.{pointwise};
-ghost use Rattle.acl.specs.Names.{is_letter, is_name_byte, is_name, begins_with_letter};
+ghost use Rattle.acl_words.specs.Names.{is_letter, is_name_byte, is_name, begins_with_letter};
 
 /// The most bytes of a name.
 const LONGEST: usize = 20;
@@ -78,7 +78,7 @@ fn length_of(name: &[u8; 20]) -> usize
 
 impl UserId {
     ghost use Rattle.std.specs.Prelude.{◌≡◌, IfSome};
-    ghost use Rattle.acl.specs.Names.{named_by, name_of};
+    ghost use Rattle.acl_words.specs.Names.{named_by, name_of};
 
     /// What stands where there is no name.
     pub(crate) const BLANK: UserId = UserId { name: [0; 20] };

@@ -1,0 +1,4 @@
+pub mod BitSetLemmas
+pub mod LeaderLemmas
+pub mod SameLemmas
+pub mod WordLemmas

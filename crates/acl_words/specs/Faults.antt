@@ -1,0 +1,14 @@
+-- The numbers of faults.
+use Rattle.std.specs.Prelude.{ℕ}
+use Rattle.acl_words.specs.declared.faults.AclFault.{AclFault}
+use Rattle.acl_words.specs.declared.faults.AclFault.TheVariants.{UnknownUser, OwnerKept, TooManyUsers, ReservedName, NoSuchGroup, NoMemory, TooManyGroups}
+
+-- a fault's number
+abbrev pub number_of_fault : AclFault → ℕ
+number_of_fault UnknownUser = 1
+number_of_fault OwnerKept = 2
+number_of_fault TooManyUsers = 3
+number_of_fault ReservedName = 4
+number_of_fault NoSuchGroup = 5
+number_of_fault NoMemory = 6
+number_of_fault TooManyGroups = 7

@@ -1,0 +1,5 @@
+pub mod BitSets
+pub mod Faults
+pub mod Leaders
+pub mod Names
+pub mod Same

@@ -1,0 +1,25 @@
+//! The words of access lists: users, objects, bits, acts, list entries, leaders and faults.
+#![tactic(auto)]
+
+// Public are the modules that `acl` passes on.
+pub mod act;
+pub mod bits;
+pub mod command_name;
+pub mod edition;
+pub mod entries;
+pub mod faults;
+mod laws;
+mod leaders;
+mod limits;
+pub mod user_id;
+
+pub use act::{Act, LockMode, Object, PresetKind};
+pub use bits::{Bit, BitChange, Bits};
+pub use command_name::CommandName;
+pub use edition::Edition;
+pub use entries::{EntryDenial, MaskEntry, MaskScope, NewLeader};
+pub use faults::AclFault;
+pub use laws::names_equal;
+pub use leaders::Leaders;
+pub use limits::{USERS, WINDOWS};
+pub use user_id::UserId;
