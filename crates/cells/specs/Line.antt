@@ -181,6 +181,10 @@ spliced at fresh rest width column =
     (Old (column + rest - (at + length fresh)))
     (Fresh blank)))
 
+-- the cells before `at`, new ones, and the old ones from `rest` on
+abbrev pub cells_spliced : ℕ → List Cell → ℕ → List Cell → List Cell
+cells_spliced at fresh rest cells = cells_from (spliced at fresh rest (length cells)) cells
+
 -- the cells from `from` on and below `end` are erased, but for protected ones
 -- (DECSEL, VT220 Programmer Reference Manual)
 abbrev pub unprotected_erased : List Cell → ℕ → ℕ → ℕ → Source

@@ -3,7 +3,7 @@ use Rattle.std.specs.Prelude.{map, length, slice_index_or, slice_set}
 use Rattle.std.specs.List.{range_with_len}
 use Rattle.cells.specs.declared.cell.Cell.{Cell}
 use Rattle.cells.specs.Line.{blank, marked, cell_at, is_left, is_right, kept, IsPaired, Source}
-use Rattle.cells.specs.Line.{Fresh, Old}
+use Rattle.cells.specs.Line.{Fresh, Old, spliced}
 
 -- a line of a page, and no cells past its end
 abbrev pub line_at : List (List Cell) → ℕ → List Cell
@@ -84,6 +84,11 @@ on_line line (Old column) = From line column
 -- one line is edited, and the others stay
 abbrev pub edited : ℕ → (ℕ → Source) → ℕ → ℕ → Origin
 edited at source line column = cond (line == at) (on_line line (source column)) (From line column)
+
+-- in one line the cells before `at`, new ones, and the old ones from `rest` on
+abbrev pub page_spliced : ℕ → ℕ → List Cell → ℕ → List (List Cell) → List (List Cell)
+page_spliced line at fresh rest page =
+    page_from (edited line (spliced at fresh rest (length (line_at page line)))) page
 
 -- the cell of a place gets one more mark
 abbrev pub page_marked : ℕ → ℕ → ℕ → List (List Cell) → List (List Cell)

@@ -1,7 +1,7 @@
 //! Edits of a line's cells.
 
 ghost use Rattle.std.specs.Prelude.{◌≡◌, ◌+◌, ◌<◌, ◌≤◌, length, replicate, [], ◌∷◌};
-ghost use Rattle.cells.specs.Line.{cells_from, IsPaired, cut_of, spliced, blank};
+ghost use Rattle.cells.specs.Line.{cells_from, cells_spliced, IsPaired, cut_of, blank};
 ghost use Rattle.cells.specs.Line.{unprotected_erased, fresh_at, narrow_cell, narrow_cells};
 
 use crate::cell::{Cell, Rendition, Shape};
@@ -25,8 +25,7 @@ pub fn splice(cells: &mut [Cell], at: usize, count: usize, rest: usize)
     requires inside { rest ≤ length cells.old }
     requires room { at + count ≤ length cells.old }
     requires changes { at < rest + count }
-    ensures { cells.new
-        ≡ cells_from (spliced at (replicate count blank) rest (length cells.old)) cells.old }
+    ensures { cells.new ≡ cells_spliced at (replicate count blank) rest cells.old }
 {
     let width = cells.len();
     let start = at + count;
@@ -46,7 +45,7 @@ pub fn put_narrow(cells: &mut [Cell], at: usize, cell: Cell, rest: usize)
     requires inside { rest ≤ length cells.old }
     requires room { at + 1 ≤ length cells.old }
     requires narrow { cell.shape ≡ Shape.Narrow }
-    ensures { cells.new ≡ cells_from (spliced at (cell ∷ []) rest (length cells.old)) cells.old }
+    ensures { cells.new ≡ cells_spliced at (cell ∷ []) rest cells.old }
 {
     if rest == at + 1 && cells[at].is_narrow() {
         cells[at] = cell;
@@ -65,8 +64,7 @@ pub fn put_wide(cells: &mut [Cell], at: usize, left: Cell, right: Cell, rest: us
     requires room { at + 2 ≤ length cells.old }
     requires left { left.shape ≡ Shape.Left }
     requires right { right.shape ≡ Shape.Right }
-    ensures { cells.new
-        ≡ cells_from (spliced at (left ∷ right ∷ []) rest (length cells.old)) cells.old }
+    ensures { cells.new ≡ cells_spliced at (left ∷ right ∷ []) rest cells.old }
 {
     if rest == at + 2 && !cells[at].is_right() && !cells[at + 1].is_left() {
         cells[at] = left;
@@ -96,8 +94,7 @@ fn settled_fresh(fresh: &[Cell], column: usize) -> Cell
 pub fn put(cells: &mut [Cell], at: usize, fresh: &[Cell])
     requires paired { IsPaired cells.old }
     requires room { at + length fresh.now ≤ length cells.old }
-    ensures { cells.new
-        ≡ cells_from (spliced at fresh.now (at + length fresh.now) (length cells.old)) cells.old }
+    ensures { cells.new ≡ cells_spliced at fresh.now (at + length fresh.now) cells.old }
 {
     if fresh.is_empty() {
         return;
@@ -120,8 +117,8 @@ pub fn put_run(
 )
     requires paired { IsPaired cells.old }
     requires room { at + length codes.now ≤ length cells.old }
-    ensures { cells.new ≡ cells_from (spliced at (narrow_cells codes.now rendition is_protected)
-        (at + length codes.now) (length cells.old)) cells.old }
+    ensures { cells.new ≡ cells_spliced at
+        (narrow_cells codes.now rendition is_protected) (at + length codes.now) cells.old }
 {
     if codes.is_empty() {
         return;
