@@ -7,10 +7,11 @@ use Rattle.control_parser.specs.Kept.{opening}
 use Rattle.terminal_model.specs.Table.{effect}
 use Rattle.terminal_model.specs.Reading.{Terminal, Act, reads}
 
--- The functions of the units of some bytes, behind what a terminal has begun of a character, sequence or string, and what is
--- unended then.
+-- The functions of the units of some bytes, behind what a terminal has begun of a character,
+-- sequence or string, and what is unended then.
 abbrev pub functions_of_bytes : Terminal → List ℕ → List Func × Rest
-functions_of_bytes t bytes = functions (opening t.unended ++ (units t.screen.state.coding (t.rest ++ bytes)).0)
+functions_of_bytes t bytes =
+    functions (opening t.unended ++ (units t.screen.state.coding (t.rest ++ bytes)).0)
 
 -- the functions that acted
 abbrev pub acted_functions : List Act → List Func
@@ -20,7 +21,8 @@ acted_functions acts = map (λ a. a.func) acts
 abbrev pub KeepsCoding : Act → Type 0
 KeepsCoding a = (effect a.before a.func).state.coding ≡ a.before.state.coding
 
--- The bytes were read as a whole: what acted are their functions, and what has begun is what they leave.
+-- The bytes were read as a whole: what acted are their functions, and what has begun is what they
+-- leave.
 pub record IsWhole (t : Terminal) (bytes : List ℕ) : Type 0 where
   pub functions_are : acted_functions (reads t bytes).acts ≡ (functions_of_bytes t bytes).0
   pub unended_is : (reads t bytes).terminal.unended ≡ (functions_of_bytes t bytes).1
