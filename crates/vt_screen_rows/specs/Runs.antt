@@ -26,11 +26,16 @@ pub record TakesRuns (s : State) : Type 0 where
   pub unshifted : s.shifts.single ≡ None
   pub replaces : s.modes.inserts ≡ false
 
--- characters of width 1 take the places of as many cells from the cursor on, which goes behind the last of them
+-- characters of width 1 take the places of as many cells from the cursor on, which goes behind the
+-- last of them
 abbrev pub run_placed : List ℕ → Screen → Screen
 run_placed characters x =
     let s : State = x.state in
     record x {
       state = advanced (record s { column = s.column + (length characters - 1) }) 1;
-      page = page_from (edited s.line (spliced s.column (narrow_cells characters s.rendition s.is_protecting) (s.column + length characters) s.columns)) x.page;
+      page = page_from
+          (edited s.line
+          (spliced s.column (narrow_cells characters s.rendition s.is_protecting)
+          (s.column + length characters) s.columns))
+          x.page;
     }
