@@ -1,5 +1,6 @@
 -- Reading as a whole: the functions of all units of all bytes.
 use Rattle.std.specs.Prelude.{◌≡◌, ℕ, List, ◌++◌, map}
+use Rattle.std.specs.List.{AllByRecursion}
 use Rattle.charsets.specs.Units.{units}
 use Rattle.control_parser.specs.declared.func.Func.{Func}
 use Rattle.control_parser.specs.Grammar.{Rest, functions}
@@ -20,6 +21,10 @@ acted_functions acts = map (λ a. a.func) acts
 -- the function left the coding as it was
 abbrev pub KeepsCoding : Act → Type 0
 KeepsCoding a = (effect a.before a.func).state.coding ≡ a.before.state.coding
+
+-- so it is with each one that acts while these bytes are read
+abbrev pub KeepsCodingIn : Terminal → List ℕ → Type 0
+KeepsCodingIn t bytes = AllByRecursion KeepsCoding (reads t bytes).acts
 
 -- The bytes were read as a whole: what acted are their functions, and what has begun is what they
 -- leave.

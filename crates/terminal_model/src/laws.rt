@@ -30,7 +30,7 @@ ghost use Rattle.terminal_model.specs.Writing.{Writing, IsWriting, Output, write
 ghost use Rattle.terminal_model.specs.Scrollback.{lines_of, all_left, KeepsLast};
 ghost use Rattle.charsets.specs.Units.{units};
 ghost use Rattle.control_parser.specs.Grammar.{functions};
-ghost use Rattle.terminal_model.specs.Whole.{functions_of_bytes, acted_functions, KeepsCoding};
+ghost use Rattle.terminal_model.specs.Whole.{functions_of_bytes, acted_functions, KeepsCodingIn};
 ghost use Rattle.terminal_model.specs.Whole.{IsWhole};
 ghost use Rattle.terminal_model.specs.Shows.{blank_view};
 ghost use Rattle.terminal_model.specs.Drawing.{frame_bytes, frame_start, Draws, IsListed, IsDrawn};
@@ -55,22 +55,21 @@ pub fn pieces_are_whole()
 /// byte's function does, so it is up to there, and what follows is read in the other coding from
 /// its first byte on.
 pub fn reading_is_of_the_whole()
-    ensures one_coding { (t : Terminal) (bytes : List ℕ) → IsTerminal t
-        → AllByRecursion KeepsCoding (reads t bytes).acts → IsWhole t bytes }
-    ensures fresh { (x : Screen) (bytes : List ℕ) → IsSound x
-        → AllByRecursion KeepsCoding (reads (ready x) bytes).acts
+    ensures one_coding { (t : Terminal) (bytes : List ℕ) → IsTerminal t → KeepsCodingIn t bytes
+        → IsWhole t bytes }
+    ensures fresh { (x : Screen) (bytes : List ℕ) → IsSound x → KeepsCodingIn (ready x) bytes
         → acted_functions (reads (ready x) bytes).acts
         ≡ (functions (units x.state.coding bytes).0).0 }
     ensures up_to_a_change { (t : Terminal) (bytes : List ℕ) (b : ℕ)
-        → IsTerminal t → AllByRecursion KeepsCoding (reads t bytes).acts
+        → IsTerminal t → KeepsCodingIn t bytes
         → acted_functions (reads t (bytes ++ b ∷ [])).acts
         ≡ (functions_of_bytes t (bytes ++ b ∷ [])).0 }
     ensures unended_at_a_change { (t : Terminal) (bytes : List ℕ) (b : ℕ)
-        → IsTerminal t → AllByRecursion KeepsCoding (reads t bytes).acts
+        → IsTerminal t → KeepsCodingIn t bytes
         → (reads t (bytes ++ b ∷ [])).terminal.unended
         ≡ (functions_of_bytes t (bytes ++ b ∷ [])).1 }
     ensures anew_behind_a_change { (t : Terminal) (bytes : List ℕ) (b : ℕ)
-        → IsTerminal t → AllByRecursion KeepsCoding (reads t bytes).acts
+        → IsTerminal t → KeepsCodingIn t bytes
         → ((reads t (bytes ++ b ∷ [])).terminal.screen.state.coding ≡ t.screen.state.coding → ⊥)
         → (reads t (bytes ++ b ∷ [])).terminal.rest ≡ [] }
 {}
