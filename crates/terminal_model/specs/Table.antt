@@ -11,7 +11,7 @@ use Rattle.cells.specs.declared.cell.Cell.{Cell}
 use Rattle.cells.specs.declared.cell.Rendition.{Rendition}
 use Rattle.cells.specs.Glyph.{glyph_columns}
 use Rattle.cells.specs.Line.{blank, plain, narrow_cell, left_cell, right_cell, spliced}
-use Rattle.cells.specs.Line.{unprotected_erased}
+use Rattle.cells.specs.Line.{unprotected_erased, Source}
 use Rattle.cells.specs.Page.{line_at, Origin, From, page_from, edited, on_line, page_marked}
 use Rattle.cells.specs.Moves.{is_between, scrolled_up, scrolled_down, erased_lines, filled}
 use Rattle.cells.specs.Resizing.{line_resized, page_resized}
@@ -75,6 +75,10 @@ home s = moved_to s (cond s.modes.counts_from_margin s.top 0) 0
 
 abbrev pub whole_margins : State → State
 whole_margins s = record s { top = 0; bottom = s.rows - 1 }
+
+-- the cursor's line is edited, and the others stay
+abbrev pub line_edited : State → (ℕ → Source) → Page → Page
+line_edited s source page = page_from (edited s.line source) page
 
 abbrev pub with_state : Screen → State → Screen
 with_state x s = record x { state = s }
@@ -142,8 +146,7 @@ abbrev pub placed : List Cell → Screen → Screen
 placed fresh x =
     let s : State = x.state in
     with_page x (advanced s (length fresh))
-    (page_from (edited s.line (spliced s.column fresh (following s (length fresh)) s.columns))
-    x.page)
+    (line_edited s (spliced s.column fresh (following s (length fresh)) s.columns) x.page)
 
 abbrev pub placed_narrow : ℕ → Screen → Screen
 placed_narrow c x = placed (narrow_cell c x.state.rendition x.state.is_protecting ∷ []) x
@@ -311,7 +314,7 @@ end_line All s = s.rows
 -- columns of the cursor's line are blank
 abbrev pub line_erased : State → ℕ → ℕ → Page → Page
 line_erased s from end page =
-    page_from (edited s.line (spliced from (replicate (end - from) blank) end s.columns)) page
+    line_edited s (spliced from (replicate (end - from) blank) end s.columns) page
 
 abbrev pub part_erased : State → Part → Page → Page
 part_erased s part page = line_erased s (first_column part s) (end_column part s) page
@@ -319,10 +322,8 @@ part_erased s part page = line_erased s (first_column part s) (end_column part s
 -- the same, but for protected cells
 abbrev pub part_unprotected : State → Part → Page → Page
 part_unprotected s part page =
-    page_from
-    (edited s.line
-    (unprotected_erased (line_at page s.line) (first_column part s) (end_column part s)))
-    page
+    line_edited s
+    (unprotected_erased (line_at page s.line) (first_column part s) (end_column part s)) page
 
 -- lines are blank, but for protected cells
 abbrev pub unprotected_lines : Page → ℕ → ℕ → ℕ → ℕ → ℕ → Origin
@@ -495,15 +496,12 @@ acted_from s x (EraseUnprotectedInLine part) =
 -- ICH, CSI n @ (ECMA-48, 8.3.64): as many blanks come in as there is room for
 acted_from s x (InsertCells n) =
     with_page x (settled s)
-    (page_from
-    (edited s.line
-    (spliced s.column (replicate (min n (s.columns - s.column)) blank) s.column s.columns))
-    x.page)
+    (line_edited s
+    (spliced s.column (replicate (min n (s.columns - s.column)) blank) s.column s.columns) x.page)
 -- DCH, CSI n P (ECMA-48, 8.3.26): as many cells go out as there are
 acted_from s x (DeleteCells n) =
     with_page x (settled s)
-    (page_from (edited s.line (spliced s.column [] (min (s.column + n) s.columns) s.columns))
-    x.page)
+    (line_edited s (spliced s.column [] (min (s.column + n) s.columns) s.columns) x.page)
 -- IL, CSI n L (ECMA-48, 8.3.67)
 acted_from s x (InsertLines n) = lines_inserted (is_in_margins s) n x
 -- DL, CSI n M (ECMA-48, 8.3.32)
