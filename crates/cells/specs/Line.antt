@@ -1,17 +1,27 @@
-use Rattle.std.specs.Prelude.{◌≡◌, ℕ, zero, suc, ◌+◌, ◌-◌, ◌≤◌, Bool, true, false, ◌&&◌, ◌==◌, nat_lt, nat_le, not, cond, List, map, length, slice_index_or, slice_set, Option, Some, None}
+use Rattle.std.specs.Prelude.{◌≡◌, ℕ, zero, suc, ◌+◌, ◌-◌, ◌≤◌, Bool, true, false, ◌&&◌, ◌==◌}
+use Rattle.std.specs.Prelude.{nat_lt, nat_le, not, cond, List, map, length, slice_index_or}
+use Rattle.std.specs.Prelude.{slice_set, Option, Some, None}
 use Rattle.std.specs.List.{range_with_len}
 use Rattle.cells.specs.declared.cell.Shape.{Shape}
 use Rattle.cells.specs.declared.cell.Shape.TheVariants.{Narrow, Left, Right}
 use Rattle.cells.specs.declared.cell.Marks.{Marks}
 use Rattle.cells.specs.declared.cell.Marks.TheVariants.{Bare, One, Two}
 use Rattle.cells.specs.declared.cell.Colour.{Colour}
-use Rattle.cells.specs.declared.cell.Colour.TheVariants.{Default, Black, Red, Green, Yellow, Blue, Magenta, Cyan, White}
+use Rattle.cells.specs.declared.cell.Colour.TheVariants.{Default, Black, Red, Green, Yellow, Blue}
+use Rattle.cells.specs.declared.cell.Colour.TheVariants.{Magenta, Cyan, White}
 use Rattle.cells.specs.declared.cell.Rendition.{Rendition}
 use Rattle.cells.specs.declared.cell.Cell.{Cell}
 
 -- no rendition (ECMA-48, 8.3.117: SGR 0)
 abbrev pub plain : Rendition
-plain = record { is_bold = false; is_underlined = false; is_blinking = false; is_reversed = false; fore = Default; back = Default }
+plain = record {
+  is_bold = false;
+  is_underlined = false;
+  is_blinking = false;
+  is_reversed = false;
+  fore = Default;
+  back = Default;
+}
 
 -- the number of a colour; none is the terminal's own
 abbrev pub colour_number : Colour → Option ℕ
@@ -27,23 +37,47 @@ colour_number White = Some 7
 
 -- a space without rendition, marks or protection
 abbrev pub blank : Cell
-blank = record { shape = Narrow; character = 32; marks = Bare; rendition = plain; is_protected = false }
+blank =
+    record { shape = Narrow; character = 32; marks = Bare; rendition = plain; is_protected = false }
 
 -- a new character of width 1, and the halves of one of width 2
 abbrev pub narrow_cell : ℕ → Rendition → Bool → Cell
-narrow_cell character rendition is_protected = record { shape = Narrow; character = character; marks = Bare; rendition = rendition; is_protected = is_protected }
+narrow_cell character rendition is_protected =
+    record {
+      shape = Narrow;
+      character = character;
+      marks = Bare;
+      rendition = rendition;
+      is_protected = is_protected;
+    }
 
 abbrev pub left_cell : ℕ → Rendition → Bool → Cell
-left_cell character rendition is_protected = record { shape = Left; character = character; marks = Bare; rendition = rendition; is_protected = is_protected }
+left_cell character rendition is_protected =
+    record {
+      shape = Left;
+      character = character;
+      marks = Bare;
+      rendition = rendition;
+      is_protected = is_protected;
+    }
 
 abbrev pub right_cell : ℕ → Rendition → Bool → Cell
-right_cell character rendition is_protected = record { shape = Right; character = character; marks = Bare; rendition = rendition; is_protected = is_protected }
+right_cell character rendition is_protected =
+    record {
+      shape = Right;
+      character = character;
+      marks = Bare;
+      rendition = rendition;
+      is_protected = is_protected;
+    }
 
 -- a run of characters of width 1
 abbrev pub narrow_cells : List ℕ → Rendition → Bool → List Cell
-narrow_cells characters rendition is_protected = map (λ character. narrow_cell character rendition is_protected) characters
+narrow_cells characters rendition is_protected =
+    map (λ character. narrow_cell character rendition is_protected) characters
 
--- marks and one more, which is dropped where there are two (Unicode core specification, section 5.13)
+-- marks and one more, which is dropped where there are two (Unicode core specification, section
+-- 5.13)
 abbrev pub joined : Marks → ℕ → Marks
 joined Bare mark = One mark
 joined (One first) mark = Two first mark
@@ -74,7 +108,8 @@ is_right Right = true
 -- a left half stands in a column exactly where a right half stands in the next one
 pub record IsPaired (cells : List Cell) : Type 0 where
   pub first : is_right (cell_at cells 0).shape ≡ false
-  pub next : (column : ℕ) → is_left (cell_at cells column).shape ≡ is_right (cell_at cells (suc column)).shape
+  pub next : (column : ℕ)
+      → is_left (cell_at cells column).shape ≡ is_right (cell_at cells (suc column)).shape
 
 -- the cells from a column on are blank
 abbrev pub IsBlankFrom : ℕ → List Cell → Type 0
@@ -126,12 +161,15 @@ source_after source width column = cond (suc column == width) (Fresh blank) (sou
 -- the line that gets each column's cell from its source
 abbrev pub cells_from : (ℕ → Source) → List Cell → List Cell
 cells_from source cells =
-    map (λ column. settled cells (source_before source column) (source column) (source_after source (length cells) column)) (range_with_len 0 (length cells))
+    map (λ column. settled cells (source_before source column) (source column)
+    (source_after source (length cells) column))
+    (range_with_len 0 (length cells))
 
 -- a wide character on both sides of the boundary before a column becomes two blanks
 abbrev pub cut_of : ℕ → List Cell → List Cell
 cut_of column cells =
-    cond (is_right (cell_at cells column).shape) (slice_set (slice_set cells (column - 1) blank) column blank) cells
+    cond (is_right (cell_at cells column).shape)
+    (slice_set (slice_set cells (column - 1) blank) column blank) cells
 
 -- the cells before `at` stay, then come new ones, then the old ones from `rest` on, and then blanks
 -- (ECMA-48: ICH, 8.3.64; DCH, 8.3.26; ECH, 8.3.38; EL, 8.3.41; IRM, 7.2.10)
@@ -139,18 +177,26 @@ abbrev pub spliced : ℕ → List Cell → ℕ → ℕ → ℕ → Source
 spliced at fresh rest width column =
     cond (nat_lt column at) (Old column)
     (cond (nat_lt column (at + length fresh)) (Fresh (cell_at fresh (column - at)))
-    (cond (nat_lt (column + rest) (at + length fresh + width)) (Old (column + rest - (at + length fresh))) (Fresh blank)))
+    (cond (nat_lt (column + rest) (at + length fresh + width))
+    (Old (column + rest - (at + length fresh)))
+    (Fresh blank)))
+
+-- the cells before `at`, new ones, and the old ones from `rest` on
+abbrev pub cells_spliced : ℕ → List Cell → ℕ → List Cell → List Cell
+cells_spliced at fresh rest cells = cells_from (spliced at fresh rest (length cells)) cells
 
 -- the cells from `from` on and below `end` are erased, but for protected ones
 -- (DECSEL, VT220 Programmer Reference Manual)
 abbrev pub unprotected_erased : List Cell → ℕ → ℕ → ℕ → Source
 unprotected_erased cells from end column =
-    cond (nat_le from column && nat_lt column end && not (cell_at cells column).is_protected) (Fresh blank) (Old column)
+    cond (nat_le from column && nat_lt column end && not (cell_at cells column).is_protected)
+    (Fresh blank) (Old column)
 
 -- a right half stands in a column behind its left half
 abbrev pub right_follows : List Cell → ℕ → Bool
 right_follows fresh zero = false
-right_follows fresh (suc column) = is_left (cell_at fresh column).shape && is_right (cell_at fresh (suc column)).shape
+right_follows fresh (suc column) =
+    is_left (cell_at fresh column).shape && is_right (cell_at fresh (suc column)).shape
 
 -- the new cell of a column, or a blank where it is a half without its other half beside it
 abbrev pub fresh_at : List Cell → ℕ → Cell

@@ -1,7 +1,9 @@
-use Rattle.std.specs.Prelude.{◌≡◌, ℕ, zero, suc, ◌<◌, ◌≤◌, Bool, false, ◌&&◌, ◌==◌, cond, List, [], map, length, slice_index_or, slice_set}
+use Rattle.std.specs.Prelude.{◌≡◌, ℕ, zero, suc, ◌<◌, ◌≤◌, Bool, false, ◌&&◌, ◌==◌, cond, List, []}
+use Rattle.std.specs.Prelude.{map, length, slice_index_or, slice_set}
 use Rattle.std.specs.List.{range_with_len}
 use Rattle.cells.specs.declared.cell.Cell.{Cell}
-use Rattle.cells.specs.Line.{blank, marked, cell_at, is_left, is_right, kept, IsPaired, Source, Fresh, Old}
+use Rattle.cells.specs.Line.{blank, marked, cell_at, is_left, is_right, kept, IsPaired, Source}
+use Rattle.cells.specs.Line.{Fresh, Old, spliced}
 
 -- a line of a page, and no cells past its end
 abbrev pub line_at : List (List Cell) → ℕ → List Cell
@@ -64,11 +66,15 @@ origin_after origin width column = cond (suc column == width) (New blank) (origi
 -- a line whose columns have these origins
 abbrev pub line_from : (ℕ → Origin) → ℕ → List (List Cell) → List Cell
 line_from origin width page =
-    map (λ column. settled_cell page (origin_before origin column) (origin column) (origin_after origin width column)) (range_with_len 0 width)
+    map (λ column. settled_cell page (origin_before origin column) (origin column)
+    (origin_after origin width column))
+    (range_with_len 0 width)
 
 -- the page that gets each place's cell from its origin
 abbrev pub page_from : (ℕ → ℕ → Origin) → List (List Cell) → List (List Cell)
-page_from origin page = map (λ line. line_from (origin line) (length (line_at page line)) page) (range_with_len 0 (length page))
+page_from origin page =
+    map (λ line. line_from (origin line) (length (line_at page line)) page)
+    (range_with_len 0 (length page))
 
 -- the origin on a page of a column's source in a line
 abbrev pub on_line : ℕ → Source → Origin
@@ -79,7 +85,13 @@ on_line line (Old column) = From line column
 abbrev pub edited : ℕ → (ℕ → Source) → ℕ → ℕ → Origin
 edited at source line column = cond (line == at) (on_line line (source column)) (From line column)
 
+-- in one line the cells before `at`, new ones, and the old ones from `rest` on
+abbrev pub page_spliced : ℕ → ℕ → List Cell → ℕ → List (List Cell) → List (List Cell)
+page_spliced line at fresh rest page =
+    page_from (edited line (spliced at fresh rest (length (line_at page line)))) page
+
 -- the cell of a place gets one more mark
 abbrev pub page_marked : ℕ → ℕ → ℕ → List (List Cell) → List (List Cell)
 page_marked line column mark page =
-    slice_set page line (slice_set (line_at page line) column (marked (cell_at (line_at page line) column) mark))
+    slice_set page line
+    (slice_set (line_at page line) column (marked (cell_at (line_at page line) column) mark))

@@ -1,4 +1,5 @@
--- A change of size keeps the upper left part: what it adds is blank, and so is a half that it cuts off.
+-- A change of size keeps the upper left part: what it adds is blank, and so is a half that it cuts
+-- off.
 use Rattle.std.specs.Prelude.{ℕ, List, map}
 use Rattle.std.specs.List.{range_with_len}
 use Rattle.cells.specs.declared.cell.Cell.{Cell}
@@ -8,8 +9,11 @@ use Rattle.cells.specs.Page.{From, line_from}
 -- a line of another width: each column keeps its cell, and past the old end comes a blank
 abbrev pub line_resized : ℕ → List Cell → List Cell
 line_resized width cells =
-    map (λ column. settled cells (source_before Old column) (Old column) (source_after Old width column)) (range_with_len 0 width)
+    map (λ column. settled cells (source_before Old column) (Old column)
+    (source_after Old width column))
+    (range_with_len 0 width)
 
 -- a page of another size: each line keeps its place, and below the old last one come blank lines
 abbrev pub page_resized : ℕ → ℕ → List (List Cell) → List (List Cell)
-page_resized rows columns page = map (λ line. line_from (From line) columns page) (range_with_len 0 rows)
+page_resized rows columns page =
+    map (λ line. line_from (From line) columns page) (range_with_len 0 rows)

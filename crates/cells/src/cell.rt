@@ -2,7 +2,8 @@
 
 ghost use Rattle.std.specs.Prelude.{◌≡◌, ◌↔◌, IsTrue};
 ghost use Rattle.cells.specs.Look.{attributes_of, colours_of};
-ghost use Rattle.cells.specs.Line.{blank, colour_number, joined, unprotected, narrow_cell, left_cell, right_cell};
+ghost use Rattle.cells.specs.Line.{blank, colour_number, joined, unprotected, narrow_cell};
+ghost use Rattle.cells.specs.Line.{left_cell, right_cell};
 
 /// The part of its character that a cell holds (UAX #11, section 5).
 #[derive(Clone, Copy, Debug, PartialEq, Eq)]

@@ -1,7 +1,8 @@
 //! Edits of a line's cells.
 
 ghost use Rattle.std.specs.Prelude.{◌≡◌, ◌+◌, ◌<◌, ◌≤◌, length, replicate, [], ◌∷◌};
-ghost use Rattle.cells.specs.Line.{cells_from, IsPaired, cut_of, spliced, blank, unprotected_erased, fresh_at, narrow_cell, narrow_cells};
+ghost use Rattle.cells.specs.Line.{cells_from, cells_spliced, IsPaired, cut_of, blank};
+ghost use Rattle.cells.specs.Line.{unprotected_erased, fresh_at, narrow_cell, narrow_cells};
 
 use crate::cell::{Cell, Rendition, Shape};
 
@@ -16,15 +17,15 @@ pub fn cut(cells: &mut [Cell], at: usize)
     }
 }
 
-/// Keeps the cells before `at`, puts in `count` blanks, and lets the old cells from `rest` on follow
-/// them.
+/// Keeps the cells before `at`, puts in `count` blanks, and lets the old cells from `rest` on
+/// follow them.
 pub fn splice(cells: &mut [Cell], at: usize, count: usize, rest: usize)
     requires paired { IsPaired cells.old }
     requires order { at ≤ rest }
     requires inside { rest ≤ length cells.old }
     requires room { at + count ≤ length cells.old }
     requires changes { at < rest + count }
-    ensures { cells.new ≡ cells_from (spliced at (replicate count blank) rest (length cells.old)) cells.old }
+    ensures { cells.new ≡ cells_spliced at (replicate count blank) rest cells.old }
 {
     let width = cells.len();
     let start = at + count;
@@ -44,7 +45,7 @@ pub fn put_narrow(cells: &mut [Cell], at: usize, cell: Cell, rest: usize)
     requires inside { rest ≤ length cells.old }
     requires room { at + 1 ≤ length cells.old }
     requires narrow { cell.shape ≡ Shape.Narrow }
-    ensures { cells.new ≡ cells_from (spliced at (cell ∷ []) rest (length cells.old)) cells.old }
+    ensures { cells.new ≡ cells_spliced at (cell ∷ []) rest cells.old }
 {
     if rest == at + 1 && cells[at].is_narrow() {
         cells[at] = cell;
@@ -54,7 +55,8 @@ pub fn put_narrow(cells: &mut [Cell], at: usize, cell: Cell, rest: usize)
     cells[at] = cell;
 }
 
-/// Puts the halves of a wide character in at `at`, and lets the old cells from `rest` on follow them.
+/// Puts the halves of a wide character in at `at`, and lets the old cells from `rest` on follow
+/// them.
 pub fn put_wide(cells: &mut [Cell], at: usize, left: Cell, right: Cell, rest: usize)
     requires paired { IsPaired cells.old }
     requires order { at ≤ rest }
@@ -62,7 +64,7 @@ pub fn put_wide(cells: &mut [Cell], at: usize, left: Cell, right: Cell, rest: us
     requires room { at + 2 ≤ length cells.old }
     requires left { left.shape ≡ Shape.Left }
     requires right { right.shape ≡ Shape.Right }
-    ensures { cells.new ≡ cells_from (spliced at (left ∷ right ∷ []) rest (length cells.old)) cells.old }
+    ensures { cells.new ≡ cells_spliced at (left ∷ right ∷ []) rest cells.old }
 {
     if rest == at + 2 && !cells[at].is_right() && !cells[at + 1].is_left() {
         cells[at] = left;
@@ -92,7 +94,7 @@ fn settled_fresh(fresh: &[Cell], column: usize) -> Cell
 pub fn put(cells: &mut [Cell], at: usize, fresh: &[Cell])
     requires paired { IsPaired cells.old }
     requires room { at + length fresh.now ≤ length cells.old }
-    ensures { cells.new ≡ cells_from (spliced at fresh.now (at + length fresh.now) (length cells.old)) cells.old }
+    ensures { cells.new ≡ cells_spliced at fresh.now (at + length fresh.now) cells.old }
 {
     if fresh.is_empty() {
         return;
@@ -104,7 +106,8 @@ pub fn put(cells: &mut [Cell], at: usize, fresh: &[Cell])
     }
 }
 
-/// Puts a run of characters of width 1 in place of as many old cells: `codes` has their code points.
+/// Puts a run of characters of width 1 in place of as many old cells: `codes` has their code
+/// points.
 pub fn put_run(
     cells: &mut [Cell],
     at: usize,
@@ -114,7 +117,8 @@ pub fn put_run(
 )
     requires paired { IsPaired cells.old }
     requires room { at + length codes.now ≤ length cells.old }
-    ensures { cells.new ≡ cells_from (spliced at (narrow_cells codes.now rendition is_protected) (at + length codes.now) (length cells.old)) cells.old }
+    ensures { cells.new ≡ cells_spliced at
+        (narrow_cells codes.now rendition is_protected) (at + length codes.now) cells.old }
 {
     if codes.is_empty() {
         return;
@@ -135,7 +139,8 @@ pub fn put_run(
     }
 }
 
-/// A space. It is made apart, so that the cells of a run are copied from one in memory as a whole, and not field by field.
+/// A space. It is made apart, so that the cells of a run are copied from one in memory as a whole,
+/// and not field by field.
 #[inline(never)]
 fn space_cell(rendition: Rendition, is_protected: bool) -> Cell
     ensures { result ≡ narrow_cell 0x20 rendition is_protected }

@@ -1,8 +1,8 @@
 //! A grid of cells.
 
 ghost use Rattle.std.specs.Prelude.{◌≡◌, ◌+◌, ◌<◌, ◌≤◌, ◌↔◌, Err, length, replicate, IfOk, IsTrue};
-ghost use Rattle.cells.specs.Line.{blank, spliced};
-ghost use Rattle.cells.specs.Page.{IsGrid, IsGridSize, line_at, page_from, edited};
+ghost use Rattle.cells.specs.Line.{blank};
+ghost use Rattle.cells.specs.Page.{IsGrid, IsGridSize, line_at, page_spliced};
 
 use crate::cell::Cell;
 use crate::line::Line;
@@ -29,8 +29,8 @@ pub enum GridFault {
     BadSize = 2,
 }
 
-/// Lines of one width, in which the halves of wide characters are paired: 2 to 200 lines by 2 to 300
-/// columns. Lines and columns count from 0.
+/// Lines of one width, in which the halves of wide characters are paired: 2 to 200 lines by 2 to
+/// 300 columns. Lines and columns count from 0.
 #[derive(Drop)]
 pub struct Grid {
     lines: Vec<Line>,
@@ -110,7 +110,8 @@ impl Grid {
     pub fn write(&mut self, line: usize, column: usize, cells: &[Cell])
         requires line_inside { line < length self.old }
         requires room { column + length cells.now ≤ length (line_at self.old line) }
-        ensures { self.new ≡ page_from (edited line (spliced column cells.now (column + length cells.now) (length (line_at self.old line)))) self.old }
+        ensures { self.new
+            ≡ page_spliced line column cells.now (column + length cells.now) self.old }
     {
         self.lines[line].put(column, cells);
     }

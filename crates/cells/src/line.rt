@@ -1,7 +1,9 @@
 //! A line of cells.
 
-ghost use Rattle.std.specs.Prelude.{◌≡◌, ◌+◌, ◌-◌, ◌<◌, ◌≤◌, min, [], ◌∷◌, length, replicate, IfOk, slice_set};
-ghost use Rattle.cells.specs.Line.{cells_from, cell_at, marked, IsPaired, IsBlankFrom, spliced, blank, unprotected_erased, narrow_cells};
+ghost use Rattle.std.specs.Prelude.{◌≡◌, ◌+◌, ◌-◌, ◌<◌, ◌≤◌, min, [], ◌∷◌, length, replicate, IfOk};
+ghost use Rattle.std.specs.Prelude.{slice_set};
+ghost use Rattle.cells.specs.Line.{cells_from, cells_spliced, cell_at, marked, IsPaired};
+ghost use Rattle.cells.specs.Line.{IsBlankFrom, blank, unprotected_erased, narrow_cells};
 ghost use Rattle.cells.specs.Resizing.{line_resized};
 
 use crate::cell::{Cell, Rendition, Shape};
@@ -110,7 +112,7 @@ impl Line {
         requires inside { rest ≤ length self.old }
         requires room { at + count ≤ length self.old }
         requires changes { at < rest + count }
-        ensures { self.new ≡ cells_from (spliced at (replicate count blank) rest (length self.old)) self.old }
+        ensures { self.new ≡ cells_spliced at (replicate count blank) rest self.old }
     {
         edits::splice(self.cells.as_mut_slice(), at, count, rest);
         self.used = used_after(self.used, at + count, rest, self.cells.len());
@@ -122,7 +124,7 @@ impl Line {
         requires inside { rest ≤ length self.old }
         requires room { at + 1 ≤ length self.old }
         requires narrow { cell.shape ≡ Shape.Narrow }
-        ensures { self.new ≡ cells_from (spliced at (cell ∷ []) rest (length self.old)) self.old }
+        ensures { self.new ≡ cells_spliced at (cell ∷ []) rest self.old }
     {
         edits::put_narrow(self.cells.as_mut_slice(), at, cell, rest);
         self.used = used_after(self.used, at + 1, rest, self.cells.len());
@@ -136,27 +138,28 @@ impl Line {
         requires room { at + 2 ≤ length self.old }
         requires left { left.shape ≡ Shape.Left }
         requires right { right.shape ≡ Shape.Right }
-        ensures { self.new ≡ cells_from (spliced at (left ∷ right ∷ []) rest (length self.old)) self.old }
+        ensures { self.new ≡ cells_spliced at (left ∷ right ∷ []) rest self.old }
     {
         edits::put_wide(self.cells.as_mut_slice(), at, left, right, rest);
         self.used = used_after(self.used, at + 2, rest, self.cells.len());
     }
 
-    /// Puts new cells in place of as many old ones. What is torn at either end becomes blank, and so
-    /// does a new half without its other half beside it.
+    /// Puts new cells in place of as many old ones. What is torn at either end becomes blank, and
+    /// so does a new half without its other half beside it.
     pub fn put(&mut self, at: usize, fresh: &[Cell])
         requires room { at + length fresh.now ≤ length self.old }
-        ensures { self.new ≡ cells_from (spliced at fresh.now (at + length fresh.now) (length self.old)) self.old }
+        ensures { self.new ≡ cells_spliced at fresh.now (at + length fresh.now) self.old }
     {
         edits::put(self.cells.as_mut_slice(), at, fresh);
         self.used = self.used.max(at + fresh.len());
     }
 
-    /// Puts a run of characters of width 1 in place of as many old cells: `codes` has their code points.
-    /// What is torn at either end becomes blank.
+    /// Puts a run of characters of width 1 in place of as many old cells: `codes` has their code
+    /// points. What is torn at either end becomes blank.
     pub fn put_run(&mut self, at: usize, codes: &[u8], rendition: Rendition, is_protected: bool)
         requires room { at + length codes.now ≤ length self.old }
-        ensures { self.new ≡ cells_from (spliced at (narrow_cells codes.now rendition is_protected) (at + length codes.now) (length self.old)) self.old }
+        ensures { self.new ≡ cells_spliced at
+            (narrow_cells codes.now rendition is_protected) (at + length codes.now) self.old }
     {
         edits::put_run(
             self.cells.as_mut_slice(),
@@ -187,8 +190,8 @@ impl Line {
         self.used = self.used.max(column + 1);
     }
 
-    /// A line of another width with the same cells: what is added is blank, and so is a half that is
-    /// cut off from its other half.
+    /// A line of another width with the same cells: what is added is blank, and so is a half that
+    /// is cut off from its other half.
     pub fn resized(&self, alloc: Global, width: usize) -> Result<Line, AllocError>
         ensures { IfOk result (λ line. line ≡ line_resized width self.now) }
     {

@@ -1,8 +1,10 @@
 -- The characters of the sets.
-use Rattle.std.specs.Prelude.{ℕ, ◌+◌, ◌-◌, nat_lt, ◌==◌, if◌then◌else◌, List, [], ◌∷◌, slice_index, codes}
+use Rattle.std.specs.Prelude.{ℕ, ◌+◌, ◌-◌, nat_lt, ◌==◌, if◌then◌else◌, List, [], ◌∷◌, slice_index}
+use Rattle.std.specs.Prelude.{codes}
 use Rattle.std.specs.List.{list_any}
 use Rattle.charsets.specs.declared.sets.CharacterSet.{CharacterSet}
-use Rattle.charsets.specs.declared.sets.CharacterSet.TheVariants.{Ascii, UnitedKingdom, SpecialGraphics, Supplemental}
+use Rattle.charsets.specs.declared.sets.CharacterSet.TheVariants.{Ascii, UnitedKingdom}
+use Rattle.charsets.specs.declared.sets.CharacterSet.TheVariants.{SpecialGraphics, Supplemental}
 
 -- DEC special graphics at 5F to 7E (VT220 Programmer Reference Manual, chapter 2)
 abbrev pub graphics : List ℕ
@@ -10,7 +12,8 @@ graphics = codes " ◆▒␉␌␍␊°±␤␋┘┐┌└┼⎺⎻─⎼⎽├
 
 -- the positions of the supplemental set that have no character
 abbrev pub unassigned : List ℕ
-unassigned = 0x24 ∷ 0x26 ∷ 0x2C ∷ 0x2D ∷ 0x2E ∷ 0x2F ∷ 0x34 ∷ 0x38 ∷ 0x3E ∷ 0x50 ∷ 0x5E ∷ 0x70 ∷ 0x7E ∷ []
+unassigned =
+    0x24 ∷ 0x26 ∷ 0x2C ∷ 0x2D ∷ 0x2E ∷ 0x2F ∷ 0x34 ∷ 0x38 ∷ 0x3E ∷ 0x50 ∷ 0x5E ∷ 0x70 ∷ 0x7E ∷ []
 
 -- position u of the supplemental set is the code u + 80, but for some letters and the currency sign
 unfoldable pub supplement : ℕ → ℕ

@@ -1,18 +1,22 @@
--- The shift functions, and the characters of graphic units (ECMA-35; VT220 Programmer Reference Manual, chapter 2).
-use Rattle.std.specs.Prelude.{ℕ, ◌-◌, Bool, ◌&&◌, ◌||◌, nat_lt, if◌then◌else◌, Option, Some, None, unwrap_or}
+-- The shift functions, and the characters of graphic units (ECMA-35; VT220 Programmer Reference
+-- Manual, chapter 2).
+use Rattle.std.specs.Prelude.{ℕ, ◌-◌, Bool, ◌&&◌, ◌||◌, nat_lt, if◌then◌else◌, Option, Some, None}
+use Rattle.std.specs.Prelude.{unwrap_or}
 use Rattle.charsets.specs.declared.sets.CharacterSet.{CharacterSet}
 use Rattle.charsets.specs.declared.sets.CharacterSet.TheVariants.{Ascii}
 use Rattle.charsets.specs.declared.shifts.Place.{Place}
 use Rattle.charsets.specs.declared.shifts.Place.TheVariants.{G0, G1, G2, G3}
 use Rattle.charsets.specs.declared.shifts.Shift.{Shift}
-use Rattle.charsets.specs.declared.shifts.Shift.TheVariants.{Si, So, Ls2, Ls3, Ls1r, Ls2r, Ls3r, Ss2, Ss3}
+use Rattle.charsets.specs.declared.shifts.Shift.TheVariants.{Si, So, Ls2, Ls3, Ls1r, Ls2r, Ls3r}
+use Rattle.charsets.specs.declared.shifts.Shift.TheVariants.{Ss2, Ss3}
 use Rattle.charsets.specs.declared.shifts.Shifts.{Shifts}
 use Rattle.charsets.specs.declared.unit.Unit.{Unit}
 use Rattle.charsets.specs.declared.unit.Unit.TheVariants.{Code, High}
 use Rattle.charsets.specs.Sets.{character_at}
 
 abbrev pub starting : Shifts
-starting = record { g0 = Ascii; g1 = Ascii; g2 = Ascii; g3 = Ascii; gl = G0; gr = G2; single = None }
+starting =
+    record { g0 = Ascii; g1 = Ascii; g2 = Ascii; g3 = Ascii; gl = G0; gr = G2; single = None }
 
 abbrev pub designated : Shifts → Place → CharacterSet → Shifts
 designated s G0 set = record s { g0 = set }
@@ -46,14 +50,16 @@ is_graphic (High b) = nat_lt 0x9F b
 abbrev pub is_position : ℕ → Bool
 is_position u = nat_lt 0x20 u && nat_lt u 0x7F
 
--- The character of a unit: 21 to 7E through GL, A1 to FE of ECMA-35 through GR, both through a single shift that waits.
--- Other graphic codes stand for themselves; A0 and FF of ECMA-35, and what is no graphic, have none.
+-- The character of a unit: 21 to 7E through GL, A1 to FE of ECMA-35 through GR, both through a
+-- single shift that waits. Other graphic codes stand for themselves; A0 and FF of ECMA-35, and what
+-- is no graphic, have none.
 unfoldable pub mapped : Shifts → Unit → Option ℕ
 mapped s (Code c) =
     if is_position c then Some (character_at (set_at s (unwrap_or s.single s.gl)) c)
     else (if is_graphic (Code c) then Some c else None)
 mapped s (High b) =
-    if nat_lt 0xA0 b && nat_lt b 0xFF then Some (character_at (set_at s (unwrap_or s.single s.gr)) (b - 0x80))
+    if nat_lt 0xA0 b && nat_lt b 0xFF
+    then Some (character_at (set_at s (unwrap_or s.single s.gr)) (b - 0x80))
     else None
 
 -- each graphic unit spends a single shift

@@ -1,5 +1,7 @@
--- The units of a list of bytes: codes in UTF-8 (Unicode core specification, 3.9), single bytes in ECMA-35.
-use Rattle.std.specs.Prelude.{◌≡◌, ℕ, ◌≤◌, Bool, ◌&&◌, nat_lt, if◌then◌else◌, List, [], ◌∷◌, ◌++◌, map}
+-- The units of a list of bytes: codes in UTF-8 (Unicode core specification, 3.9), single bytes in
+-- ECMA-35.
+use Rattle.std.specs.Prelude.{◌≡◌, ℕ, ◌≤◌, Bool, ◌&&◌, nat_lt, if◌then◌else◌, List, [], ◌∷◌, ◌++◌}
+use Rattle.std.specs.Prelude.{map}
 use Rattle.std.specs.Char.{IsScalar}
 use Rattle.charsets.specs.declared.unit.Coding.{Coding}
 use Rattle.charsets.specs.declared.unit.Coding.TheVariants.{Utf8, Ecma35}
@@ -9,7 +11,8 @@ use Rattle.charsets.specs.declared.unit.Units.{Units}
 use Rattle.charsets.specs.declared.unit.Units.TheVariants.{Nothing, One, Two}
 use Rattle.charsets.specs.Utf8.{codes}
 
--- in ECMA-35 each byte is a unit: below A0 it is the code, from A0 on a byte of GR (ECMA-35, 8-bit codes)
+-- in ECMA-35 each byte is a unit: below A0 it is the code, from A0 on a byte of GR (ECMA-35, 8-bit
+-- codes)
 abbrev pub unit_of_byte : ℕ → Unit
 unit_of_byte b = if nat_lt b 0xA0 then Code b else High b
 

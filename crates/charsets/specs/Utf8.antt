@@ -1,6 +1,7 @@
 -- How bytes are cut, from the left, into well-formed characters and maximal broken beginnings
 -- (Unicode core specification, 3.9: table 3-7, and the substitution of maximal subparts by U+FFFD).
-use Rattle.std.specs.Prelude.{ℕ, zero, suc, ◌+◌, ◌-◌, ◌*◌, Bool, ◌&&◌, nat_lt, ◌==◌, if◌then◌else◌, List, [], ◌∷◌, ◌++◌, Option, Some, None}
+use Rattle.std.specs.Prelude.{ℕ, zero, suc, ◌+◌, ◌-◌, ◌*◌, Bool, ◌&&◌, nat_lt, ◌==◌, if◌then◌else◌}
+use Rattle.std.specs.Prelude.{List, [], ◌∷◌, ◌++◌, Option, Some, None}
 
 -- table 3-7: the byte begins a character of several bytes
 abbrev pub is_lead : ℕ → Bool
@@ -10,7 +11,8 @@ is_lead a = nat_lt 0xC1 a && nat_lt a 0xF5
 abbrev pub continues : ℕ → Bool
 continues b = nat_lt 0x7F b && nat_lt b 0xC0
 
--- the byte b may stand second, after the first byte a: no overlong form, no surrogate, nothing above 10FFFF
+-- the byte b may stand second, after the first byte a: no overlong form, no surrogate, nothing
+-- above 10FFFF
 abbrev pub follows : ℕ → ℕ → Bool
 follows a b =
     if a == 0xE0 then nat_lt 0x9F b && nat_lt b 0xC0
@@ -41,7 +43,8 @@ whole code more = Some (record { gives = code ∷ []; more = more })
 abbrev pub no_beginning : Option Piece
 no_beginning = Some (record { gives = 0xFFFD ∷ []; more = 0 })
 
--- what a maximal beginning gives that the byte b breaks: U+FFFD, but CAN (18) cancels it. The byte is read anew.
+-- what a maximal beginning gives that the byte b breaks: U+FFFD, but CAN (18) cancels it. The byte
+-- is read anew.
 abbrev pub broken_gives : ℕ → List ℕ
 broken_gives b = if b == 0x18 then [] else 0xFFFD ∷ []
 
@@ -56,7 +59,8 @@ piece_of_4 a b c (d ∷ bytes) = if continues d then whole (code_of_4 a b c d) 3
 abbrev pub piece_of_3 : ℕ → ℕ → List ℕ → Option Piece
 piece_of_3 a b [] = None
 piece_of_3 a b (c ∷ bytes) =
-    if continues c then (if nat_lt a 0xF0 then whole (code_of_3 a b c) 2 else piece_of_4 a b c bytes)
+    if continues c
+    then (if nat_lt a 0xF0 then whole (code_of_3 a b c) 2 else piece_of_4 a b c bytes)
     else broken_by c 1
 
 abbrev pub piece_of_2 : ℕ → List ℕ → Option Piece
@@ -78,7 +82,8 @@ with_front front later = (front ++ later.0, later.1)
 unfoldable pub cut : ℕ → List ℕ → List ℕ × List ℕ
 cut skip [] = ([], [])
 cut (suc skip) (a ∷ bytes) = cut skip bytes
-cut zero (a ∷ bytes) = elim (piece a bytes) [ None ↦ ([], a ∷ bytes) | Some p ↦ with_front p.gives (cut p.more bytes) ]
+cut zero (a ∷ bytes) =
+    elim (piece a bytes) [ None ↦ ([], a ∷ bytes) | Some p ↦ with_front p.gives (cut p.more bytes) ]
 
 abbrev pub codes : List ℕ → List ℕ × List ℕ
 codes bytes = cut 0 bytes

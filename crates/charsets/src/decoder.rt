@@ -67,12 +67,14 @@ impl Decoder {
     /// Reads one byte, and gives the units that it completes.
     pub fn push(&mut self, byte: u8) -> Units
         ensures coding { self.new.coding ≡ self.old.coding }
-        ensures next { units self.old.coding (self.old.rest ++ byte ∷ []) ≡ (unit_list result, self.new.rest) }
+        ensures next { units self.old.coding (self.old.rest ++ byte ∷ [])
+            ≡ (unit_list result, self.new.rest) }
         // Whatever bytes were read, this one is read behind them.
         ensures stands { (bytes : List ℕ) → StandsFor self.old bytes →
             StandsFor self.new (bytes ++ byte ∷ []) }
-        ensures gives { (bytes : List ℕ) → StandsFor self.old bytes →
-            (units self.old.coding (bytes ++ byte ∷ [])).0 ≡ (units self.old.coding bytes).0 ++ unit_list result }
+        ensures gives { (bytes : List ℕ) → StandsFor self.old bytes
+            → (units self.old.coding (bytes ++ byte ∷ [])).0
+            ≡ (units self.old.coding bytes).0 ++ unit_list result }
     {
         match self.coding {
             Coding::Ecma35 => Units::One(unit_of_byte(byte)),

@@ -32,8 +32,10 @@ pub fn characters_read_back()
 /// More bytes are read behind a beginning as behind itself.
 pub fn beginnings_go_on()
     ensures go_on { (coding : Coding) (front later : List ℕ) → let rest = (units coding front).1 in
-        units coding (front ++ later)
-        ≡ ((units coding front).0 ++ (units coding (rest ++ later)).0, (units coding (rest ++ later)).1) }
+        units coding (front ++ later) ≡ (
+          (units coding front).0 ++ (units coding (rest ++ later)).0,
+          (units coding (rest ++ later)).1,
+        ) }
     ensures own { (coding : Coding) (bytes : List ℕ) →
         units coding (units coding bytes).1 ≡ ([], (units coding bytes).1) }
 {}
@@ -55,7 +57,8 @@ pub fn each_is_a_unit()
     ensures { (coding : Coding) (bytes : List ℕ) → AllByRecursion IsUnit (units coding bytes).0 }
 {}
 
-/// Where GL has ASCII and no single shift waits, a graphic code stands for itself and changes no shift.
+/// Where GL has ASCII and no single shift waits, a graphic code stands for itself and changes no
+/// shift.
 pub fn ascii_stands_for_itself()
     ensures maps { (s : Shifts) (c : ℕ) → set_at s s.gl ≡ Ascii → s.single ≡ None →
         is_graphic (Code c) ≡ true → mapped s (Code c) ≡ Some c }

@@ -100,8 +100,8 @@ impl Shifts {
     }
 
     #[tactic(auto, unfolding(crate::specs::Shifts::mapped))]
-    /// The character of a graphic unit, which spends a single shift. None where A0 or FF of ECMA-35 is
-    /// dropped, and where the unit is no graphic, which spends nothing.
+    /// The character of a graphic unit, which spends a single shift. None where A0 or FF of ECMA-35
+    /// is dropped, and where the unit is no graphic, which spends nothing.
     pub fn map(&mut self, unit: Unit) -> Option<char>
         ensures character { result ≡ mapped self.old unit }
         ensures spends { self.new ≡ spent self.old unit }

@@ -1,7 +1,9 @@
 //! UTF-8, byte by byte.
 
-ghost use Rattle.std.specs.Prelude.{◌≡◌, ◌<◌, ◌≤◌, ℕ, [], ◌∷◌, ◌++◌, true, false, nat_lt, option_to_list};
-ghost use Rattle.charsets.specs.Utf8.{is_lead, follows, continues, code_of_2, code_of_3, code_of_4, codes, with_front, broken_gives};
+ghost use Rattle.std.specs.Prelude.{◌≡◌, ◌<◌, ◌≤◌, ℕ, [], ◌∷◌, ◌++◌, true, false, nat_lt};
+ghost use Rattle.std.specs.Prelude.{option_to_list};
+ghost use Rattle.charsets.specs.Utf8.{is_lead, follows, continues, code_of_2, code_of_3, code_of_4};
+ghost use Rattle.charsets.specs.Utf8.{codes, with_front, broken_gives};
 ghost use Rattle.charsets.specs.Partial.{IsPartial, partial_bytes, chars_of};
 
 /// The bytes of a character that has begun.
@@ -101,7 +103,8 @@ fn start(byte: u8) -> (Option<char>, Partial)
 // What a byte gives that breaks a beginning: CAN cancels it, and each byte is then read anew.
 #[tactic(auto, unfolding(crate::specs::Utf8::cut, crate::specs::Utf8::piece))]
 fn broken(byte: u8) -> (Chars, Partial)
-    ensures value { with_front (broken_gives byte) (codes (byte ∷ [])) ≡ (chars_of result.0, partial_bytes result.1) }
+    ensures value { with_front (broken_gives byte) (codes (byte ∷ []))
+        ≡ (chars_of result.0, partial_bytes result.1) }
     ensures partial { IsPartial result.1 }
 {
     if byte == CAN {
@@ -118,7 +121,8 @@ fn broken(byte: u8) -> (Chars, Partial)
 #[tactic(auto, unfolding(crate::specs::Utf8::cut, crate::specs::Utf8::piece))]
 pub fn step(partial: Partial, byte: u8) -> (Chars, Partial)
     requires { IsPartial partial }
-    ensures value { codes (partial_bytes partial ++ byte ∷ []) ≡ (chars_of result.0, partial_bytes result.1) }
+    ensures value { codes (partial_bytes partial ++ byte ∷ [])
+        ≡ (chars_of result.0, partial_bytes result.1) }
     ensures partial { IsPartial result.1 }
 {
     match partial {

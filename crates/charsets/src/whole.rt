@@ -7,8 +7,9 @@ ghost use Rattle.charsets.specs.Units.{units};
 
 use crate::utf8::{can_continue, can_follow, char_of_2, char_of_3};
 
-/// The character of two or three bytes, from U+00A0 on, that stands at the front of some bytes in UTF-8, and how many bytes
-/// it has (Unicode core specification, table 3-7). None where something else stands there.
+/// The character of two or three bytes, from U+00A0 on, that stands at the front of some bytes in
+/// UTF-8, and how many bytes it has (Unicode core specification, table 3-7). None where something
+/// else stands there.
 pub fn first_character(bytes: &[u8]) -> Option<(char, usize)>
     ensures reads { IfSome result (λ c. units Utf8 (take c.1 bytes.now) ≡ (Code c.0 ∷ [], [])) }
     ensures graphic { IfSome result (λ c. 0xA0 ≤ c.0) }

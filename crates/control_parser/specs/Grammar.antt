@@ -1,12 +1,15 @@
--- The control functions of a list of units: controls, escape sequences, control sequences and control strings
--- (ECMA-48, 5 and 8; ECMA-35, 13; VT220 Programmer Reference Manual, chapter 2). The list is cut from the left
--- into pieces, each by the longest front that goes on with it, and the text of a sequence is read as a whole.
-use Rattle.std.specs.Prelude.{ℕ, zero, suc, ◌+◌, ◌-◌, Bool, not, ◌&&◌, ◌||◌, nat_lt, nat_le, ◌==◌, if◌then◌else◌, List, [], ◌∷◌, ◌++◌, length}
+-- The control functions of a list of units: controls, escape sequences, control sequences and
+-- control strings (ECMA-48, 5 and 8; ECMA-35, 13; VT220 Programmer Reference Manual, chapter 2).
+-- The list is cut from the left into pieces, each by the longest front that goes on with it, and
+-- the text of a sequence is read as a whole.
+use Rattle.std.specs.Prelude.{ℕ, zero, suc, ◌+◌, ◌-◌, Bool, not, ◌&&◌, ◌||◌, nat_lt, nat_le, ◌==◌}
+use Rattle.std.specs.Prelude.{if◌then◌else◌, List, [], ◌∷◌, ◌++◌, length}
 use Rattle.charsets.specs.declared.unit.Unit.{Unit}
 use Rattle.charsets.specs.declared.unit.Unit.TheVariants as units
 use Rattle.control_parser.specs.declared.func.Func.{Func}
 use Rattle.control_parser.specs.declared.func.Func.TheVariants.{Print, High, Control, Esc, Csi}
-use Rattle.control_parser.specs.Text.{is_intermediate, while, is_well_formed, mark_of, params_of, intermediates_of}
+use Rattle.control_parser.specs.Text.{is_intermediate, while, is_well_formed, mark_of, params_of}
+use Rattle.control_parser.specs.Text.{intermediates_of}
 
 -- what the unit counts as: each byte from A0 on in ECMA-35 does as A0
 abbrev pub code : Unit → ℕ
@@ -22,7 +25,8 @@ CAN = 0x18
 abbrev pub SUB : ℕ
 SUB = 0x1A
 
--- a C0 control that is executed wherever it stands, but in a string (ECMA-48, 5.2; VT220 manual, chapter 2)
+-- a C0 control that is executed wherever it stands, but in a string (ECMA-48, 5.2; VT220 manual,
+-- chapter 2)
 abbrev pub is_control : ℕ → Bool
 is_control c = nat_lt c 0x20 && not (c == ESC) && not (c == CAN) && not (c == SUB)
 
@@ -33,7 +37,8 @@ is_c1 c = nat_lt 0x7F c && nat_lt c 0xA0
 abbrev pub is_graphic : ℕ → Bool
 is_graphic c = (nat_lt 0x1F c && nat_lt c 0x7F) || nat_lt 0x9F c
 
--- what stands inside an escape sequence, a control sequence, a string, an OSC string: all before what ends it
+-- what stands inside an escape sequence, a control sequence, a string, an OSC string: all before
+-- what ends it
 abbrev pub goes_on_beside : (ℕ → Bool) → Unit → Bool
 goes_on_beside is_text u = is_control (code u) || (code u == 0x7F || is_text (code u))
 
@@ -69,7 +74,8 @@ pub data Rest : Type 0 where
   string : Rest
   osc : Rest
 
--- A piece of the units: the functions that it gives, and how many units it has beside its first one; or it is unended.
+-- A piece of the units: the functions that it gives, and how many units it has beside its first
+-- one; or it is unended.
 pub data Piece : Type 0 where
   ends : List Func → ℕ → Piece
   unended : List Func → Rest → Piece
@@ -79,24 +85,32 @@ abbrev pub behind : List Func → ℕ → Piece → Piece
 behind front more (ends gives n) = ends (front ++ gives) (more + n)
 behind front more (unended gives rest) = unended (front ++ gives) rest
 
--- The unit f breaks off a sequence or string that has n units beside its first one. CAN and SUB belong to it; any other is read anew.
+-- The unit f breaks off a sequence or string that has n units beside its first one. CAN and SUB
+-- belong to it; any other is read anew.
 abbrev pub broken : ℕ → ℕ → Piece
 broken n f =
     if f == SUB then ends (Print 0xFFFD ∷ []) (n + 1)
     else (if f == CAN then ends [] (n + 1) else ends [] n)
 
--- an escape sequence, its intermediates and its final (ECMA-35, 13); with more than two intermediates it is ignored
+-- an escape sequence, its intermediates and its final (ECMA-35, 13); with more than two
+-- intermediates it is ignored
 abbrev pub escape_of : List ℕ → ℕ → List Func
-escape_of intermediates last = if nat_le (length intermediates) 2 then Esc intermediates last ∷ [] else []
+escape_of intermediates last =
+    if nat_le (length intermediates) 2 then Esc intermediates last ∷ [] else []
 
 -- a control sequence, its text and its final (ECMA-48, 5.4)
 abbrev pub control_of : List ℕ → ℕ → List Func
-control_of text last = if is_well_formed text then Csi (mark_of text) (params_of text) (intermediates_of text) last ∷ [] else []
+control_of text last =
+    if is_well_formed text
+    then Csi (mark_of text) (params_of text) (intermediates_of text) last ∷ []
+    else []
 
 -- The control sequence that goes on with these units, behind its CSI; the string.
 abbrev pub control_end : List ℕ → ℕ → List Unit → Piece
 control_end text n [] = unended [] (control text)
-control_end text n (f ∷ after) = if nat_lt 0x3F (code f) && nat_lt (code f) 0x7F then ends (control_of text (code f)) (n + 1) else broken n (code f)
+control_end text n (f ∷ after) =
+    if nat_lt 0x3F (code f) && nat_lt (code f) 0x7F then ends (control_of text (code f)) (n + 1)
+    else broken n (code f)
 
 abbrev pub control_sequence : List Unit → Piece
 control_sequence us =
@@ -127,7 +141,8 @@ abbrev pub escape_end : List ℕ → ℕ → List Unit → Piece
 escape_end intermediates n [] = unended [] (escape intermediates)
 escape_end intermediates n (f ∷ after) =
     if nat_lt 0x2F (code f) && nat_lt (code f) 0x7F then
-    (if length intermediates == 0 then behind [] (n + 1) (begun_by (code f) after) else ends (escape_of intermediates (code f)) (n + 1))
+    (if length intermediates == 0 then behind [] (n + 1) (begun_by (code f) after)
+    else ends (escape_of intermediates (code f)) (n + 1))
     else broken n (code f)
 
 abbrev pub escape_sequence : List Unit → Piece
@@ -138,7 +153,8 @@ escape_sequence us =
 -- a unit by itself: DEL is dropped, and CAN and SUB change nothing
 abbrev pub alone : Unit → List Func
 alone (units.High b) = High b ∷ []
-alone (units.Code c) = if is_control c then Control c ∷ [] else (if is_graphic c then Print c ∷ [] else [])
+alone (units.Code c) =
+    if is_control c then Control c ∷ [] else (if is_graphic c then Print c ∷ [] else [])
 
 -- the piece that begins with u
 unfoldable pub piece : Unit → List Unit → Piece
@@ -150,11 +166,16 @@ piece u us =
 abbrev pub with_front : List Func → List Func × Rest → List Func × Rest
 with_front front later = (front ++ later.0, later.1)
 
--- the functions of the units behind the first skip, which belong to a piece that began before, and what is unended
+-- the functions of the units behind the first skip, which belong to a piece that began before, and
+-- what is unended
 unfoldable pub functions_behind : ℕ → List Unit → List Func × Rest
 functions_behind skip [] = ([], nothing)
 functions_behind (suc skip) (u ∷ us) = functions_behind skip us
-functions_behind zero (u ∷ us) = elim (piece u us) [ ends gives more ↦ with_front gives (functions_behind more us) | unended gives rest ↦ (gives, rest) ]
+functions_behind zero (u ∷ us) =
+    elim (piece u us) [
+      | ends gives more ↦ with_front gives (functions_behind more us)
+      | unended gives rest ↦ (gives, rest)
+    ]
 
 abbrev pub functions : List Unit → List Func × Rest
 functions us = functions_behind 0 us

@@ -1,13 +1,18 @@
 -- What a parser keeps of a list of units.
-use Rattle.std.specs.Prelude.{◌≡◌, ℕ, not, nat_lt, nat_le, ◌==◌, if◌then◌else◌, List, [], ◌∷◌, ◌++◌, length, map, Option, Some, None}
+use Rattle.std.specs.Prelude.{◌≡◌, ℕ, not, nat_lt, nat_le, ◌==◌, if◌then◌else◌, List, [], ◌∷◌, ◌++◌}
+use Rattle.std.specs.Prelude.{length, map, Option, Some, None}
 use Rattle.charsets.specs.declared.unit.Unit.{Unit}
 use Rattle.charsets.specs.declared.unit.Unit.TheVariants.{Code}
 use Rattle.control_parser.specs.declared.func.Func.{Func}
 use Rattle.control_parser.specs.declared.state.Text.{Text}
 use Rattle.control_parser.specs.declared.state.State.{State}
-use Rattle.control_parser.specs.declared.state.State.TheVariants.{Ground, Escape, EscapeIgnored, Control, ControlIgnored, String, Osc}
-use Rattle.control_parser.specs.Text.{values, is_well_formed, mark_of, numbers_of, params_of, intermediates_of}
-use Rattle.control_parser.specs.Grammar.{Rest, nothing, escape, control, string, osc, with_front, functions}
+use Rattle.control_parser.specs.declared.state.State.TheVariants.{Ground, Escape, EscapeIgnored}
+use Rattle.control_parser.specs.declared.state.State.TheVariants.{Control, ControlIgnored, String}
+use Rattle.control_parser.specs.declared.state.State.TheVariants.{Osc}
+use Rattle.control_parser.specs.Text.{values, is_well_formed, mark_of, numbers_of, params_of}
+use Rattle.control_parser.specs.Text.{intermediates_of}
+use Rattle.control_parser.specs.Grammar.{Rest, nothing, escape, control, string, osc, with_front}
+use Rattle.control_parser.specs.Grammar.{functions}
 
 -- the parts of a control sequence's text so far, or None where it is ignored
 unfoldable pub parts : List ℕ → Option Text
@@ -25,7 +30,8 @@ kept_text (Some t) = Control t
 
 unfoldable pub kept : Rest → State
 kept nothing = Ground
-kept (escape intermediates) = if nat_le (length intermediates) 2 then Escape intermediates else EscapeIgnored
+kept (escape intermediates) =
+    if nat_le (length intermediates) 2 then Escape intermediates else EscapeIgnored
 kept (control text) = kept_text (parts text)
 kept string = String
 kept osc = Osc
@@ -51,7 +57,8 @@ opening (control text) = Code 0x1B ∷ Code 0x5B ∷ map (λ c. Code c) text
 opening string = Code 0x1B ∷ Code 0x58 ∷ []
 opening osc = Code 0x1B ∷ Code 0x5D ∷ []
 
--- units that come in pieces: each piece is read behind what is unended at the end of those before it
+-- units that come in pieces: each piece is read behind what is unended at the end of those before
+-- it
 abbrev pub functions_of_pieces : Rest → List (List Unit) → List Func × Rest
 functions_of_pieces rest [] = ([], rest)
 functions_of_pieces rest (piece ∷ pieces) =

@@ -1,5 +1,7 @@
 -- The 7-bit spelling of a control function.
-use Rattle.std.specs.Prelude.{◌≡◌, ℕ, ◌+◌, ◌/◌, ◌%◌, ◌<◌, ◌≤◌, Bool, true, ◌&&◌, ◌||◌, not, nat_lt, nat_le, ◌==◌, if◌then◌else◌, List, [], ◌∷◌, ◌++◌, length, IfSome, option_to_list}
+use Rattle.std.specs.Prelude.{◌≡◌, ℕ, ◌+◌, ◌/◌, ◌%◌, ◌<◌, ◌≤◌, Bool, true, ◌&&◌, ◌||◌, not, nat_lt}
+use Rattle.std.specs.Prelude.{nat_le, ◌==◌, if◌then◌else◌, List, [], ◌∷◌, ◌++◌, length, IfSome}
+use Rattle.std.specs.Prelude.{option_to_list, take}
 use Rattle.std.specs.Char.{encode_utf8, IsScalar}
 use Rattle.std.specs.List.{flat_map, list_all}
 use Rattle.charsets.specs.declared.unit.Coding.{Coding}
@@ -8,7 +10,8 @@ use Rattle.charsets.specs.Units.{units}
 use Rattle.control_parser.specs.declared.func.Func.{Func}
 use Rattle.control_parser.specs.declared.func.Func.TheVariants.{Print, High, Control, Esc, Csi}
 use Rattle.control_parser.specs.Text.{is_intermediate, is_mark}
-use Rattle.control_parser.specs.Grammar.{is_control, is_graphic, is_string_opener, nothing, functions}
+use Rattle.control_parser.specs.Grammar.{is_control, is_graphic, is_string_opener, nothing}
+use Rattle.control_parser.specs.Grammar.{functions}
 
 abbrev pub digit : ℕ → ℕ
 digit n = 0x30 + n % 10
@@ -21,7 +24,8 @@ decimal n =
     else (if nat_lt n 1000 then digit (n / 100) ∷ digit (n / 10) ∷ digit n ∷ []
     else digit (n / 1000) ∷ digit (n / 100) ∷ digit (n / 10) ∷ digit n ∷ []))
 
--- A parameter: 0 is spelled as nothing, since an empty one is read as it (ECMA-48, 5.4.2; VT220 manual, chapter 2).
+-- A parameter: 0 is spelled as nothing, since an empty one is read as it (ECMA-48, 5.4.2; VT220
+-- manual, chapter 2).
 abbrev pub parameter : ℕ → List ℕ
 parameter n = if n == 0 then [] else decimal n
 
@@ -35,7 +39,8 @@ spelling (Print c) = encode_utf8 c
 spelling (High b) = b ∷ []
 spelling (Control c) = c ∷ []
 spelling (Esc intermediates last) = 0x1B ∷ (intermediates ++ last ∷ [])
-spelling (Csi mark params intermediates last) = 0x1B ∷ 0x5B ∷ ((option_to_list mark ++ (numerals params ++ intermediates)) ++ last ∷ [])
+spelling (Csi mark params intermediates last) =
+    0x1B ∷ 0x5B ∷ ((option_to_list mark ++ (numerals params ++ intermediates)) ++ last ∷ [])
 
 -- the coding that it is read in
 abbrev pub coding_of : Func → Coding
@@ -47,20 +52,30 @@ are_intermediates is = list_all is_intermediate is && nat_le (length is) 2
 
 -- what ESC and this final don't begin
 abbrev pub begins_none : List ℕ → ℕ → Bool
-begins_none is last = not (length is == 0) || not (last == 0x5B || (last == 0x5D || is_string_opener last))
+begins_none is last =
+    not (length is == 0) || not (last == 0x5B || (last == 0x5D || is_string_opener last))
 
 -- the functions that units can give
 abbrev pub IsGiven : Func → Type 0
 IsGiven (Print c) = (is_graphic c ≡ true) × IsScalar c
 IsGiven (High b) = 0xA0 ≤ b
 IsGiven (Control c) = is_control c ≡ true
-IsGiven (Esc is last) = (are_intermediates is ≡ true) × (0x2F < last) × (last < 0x7F) × (begins_none is last ≡ true)
-IsGiven (Csi mark params is last) = IfSome mark (λ m. is_mark m ≡ true) × (0 < length params) × (length params ≤ 16) × (list_all (λ n. nat_lt n 10000) params ≡ true)
+IsGiven (Esc is last) =
+    (are_intermediates is ≡ true) × (0x2F < last) × (last < 0x7F) × (begins_none is last ≡ true)
+IsGiven (Csi mark params is last) =
+    IfSome mark (λ m. is_mark m ≡ true) × (0 < length params) × (length params ≤ 16)
+    × (list_all (λ n. nat_lt n 10000) params ≡ true)
     × (are_intermediates is ≡ true) × (0x3F < last) × (last < 0x7F)
 
 -- the functions of some bytes, and no rest
 abbrev pub ReadsAs : Coding → List ℕ → List Func → Type 0
-ReadsAs coding bytes given = ((units coding bytes).1 ≡ []) × (functions (units coding bytes).0 ≡ (given, nothing))
+ReadsAs coding bytes given =
+    ((units coding bytes).1 ≡ []) × (functions (units coding bytes).0 ≡ (given, nothing))
+
+-- so many bytes behind the CSI of a function are the rest of its bytes in UTF-8, unless none are
+abbrev pub ReadsBehindCsi : ℕ → List ℕ → Func → Type 0
+ReadsBehindCsi count bytes given =
+    0 < count → ReadsAs Utf8 (0x1B ∷ 0x5B ∷ take count bytes) (given ∷ [])
 
 -- a function that bytes give in UTF-8
 abbrev pub IsGivenInUtf8 : Func → Type 0

@@ -1,5 +1,7 @@
--- One unit more, on what the parser keeps. The grammar is apart from this: what the public calls promise cites this nowhere.
-use Rattle.std.specs.Prelude.{◌≡◌, ℕ, ◌-◌, Bool, true, false, not, ◌&&◌, ◌||◌, nat_lt, ◌==◌, if◌then◌else◌, List, [], ◌∷◌, ◌++◌, length, Option, Some, None}
+-- One unit more, on what the parser keeps. The grammar is apart from this: what the public calls
+-- promise cites this nowhere.
+use Rattle.std.specs.Prelude.{◌≡◌, ℕ, ◌-◌, Bool, true, false, not, ◌&&◌, ◌||◌, nat_lt, ◌==◌}
+use Rattle.std.specs.Prelude.{if◌then◌else◌, List, [], ◌∷◌, ◌++◌, length, Option, Some, None}
 use Rattle.charsets.specs.declared.unit.Unit.{Unit}
 use Rattle.control_parser.specs.declared.func.Func.{Func}
 use Rattle.control_parser.specs.declared.func.Func.TheVariants.{Print, Control, Esc, Csi}
@@ -7,17 +9,38 @@ use Rattle.control_parser.specs.declared.state.Text.{Text}
 use Rattle.control_parser.specs.declared.state.State.{State}
 use Rattle.control_parser.specs.declared.state.State.TheVariants as state
 use Rattle.control_parser.specs.Text.{is_intermediate, is_digit, is_mark, with_last, digit_added}
-use Rattle.control_parser.specs.Grammar.{code, is_control, is_c1, is_sequence_text, is_string_opener, alone}
+use Rattle.control_parser.specs.Grammar.{code, is_control, is_c1, is_sequence_text}
+use Rattle.control_parser.specs.Grammar.{is_string_opener, alone}
 
 abbrev pub no_text : Text
 no_text = record { begun = false; mark = None; params = 0 ∷ []; over = false; intermediates = [] }
 
+-- one intermediate more, of at most two
+abbrev pub with_intermediate : Text → ℕ → Option Text
+with_intermediate t c =
+    if length t.intermediates == 2 then None
+    else Some (record t { begun = true; intermediates = t.intermediates ++ c ∷ [] })
+
+-- one digit more of the last parameter
+abbrev pub with_digit : Text → ℕ → Text
+with_digit t d =
+    record t { begun = true; params = if t.over then t.params else digit_added t.params d }
+
+-- one parameter more, of at most sixteen
+abbrev pub with_parameter : Text → Text
+with_parameter t =
+    record t {
+      begun = true;
+      params = if nat_lt (length t.params) 16 then t.params ++ 0 ∷ [] else t.params;
+      over = if nat_lt (length t.params) 16 then t.over else true;
+    }
+
 abbrev pub text_grown : Text → ℕ → Option Text
 text_grown t c =
-    if is_intermediate c then (if length t.intermediates == 2 then None else Some (record t { begun = true; intermediates = t.intermediates ++ c ∷ [] }))
+    if is_intermediate c then with_intermediate t c
     else (if not (length t.intermediates == 0) then None
-    else (if is_digit c then Some (record t { begun = true; params = if t.over then t.params else digit_added t.params (c - 0x30) })
-    else (if c == 0x3B then Some (record t { begun = true; params = if nat_lt (length t.params) 16 then t.params ++ 0 ∷ [] else t.params; over = if nat_lt (length t.params) 16 then t.over else true })
+    else (if is_digit c then Some (with_digit t (c - 0x30))
+    else (if c == 0x3B then Some (with_parameter t)
     else (if is_mark c && not t.begun then Some (record t { begun = true; mark = Some c })
     else None))))
 
@@ -70,20 +93,26 @@ is_final_from low c = nat_lt low c && nat_lt c 0x7F
 -- inside an escape sequence, a control sequence, but for controls and DEL
 abbrev pub escape_step : List ℕ → Unit → Option Func × State
 escape_step is u =
-    if is_intermediate (code u) then (if length is == 2 then (None, state.EscapeIgnored) else (None, state.Escape (is ++ code u ∷ [])))
-    else (if is_final_from 0x2F (code u) then (if length is == 0 then begun_step (code u) else (Some (Esc is (code u)), state.Ground))
+    if is_intermediate (code u) then
+    (if length is == 2 then (None, state.EscapeIgnored)
+    else (None, state.Escape (is ++ code u ∷ [])))
+    else (if is_final_from 0x2F (code u) then
+    (if length is == 0 then begun_step (code u) else (Some (Esc is (code u)), state.Ground))
     else broken_step u true)
 
 abbrev pub control_step : Text → Unit → Option Func × State
 control_step t u =
     if is_sequence_text (code u) then grown_step (text_grown t (code u))
-    else (if is_final_from 0x3F (code u) then (Some (Csi t.mark t.params t.intermediates (code u)), state.Ground)
+    else (if is_final_from 0x3F (code u) then
+    (Some (Csi t.mark t.params t.intermediates (code u)), state.Ground)
     else broken_step u true)
 
 abbrev pub step_of : State → Unit → Option Func × State
 step_of state.Ground u = broken_step u false
 step_of state.String u = if breaks_string (code u) then broken_step u true else (None, state.String)
-step_of state.Osc u = if code u == 7 then (None, state.Ground) else (if breaks_string (code u) then broken_step u true else (None, state.Osc))
+step_of state.Osc u =
+    if code u == 7 then (None, state.Ground)
+    else (if breaks_string (code u) then broken_step u true else (None, state.Osc))
 step_of (state.Escape is) u = inside_step (state.Escape is) u (escape_step is u)
 step_of state.EscapeIgnored u = inside_step state.EscapeIgnored u
     (if is_intermediate (code u) then (None, state.EscapeIgnored)

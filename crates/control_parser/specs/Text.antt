@@ -1,5 +1,7 @@
 -- The text of a control sequence: what stands between CSI and the final byte (ECMA-48, 5.4).
-use Rattle.std.specs.Prelude.{ℕ, ◌+◌, ◌-◌, ◌*◌, Bool, not, ◌&&◌, ◌||◌, nat_lt, nat_le, ◌==◌, if◌then◌else◌, List, [], ◌∷◌, length, take, map, min, Option, Some, None}
+use Rattle.std.specs.Prelude.{ℕ, ◌+◌, ◌-◌, ◌*◌, Bool, not, ◌&&◌, ◌||◌, nat_lt, nat_le, ◌==◌}
+use Rattle.std.specs.Prelude.{if◌then◌else◌, List, [], ◌∷◌, length, take, map, min, Option, Some}
+use Rattle.std.specs.Prelude.{None}
 use Rattle.std.specs.List.{list_all}
 use Rattle.charsets.specs.Units.{is_plain}
 
@@ -65,7 +67,8 @@ intermediates_of text = (while is_number (unmarked text)).1
 
 -- with at most two intermediates, and nothing else behind the numbers; any other text is ignored
 abbrev pub is_well_formed : List ℕ → Bool
-is_well_formed text = list_all is_intermediate (intermediates_of text) && nat_le (length (intermediates_of text)) 2
+is_well_formed text =
+    list_all is_intermediate (intermediates_of text) && nat_le (length (intermediates_of text)) 2
 
 -- sixteen parameters count (VT220 Programmer Reference Manual, chapter 2)
 abbrev pub params_of : List ℕ → List ℕ

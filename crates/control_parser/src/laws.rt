@@ -21,13 +21,14 @@ pub fn each_is_spelled()
 
 /// Bytes that leave no rest are read for themselves, one list behind another.
 pub fn readings_join()
-    ensures { (coding : Coding) (front later : List ℕ) (fs gs : List Func) →
-        ReadsAs coding front fs → ReadsAs coding later gs → ReadsAs coding (front ++ later) (fs ++ gs) }
+    ensures { (coding : Coding) (front later : List ℕ) (fs gs : List Func) → ReadsAs coding front fs
+        → ReadsAs coding later gs → ReadsAs coding (front ++ later) (fs ++ gs) }
 {}
 
 /// Functions that are spelled one behind another read back as they are.
 pub fn spelled_ones_read_back()
-    ensures { (fs : List Func) → AllByRecursion IsGivenInUtf8 fs → ReadsAs Utf8 (flat_map spelling fs) fs }
+    ensures { (fs : List Func) → AllByRecursion IsGivenInUtf8 fs
+        → ReadsAs Utf8 (flat_map spelling fs) fs }
 {}
 
 /// Where nothing is unended, units are read for themselves.
@@ -43,8 +44,8 @@ pub fn can_ends_all()
 
 /// More units are read behind what is unended as behind the units that begin it.
 pub fn unended_go_on()
-    ensures go_on { (us vs : List Unit) →
-        functions (us ++ vs) ≡ with_front (functions us).0 (functions (opening (functions us).1 ++ vs)) }
+    ensures go_on { (us vs : List Unit) → functions (us ++ vs)
+        ≡ with_front (functions us).0 (functions (opening (functions us).1 ++ vs)) }
     ensures own { (us : List Unit) → functions (opening (functions us).1) ≡ ([], (functions us).1) }
     ensures units { (us : List Unit) → AllByRecursion IsUnit (opening (functions us).1) }
 {}

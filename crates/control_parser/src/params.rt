@@ -8,8 +8,8 @@ use std::marker::Model;
 // How many parameters count.
 const PARAMS: usize = 16;
 
-/// The parameters of a control sequence: one to sixteen, each at most 9,999 where a parser gives it.
-/// An absent one is 0.
+/// The parameters of a control sequence: one to sixteen, each at most 9,999 where a parser gives
+/// it. An absent one is 0.
 #[derive(Clone, Copy, Debug, PartialEq, Eq)]
 pub struct Params {
     values: [u16; PARAMS],

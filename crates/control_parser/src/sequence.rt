@@ -1,15 +1,15 @@
 //! Control sequences that stand whole in a list of bytes.
 
-ghost use Rattle.std.specs.Prelude.{◌≡◌, ◌≤◌, ◌<◌, [], ◌∷◌, length, take};
-ghost use Rattle.charsets.specs.declared.unit.Coding.TheVariants.{Utf8};
+ghost use Rattle.std.specs.Prelude.{◌≡◌, ◌<◌, ◌≤◌, length};
 ghost use Rattle.control_parser.specs.declared.func.Func.TheVariants.{Csi};
-ghost use Rattle.control_parser.specs.Spelling.{ReadsAs};
+ghost use Rattle.control_parser.specs.Spelling.{ReadsBehindCsi};
 ghost use Rattle.control_parser.specs.Text.{longer};
 
 use crate::state::Text;
 use std::marker::Model;
 
-/// The place of a control sequence that is read at once. It is used for one after another, so that none is copied.
+/// The place of a control sequence that is read at once. It is used for one after another, so that
+/// none is copied.
 #[derive(Debug, Drop)]
 pub struct Sequence {
     text: Text,
@@ -47,11 +47,12 @@ impl Sequence {
         )
     }
 
-    /// Reads the control sequence that goes on with these bytes behind its CSI, and gives how many of them it has. It gives
-    /// 0 where the sequence doesn't end within them, is ignored, or has a control inside.
+    /// Reads the control sequence that goes on with these bytes behind its CSI, and gives how many
+    /// of them it has. It gives 0 where the sequence doesn't end within them, is ignored, or has a
+    /// control inside.
     #[inline(always)]
     pub fn read(&mut self, bytes: &[u8]) -> usize
-        ensures reads { 0 < result → ReadsAs Utf8 (0x1B ∷ 0x5B ∷ take result bytes.now) (self.new ∷ []) }
+        ensures reads { ReadsBehindCsi result bytes.now self.new }
         ensures few { result ≤ length bytes.now }
     {
         let count = self.read_numerals(bytes);
@@ -61,10 +62,11 @@ impl Sequence {
         self.read_any(bytes)
     }
 
-    /// The same of the commonest ones: it gives 0 too where anything but digits and semicolons stands before the final byte.
+    /// The same of the commonest ones: it gives 0 too where anything but digits and semicolons
+    /// stands before the final byte.
     #[inline(always)]
     fn read_numerals(&mut self, bytes: &[u8]) -> usize
-        ensures reads { 0 < result → ReadsAs Utf8 (0x1B ∷ 0x5B ∷ take result bytes.now) (self.new ∷ []) }
+        ensures reads { ReadsBehindCsi result bytes.now self.new }
         ensures few { result ≤ length bytes.now }
     {
         self.text.clear();
@@ -94,7 +96,7 @@ impl Sequence {
     /// The same of any.
     #[inline(never)]
     fn read_any(&mut self, bytes: &[u8]) -> usize
-        ensures reads { 0 < result → ReadsAs Utf8 (0x1B ∷ 0x5B ∷ take result bytes.now) (self.new ∷ []) }
+        ensures reads { ReadsBehindCsi result bytes.now self.new }
         ensures few { result ≤ length bytes.now }
     {
         self.text.clear();

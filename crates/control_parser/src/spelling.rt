@@ -1,8 +1,10 @@
 //! Control functions as bytes.
 
-ghost use Rattle.std.specs.Prelude.{◌≡◌, ◌<◌, ◌≤◌, ◌+◌, ◌*◌, ℕ, List, [], ◌∷◌, ◌++◌, length, take, OnOk, OnErr, option_to_list};
+ghost use Rattle.std.specs.Prelude.{◌≡◌, ◌<◌, ◌≤◌, ◌+◌, ◌*◌, ℕ, List, [], ◌∷◌, ◌++◌, length, take};
+ghost use Rattle.std.specs.Prelude.{OnOk, OnErr, option_to_list};
 ghost use Rattle.std.specs.List.{flat_map};
-ghost use Rattle.control_parser.specs.Spelling.{parameter, numerals, spelling, coding_of, IsGiven, ReadsAs};
+ghost use Rattle.control_parser.specs.Spelling.{parameter, numerals, spelling, coding_of, IsGiven};
+ghost use Rattle.control_parser.specs.Spelling.{ReadsAs};
 
 use crate::func::Func;
 use std::alloc::AllocError as NoMemory;
@@ -131,12 +133,14 @@ fn spelled(func: &Func) -> Room
     room
 }
 
-/// Appends the 7-bit spelling (ECMA-48, 5.3 and 5.4), in which a parameter 0 is empty, so that SGR 0 is `CSI m`.
+/// Appends the 7-bit spelling (ECMA-48, 5.3 and 5.4), in which a parameter 0 is empty, so that SGR
+/// 0 is `CSI m`.
 pub fn spell(func: &Func, out: &mut Vec<u8>) -> Result<(), NoMemory>
     ensures ok { OnOk result (out.new.items ≡ out.old.items ++ spelling func.now) }
     ensures err { OnErr result (out.new.items ≡ out.old.items) }
     // What units can give reads back, alone.
-    ensures reads { IsGiven func.now → ReadsAs (coding_of func.now) (spelling func.now) (func.now ∷ []) }
+    ensures reads { IsGiven func.now
+        → ReadsAs (coding_of func.now) (spelling func.now) (func.now ∷ []) }
 {
     let room = spelled(func);
     out.extend_from_slice(room.as_slice())

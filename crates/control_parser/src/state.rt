@@ -2,7 +2,9 @@
 
 ghost use Rattle.std.specs.Prelude.{◌≡◌, ◌==◌, ◌∷◌, [], true, false, Some, None, length, IsTrue};
 ghost use Rattle.control_parser.specs.Text.{is_intermediate};
-ghost use Rattle.control_parser.specs.Steps.{TakesDigits, no_text, text_grown, begun_step, broken_step, escape_step, control_step, breaks_string, is_final_from, step_of, alone_of};
+ghost use Rattle.control_parser.specs.Steps.{TakesDigits, no_text, text_grown, begun_step};
+ghost use Rattle.control_parser.specs.Steps.{broken_step, escape_step, control_step, breaks_string};
+ghost use Rattle.control_parser.specs.Steps.{is_final_from, step_of, alone_of};
 ghost use Rattle.control_parser.specs.Grammar.{code, is_control, is_c1, is_sequence_text};
 
 use crate::func::Func;

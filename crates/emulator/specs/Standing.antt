@@ -6,15 +6,17 @@ use Rattle.control_parser.specs.Grammar.{functions}
 use Rattle.control_parser.specs.Kept.{kept, opening, IsIdle}
 use Rattle.terminal_model.specs.Screen.{Screen}
 use Rattle.terminal_model.specs.Reading.{Terminal, IsTerminal, rest_in, reads}
+use Rattle.terminal_model.specs.Writing.{Writing, writes}
 
--- its screen, what its decoder holds of a character, and what its parser holds of a sequence or string
+-- its screen, what its decoder holds of a character, and what its parser holds of a sequence or
+-- string
 pub record Parts : Type 0 where
   pub screen : Screen
   pub decoding : Decoding
   pub parsing : State
 
--- The terminal's screen is its own; its decoder reads in the coding of the screen and has the bytes that have begun; its parser
--- keeps what is unended.
+-- The terminal's screen is its own; its decoder reads in the coding of the screen and has the bytes
+-- that have begun; its parser keeps what is unended.
 pub record StandsFor (e : Parts) (t : Terminal) : Type 0 where
   pub terminal : IsTerminal t
   pub screen : e.screen ≡ t.screen
@@ -30,16 +32,26 @@ pub record StandsWithin (e : Parts) (t : Terminal) : Type 0 where
 -- the decoder in the coding of the screen: a character that began in another one is dropped
 abbrev pub in_screen_coding : Parts → Decoding
 in_screen_coding e =
-    record { coding = e.screen.state.coding; rest = rest_in e.decoding.rest e.decoding.coding e.screen.state.coding }
+    record {
+      coding = e.screen.state.coding;
+      rest = rest_in e.decoding.rest e.decoding.coding e.screen.state.coding;
+    }
 
--- From this terminal on it has read the bytes, and has appended what the terminal answers to what was there before.
-pub record HasRead (t : Terminal) (bytes : List ℕ) (before : List ℕ) (e : Parts) (answered : List ℕ) : Type 0 where
+-- From this terminal on it has read the bytes, and has appended what the terminal answers to what
+-- was there before.
+pub record HasRead (t : Terminal) (bytes : List ℕ) (before : List ℕ) (e : Parts) (answered : List ℕ)
+    : Type 0 where
   pub stands : StandsFor e (reads t bytes).terminal
   pub reports : answered ≡ before ++ (reads t bytes).reports
 
 -- so it is with the first so many of some bytes, whatever terminal it stood for before
 abbrev pub HasTaken : Parts → List ℕ → ℕ → List ℕ → Parts → List ℕ → Type 0
-HasTaken old bytes count before new answered = (t : Terminal) → StandsFor old t → HasRead t (take count bytes) before new answered
+HasTaken old bytes count before new answered =
+    (t : Terminal) → StandsFor old t → HasRead t (take count bytes) before new answered
+
+-- so it is with what a window writes, but for what is answered
+abbrev pub TakesWriting : Parts → Writing → Parts → Type 0
+TakesWriting old w new = (t : Terminal) → StandsFor old t → StandsFor new (writes t w).terminal
 
 -- no character, sequence or string has begun
 pub record IsBetween (e : Parts) : Type 0 where

@@ -1,6 +1,8 @@
 //! Bytes to a screen.
 
-ghost use Rattle.std.specs.Prelude.{◌≡◌, ◌≤◌, ◌<◌, ◌+◌, ◌*◌, ◌↔◌, ℕ, List, [], ◌∷◌, ◌++◌, true, Err, IfOk, IfErr, OnOk, OnErr, IsOk, IsTrue, length, take, vec_len, vec_capacity};
+ghost use Rattle.std.specs.Prelude.{◌≡◌, ◌≤◌, ◌<◌, ◌+◌, ◌*◌, ◌↔◌, ℕ, List, [], ◌∷◌, ◌++◌, true};
+ghost use Rattle.std.specs.Prelude.{Err, IfOk, IfErr, OnOk, OnErr, IsOk, IsTrue, length, take};
+ghost use Rattle.std.specs.Prelude.{vec_len, vec_capacity};
 ghost use Rattle.cells.specs.Page.{IsPage, IsGridSize};
 ghost use Rattle.charsets.specs.declared.unit.Coding.TheVariants.{Utf8};
 ghost use Rattle.std.specs.List.{list_all};
@@ -8,10 +10,12 @@ ghost use Rattle.charsets.specs.Units.{is_plain, unit_list};
 ghost use Rattle.control_parser.specs.Spelling.{IsGiven};
 ghost use Rattle.control_parser.specs.declared.func.Func.TheVariants.{Esc};
 ghost use Rattle.terminal_model.specs.Screen.{starting};
-ghost use Rattle.terminal_model.specs.Reading.{Terminal, ready, read_unit, read_units, read_byte, reads};
-ghost use Rattle.terminal_model.specs.Writing.{Size, Clear, Reset, Encoding, reads_anew, writes};
+ghost use Rattle.terminal_model.specs.Reading.{Terminal, ready, read_unit, read_units, read_byte};
+ghost use Rattle.terminal_model.specs.Reading.{reads};
+ghost use Rattle.terminal_model.specs.Writing.{Size, Clear, Reset, Encoding, reads_anew};
 ghost use Rattle.vt_screen.specs.Sizes.{IsScreenSize};
-ghost use Rattle.emulator.specs.Standing.{StandsFor, StandsWithin, HasRead, HasTaken, IsBetween, in_screen_coding};
+ghost use Rattle.emulator.specs.Standing.{StandsFor, StandsWithin, HasRead, HasTaken, IsBetween};
+ghost use Rattle.emulator.specs.Standing.{TakesWriting, in_screen_coding};
 ghost use Rattle.emulator.specs.Pages.{moved_back};
 
 use crate::shown::Shown;
@@ -52,12 +56,13 @@ impl Model for Emulator {
 
     ghost Value = { Parts };
 
-    ghost view = { λ e. record { screen = e.screen.screen; decoding = e.decoder; parsing = e.parser } };
+    ghost view = { λ e.
+        record { screen = e.screen.screen; decoding = e.decoder; parsing = e.parser } };
 }
 
 impl Emulator {
-    /// A terminal that has read nothing, and keeps at most `keep` lines that scroll off its page. It is `BadSize` outside 2
-    /// to 200 lines by 2 to 300 columns, and above 2,000 kept lines.
+    /// A terminal that has read nothing, and keeps at most `keep` lines that scroll off its page.
+    /// It is `BadSize` outside 2 to 200 lines by 2 to 300 columns, and above 2,000 kept lines.
     pub fn new(alloc: Global, rows: usize, cols: usize, keep: usize) -> Result<Emulator, GridFault>
         ensures ok { IfOk result (λ e. StandsFor e (ready (starting rows cols keep))) }
         ensures size { IfOk result (λ _. IsScreenSize rows cols keep) }
@@ -74,8 +79,10 @@ impl Emulator {
 
     /// Reads one byte, and gives what is answered.
     pub fn feed(&mut self, byte: u8) -> Report
-        ensures stands { (t : Terminal) → StandsFor self.old t → StandsFor self.new (read_byte t byte).terminal }
-        ensures reports { (t : Terminal) → StandsFor self.old t → result ≡ (read_byte t byte).reports }
+        ensures stands { (t : Terminal) → StandsFor self.old t
+            → StandsFor self.new (read_byte t byte).terminal }
+        ensures reports { (t : Terminal) → StandsFor self.old t
+            → result ≡ (read_byte t byte).reports }
         ensures few { length result ≤ 24 }
     {
         let units = self.decoder.push(byte);
@@ -84,14 +91,17 @@ impl Emulator {
         report
     }
 
-    /// Reads bytes, and appends what is answered. Where memory for the answers is refused, it has read the bytes before. It
-    /// never is where `out` has room for 24 bytes of answers to each byte.
+    /// Reads bytes, and appends what is answered. Where memory for the answers is refused, it has
+    /// read the bytes before. It never is where `out` has room for 24 bytes of answers to each
+    /// byte.
     pub fn feed_all(&mut self, bytes: &[u8], out: &mut Vec<u8>) -> Result<(), Stopped>
-        ensures ok { OnOk result ((t : Terminal) → StandsFor self.old t → HasRead t bytes.now out.old.items self.new out.new.items) }
-        ensures err { IfErr result (λ stopped. (t : Terminal) → StandsFor self.old t →
-            HasRead t (take stopped.read bytes.now) out.old.items self.new out.new.items) }
+        ensures ok { OnOk result ((t : Terminal) → StandsFor self.old t
+            → HasRead t bytes.now out.old.items self.new out.new.items) }
+        ensures err { IfErr result (λ stopped.
+            HasTaken self.old bytes.now stopped.read out.old.items self.new out.new.items) }
         ensures read { IfErr result (λ stopped. stopped.read < length bytes.now) }
-        ensures room { vec_len out.old + 24 * length bytes.now ≤ vec_capacity out.old → IsOk result }
+        ensures room { vec_len out.old + 24 * length bytes.now ≤ vec_capacity out.old
+            → IsOk result }
     {
         let mut read = 0;
         'bytes: while read < bytes.len() {
@@ -103,11 +113,13 @@ impl Emulator {
         Ok(())
     }
 
-    /// Reads all that stands whole at the front of some bytes, or the first one of them, and appends what is answered. It
-    /// gives how many it has read. Where memory is refused, it has read none.
+    /// Reads all that stands whole at the front of some bytes, or the first one of them, and
+    /// appends what is answered. It gives how many it has read. Where memory is refused, it has
+    /// read none.
     fn feed_some(&mut self, bytes: &[u8], out: &mut Vec<u8>) -> Result<usize, AllocError>
         requires { 0 < length bytes.now }
-        ensures ok { IfOk result (λ count. (t : Terminal) → StandsFor self.old t → HasRead t (take count bytes.now) out.old.items self.new out.new.items) }
+        ensures ok { IfOk result (λ count.
+            HasTaken self.old bytes.now count out.old.items self.new out.new.items) }
         ensures some { IfOk result (λ count. 0 < count) }
         ensures few { IfOk result (λ count. count ≤ length bytes.now) }
         ensures answers { IfOk result (λ count. vec_len out.new ≤ vec_len out.old + 24 * count) }
@@ -126,8 +138,9 @@ impl Emulator {
         Ok(1)
     }
 
-    /// Where nothing has begun, reads all that stands whole at the front of some bytes and isn't answered. It gives how many
-    /// bytes that are: 0 where something has begun, or nothing of the kind stands there.
+    /// Where nothing has begun, reads all that stands whole at the front of some bytes and isn't
+    /// answered. It gives how many bytes that are: 0 where something has begun, or nothing of the
+    /// kind stands there.
     fn take_wholes(&mut self, bytes: &[u8]) -> usize
         ensures taken { (said : List ℕ) → HasTaken self.old bytes.now result said self.new said }
         ensures few { result ≤ length bytes.now }
@@ -156,8 +169,9 @@ impl Emulator {
         taken
     }
 
-    /// Reads the first that stands whole: a run of bytes 20 to 7E, and in UTF-8 a control, an escape sequence without
-    /// intermediates, a control sequence that isn't answered, a character from U+00A0 on.
+    /// Reads the first that stands whole: a run of bytes 20 to 7E, and in UTF-8 a control, an
+    /// escape sequence without intermediates, a control sequence that isn't answered, a character
+    /// from U+00A0 on.
     fn take_whole(&mut self, bytes: &[u8]) -> usize
         requires some { 0 < length bytes.now }
         requires idle { IsBetween self.old }
@@ -249,8 +263,10 @@ impl Emulator {
 
     /// Takes the units that a byte completes, and gives what is answered.
     fn take_all(&mut self, units: Units) -> Report
-        ensures stands { (t : Terminal) → StandsWithin self.old t → StandsWithin self.new (read_units t (unit_list units)).terminal }
-        ensures reports { (t : Terminal) → StandsWithin self.old t → result ≡ (read_units t (unit_list units)).reports }
+        ensures stands { (t : Terminal) → StandsWithin self.old t
+            → StandsWithin self.new (read_units t (unit_list units)).terminal }
+        ensures reports { (t : Terminal) → StandsWithin self.old t
+            → result ≡ (read_units t (unit_list units)).reports }
         ensures decoding { self.new.decoding ≡ self.old.decoding }
         ensures few { length result ≤ 24 }
     {
@@ -268,8 +284,10 @@ impl Emulator {
 
     /// Takes a unit, and gives what is answered.
     fn take(&mut self, unit: Unit) -> Report
-        ensures stands { (t : Terminal) → StandsWithin self.old t → StandsWithin self.new (read_unit t unit).terminal }
-        ensures reports { (t : Terminal) → StandsWithin self.old t → result ≡ (read_unit t unit).reports }
+        ensures stands { (t : Terminal) → StandsWithin self.old t
+            → StandsWithin self.new (read_unit t unit).terminal }
+        ensures reports { (t : Terminal) → StandsWithin self.old t
+            → result ≡ (read_unit t unit).reports }
         ensures decoding { self.new.decoding ≡ self.old.decoding }
         ensures few { length result ≤ 12 }
     {
@@ -291,10 +309,10 @@ impl Emulator {
         }
     }
 
-    /// Takes another size; what is read of a character or of a sequence stays. `BadSize` as for `new`; a refusal leaves
-    /// everything as it was.
+    /// Takes another size; what is read of a character or of a sequence stays. `BadSize` as for
+    /// `new`; a refusal leaves everything as it was.
     pub fn resized(&mut self, rows: usize, cols: usize) -> Result<(), GridFault>
-        ensures ok { OnOk result ((t : Terminal) → StandsFor self.old t → StandsFor self.new (writes t (Size rows cols)).terminal) }
+        ensures ok { OnOk result (TakesWriting self.old (Size rows cols) self.new) }
         ensures size { OnOk result (IsGridSize rows cols) }
         ensures err { OnErr result (self.new ≡ self.old) }
         ensures bad_size { (result ≡ Err GridFault.BadSize) ↔ (¬ IsGridSize rows cols) }
@@ -302,7 +320,8 @@ impl Emulator {
         self.screen.resized(rows, cols)
     }
 
-    /// Lends the lines of the page, moved back by so many kept lines, or by all where they are fewer.
+    /// Lends the lines of the page, moved back by so many kept lines, or by all where they are
+    /// fewer.
     pub fn page(&self, offset: usize) -> Shown<'_>
         ensures lines { result ≡ moved_back offset self.now.screen }
         ensures sized { IsPage self.now.screen.state.rows self.now.screen.state.columns result }
@@ -339,23 +358,26 @@ impl Emulator {
         self.screen.cols()
     }
 
-    /// Erases the page and goes home, as if the window had written ED 2 and CUP behind what it began, which is dropped.
+    /// Erases the page and goes home, as if the window had written ED 2 and CUP behind what it
+    /// began, which is dropped.
     pub fn clear(&mut self)
-        ensures { (t : Terminal) → StandsFor self.old t → StandsFor self.new (writes t Clear).terminal }
+        ensures { TakesWriting self.old Clear self.new }
     {
         self.write_anew(b"\x1B[2J\x1B[H");
     }
 
-    /// Takes all starting values, as if the window had written RIS behind what it began, which is dropped.
+    /// Takes all starting values, as if the window had written RIS behind what it began, which is
+    /// dropped.
     pub fn reset(&mut self)
-        ensures { (t : Terminal) → StandsFor self.old t → StandsFor self.new (writes t Reset).terminal }
+        ensures { TakesWriting self.old Reset self.new }
     {
         self.write_anew(b"\x1Bc");
     }
 
-    /// Reads in a coding from here on, as if the window had written its escape sequence behind what it began, which is dropped.
+    /// Reads in a coding from here on, as if the window had written its escape sequence behind what
+    /// it began, which is dropped.
     pub fn set_encoding(&mut self, coding: Coding)
-        ensures { (t : Terminal) → StandsFor self.old t → StandsFor self.new (writes t (Encoding coding)).terminal }
+        ensures { TakesWriting self.old (Encoding coding) self.new }
     {
         self.write_anew(match coding {
             Coding::Utf8 => b"\x1B%G",
@@ -365,7 +387,8 @@ impl Emulator {
 
     /// Drops what is read of a character or of a sequence, and reads bytes that aren't answered.
     fn write_anew(&mut self, bytes: &[u8])
-        ensures { (t : Terminal) → StandsFor self.old t → StandsFor self.new (reads_anew t bytes.now).terminal }
+        ensures { (t : Terminal) → StandsFor self.old t
+            → StandsFor self.new (reads_anew t bytes.now).terminal }
     {
         self.decoder.set_coding(self.screen.coding());
         self.parser = Parser::new();
@@ -374,7 +397,8 @@ impl Emulator {
 
     /// Reads bytes, and drops what is answered.
     fn feed_each(&mut self, bytes: &[u8])
-        ensures { (t : Terminal) → StandsFor self.old t → StandsFor self.new (reads t bytes.now).terminal }
+        ensures { (t : Terminal) → StandsFor self.old t
+            → StandsFor self.new (reads t bytes.now).terminal }
     {
         'bytes: for byte in bytes {
             self.feed(*byte);
@@ -382,7 +406,8 @@ impl Emulator {
     }
 }
 
-/// How many bytes 20 to 7E stand at the front; between two sequences that is one mostly, and found at once.
+/// How many bytes 20 to 7E stand at the front; between two sequences that is one mostly, and found
+/// at once.
 #[inline(always)]
 fn plain_front(bytes: &[u8]) -> usize
     ensures plain { list_all is_plain (take result bytes.now) ≡ true }
@@ -394,7 +419,8 @@ fn plain_front(bytes: &[u8]) -> usize
     plain_run(bytes)
 }
 
-/// Whether ESC and this byte are a whole function: the byte is a final, and begins no control sequence and no string.
+/// Whether ESC and this byte are a whole function: the byte is a final, and begins no control
+/// sequence and no string.
 fn ends_escape(byte: u8) -> bool
     ensures { IsTrue result → IsGiven (Esc [] byte) }
 {

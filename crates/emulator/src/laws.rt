@@ -7,21 +7,24 @@ ghost use Rattle.charsets.specs.declared.unit.Coding.{Coding};
 ghost use Rattle.terminal_model.specs.Reading.{Terminal, ready, reads};
 ghost use Rattle.terminal_model.specs.Screen.{Screen, starting};
 ghost use Rattle.terminal_model.specs.Scrollback.{all_left};
-ghost use Rattle.terminal_model.specs.Writing.{Writing, Clear, Reset, Encoding, IsWriting, writes, writes_all};
+ghost use Rattle.terminal_model.specs.Writing.{Writing, Clear, Reset, Encoding, IsWriting, writes};
+ghost use Rattle.terminal_model.specs.Writing.{writes_all};
 ghost use Rattle.emulator.specs.Standing.{Parts, StandsFor, HasRead};
 ghost use Rattle.emulator.specs.Pages.{moved_back};
 
 /// Bytes that are read in two pieces are read as the whole.
 pub fn pieces_are_whole()
-    ensures { (t : Terminal) (a b before answered next : List ℕ) (e e' : Parts) → HasRead t a before e answered →
-        HasRead (reads t a).terminal b answered e' next → HasRead t (a ++ b) before e' next }
+    ensures { (t : Terminal) (a b before answered next : List ℕ) (e e' : Parts)
+        → HasRead t a before e answered → HasRead (reads t a).terminal b answered e' next
+        → HasRead t (a ++ b) before e' next }
 {}
 
 /// A terminal answers nothing to the commands clear, reset and encoding.
 pub fn commands_answer_nothing()
     ensures clear { (t : Terminal) → (writes t Clear).reports ≡ [] }
     ensures reset { (t : Terminal) → (writes t Reset).reports ≡ [] }
-    ensures encoding { (t : Terminal) (coding : Coding) → (writes t (Encoding coding)).reports ≡ [] }
+    ensures encoding { (t : Terminal) (coding : Coding)
+        → (writes t (Encoding coding)).reports ≡ [] }
 {}
 
 /// A page that is moved back by no line is the page.
@@ -29,10 +32,14 @@ pub fn unmoved_page_is_the_page()
     ensures { (x : Screen) → moved_back 0 x ≡ x.page }
 {}
 
-/// Of all lines that left a window's page while it wrote, a page that is moved back shows the last ones, above its own lines.
+/// Of all lines that left a window's page while it wrote, a page that is moved back shows the last
+/// ones, above its own lines.
 pub fn moved_page_shows_the_last_lines()
-    ensures { (e : Parts) (rows columns keep offset : ℕ) (writings : List Writing) → IsGridSize rows columns → AllByRecursion IsWriting writings →
-        let t : Terminal = ready (starting rows columns keep) in
-        StandsFor e (writes_all t writings).terminal →
-        moved_back offset e.screen ≡ take (length e.screen.page) (reverse (take offset (take keep (reverse (all_left [] t writings)))) ++ e.screen.page) }
+    ensures { (e : Parts) (rows columns keep offset : ℕ) (writings : List Writing)
+        → IsGridSize rows columns → AllByRecursion IsWriting writings
+        → let t : Terminal = ready (starting rows columns keep) in
+        StandsFor e (writes_all t writings).terminal
+        → moved_back offset e.screen
+        ≡ take (length e.screen.page)
+        (reverse (take offset (take keep (reverse (all_left [] t writings)))) ++ e.screen.page) }
 {}

@@ -20,7 +20,8 @@ taken_in kept line = record kept { lines = keep_last kept.keep (kept.lines ++ li
 
 -- all lines are cut or filled to another width
 abbrev pub resized_lines : Kept → ℕ → Kept
-resized_lines kept columns = record kept { columns = columns; lines = map (line_resized columns) kept.lines }
+resized_lines kept columns =
+    record kept { columns = columns; lines = map (line_resized columns) kept.lines }
 
 -- it stands for a list of lines: it has the last of them
 abbrev pub StandsFor : Kept → List (List Cell) → Type 0
@@ -28,8 +29,11 @@ StandsFor kept lines = kept.lines ≡ keep_last kept.keep lines
 
 -- whatever list it stood for, it stands for that list with one more line at its end
 abbrev pub Continues : Kept → Kept → List Cell → Type 0
-Continues old new line = (lines : List (List Cell)) → StandsFor old lines → StandsFor new (lines ++ line ∷ [])
+Continues old new line =
+    (lines : List (List Cell)) → StandsFor old lines → StandsFor new (lines ++ line ∷ [])
 
 -- whatever list it stood for, it stands for that list with its lines cut or filled
 abbrev pub ContinuesResized : Kept → Kept → ℕ → Type 0
-ContinuesResized old new columns = (lines : List (List Cell)) → StandsFor old lines → StandsFor new (map (line_resized columns) lines)
+ContinuesResized old new columns =
+    (lines : List (List Cell)) → StandsFor old lines
+    → StandsFor new (map (line_resized columns) lines)

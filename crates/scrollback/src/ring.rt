@@ -1,11 +1,13 @@
 //! A ring of lines.
 
-ghost use Rattle.std.specs.Prelude.{◌≡◌, [], ◌∷◌, ◌++◌, length, map, reverse, slice_get, option_copied, IfOk, OnOk, OnErr, IfSome, IfNone};
+ghost use Rattle.std.specs.Prelude.{◌≡◌, [], ◌∷◌, ◌++◌, length, map, reverse, slice_get};
+ghost use Rattle.std.specs.Prelude.{option_copied, IfOk, OnOk, OnErr, IfSome, IfNone};
 ghost use Rattle.std.specs.Prelude.{replicate, ◌+◌, ◌≤◌};
 ghost use Rattle.circular_buffer.specs.Buffer.{buffer as buffer_of};
 ghost use Rattle.cells.specs.Line.{blank};
 ghost use Rattle.cells.specs.Resizing.{line_resized};
-ghost use Rattle.scrollback.specs.Kept.{no_lines, taken_in, resized_lines, StandsFor, Continues, ContinuesResized};
+ghost use Rattle.scrollback.specs.Kept.{no_lines, taken_in, resized_lines, StandsFor, Continues};
+ghost use Rattle.scrollback.specs.Kept.{ContinuesResized};
 
 use cells::{Cell, Line};
 use circular_buffer::HeapCircularBuffer;
@@ -46,7 +48,8 @@ fn blank_lines(
     keep: usize,
     cols: usize,
 ) -> Result<HeapCircularBuffer<Line>, AllocError>
-    ensures { IfOk result (λ lines. lines ≡ buffer_of (replicate keep (replicate cols blank)) keep) }
+    ensures { IfOk result
+        (λ lines. lines ≡ buffer_of (replicate keep (replicate cols blank)) keep) }
 {
     let mut lines = HeapCircularBuffer::with_capacity(alloc, keep)?;
     for row in 0..keep {
@@ -63,7 +66,8 @@ fn append_resized(
     cols: usize,
 ) -> Result<(), AllocError>
     requires { length buffer.old.items + length lines.now ≤ buffer.old.capacity }
-    ensures { OnOk result (buffer.new ≡ buffer_of (buffer.old.items ++ map (line_resized cols) lines.now) buffer.old.capacity) }
+    ensures { OnOk result (buffer.new
+        ≡ buffer_of (buffer.old.items ++ map (line_resized cols) lines.now) buffer.old.capacity) }
 {
     for line in lines {
         let _ = buffer.push_back(line.resized(alloc, cols)?);
@@ -78,7 +82,8 @@ fn resized_buffer(
     cols: usize,
 ) -> Result<HeapCircularBuffer<Line>, AllocError>
     requires { length lines.now.items ≡ lines.now.capacity }
-    ensures { IfOk result (λ resized. resized ≡ buffer_of (map (line_resized cols) lines.now.items) lines.now.capacity) }
+    ensures { IfOk result (λ resized. resized
+        ≡ buffer_of (map (line_resized cols) lines.now.items) lines.now.capacity) }
 {
     let mut resized = HeapCircularBuffer::with_capacity(alloc, lines.capacity())?;
     let (front, back) = lines.as_slices();

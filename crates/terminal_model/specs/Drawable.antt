@@ -35,7 +35,10 @@ pub record IsDrawableCell (cell : Cell) : Type 0 where
 
 -- a right half has the character and the rendition of its left half
 abbrev pub HasHalves : List Cell → Type 0
-HasHalves cells = (column : ℕ) → is_left (cell_at cells column).shape ≡ true → unprotected (cell_at cells (suc column)) ≡ right_cell (cell_at cells column).character (cell_at cells column).rendition false
+HasHalves cells =
+    (column : ℕ) → is_left (cell_at cells column).shape ≡ true
+    → unprotected (cell_at cells (suc column))
+    ≡ right_cell (cell_at cells column).character (cell_at cells column).rendition false
 
 abbrev pub HaveHalves : List (List Cell) → Type 0
 HaveHalves page = (line : ℕ) → line < length page → HasHalves (line_at page line)
@@ -48,7 +51,8 @@ pub record IsDrawableLine (cells : List Cell) : Type 0 where
 abbrev pub AreDrawableLines : Page → Type 0
 AreDrawableLines lines = (n : ℕ) → IsDrawableLine (line_at lines n)
 
--- each line of the screen, and each that it keeps; and the cell that a mark would join is no right half
+-- each line of the screen, and each that it keeps; and the cell that a mark would join is no right
+-- half
 pub record IsDrawableScreen (x : Screen) : Type 0 where
   pub page : AreDrawableLines x.page
   pub kept : AreDrawableLines x.kept

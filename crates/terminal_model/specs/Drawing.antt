@@ -1,5 +1,7 @@
 -- What a frame may hold, and what is known of a terminal that has read it.
-use Rattle.std.specs.Prelude.{◌≡◌, ℕ, zero, suc, ◌+◌, ◌-◌, ◌<◌, ◌⊎◌, Bool, true, false, if◌then◌else◌, ◌==◌, ◌&&◌, ◌||◌, not, nat_lt, nat_le, max, List, [], ◌∷◌, length, Option, Some, None, is_some, MatchOption}
+use Rattle.std.specs.Prelude.{◌≡◌, ℕ, zero, suc, ◌+◌, ◌-◌, ◌<◌, ◌⊎◌, Bool, true, false}
+use Rattle.std.specs.Prelude.{if◌then◌else◌, ◌==◌, ◌&&◌, ◌||◌, not, nat_lt, nat_le, max, List, []}
+use Rattle.std.specs.Prelude.{◌∷◌, length, Option, Some, None, is_some, MatchOption}
 use Rattle.std.specs.List.{AllByRecursion, flat_map, list_all}
 use Rattle.control_parser.specs.Spelling.{spelling}
 use Rattle.charsets.specs.declared.unit.Unit.{Unit}
@@ -16,8 +18,10 @@ use Rattle.control_parser.specs.declared.func.Func.{Func}
 use Rattle.control_parser.specs.declared.func.Func.TheVariants.{Print, High, Csi}
 use Rattle.terminal_model.specs.declared.state.Position.{Position}
 use Rattle.terminal_model.specs.declared.state.State.{State}
-use Rattle.terminal_model.specs.Screen.{Page, Screen, starting_modes, starting_state, starting_tabs, blank_page}
-use Rattle.terminal_model.specs.Functions.{actions_of, rendered, mode_set, private_mode_set, first, second, last_line}
+use Rattle.terminal_model.specs.Screen.{Page, Screen, starting_modes, starting_state, starting_tabs}
+use Rattle.terminal_model.specs.Screen.{blank_page}
+use Rattle.terminal_model.specs.Functions.{actions_of, rendered, mode_set, private_mode_set, first}
+use Rattle.terminal_model.specs.Functions.{second, last_line}
 use Rattle.terminal_model.specs.Table.{effect, bottom_of, columns_of, drawn}
 use Rattle.terminal_model.specs.Reading.{Terminal, ready, Act}
 use Rattle.terminal_model.specs.Shows.{View, seen_at, Shows, IsOfSize}
@@ -26,19 +30,24 @@ use Rattle.terminal_model.specs.Shows.{View, seen_at, Shows, IsOfSize}
 abbrev pub frame_bytes : List ℕ
 frame_bytes = 0x18 ∷ 0x1B ∷ 0x63 ∷ 0x1B ∷ 0x25 ∷ 0x47 ∷ 0x1B ∷ 0x5B ∷ 0x3F ∷ 0x37 ∷ 0x6C ∷ []
 
--- what they make of a screen: the starting values in UTF-8, but for ?7, which is reset, and a blank page; the scrollback stays
+-- what they make of a screen: the starting values in UTF-8, but for ?7, which is reset, and a blank
+-- page; the scrollback stays
 abbrev pub frame_start : Screen → Screen
 frame_start x =
     record x {
-      state = record (starting_state x.state.rows x.state.columns) { modes = record starting_modes { wraps = false } };
+      state = record (starting_state x.state.rows x.state.columns) {
+        modes = record starting_modes { wraps = false };
+      };
       tabs = starting_tabs x.state.columns;
       saved = None;
       page = blank_page x.state.rows x.state.columns;
     }
 
--- how many parameters a sequence has, but for SGR, SM, RM, DECSM and DECRM: CUP, HVP and DECSTBM have two, the others one
+-- how many parameters a sequence has, but for SGR, SM, RM, DECSM and DECRM: CUP, HVP and DECSTBM
+-- have two, the others one
 abbrev pub most_params : ℕ → ℕ
-most_params last = if last == 0x48 then 2 else (if last == 0x66 then 2 else (if last == 0x72 then 2 else 1))
+most_params last =
+    if last == 0x48 then 2 else (if last == 0x66 then 2 else (if last == 0x72 then 2 else 1))
 
 -- DECSTR, CSI ! p, has none: one that is absent is read as 0
 abbrev pub has_no_params : List ℕ → ℕ → Bool
@@ -68,15 +77,18 @@ values_named None params last = nat_le (length params) (most_params last)
 
 abbrev pub are_values_named : Func → Bool
 are_values_named (Csi mark params intermediates last) =
-    values_named (meaning_of mark intermediates last) params last && (not (has_no_params intermediates last) || list_all is_absent params)
+    values_named (meaning_of mark intermediates last) params last
+    && (not (has_no_params intermediates last) || list_all is_absent params)
 are_values_named f = true
 
 -- On a page of so many lines DECSTBM isn't ignored: its margins have two lines or more.
 abbrev pub are_margins_in_order : ℕ → Func → Bool
-are_margins_in_order rows (Csi None params [] last) = not (last == 0x72) || nat_lt (first params - 1) (bottom_of rows (last_line (second params)))
+are_margins_in_order rows (Csi None params [] last) =
+    not (last == 0x72) || nat_lt (first params - 1) (bottom_of rows (last_line (second params)))
 are_margins_in_order rows f = true
 
--- a function that the screen table lists, all its values being named, and that its row doesn't ignore on a page of so many lines
+-- a function that the screen table lists, all its values being named, and that its row doesn't
+-- ignore on a page of so many lines
 pub record IsListed (rows : ℕ) (f : Func) : Type 0 where
   pub acts : 0 < length (actions_of f)
   pub named : are_values_named f ≡ true
@@ -106,12 +118,14 @@ has_room marks = true
 abbrev pub cell_of : Page → Position → Cell
 cell_of page p = cell_at (line_at page p.line) p.column
 
--- A character of so many columns stands at a place: a mark on its cell, one of width 1 in it, and of a wide one the left half in
--- it and the right half beside it.
+-- A character of so many columns stands at a place: a mark on its cell, one of width 1 in it, and
+-- of a wide one the left half in it and the right half beside it.
 abbrev pub StandsAt : ℕ → Page → Position → ℕ → Type 0
 StandsAt zero page p c = HasMark (cell_of page p).marks c
 StandsAt (suc zero) page p c = HasPart Narrow c (cell_of page p)
-StandsAt (suc (suc more)) page p c = HasPart Left c (cell_of page p) × HasPart Right c (cell_of page (record p { column = p.column + 1 }))
+StandsAt (suc (suc more)) page p c =
+    HasPart Left c (cell_of page p)
+    × HasPart Right c (cell_of page (record p { column = p.column + 1 }))
 
 -- the place where a mark joins a cell
 abbrev pub mark_place : Page → Option Position → Option Position
@@ -128,7 +142,8 @@ abbrev pub Prints : Act → ℕ → Position → Type 0
 Prints a c p = MatchOption (unit_of a.func) ⊥ (λ u.
     (mapped a.before.state.shifts u ≡ Some c) × (place_by (columns_of c) a ≡ Some p))
 
--- DISCREET: the act is of a listed function, and a character that it prints stands in the page at the place that it takes.
+-- DISCREET: the act is of a listed function, and a character that it prints stands in the page at
+-- the place that it takes.
 pub record PrintsOf (page : Page) (a : Act) : Type 0 where
   pub character : ℕ
   pub place : Position
@@ -136,7 +151,8 @@ pub record PrintsOf (page : Page) (a : Act) : Type 0 where
   pub stands : StandsAt (columns_of character) page place (drawn character)
 
 abbrev pub IsDiscreet : Page → Act → Type 0
-IsDiscreet page a = MatchOption (unit_of a.func) (IsListed a.before.state.rows a.func) (λ u. PrintsOf page a)
+IsDiscreet page a =
+    MatchOption (unit_of a.func) (IsListed a.before.state.rows a.func) (λ u. PrintsOf page a)
 
 -- SPARE: a character that is printed takes some place at which the old page differs.
 abbrev pub Differs : Page → Page → ℕ → ℕ → Type 0
@@ -153,7 +169,8 @@ pub record PrintsNew (old page : Page) (a : Act) : Type 0 where
 abbrev pub IsSpare : Page → Page → Act → Type 0
 IsSpare old page a = MatchOption (unit_of a.func) (Prim.Unit {0}) (λ u. PrintsNew old page a)
 
--- the bytes are the spellings of the functions that acted and nothing else: no string, and no byte that does nothing
+-- the bytes are the spellings of the functions that acted and nothing else: no string, and no byte
+-- that does nothing
 abbrev pub AreSpelled : List ℕ → List Act → Type 0
 AreSpelled bytes acts = bytes ≡ flat_map (λ a. spelling a.func) acts
 
@@ -162,8 +179,8 @@ pub record Draws (old page : Page) (acts : List Act) : Type 0 where
   pub discreet : AllByRecursion (IsDiscreet page) acts
   pub spare : AllByRecursion (IsSpare old page) acts
 
--- AGREEMENT. What a frame leaves: the starting values in UTF-8, but for ?7, which is reset, and for ?1, keypad, ?25, cursor,
--- rendition and the cell that marks join, which may be any.
+-- AGREEMENT. What a frame leaves: the starting values in UTF-8, but for ?7, which is reset, and for
+-- ?1, keypad, ?25, cursor, rendition and the cell that marks join, which may be any.
 abbrev pub drawn_state : State → State
 drawn_state s = record (starting_state s.rows s.columns) {
   line = s.line;
@@ -186,7 +203,8 @@ pub record IsDrawn (v : View) (t : Terminal) : Type 0 where
   pub none_saved : t.screen.saved ≡ None
   pub ready_is : t ≡ ready t.screen
 
--- a shadow agrees with a terminal: one that knows nothing with each of its size, one that knows a view with each that has it drawn
+-- a shadow agrees with a terminal: one that knows nothing with each of its size, one that knows a
+-- view with each that has it drawn
 abbrev pub Agrees : ℕ → ℕ → Option View → Terminal → Type 0
 Agrees rows columns None t = IsOfSize rows columns t
 Agrees rows columns (Some v) t = IsOfSize rows columns t × IsDrawn v t

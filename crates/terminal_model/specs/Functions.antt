@@ -1,22 +1,48 @@
--- What each control function means: the rows of the screen table by their spelling, with their arguments.
-use Rattle.std.specs.Prelude.{ℕ, ◌-◌, ◌==◌, max, Bool, true, false, if◌then◌else◌, List, [], ◌∷◌, slice_index_or, Option, Some, None, option_to_list, option_map}
+-- What each control function means: the rows of the screen table by their spelling, with their
+-- arguments.
+use Rattle.std.specs.Prelude.{ℕ, ◌-◌, ◌==◌, max, Bool, true, false, if◌then◌else◌, List, [], ◌∷◌}
+use Rattle.std.specs.Prelude.{slice_index_or, Option, Some, None, option_to_list, option_map}
 use Rattle.std.specs.List.{flat_map}
 use Rattle.charsets.specs.declared.unit.Coding.TheVariants.{Utf8, Ecma35}
 use Rattle.charsets.specs.declared.unit.Unit.TheVariants as units
 use Rattle.charsets.specs.declared.sets.CharacterSet.{CharacterSet}
-use Rattle.charsets.specs.declared.sets.CharacterSet.TheVariants.{Ascii, UnitedKingdom, SpecialGraphics, Supplemental}
+use Rattle.charsets.specs.declared.sets.CharacterSet.TheVariants.{Ascii, UnitedKingdom}
+use Rattle.charsets.specs.declared.sets.CharacterSet.TheVariants.{SpecialGraphics, Supplemental}
 use Rattle.charsets.specs.declared.shifts.Place.{Place}
 use Rattle.charsets.specs.declared.shifts.Place.TheVariants.{G0, G1, G2, G3}
-use Rattle.charsets.specs.declared.shifts.Shift.TheVariants.{Si, So, Ls2, Ls3, Ls1r, Ls2r, Ls3r, Ss2, Ss3}
+use Rattle.charsets.specs.declared.shifts.Shift.TheVariants.{Si, So, Ls2, Ls3, Ls1r, Ls2r, Ls3r}
+use Rattle.charsets.specs.declared.shifts.Shift.TheVariants.{Ss2, Ss3}
 use Rattle.control_parser.specs.declared.func.Func.{Func}
 use Rattle.control_parser.specs.declared.func.Func.TheVariants as funcs
 use Rattle.terminal_model.specs.declared.action.Part.{Part}
 use Rattle.terminal_model.specs.declared.action.Part.TheVariants.{ToEnd, ToStart, All}
-use Rattle.cells.specs.declared.cell.Colour.TheVariants.{Default, Black, Red, Green, Yellow, Blue, Magenta, Cyan, White}
-use Rattle.terminal_model.specs.declared.action.Attribute.TheVariants.{Plain, Bold, Underlined, Blinking, Reversed, Foreground, Background}
+use Rattle.cells.specs.declared.cell.Colour.TheVariants.{Default, Black, Red, Green, Yellow, Blue}
+use Rattle.cells.specs.declared.cell.Colour.TheVariants.{Magenta, Cyan, White}
+use Rattle.terminal_model.specs.declared.action.Attribute.TheVariants.{Plain, Bold, Underlined}
+use Rattle.terminal_model.specs.declared.action.Attribute.TheVariants.{Blinking, Reversed}
+use Rattle.terminal_model.specs.declared.action.Attribute.TheVariants.{Foreground, Background}
 use Rattle.terminal_model.specs.declared.action.Mode.TheVariants as modes
 use Rattle.terminal_model.specs.declared.action.Action.{Action}
-use Rattle.terminal_model.specs.declared.action.Action.TheVariants.{Print, Backspace, Tab, LineFeed, CarriageReturn, Shift, Designate, SetCoding, Index, NextLine, ReverseIndex, SetTab, Save, Restore, SetEightBitReports, SetApplicationKeypad, Reset, Align, Up, Down, Right, Left, MoveTo, SetMargins, ClearTab, ClearTabs, EraseInPage, EraseInLine, EraseCells, EraseUnprotectedInPage, EraseUnprotectedInLine, InsertCells, DeleteCells, InsertLines, DeleteLines, Protect, Render, SetMode, BlankPage, SoftReset, ReportStatus, ReportPlace, ReportPrinter, ReportAttributes, ReportSecondaryAttributes}
+use Rattle.terminal_model.specs.declared.action.Action.TheVariants.{Print, Backspace, Tab, LineFeed}
+use Rattle.terminal_model.specs.declared.action.Action.TheVariants.{CarriageReturn, Shift}
+use Rattle.terminal_model.specs.declared.action.Action.TheVariants.{Designate, SetCoding, Index}
+use Rattle.terminal_model.specs.declared.action.Action.TheVariants.{NextLine, ReverseIndex, SetTab}
+use Rattle.terminal_model.specs.declared.action.Action.TheVariants.{Save, Restore}
+use Rattle.terminal_model.specs.declared.action.Action.TheVariants.{SetEightBitReports}
+use Rattle.terminal_model.specs.declared.action.Action.TheVariants.{SetApplicationKeypad, Reset}
+use Rattle.terminal_model.specs.declared.action.Action.TheVariants.{Align, Up, Down, Right, Left}
+use Rattle.terminal_model.specs.declared.action.Action.TheVariants.{MoveTo, SetMargins, ClearTab}
+use Rattle.terminal_model.specs.declared.action.Action.TheVariants.{ClearTabs, EraseInPage}
+use Rattle.terminal_model.specs.declared.action.Action.TheVariants.{EraseInLine, EraseCells}
+use Rattle.terminal_model.specs.declared.action.Action.TheVariants.{EraseUnprotectedInPage}
+use Rattle.terminal_model.specs.declared.action.Action.TheVariants.{EraseUnprotectedInLine}
+use Rattle.terminal_model.specs.declared.action.Action.TheVariants.{InsertCells, DeleteCells}
+use Rattle.terminal_model.specs.declared.action.Action.TheVariants.{InsertLines, DeleteLines}
+use Rattle.terminal_model.specs.declared.action.Action.TheVariants.{Protect, Render, SetMode}
+use Rattle.terminal_model.specs.declared.action.Action.TheVariants.{BlankPage, SoftReset}
+use Rattle.terminal_model.specs.declared.action.Action.TheVariants.{ReportStatus, ReportPlace}
+use Rattle.terminal_model.specs.declared.action.Action.TheVariants.{ReportPrinter, ReportAttributes}
+use Rattle.terminal_model.specs.declared.action.Action.TheVariants.{ReportSecondaryAttributes}
 
 -- an absent parameter is 0
 abbrev pub first : List ℕ → ℕ
@@ -33,7 +59,8 @@ count params = max 1 (first params)
 abbrev pub last_line : ℕ → Option ℕ
 last_line n = if n == 0 then None else Some (n - 1)
 
--- C0 controls (ECMA-48, 8.3; VT220 manual, chapter 2); NUL, ENQ, BEL and the others mean nothing here
+-- C0 controls (ECMA-48, 8.3; VT220 manual, chapter 2); NUL, ENQ, BEL and the others mean nothing
+-- here
 abbrev pub control_action : ℕ → Option Action
 control_action c =
     if c == 0x08 then Some Backspace
@@ -178,7 +205,11 @@ alone = option_to_list
 
 -- DECSCA's parameter: 1 protects what is printed later, 0 and 2 don't
 abbrev pub protection : ℕ → Option Action
-protection n = if n == 1 then Some (Protect true) else (if n == 0 then Some (Protect false) else (if n == 2 then Some (Protect false) else None))
+protection n =
+    if n == 1 then Some (Protect true)
+    else (if n == 0 then Some (Protect false)
+    else (if n == 2 then Some (Protect false)
+    else None))
 
 -- TBC's parameter
 abbrev pub tab_cleared : ℕ → Option Action
@@ -186,7 +217,8 @@ tab_cleared n = if n == 0 then Some ClearTab else (if n == 3 then Some ClearTabs
 
 -- DSR's parameter
 abbrev pub status_reported : ℕ → Option Action
-status_reported n = if n == 5 then Some ReportStatus else (if n == 6 then Some ReportPlace else None)
+status_reported n =
+    if n == 5 then Some ReportStatus else (if n == 6 then Some ReportPlace else None)
 
 -- CSI, parameters and a final byte
 unfoldable pub plain_sequence : List ℕ → ℕ → List Action
@@ -217,7 +249,8 @@ plain_sequence params last =
 unfoldable pub private_sequence : List ℕ → ℕ → List Action
 private_sequence params last =
     if last == 0x4A then alone (option_map EraseUnprotectedInPage (part_of (first params)))  -- J
-    else (if last == 0x4B then alone (option_map EraseUnprotectedInLine (part_of (first params)))  -- K
+    else (if last == 0x4B then
+    alone (option_map EraseUnprotectedInLine (part_of (first params)))  -- K
     else (if last == 0x68 then each (private_mode_set true) params  -- h
     else (if last == 0x6C then each (private_mode_set false) params  -- l
     else (if last == 0x6E then (if first params == 15 then ReportPrinter ∷ [] else [])  -- n
@@ -228,14 +261,17 @@ abbrev pub marked_sequence : Option ℕ → List ℕ → ℕ → List Action
 marked_sequence None params last = plain_sequence params last
 marked_sequence (Some mark) params last =
     if mark == 0x3F then private_sequence params last
-    else (if mark == 0x3E then (if last == 0x63 then (if first params == 0 then ReportSecondaryAttributes ∷ [] else []) else [])
+    else (if mark == 0x3E then
+    (if last == 0x63 then (if first params == 0 then ReportSecondaryAttributes ∷ [] else [])
+    else [])
     else [])
 
 -- CSI, parameters, an intermediate and a final byte: DECSTR is CSI ! p, and DECSCA is CSI Ps " q
 abbrev pub between_sequence : List ℕ → ℕ → ℕ → List Action
 between_sequence params intermediate last =
     if intermediate == 0x21 then (if last == 0x70 then SoftReset ∷ [] else [])
-    else (if intermediate == 0x22 then (if last == 0x71 then alone (protection (first params)) else [])
+    else (if intermediate == 0x22 then
+    (if last == 0x71 then alone (protection (first params)) else [])
     else [])
 
 abbrev pub sequence_actions : Option ℕ → List ℕ → List ℕ → ℕ → List Action
@@ -249,11 +285,12 @@ escape_actions [] last = alone (escape_action last)
 escape_actions (intermediate ∷ []) last = alone (intermediate_action intermediate last)
 escape_actions (intermediate ∷ another ∷ more) last = []
 
--- What a function does: mostly one action; one for each of its values that is named, in turn, for SGR, SM, RM, DECSM and DECRM;
--- none where it is ignored.
+-- What a function does: mostly one action; one for each of its values that is named, in turn, for
+-- SGR, SM, RM, DECSM and DECRM; none where it is ignored.
 abbrev pub actions_of : Func → List Action
 actions_of (funcs.Print c) = Print (units.Code c) ∷ []
 actions_of (funcs.High b) = Print (units.High b) ∷ []
 actions_of (funcs.Control c) = alone (control_action c)
 actions_of (funcs.Esc intermediates last) = escape_actions intermediates last
-actions_of (funcs.Csi mark params intermediates last) = sequence_actions mark params intermediates last
+actions_of (funcs.Csi mark params intermediates last) =
+    sequence_actions mark params intermediates last

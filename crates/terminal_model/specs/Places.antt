@@ -1,12 +1,15 @@
 -- What stands at a place afterwards.
-use Rattle.std.specs.Prelude.{◌≡◌, ℕ, ◌+◌, ◌-◌, ◌==◌, Bool, true, false, ◌&&◌, nat_lt, nat_le, if◌then◌else◌, List, [], ◌∷◌, length, None, cond, ◌++◌}
+use Rattle.std.specs.Prelude.{◌≡◌, ℕ, ◌+◌, ◌-◌, ◌==◌, Bool, true, false, ◌&&◌, nat_lt, nat_le}
+use Rattle.std.specs.Prelude.{if◌then◌else◌, List, [], ◌∷◌, length, None, cond, ◌++◌}
 use Rattle.charsets.specs.declared.sets.CharacterSet.TheVariants.{Ascii}
 use Rattle.charsets.specs.Shifts.{set_at}
 use Rattle.cells.specs.declared.cell.Cell.{Cell}
 use Rattle.cells.specs.declared.cell.Colour.{Colour}
-use Rattle.cells.specs.declared.cell.Colour.TheVariants.{Default, Black, Red, Green, Yellow, Blue, Magenta, Cyan, White}
+use Rattle.cells.specs.declared.cell.Colour.TheVariants.{Default, Black, Red, Green, Yellow, Blue}
+use Rattle.cells.specs.declared.cell.Colour.TheVariants.{Magenta, Cyan, White}
 use Rattle.cells.specs.declared.cell.Rendition.{Rendition}
-use Rattle.cells.specs.Line.{blank, cell_at, is_left, is_right, marked, narrow_cell, left_cell, right_cell}
+use Rattle.cells.specs.Line.{blank, cell_at, is_left, is_right, marked, narrow_cell, left_cell}
+use Rattle.cells.specs.Line.{right_cell}
 use Rattle.cells.specs.Page.{line_at}
 use Rattle.terminal_model.specs.declared.state.Position.{Position}
 use Rattle.terminal_model.specs.declared.state.State.{State}
@@ -16,7 +19,8 @@ use Rattle.terminal_model.specs.Screen.{Page, Screen, IsSound}
 abbrev pub place : Page → ℕ → ℕ → Cell
 place page line column = cell_at (line_at page line) column
 
--- New cells over a line, from a column on. The half of a wide character beside them that lost its other half is a blank.
+-- New cells over a line, from a column on. The half of a wide character beside them that lost its
+-- other half is a blank.
 abbrev pub over : List Cell → ℕ → List Cell → ℕ → Cell
 over fresh at old column =
     if nat_le at column && nat_lt column (at + length fresh) then cell_at fresh (column - at)
@@ -33,9 +37,11 @@ over_cursor fresh x line column =
 -- one more mark at a place
 abbrev pub with_mark : ℕ → ℕ → ℕ → Page → ℕ → ℕ → Cell
 with_mark at_line at_column mark page line column =
-    if (line == at_line) && (column == at_column) then marked (place page line column) mark else place page line column
+    if (line == at_line) && (column == at_column) then marked (place page line column) mark
+    else place page line column
 
--- a sound screen on which a printed character goes into the cursor's place: no pending wrap, IRM reset, ASCII through GL, no single shift
+-- a sound screen on which a printed character goes into the cursor's place: no pending wrap, IRM
+-- reset, ASCII through GL, no single shift
 pub record IsPlain (x : Screen) : Type 0 where
   pub sound : IsSound x
   pub none_pending : x.state.is_wrap_pending ≡ false
@@ -48,7 +54,9 @@ abbrev pub narrow_at : Screen → ℕ → List Cell
 narrow_at x c = narrow_cell c x.state.rendition x.state.is_protecting ∷ []
 
 abbrev pub wide_at : Screen → ℕ → List Cell
-wide_at x c = left_cell c x.state.rendition x.state.is_protecting ∷ right_cell c x.state.rendition x.state.is_protecting ∷ []
+wide_at x c =
+    left_cell c x.state.rendition x.state.is_protecting
+    ∷ right_cell c x.state.rendition x.state.is_protecting ∷ []
 
 -- new cells were put at the cursor, the state is this one, and all else stayed
 pub record PutsOver (x : Screen) (fresh : List Cell) (s : State) (y : Screen) : Type 0 where
@@ -57,7 +65,8 @@ pub record PutsOver (x : Screen) (fresh : List Cell) (s : State) (y : Screen) : 
 
 -- a mark joined the cell of a place, and nothing else changed
 pub record PutsMark (x : Screen) (p : Position) (mark : ℕ) (y : Screen) : Type 0 where
-  pub page : (line column : ℕ) → place y.page line column ≡ with_mark p.line p.column mark x.page line column
+  pub page : (line column : ℕ)
+      → place y.page line column ≡ with_mark p.line p.column mark x.page line column
   pub rest : y ≡ record x { page = y.page }
 
 -- the final byte of DECSM and DECRM, of DECKPAM and DECKPNM
@@ -90,4 +99,7 @@ colour_values r = value_of_colour 30 r.fore ++ value_of_colour 40 r.back
 
 abbrev pub rendition_values : Rendition → List ℕ
 rendition_values r =
-    0 ∷ (value_if r.is_bold 1 ++ (value_if r.is_underlined 4 ++ (value_if r.is_blinking 5 ++ (value_if r.is_reversed 7 ++ colour_values r))))
+    0 ∷ (value_if r.is_bold 1
+    ++ (value_if r.is_underlined 4
+    ++ (value_if r.is_blinking 5
+    ++ (value_if r.is_reversed 7 ++ colour_values r))))

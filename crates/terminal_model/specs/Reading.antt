@@ -11,7 +11,8 @@ use Rattle.terminal_model.specs.Screen.{Screen, IsSound}
 use Rattle.terminal_model.specs.Table.{effect}
 use Rattle.terminal_model.specs.Reports.{report}
 
--- A terminal: its screen, the bytes of a character that has begun, and the sequence or string that has begun.
+-- A terminal: its screen, the bytes of a character that has begun, and the sequence or string that
+-- has begun.
 pub record Terminal : Type 0 where
   pub screen : Screen
   pub rest : List ℕ
@@ -43,7 +44,12 @@ nothing_read t = record { terminal = t; reports = []; acts = [] }
 
 -- one reading behind another
 abbrev pub joined : Read → Read → Read
-joined r later = record { terminal = later.terminal; reports = r.reports ++ later.reports; acts = r.acts ++ later.acts }
+joined r later =
+    record {
+      terminal = later.terminal;
+      reports = r.reports ++ later.reports;
+      acts = r.acts ++ later.acts;
+    }
 
 -- a function acts on the screen
 unfoldable pub act : Terminal → Func → Read
@@ -76,7 +82,12 @@ rest_in (b ∷ rest) before after = []
 
 -- what is left in the coding that holds afterwards
 abbrev pub in_coding : Coding → Read → Read
-in_coding before r = record r { terminal = record r.terminal { rest = rest_in r.terminal.rest before r.terminal.screen.state.coding } }
+in_coding before r =
+    record r {
+      terminal = record r.terminal {
+        rest = rest_in r.terminal.rest before r.terminal.screen.state.coding;
+      };
+    }
 
 -- a byte completes the units that what has begun and it give, in the coding of this moment
 unfoldable pub read_byte : Terminal → ℕ → Read

@@ -6,7 +6,9 @@ use Rattle.control_parser.specs.declared.func.Func.{Func}
 use Rattle.control_parser.specs.Spelling.{decimal}
 use Rattle.terminal_model.specs.declared.state.State.{State}
 use Rattle.terminal_model.specs.declared.action.Action.{Action}
-use Rattle.terminal_model.specs.declared.action.Action.TheVariants.{ReportStatus, ReportPlace, ReportPrinter, ReportAttributes, ReportSecondaryAttributes}
+use Rattle.terminal_model.specs.declared.action.Action.TheVariants.{ReportStatus, ReportPlace}
+use Rattle.terminal_model.specs.declared.action.Action.TheVariants.{ReportPrinter, ReportAttributes}
+use Rattle.terminal_model.specs.declared.action.Action.TheVariants.{ReportSecondaryAttributes}
 use Rattle.terminal_model.specs.Screen.{Screen}
 use Rattle.terminal_model.specs.Functions.{actions_of}
 use Rattle.terminal_model.specs.Table.{acted}
@@ -28,13 +30,16 @@ abbrev pub answer : State → Action → List ℕ
 -- DSR, CSI 5 n: CSI 0 n, ready (ECMA-48, 8.3.35)
 answer s ReportStatus = introducer s ++ 0x30 ∷ 0x6E ∷ []
 -- DSR, CSI 6 n: CSI l ; c R, the cursor's place (ECMA-48, 8.3.14)
-answer s ReportPlace = introducer s ++ (decimal (reported_line s) ++ (0x3B ∷ decimal (s.column + 1)) ++ 0x52 ∷ [])
+answer s ReportPlace =
+    introducer s ++ (decimal (reported_line s) ++ (0x3B ∷ decimal (s.column + 1)) ++ 0x52 ∷ [])
 -- DSR, CSI ? 15 n: CSI ? 13 n, no printer (VT220 manual, reports)
 answer s ReportPrinter = introducer s ++ 0x3F ∷ 0x31 ∷ 0x33 ∷ 0x6E ∷ []
--- DA, CSI c: CSI ? 62 ; 6 c, a VT220 with selective erasing (VT220 manual, reports; the numbers are this project's choice)
+-- DA, CSI c: CSI ? 62 ; 6 c, a VT220 with selective erasing (VT220 manual, reports; the numbers are
+-- this project's choice)
 answer s ReportAttributes = introducer s ++ 0x3F ∷ 0x36 ∷ 0x32 ∷ 0x3B ∷ 0x36 ∷ 0x63 ∷ []
 -- DA2, CSI > c: CSI > 1 ; 10 ; 0 c (VT220 manual, reports; the numbers are this project's choice)
-answer s ReportSecondaryAttributes = introducer s ++ 0x3E ∷ 0x31 ∷ 0x3B ∷ 0x31 ∷ 0x30 ∷ 0x3B ∷ 0x30 ∷ 0x63 ∷ []
+answer s ReportSecondaryAttributes =
+    introducer s ++ 0x3E ∷ 0x31 ∷ 0x3B ∷ 0x31 ∷ 0x30 ∷ 0x3B ∷ 0x30 ∷ 0x63 ∷ []
 answer s _ = []
 
 abbrev pub all_answered : Screen → List Action → List ℕ

@@ -22,10 +22,13 @@ wide c = left_cell c plain false ∷ right_cell c plain false ∷ []
 
 -- letters in two colours; a wide character in a foreground
 abbrev pub coloured : Colour → Colour → List ℕ → List Cell
-coloured fore back text = map (λ c. narrow_cell c (record plain { fore = fore; back = back }) false) text
+coloured fore back text =
+    map (λ c. narrow_cell c (record plain { fore = fore; back = back }) false) text
 
 abbrev pub coloured_wide : Colour → ℕ → List Cell
-coloured_wide colour c = left_cell c (record plain { fore = colour }) false ∷ right_cell c (record plain { fore = colour }) false ∷ []
+coloured_wide colour c =
+    left_cell c (record plain { fore = colour }) false
+    ∷ right_cell c (record plain { fore = colour }) false ∷ []
 
 -- what is seen of a screen: its page, and its cursor, from 0
 pub record Seen : Type 0 where
@@ -35,6 +38,10 @@ pub record Seen : Type 0 where
 
 abbrev pub seen : Screen → Seen
 seen x = record { page = x.page; line = x.state.line; column = x.state.column }
+
+-- a page, and the cursor in a line and a column of it
+abbrev pub with_cursor : ℕ → ℕ → Page → Seen
+with_cursor line column page = record { page = page; line = line; column = column }
 
 abbrev pub shown : ℕ → ℕ → List ℕ → Seen
 shown rows columns bytes = seen (fresh_reads rows columns 0 bytes).terminal.screen
@@ -59,7 +66,10 @@ new_line = 0x0D ∷ 0x0A ∷ []
 
 -- two lines leave a window of 2 by 5, the second one after it has become 2 by 3
 abbrev pub narrowed : List Writing
-narrowed = Output (codes "abcde" ++ new_line ++ codes "fg" ++ new_line ++ codes "h") ∷ Size 2 3 ∷ Output (new_line ++ codes "i") ∷ []
+narrowed =
+    Output (codes "abcde" ++ new_line ++ codes "fg" ++ new_line ++ codes "h")
+    ∷ Size 2 3
+    ∷ Output (new_line ++ codes "i") ∷ []
 
 -- a wide character and a letter behind it
 abbrev pub wide_page : Page

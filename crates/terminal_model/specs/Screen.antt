@@ -1,5 +1,6 @@
 -- What a terminal's screen is, and how it starts.
-use Rattle.std.specs.Prelude.{◌≡◌, ℕ, ◌-◌, ◌%◌, ◌==◌, ◌<◌, ◌≤◌, Bool, true, false, not, ◌&&◌, List, [], ◌∷◌, length, map, take, replicate, Option, None, IfSome}
+use Rattle.std.specs.Prelude.{◌≡◌, ℕ, ◌-◌, ◌%◌, ◌==◌, ◌<◌, ◌≤◌, Bool, true, false, not, ◌&&◌, List}
+use Rattle.std.specs.Prelude.{[], ◌∷◌, length, map, take, replicate, Option, None, IfSome}
 use Rattle.std.specs.List.{range_with_len}
 use Rattle.charsets.specs.declared.unit.Coding.TheVariants.{Utf8}
 use Rattle.charsets.specs.Shifts.{starting as starting_shifts}
@@ -14,8 +15,8 @@ use Rattle.terminal_model.specs.declared.state.Saved.{Saved}
 abbrev pub Page : Type 0
 Page = List (List Cell)
 
--- A screen: its state, a tab stop or none for each column, what DECSC saved, its page, and its scrollback: the lines
--- that it keeps, the newest first, and how many it keeps at most.
+-- A screen: its state, a tab stop or none for each column, what DECSC saved, its page, and its
+-- scrollback: the lines that it keeps, the newest first, and how many it keeps at most.
 pub record Screen : Type 0 where
   pub state : State
   pub tabs : List Bool
@@ -28,7 +29,8 @@ pub record Screen : Type 0 where
 abbrev pub taken_in : ℕ → List Cell → Page → Page
 taken_in keep line kept = take keep (line ∷ kept)
 
--- the starting values of the modes: ?7 and ?25 are set, the others are reset, and the keypad is numeric (VT220 manual, chapter 4)
+-- the starting values of the modes: ?7 and ?25 are set, the others are reset, and the keypad is
+-- numeric (VT220 manual, chapter 4)
 abbrev pub starting_modes : Modes
 starting_modes = record {
   inserts = false;
@@ -41,7 +43,8 @@ starting_modes = record {
   has_application_keypad = false;
 }
 
--- the starting values, in UTF-8: the cursor in the first place, no rendition, no protection, ASCII, margins around the whole page
+-- the starting values, in UTF-8: the cursor in the first place, no rendition, no protection, ASCII,
+-- margins around the whole page
 abbrev pub starting_state : ℕ → ℕ → State
 starting_state rows columns = record {
   rows = rows;
@@ -62,7 +65,8 @@ starting_state rows columns = record {
 
 -- each eighth column has a stop, but for the first column (VT220 manual, chapter 4: tab stops)
 abbrev pub starting_tabs : ℕ → List Bool
-starting_tabs columns = map (λ column. not (column == 0) && (column % 8 == 0)) (range_with_len 0 columns)
+starting_tabs columns =
+    map (λ column. not (column == 0) && (column % 8 == 0)) (range_with_len 0 columns)
 
 abbrev pub blank_page : ℕ → ℕ → Page
 blank_page rows columns = replicate rows (replicate columns blank)
@@ -87,8 +91,8 @@ pub record AreKept (columns : ℕ) (kept : Page) : Type 0 where
   pub width : (n : ℕ) → n < length kept → length (line_at kept n) ≡ columns
   pub paired : (n : ℕ) → IsPaired (line_at kept n)
 
--- The page is well formed and has the screen's size; cursor, margins, saved place and joined cell lie on it; the kept lines are
--- as wide, and no more than they may be.
+-- The page is well formed and has the screen's size; cursor, margins, saved place and joined cell
+-- lie on it; the kept lines are as wide, and no more than they may be.
 pub record IsSound (x : Screen) : Type 0 where
   pub size : IsGridSize x.state.rows x.state.columns
   pub sized : IsPage x.state.rows x.state.columns x.page

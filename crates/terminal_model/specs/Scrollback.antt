@@ -1,5 +1,7 @@
--- The lines that leave a page at the top. A scrollback keeps the last ones of them (GNU Screen manual, "Scrollback").
-use Rattle.std.specs.Prelude.{◌≡◌, ℕ, zero, suc, ◌==◌, Bool, false, ◌&&◌, ◌||◌, cond, List, [], ◌∷◌, ◌++◌, map, take, reverse, Option, Some, None}
+-- The lines that leave a page at the top. A scrollback keeps the last ones of them (GNU Screen
+-- manual, "Scrollback").
+use Rattle.std.specs.Prelude.{◌≡◌, ℕ, zero, suc, ◌==◌, Bool, false, ◌&&◌, ◌||◌, cond, List, [], ◌∷◌}
+use Rattle.std.specs.Prelude.{◌++◌, map, take, reverse, Option, Some, None}
 use Rattle.std.specs.List.{flat_map}
 use Rattle.charsets.specs.Shifts.{mapped}
 use Rattle.cells.specs.Page.{line_at}
@@ -7,18 +9,22 @@ use Rattle.cells.specs.Resizing.{line_resized}
 use Rattle.control_parser.specs.declared.func.Func.{Func}
 use Rattle.terminal_model.specs.declared.state.State.{State}
 use Rattle.terminal_model.specs.declared.action.Action.{Action}
-use Rattle.terminal_model.specs.declared.action.Action.TheVariants.{Print, LineFeed, Index, NextLine}
+use Rattle.terminal_model.specs.declared.action.Action.TheVariants.{Print, LineFeed, Index}
+use Rattle.terminal_model.specs.declared.action.Action.TheVariants.{NextLine}
 use Rattle.terminal_model.specs.Screen.{Page, Screen}
 use Rattle.terminal_model.specs.Functions.{actions_of}
 use Rattle.terminal_model.specs.Table.{lacks_room, columns_of, acted}
 use Rattle.terminal_model.specs.Reading.{Terminal, Act}
 use Rattle.terminal_model.specs.Writing.{Writing, Size, writes}
 
--- what index pushes out: the page's first line, where the margins begin with it and the cursor is in their last line
+-- what index pushes out: the page's first line, where the margins begin with it and the cursor is
+-- in their last line
 abbrev pub indexed_out : Screen → Page
-indexed_out x = cond ((x.state.line == x.state.bottom) && (x.state.top == 0)) (line_at x.page 0 ∷ []) []
+indexed_out x =
+    cond ((x.state.line == x.state.bottom) && (x.state.top == 0)) (line_at x.page 0 ∷ []) []
 
--- a character of so many columns goes to the next line first: a wrap was pending, or it is wide and has no room (VT220 manual: DECAWM)
+-- a character of so many columns goes to the next line first: a wrap was pending, or it is wide and
+-- has no room (VT220 manual: DECAWM)
 abbrev pub is_wrapped : ℕ → State → Bool
 is_wrapped zero s = false
 is_wrapped (suc zero) s = s.is_wrap_pending
@@ -47,7 +53,8 @@ lines_out x f = all_acted_out x (actions_of f)
 abbrev pub lines_of : List Act → Page
 lines_of acts = flat_map (λ a. lines_out a.before a.func) acts
 
--- ALL LINES that left while a window wrote, behind those that had left before; a change of size cuts or fills each of them.
+-- ALL LINES that left while a window wrote, behind those that had left before; a change of size
+-- cuts or fills each of them.
 abbrev pub left_by : Page → Terminal → Writing → Page
 left_by lines t (Size rows columns) = map (line_resized columns) lines
 left_by lines t w = lines ++ lines_of (writes t w).acts

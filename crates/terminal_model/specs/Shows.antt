@@ -7,7 +7,8 @@ use Rattle.terminal_model.specs.declared.state.Position.{Position}
 use Rattle.terminal_model.specs.Screen.{Page, Screen, blank_page}
 use Rattle.terminal_model.specs.Reading.{Terminal, IsTerminal, reads}
 
--- what a terminal is to show: cells, the cursor's place, or none where it is hidden, and what its keys are to send
+-- what a terminal is to show: cells, the cursor's place, or none where it is hidden, and what its
+-- keys are to send
 pub record View : Type 0 where
   pub page : Page
   pub cursor : Option Position
@@ -29,9 +30,11 @@ seen_at page line column = unprotected (cell_at (line_at page line) column)
 
 abbrev pub ShowsCursor : Option Position → Screen → Type 0
 ShowsCursor None x = x.state.modes.shows_cursor ≡ false
-ShowsCursor (Some p) x = (x.state.modes.shows_cursor ≡ true) × (x.state.line ≡ p.line) × (x.state.column ≡ p.column)
+ShowsCursor (Some p) x =
+    (x.state.modes.shows_cursor ≡ true) × (x.state.line ≡ p.line) × (x.state.column ≡ p.column)
 
--- the screen shows the view: its size, its cells, which aren't inverted, its cursor and its two modes
+-- the screen shows the view: its size, its cells, which aren't inverted, its cursor and its two
+-- modes
 pub record Shows (v : View) (x : Screen) : Type 0 where
   pub size : IsPage x.state.rows x.state.columns v.page
   pub cells : (line column : ℕ) → seen_at x.page line column ≡ seen_at v.page line column

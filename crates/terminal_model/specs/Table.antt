@@ -1,13 +1,17 @@
--- The screen table: what each action does to a screen (ECMA-48, fifth edition; VT220 Programmer Reference Manual, chapter 4).
--- Lines and columns count from 0. "Own" marks a choice of this project's.
-use Rattle.std.specs.Prelude.{ℕ, zero, suc, ◌+◌, ◌-◌, ◌==◌, min, max, Bool, true, false, not, ◌&&◌, nat_lt, nat_le, cond, List, [], ◌∷◌, length, map, drop, replicate, slice_set, Option, Some, None, option_map}
+-- The screen table: what each action does to a screen (ECMA-48, fifth edition; VT220 Programmer
+-- Reference Manual, chapter 4). Lines and columns count from 0. "Own" marks a choice of this
+-- project's.
+use Rattle.std.specs.Prelude.{ℕ, zero, suc, ◌+◌, ◌-◌, ◌==◌, min, max, Bool, true, false, not, ◌&&◌}
+use Rattle.std.specs.Prelude.{nat_lt, nat_le, cond, List, [], ◌∷◌, length, map, drop, replicate}
+use Rattle.std.specs.Prelude.{slice_set, Option, Some, None, option_map}
 use Rattle.std.specs.List.{prefix_len}
 use Rattle.unicode_width.specs.Width.{char_width}
 use Rattle.charsets.specs.Shifts.{starting as starting_shifts, designated, shifted, mapped, spent}
 use Rattle.cells.specs.declared.cell.Cell.{Cell}
 use Rattle.cells.specs.declared.cell.Rendition.{Rendition}
 use Rattle.cells.specs.Glyph.{glyph_columns}
-use Rattle.cells.specs.Line.{blank, plain, narrow_cell, left_cell, right_cell, spliced, unprotected_erased}
+use Rattle.cells.specs.Line.{blank, plain, narrow_cell, left_cell, right_cell, spliced}
+use Rattle.cells.specs.Line.{unprotected_erased, Source}
 use Rattle.cells.specs.Page.{line_at, Origin, From, page_from, edited, on_line, page_marked}
 use Rattle.cells.specs.Moves.{is_between, scrolled_up, scrolled_down, erased_lines, filled}
 use Rattle.cells.specs.Resizing.{line_resized, page_resized}
@@ -19,16 +23,38 @@ use Rattle.terminal_model.specs.declared.state.Saved.{Saved}
 use Rattle.terminal_model.specs.declared.action.Part.{Part}
 use Rattle.terminal_model.specs.declared.action.Part.TheVariants.{ToEnd, ToStart, All}
 use Rattle.terminal_model.specs.declared.action.Attribute.{Attribute}
-use Rattle.terminal_model.specs.declared.action.Attribute.TheVariants.{Plain, Bold, Underlined, Blinking, Reversed, Foreground, Background}
+use Rattle.terminal_model.specs.declared.action.Attribute.TheVariants.{Plain, Bold, Underlined}
+use Rattle.terminal_model.specs.declared.action.Attribute.TheVariants.{Blinking, Reversed}
+use Rattle.terminal_model.specs.declared.action.Attribute.TheVariants.{Foreground, Background}
 use Rattle.terminal_model.specs.declared.action.Mode.{Mode}
 use Rattle.terminal_model.specs.declared.action.Mode.TheVariants as modes
 use Rattle.terminal_model.specs.declared.action.Action.{Action}
-use Rattle.terminal_model.specs.declared.action.Action.TheVariants.{Print, Backspace, Tab, LineFeed, CarriageReturn, Shift, Designate, SetCoding, Index, NextLine, ReverseIndex, SetTab, Save, Restore, SetEightBitReports, SetApplicationKeypad, Reset, Align, Up, Down, Right, Left, MoveTo, SetMargins, ClearTab, ClearTabs, EraseInPage, EraseInLine, EraseCells, EraseUnprotectedInPage, EraseUnprotectedInLine, InsertCells, DeleteCells, InsertLines, DeleteLines, Protect, Render, SetMode, BlankPage, SoftReset, ReportStatus, ReportPlace, ReportPrinter, ReportAttributes, ReportSecondaryAttributes}
-use Rattle.terminal_model.specs.Screen.{Page, Screen, taken_in, starting_modes, starting_state, starting_tabs, blank_page}
+use Rattle.terminal_model.specs.declared.action.Action.TheVariants.{Print, Backspace, Tab, LineFeed}
+use Rattle.terminal_model.specs.declared.action.Action.TheVariants.{CarriageReturn, Shift}
+use Rattle.terminal_model.specs.declared.action.Action.TheVariants.{Designate, SetCoding, Index}
+use Rattle.terminal_model.specs.declared.action.Action.TheVariants.{NextLine, ReverseIndex, SetTab}
+use Rattle.terminal_model.specs.declared.action.Action.TheVariants.{Save, Restore}
+use Rattle.terminal_model.specs.declared.action.Action.TheVariants.{SetEightBitReports}
+use Rattle.terminal_model.specs.declared.action.Action.TheVariants.{SetApplicationKeypad, Reset}
+use Rattle.terminal_model.specs.declared.action.Action.TheVariants.{Align, Up, Down, Right, Left}
+use Rattle.terminal_model.specs.declared.action.Action.TheVariants.{MoveTo, SetMargins, ClearTab}
+use Rattle.terminal_model.specs.declared.action.Action.TheVariants.{ClearTabs, EraseInPage}
+use Rattle.terminal_model.specs.declared.action.Action.TheVariants.{EraseInLine, EraseCells}
+use Rattle.terminal_model.specs.declared.action.Action.TheVariants.{EraseUnprotectedInPage}
+use Rattle.terminal_model.specs.declared.action.Action.TheVariants.{EraseUnprotectedInLine}
+use Rattle.terminal_model.specs.declared.action.Action.TheVariants.{InsertCells, DeleteCells}
+use Rattle.terminal_model.specs.declared.action.Action.TheVariants.{InsertLines, DeleteLines}
+use Rattle.terminal_model.specs.declared.action.Action.TheVariants.{Protect, Render, SetMode}
+use Rattle.terminal_model.specs.declared.action.Action.TheVariants.{BlankPage, SoftReset}
+use Rattle.terminal_model.specs.declared.action.Action.TheVariants.{ReportStatus, ReportPlace}
+use Rattle.terminal_model.specs.declared.action.Action.TheVariants.{ReportPrinter, ReportAttributes}
+use Rattle.terminal_model.specs.declared.action.Action.TheVariants.{ReportSecondaryAttributes}
+use Rattle.terminal_model.specs.Screen.{Page, Screen, taken_in, starting_modes, starting_state}
+use Rattle.terminal_model.specs.Screen.{starting_tabs, blank_page}
 use Rattle.terminal_model.specs.Functions.{actions_of}
 
--- PENDING WRAP AND JOINING. Every function but print, SGR, the shifts and the designations clears the pending wrap, and every one
--- but print ends the joining of marks (own).
+-- PENDING WRAP AND JOINING. Every function but print, SGR, the shifts and the designations clears
+-- the pending wrap, and every one but print ends the joining of marks (own).
 
 -- no cell that marks join
 abbrev pub apart : State → State
@@ -40,7 +66,8 @@ settled s = record s { is_wrap_pending = false; joining = None }
 
 -- the same, with the cursor at a place
 abbrev pub moved_to : State → ℕ → ℕ → State
-moved_to s line column = record s { line = line; column = column; is_wrap_pending = false; joining = None }
+moved_to s line column =
+    record s { line = line; column = column; is_wrap_pending = false; joining = None }
 
 -- home: the page's first place, or that of the margins with ?6 set
 abbrev pub home : State → State
@@ -49,14 +76,19 @@ home s = moved_to s (cond s.modes.counts_from_margin s.top 0) 0
 abbrev pub whole_margins : State → State
 whole_margins s = record s { top = 0; bottom = s.rows - 1 }
 
+-- the cursor's line is edited, and the others stay
+abbrev pub line_edited : State → (ℕ → Source) → Page → Page
+line_edited s source page = page_from (edited s.line source) page
+
 abbrev pub with_state : Screen → State → Screen
 with_state x s = record x { state = s }
 
 abbrev pub with_page : Screen → State → Page → Screen
 with_page x s page = record x { state = s; page = page }
 
--- INDEX: in the last line of the margins the lines of the margins go up by one, else the cursor goes down within the page. A line
--- that goes out at the first line of the page enters the scrollback (own).
+-- INDEX: in the last line of the margins the lines of the margins go up by one, else the cursor
+-- goes down within the page. A line that goes out at the first line of the page enters the
+-- scrollback (own).
 abbrev pub line_below : State → ℕ
 line_below s = cond (s.line == s.bottom) s.line (min (s.line + 1) (s.rows - 1))
 
@@ -77,7 +109,8 @@ indexed x =
       kept = scrolled_kept ((s.line == s.bottom) && (s.top == 0)) x.keep x.page x.kept;
     }
 
--- REVERSE INDEX: in the first line of the margins the lines of the margins go down by one, else the cursor goes up within the page
+-- REVERSE INDEX: in the first line of the margins the lines of the margins go down by one, else the
+-- cursor goes up within the page
 abbrev pub line_above : State → ℕ
 line_above s = cond (s.line == s.top) s.line (s.line - 1)
 
@@ -92,7 +125,8 @@ reverse_indexed x =
 
 -- PRINT
 
--- the cursor behind so many printed columns; behind the last column the wrap is pending, with ?7 set
+-- the cursor behind so many printed columns; behind the last column the wrap is pending, with ?7
+-- set
 abbrev pub advanced : State → ℕ → State
 advanced s width =
     let fits : Bool = nat_lt (s.column + width) s.columns in
@@ -102,7 +136,8 @@ advanced s width =
       joining = Some (record { line = s.line; column = s.column });
     }
 
--- the column whose old cell follows so many new ones: with IRM set the one that stood at the cursor (ECMA-48, 7.2.10)
+-- the column whose old cell follows so many new ones: with IRM set the one that stood at the cursor
+-- (ECMA-48, 7.2.10)
 abbrev pub following : State → ℕ → ℕ
 following s width = cond s.modes.inserts s.column (s.column + width)
 
@@ -110,13 +145,16 @@ following s width = cond s.modes.inserts s.column (s.column + width)
 abbrev pub placed : List Cell → Screen → Screen
 placed fresh x =
     let s : State = x.state in
-    with_page x (advanced s (length fresh)) (page_from (edited s.line (spliced s.column fresh (following s (length fresh)) s.columns)) x.page)
+    with_page x (advanced s (length fresh))
+    (line_edited s (spliced s.column fresh (following s (length fresh)) s.columns) x.page)
 
 abbrev pub placed_narrow : ℕ → Screen → Screen
 placed_narrow c x = placed (narrow_cell c x.state.rendition x.state.is_protecting ∷ []) x
 
 abbrev pub placed_wide : ℕ → Screen → Screen
-placed_wide c x = placed (left_cell c x.state.rendition x.state.is_protecting ∷ right_cell c x.state.rendition x.state.is_protecting ∷ []) x
+placed_wide c x =
+    placed (left_cell c x.state.rendition x.state.is_protecting
+    ∷ right_cell c x.state.rendition x.state.is_protecting ∷ []) x
 
 -- the wrap: the first column, and index
 abbrev pub wrapped : Bool → Screen → Screen
@@ -138,13 +176,14 @@ widely c x =
     let w : Screen = wrapped (lacks_room x.state && x.state.modes.wraps) x in
     wide_or_none (lacks_room w.state) c w
 
--- a mark joins the cell that was printed last, where nothing came between and it has fewer than two; else it is dropped (Unicode
--- core specification, 5.13)
+-- a mark joins the cell that was printed last, where nothing came between and it has fewer than
+-- two; else it is dropped (Unicode core specification, 5.13)
 abbrev pub marked_at : Option Position → ℕ → Screen → Screen
 marked_at None c x = x
 marked_at (Some p) c x = record x { page = page_marked p.line p.column c x.page }
 
--- a character by its width: 0 is a mark, 2 is wide; a pending wrap is done first (VT220 manual: DECAWM)
+-- a character by its width: 0 is a mark, 2 is wide; a pending wrap is done first (VT220 manual:
+-- DECAWM)
 abbrev pub printed_as : ℕ → ℕ → Screen → Screen
 printed_as zero c x = marked_at x.state.joining c x
 printed_as (suc zero) c x = placed_narrow c (wrapped x.state.is_wrap_pending x)
@@ -170,7 +209,8 @@ printed (Some c) x = printed_as (columns_of c) (drawn c) x
 
 -- the first stop behind a column, else the last column
 abbrev pub next_stop : List Bool → ℕ → ℕ → ℕ
-next_stop tabs columns column = min (column + 1 + prefix_len not (drop (column + 1) tabs)) (columns - 1)
+next_stop tabs columns column =
+    min (column + 1 + prefix_len not (drop (column + 1) tabs)) (columns - 1)
 
 -- SAVED PLACE
 
@@ -203,7 +243,8 @@ saved_or_none (Some p) = p
 
 -- a saved line, on the page, and within the margins where ?6 is then set
 abbrev pub restored_line : State → Saved → ℕ
-restored_line s p = cond p.counts_from_margin (max s.top (min p.line s.bottom)) (min p.line (s.rows - 1))
+restored_line s p =
+    cond p.counts_from_margin (max s.top (min p.line s.bottom)) (min p.line (s.rows - 1))
 
 -- the wrap is pending again only in the last column with ?7 set (own)
 abbrev pub restored : State → Saved → State
@@ -211,7 +252,8 @@ restored s p =
     record s {
       line = restored_line s p;
       column = min p.column (s.columns - 1);
-      is_wrap_pending = p.is_wrap_pending && s.modes.wraps && (min p.column (s.columns - 1) + 1 == s.columns);
+      is_wrap_pending = p.is_wrap_pending && s.modes.wraps
+          && (min p.column (s.columns - 1) + 1 == s.columns);
       rendition = p.rendition;
       is_protecting = p.is_protecting;
       shifts = p.shifts;
@@ -231,7 +273,8 @@ line_down s n = min (s.line + n) (cond (nat_le s.line s.bottom) s.bottom (s.rows
 
 -- a line that is named counts from the margins with ?6 set
 abbrev pub line_named : State → ℕ → ℕ
-line_named s line = cond s.modes.counts_from_margin (min (s.top + line) s.bottom) (min line (s.rows - 1))
+line_named s line =
+    cond s.modes.counts_from_margin (min (s.top + line) s.bottom) (min line (s.rows - 1))
 
 -- MARGINS
 
@@ -270,37 +313,46 @@ end_line All s = s.rows
 
 -- columns of the cursor's line are blank
 abbrev pub line_erased : State → ℕ → ℕ → Page → Page
-line_erased s from end page = page_from (edited s.line (spliced from (replicate (end - from) blank) end s.columns)) page
+line_erased s from end page =
+    line_edited s (spliced from (replicate (end - from) blank) end s.columns) page
 
 abbrev pub part_erased : State → Part → Page → Page
 part_erased s part page = line_erased s (first_column part s) (end_column part s) page
 
 -- the same, but for protected cells
 abbrev pub part_unprotected : State → Part → Page → Page
-part_unprotected s part page = page_from (edited s.line (unprotected_erased (line_at page s.line) (first_column part s) (end_column part s))) page
+part_unprotected s part page =
+    line_edited s
+    (unprotected_erased (line_at page s.line) (first_column part s) (end_column part s)) page
 
 -- lines are blank, but for protected cells
 abbrev pub unprotected_lines : Page → ℕ → ℕ → ℕ → ℕ → ℕ → Origin
 unprotected_lines page columns first end line column =
-    cond (nat_le first line && nat_lt line end) (on_line line (unprotected_erased (line_at page line) 0 columns column)) (From line column)
+    cond (nat_le first line && nat_lt line end)
+    (on_line line (unprotected_erased (line_at page line) 0 columns column))
+    (From line column)
 
 abbrev pub lines_unprotected : State → Part → Page → Page
-lines_unprotected s part page = page_from (unprotected_lines page s.columns (first_line part s) (end_line part s)) page
+lines_unprotected s part page =
+    page_from (unprotected_lines page s.columns (first_line part s) (end_line part s)) page
 
--- INSERTING AND DELETING LINES: within the margins, from the cursor's line to the last one of them; no line enters the scrollback
+-- INSERTING AND DELETING LINES: within the margins, from the cursor's line to the last one of them;
+-- no line enters the scrollback
 abbrev pub is_in_margins : State → Bool
 is_in_margins s = is_between s.top s.bottom s.line
 
 abbrev pub lines_inserted : Bool → ℕ → Screen → Screen
 lines_inserted true n x =
     let s : State = x.state in
-    with_page x (moved_to s s.line 0) (page_from (scrolled_down s.line s.bottom (min n (s.bottom + 1 - s.line))) x.page)
+    with_page x (moved_to s s.line 0)
+    (page_from (scrolled_down s.line s.bottom (min n (s.bottom + 1 - s.line))) x.page)
 lines_inserted false n x = with_state x (settled x.state)
 
 abbrev pub lines_deleted : Bool → ℕ → Screen → Screen
 lines_deleted true n x =
     let s : State = x.state in
-    with_page x (moved_to s s.line 0) (page_from (scrolled_up s.line s.bottom (min n (s.bottom + 1 - s.line))) x.page)
+    with_page x (moved_to s s.line 0)
+    (page_from (scrolled_up s.line s.bottom (min n (s.bottom + 1 - s.line))) x.page)
 lines_deleted false n x = with_state x (settled x.state)
 
 -- RENDITION AND MODES
@@ -354,25 +406,33 @@ softly_reset s =
       rendition = plain;
       is_protecting = false;
       shifts = starting_shifts;
-      modes = record starting_modes { starts_lines = s.modes.starts_lines; is_inverted = s.modes.is_inverted };
+      modes = record starting_modes {
+        starts_lines = s.modes.starts_lines;
+        is_inverted = s.modes.is_inverted;
+      };
     })
 
 -- The table. The first argument is the screen's state.
 unfoldable pub acted_from : State → Screen → Action → Screen
--- print: a graphic unit, through the sets; a single shift is spent (ECMA-35; VT220 manual, chapter 2)
-acted_from s x (Print u) = printed (mapped s.shifts u) (with_state x (record s { shifts = spent s.shifts u }))
+-- print: a graphic unit, through the sets; a single shift is spent (ECMA-35; VT220 manual, chapter
+-- 2)
+acted_from s x (Print u) =
+    printed (mapped s.shifts u) (with_state x (record s { shifts = spent s.shifts u }))
 -- BS, 08 (ECMA-48, 8.3.5)
 acted_from s x Backspace = with_state x (moved_to s s.line (s.column - 1))
 -- HT, 09 (ECMA-48, 8.3.60)
 acted_from s x Tab = with_state x (moved_to s s.line (next_stop x.tabs s.columns s.column))
 -- LF, VT, FF: 0A, 0B, 0C (ECMA-48, 8.3.74; VT220 manual: VT and FF as LF, and LNM)
-acted_from s x LineFeed = indexed (with_state x (moved_to s s.line (cond s.modes.starts_lines 0 s.column)))
+acted_from s x LineFeed =
+    indexed (with_state x (moved_to s s.line (cond s.modes.starts_lines 0 s.column)))
 -- CR, 0D (ECMA-48, 8.3.15)
 acted_from s x CarriageReturn = with_state x (moved_to s s.line 0)
--- SI, SO: 0F, 0E; LS2, LS3: ESC n, o; LS1R, LS2R, LS3R: ESC ~, }, |; SS2, SS3: ESC N, O (ECMA-48, 8.3.75 to 8.3.81, 8.3.141, 8.3.142)
+-- SI, SO: 0F, 0E; LS2, LS3: ESC n, o; LS1R, LS2R, LS3R: ESC ~, }, |; SS2, SS3: ESC N, O (ECMA-48,
+-- 8.3.75 to 8.3.81, 8.3.141, 8.3.142)
 acted_from s x (Shift shift) = with_state x (apart (record s { shifts = shifted s.shifts shift }))
 -- ESC, one of ( ) * +, one of B A 0 < (ECMA-35; VT220 manual: SCS)
-acted_from s x (Designate place set) = with_state x (apart (record s { shifts = designated s.shifts place set }))
+acted_from s x (Designate place set) =
+    with_state x (apart (record s { shifts = designated s.shifts place set }))
 -- ESC % G, ESC % @ (ECMA-35, other coding systems)
 acted_from s x (SetCoding coding) = with_state x (settled (record s { coding = coding }))
 -- IND, ESC D (VT220 manual, cursor positioning)
@@ -383,18 +443,22 @@ acted_from s x NextLine = indexed (with_state x (moved_to s s.line 0))
 acted_from s x ReverseIndex = reverse_indexed x
 -- HTS, ESC H (ECMA-48, 8.3.62)
 acted_from s x SetTab = record x { state = settled s; tabs = slice_set x.tabs s.column true }
--- DECSC, ESC 7 (VT220 manual, cursor positioning); the pending wrap is saved (own), and then cleared
+-- DECSC, ESC 7 (VT220 manual, cursor positioning); the pending wrap is saved (own), and then
+-- cleared
 acted_from s x Save = record x { state = settled s; saved = Some (saved_of s) }
 -- DECRC, ESC 8 (VT220 manual, cursor positioning)
 acted_from s x Restore = with_state x (restored s (saved_or_none x.saved))
 -- S7C1T, ESC SP F; S8C1T, ESC SP G (VT220 manual, C1 control transmission)
-acted_from s x (SetEightBitReports on) = with_state x (settled (record s { has_eight_bit_reports = on }))
+acted_from s x (SetEightBitReports on) =
+    with_state x (settled (record s { has_eight_bit_reports = on }))
 -- DECKPAM, ESC =; DECKPNM, ESC > (VT220 manual, modes)
-acted_from s x (SetApplicationKeypad on) = with_state x (settled (record s { modes = record s.modes { has_application_keypad = on } }))
+acted_from s x (SetApplicationKeypad on) =
+    with_state x (settled (record s { modes = record s.modes { has_application_keypad = on } }))
 -- RIS, ESC c (ECMA-48, 8.3.105)
 acted_from s x Reset = reset x
 -- DECALN, ESC # 8 (VT220 manual, tests): every cell is an E
-acted_from s x Align = with_page x (home (whole_margins s)) (page_from (filled (narrow_cell 0x45 plain false)) x.page)
+acted_from s x Align =
+    with_page x (home (whole_margins s)) (page_from (filled (narrow_cell 0x45 plain false)) x.page)
 -- CUU, CSI n A (ECMA-48, 8.3.22)
 acted_from s x (Up n) = with_state x (moved_to s (line_up s n) s.column)
 -- CUD, CSI n B (ECMA-48, 8.3.19)
@@ -404,27 +468,40 @@ acted_from s x (Right n) = with_state x (moved_to s s.line (min (s.column + n) (
 -- CUB, CSI n D (ECMA-48, 8.3.18)
 acted_from s x (Left n) = with_state x (moved_to s s.line (s.column - n))
 -- CUP, CSI l ; c H (ECMA-48, 8.3.21); HVP, CSI l ; c f (8.3.63)
-acted_from s x (MoveTo line column) = with_state x (moved_to s (line_named s line) (min column (s.columns - 1)))
+acted_from s x (MoveTo line column) =
+    with_state x (moved_to s (line_named s line) (min column (s.columns - 1)))
 -- DECSTBM, CSI t ; b r (VT220 manual, scrolling margins)
-acted_from s x (SetMargins top bottom) = with_state x (margins_or_none (nat_lt top (bottom_of s.rows bottom)) top (bottom_of s.rows bottom) s)
+acted_from s x (SetMargins top bottom) =
+    with_state x
+    (margins_or_none (nat_lt top (bottom_of s.rows bottom)) top (bottom_of s.rows bottom) s)
 -- TBC, CSI g (ECMA-48, 8.3.154)
 acted_from s x ClearTab = record x { state = settled s; tabs = slice_set x.tabs s.column false }
 -- TBC, CSI 3 g
 acted_from s x ClearTabs = record x { state = settled s; tabs = replicate s.columns false }
 -- ED, CSI n J (ECMA-48, 8.3.39): in the cursor's line as EL, and then the other lines
-acted_from s x (EraseInPage part) = with_page x (settled s) (page_from (erased_lines (first_line part s) (end_line part s)) (part_erased s part x.page))
+acted_from s x (EraseInPage part) =
+    with_page x (settled s)
+    (page_from (erased_lines (first_line part s) (end_line part s)) (part_erased s part x.page))
 -- EL, CSI n K (ECMA-48, 8.3.41)
 acted_from s x (EraseInLine part) = with_page x (settled s) (part_erased s part x.page)
 -- ECH, CSI n X (ECMA-48, 8.3.38): within the line
-acted_from s x (EraseCells n) = with_page x (settled s) (line_erased s s.column (min (s.column + n) s.columns) x.page)
+acted_from s x (EraseCells n) =
+    with_page x (settled s) (line_erased s s.column (min (s.column + n) s.columns) x.page)
 -- DECSED, CSI ? n J (VT220 manual, erasing)
-acted_from s x (EraseUnprotectedInPage part) = with_page x (settled s) (lines_unprotected s part (part_unprotected s part x.page))
+acted_from s x (EraseUnprotectedInPage part) =
+    with_page x (settled s) (lines_unprotected s part (part_unprotected s part x.page))
 -- DECSEL, CSI ? n K (VT220 manual, erasing)
-acted_from s x (EraseUnprotectedInLine part) = with_page x (settled s) (part_unprotected s part x.page)
+acted_from s x (EraseUnprotectedInLine part) =
+    with_page x (settled s) (part_unprotected s part x.page)
 -- ICH, CSI n @ (ECMA-48, 8.3.64): as many blanks come in as there is room for
-acted_from s x (InsertCells n) = with_page x (settled s) (page_from (edited s.line (spliced s.column (replicate (min n (s.columns - s.column)) blank) s.column s.columns)) x.page)
+acted_from s x (InsertCells n) =
+    with_page x (settled s)
+    (line_edited s
+    (spliced s.column (replicate (min n (s.columns - s.column)) blank) s.column s.columns) x.page)
 -- DCH, CSI n P (ECMA-48, 8.3.26): as many cells go out as there are
-acted_from s x (DeleteCells n) = with_page x (settled s) (page_from (edited s.line (spliced s.column [] (min (s.column + n) s.columns) s.columns)) x.page)
+acted_from s x (DeleteCells n) =
+    with_page x (settled s)
+    (line_edited s (spliced s.column [] (min (s.column + n) s.columns) s.columns) x.page)
 -- IL, CSI n L (ECMA-48, 8.3.67)
 acted_from s x (InsertLines n) = lines_inserted (is_in_margins s) n x
 -- DL, CSI n M (ECMA-48, 8.3.32)
@@ -432,14 +509,18 @@ acted_from s x (DeleteLines n) = lines_deleted (is_in_margins s) n x
 -- DECSCA, CSI Ps " q (VT220 manual, character attributes)
 acted_from s x (Protect on) = with_state x (settled (record s { is_protecting = on }))
 -- SGR, CSI .. m (ECMA-48, 8.3.117)
-acted_from s x (Render attribute) = with_state x (apart (record s { rendition = rendition_with s.rendition attribute }))
--- SM, CSI .. h (ECMA-48, 8.3.125); RM, CSI .. l (8.3.106); DECSM, CSI ? .. h; DECRM, CSI ? .. l (VT220 manual, modes)
-acted_from s x (SetMode mode on) = with_state x (homed mode (record s { modes = modes_with s.modes mode on }))
+acted_from s x (Render attribute) =
+    with_state x (apart (record s { rendition = rendition_with s.rendition attribute }))
+-- SM, CSI .. h (ECMA-48, 8.3.125); RM, CSI .. l (8.3.106); DECSM, CSI ? .. h; DECRM, CSI ? .. l
+-- (VT220 manual, modes)
+acted_from s x (SetMode mode on) =
+    with_state x (homed mode (record s { modes = modes_with s.modes mode on }))
 -- the value ?3 of DECSM and DECRM: the page is cleared, and its width stays (own)
 acted_from s x BlankPage = cleared x
 -- DECSTR, CSI ! p (VT220 manual, terminal reset)
 acted_from s x SoftReset = record x { state = softly_reset s; saved = None }
--- DSR, CSI 5 n, CSI 6 n (ECMA-48, 8.3.35), CSI ? 15 n; DA, CSI c (8.3.24), CSI > c (VT220 manual, reports)
+-- DSR, CSI 5 n, CSI 6 n (ECMA-48, 8.3.35), CSI ? 15 n; DA, CSI c (8.3.24), CSI > c (VT220 manual,
+-- reports)
 acted_from s x ReportStatus = with_state x (settled s)
 acted_from s x ReportPlace = with_state x (settled s)
 acted_from s x ReportPrinter = with_state x (settled s)
@@ -457,10 +538,12 @@ all_acted x (a ∷ later) = all_acted (acted x a) later
 abbrev pub effect : Screen → Func → Screen
 effect x f = all_acted x (actions_of f)
 
--- A CHANGE OF SIZE keeps the upper left part, of the kept lines too; the cursor and the saved place go to the nearest place; margins
--- and tab stops start anew; no wrap is pending, and no cell is joined (own).
+-- A CHANGE OF SIZE keeps the upper left part, of the kept lines too; the cursor and the saved place
+-- go to the nearest place; margins and tab stops start anew; no wrap is pending, and no cell is
+-- joined (own).
 abbrev pub saved_resized : ℕ → ℕ → Saved → Saved
-saved_resized rows columns p = record p { line = min p.line (rows - 1); column = min p.column (columns - 1) }
+saved_resized rows columns p =
+    record p { line = min p.line (rows - 1); column = min p.column (columns - 1) }
 
 unfoldable pub resized : ℕ → ℕ → Screen → Screen
 resized rows columns x =

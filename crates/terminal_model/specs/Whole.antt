@@ -1,5 +1,6 @@
 -- Reading as a whole: the functions of all units of all bytes.
 use Rattle.std.specs.Prelude.{◌≡◌, ℕ, List, ◌++◌, map}
+use Rattle.std.specs.List.{AllByRecursion}
 use Rattle.charsets.specs.Units.{units}
 use Rattle.control_parser.specs.declared.func.Func.{Func}
 use Rattle.control_parser.specs.Grammar.{Rest, functions}
@@ -7,10 +8,11 @@ use Rattle.control_parser.specs.Kept.{opening}
 use Rattle.terminal_model.specs.Table.{effect}
 use Rattle.terminal_model.specs.Reading.{Terminal, Act, reads}
 
--- The functions of the units of some bytes, behind what a terminal has begun of a character, sequence or string, and what is
--- unended then.
+-- The functions of the units of some bytes, behind what a terminal has begun of a character,
+-- sequence or string, and what is unended then.
 abbrev pub functions_of_bytes : Terminal → List ℕ → List Func × Rest
-functions_of_bytes t bytes = functions (opening t.unended ++ (units t.screen.state.coding (t.rest ++ bytes)).0)
+functions_of_bytes t bytes =
+    functions (opening t.unended ++ (units t.screen.state.coding (t.rest ++ bytes)).0)
 
 -- the functions that acted
 abbrev pub acted_functions : List Act → List Func
@@ -20,7 +22,12 @@ acted_functions acts = map (λ a. a.func) acts
 abbrev pub KeepsCoding : Act → Type 0
 KeepsCoding a = (effect a.before a.func).state.coding ≡ a.before.state.coding
 
--- The bytes were read as a whole: what acted are their functions, and what has begun is what they leave.
+-- so it is with each one that acts while these bytes are read
+abbrev pub KeepsCodingIn : Terminal → List ℕ → Type 0
+KeepsCodingIn t bytes = AllByRecursion KeepsCoding (reads t bytes).acts
+
+-- The bytes were read as a whole: what acted are their functions, and what has begun is what they
+-- leave.
 pub record IsWhole (t : Terminal) (bytes : List ℕ) : Type 0 where
   pub functions_are : acted_functions (reads t bytes).acts ≡ (functions_of_bytes t bytes).0
   pub unended_is : (reads t bytes).terminal.unended ≡ (functions_of_bytes t bytes).1

@@ -3,7 +3,8 @@
 use cells::Colour;
 use charsets::{CharacterSet, Coding, Place, Shift, Unit};
 
-/// Which part of a line or of the page an erasure takes: from the cursor on, up to the cursor, or all.
+/// Which part of a line or of the page an erasure takes: from the cursor on, up to the cursor, or
+/// all.
 #[derive(Clone, Copy, Debug)]
 pub enum Part {
     ToEnd,
@@ -42,9 +43,9 @@ pub enum Mode {
     Cursor,
 }
 
-/// What a control function does to a terminal. Most functions are one action; SGR, SM, RM, DECSM and DECRM are
-/// one for each of their values that is named; what is ignored is none. Lines and columns count from 0, and
-/// counts are at least 1.
+/// What a control function does to a terminal. Most functions are one action; SGR, SM, RM, DECSM
+/// and DECRM are one for each of their values that is named; what is ignored is none. Lines and
+/// columns count from 0, and counts are at least 1.
 #[derive(Clone, Copy, Debug)]
 pub enum Action {
     /// A graphic unit, before the sets.

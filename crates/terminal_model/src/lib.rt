@@ -1,6 +1,6 @@
-//! A VT220 as this project means it: what a terminal is, what each control function does to it, how it reads
-//! bytes, and when it shows a view. The definitions stand in `specs/`; here are the plain types that code and
-//! definitions share, and the laws.
+//! A VT220 as this project means it: what a terminal is, what each control function does to it, how
+//! it reads bytes, and when it shows a view. The definitions stand in `specs/`; here are the plain
+//! types that code and definitions share, and the laws.
 #![tactic(auto)]
 
 mod action;

@@ -10,7 +10,8 @@ pub struct Position {
     pub column: usize,
 }
 
-/// The modes that SM, RM, DECSM, DECRM, DECKPAM and DECKPNM set and reset (VT220 manual, chapter 4, "Modes").
+/// The modes that SM, RM, DECSM, DECRM, DECKPAM and DECKPNM set and reset (VT220 manual, chapter 4,
+/// "Modes").
 #[derive(Clone, Copy, Debug)]
 pub struct Modes {
     /// IRM: what is printed moves the cells behind it.

@@ -1,5 +1,5 @@
 -- A screen, and where its lines are stored.
-use Rattle.std.specs.Prelude.{ℕ, List, [], ◌∷◌}
+use Rattle.std.specs.Prelude.{◌≡◌, ℕ, List, [], ◌∷◌}
 use Rattle.control_parser.specs.declared.func.Func.{Func}
 use Rattle.terminal_model.specs.Screen.{Screen}
 use Rattle.terminal_model.specs.Functions.{actions_of}
@@ -14,6 +14,10 @@ pub record Stored : Type 0 where
 -- the places after a control function: the lines that it scrolls go round, and no other line moves
 abbrev pub effect_places : Screen → Func → List ℕ → List ℕ
 effect_places x f places = all_acted_places x (actions_of f) places
+
+-- a control function moved the places so
+abbrev pub MovesPlaces : Stored → Func → Stored → Type 0
+MovesPlaces old f new = new.places ≡ effect_places old.screen f old.places
 
 -- the places after functions that act one after another
 abbrev pub effects_places : Screen → List Func → List ℕ → List ℕ

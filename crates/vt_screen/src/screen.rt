@@ -1,6 +1,7 @@
 //! A screen.
 
-ghost use Rattle.std.specs.Prelude.{◌≡◌, ℕ, ◌<◌, ◌≤◌, ◌↔◌, true, Err, IfOk, OnOk, OnErr, [], false, IsTrue, length, map, option_copied, slice_get, slice_index};
+ghost use Rattle.std.specs.Prelude.{◌≡◌, ℕ, ◌<◌, ◌≤◌, ◌↔◌, true, Err, IfOk, OnOk, OnErr, [], false};
+ghost use Rattle.std.specs.Prelude.{IsTrue, length, map, option_copied, slice_get, slice_index};
 ghost use Rattle.std.specs.List.{list_all, range_with_len};
 ghost use Rattle.charsets.specs.Units.{is_plain};
 ghost use Rattle.control_parser.specs.declared.func.Func.TheVariants.{Control, Esc, Print};
@@ -11,7 +12,7 @@ ghost use Rattle.terminal_model.specs.Table.{effect, resized};
 ghost use Rattle.terminal_model.specs.Reports.{report};
 ghost use Rattle.vt_screen_rows.specs.Runs.{PrintsAscii};
 ghost use Rattle.vt_screen.specs.Effects.{effects};
-ghost use Rattle.vt_screen.specs.Stored.{effect_places, effects_places};
+ghost use Rattle.vt_screen.specs.Stored.{MovesPlaces, effects_places};
 ghost use Rattle.vt_screen.specs.Sizes.{IsScreenSize};
 
 use cells::{Cell, GridFault};
@@ -23,8 +24,8 @@ use terminal_model::{MAX_KEEP, Modes, Report};
 use vt_screen_actions::{acts_of, control_action, plain_escape_action};
 use vt_screen_rows::{Display, prints_ascii};
 
-/// The screen of a VT220: its page with all that control functions change, and its scrollback. Lines and columns count
-/// from 0. Only `new` and changes of size take memory.
+/// The screen of a VT220: its page with all that control functions change, and its scrollback.
+/// Lines and columns count from 0. Only `new` and changes of size take memory.
 #[derive(Drop)]
 pub struct Screen {
     display: Display,
@@ -42,8 +43,8 @@ impl Model for Screen {
 }
 
 impl Screen {
-    /// A screen as it starts, which keeps at most `keep` of the lines that scroll off its page. It is `BadSize` outside 2
-    /// to 200 lines by 2 to 300 columns, and above 2,000 lines to keep.
+    /// A screen as it starts, which keeps at most `keep` of the lines that scroll off its page. It
+    /// is `BadSize` outside 2 to 200 lines by 2 to 300 columns, and above 2,000 lines to keep.
     pub fn new(alloc: Global, rows: usize, cols: usize, keep: usize) -> Result<Screen, GridFault>
         ensures ok { IfOk result (λ screen. screen.screen ≡ starting rows cols keep) }
         ensures places { IfOk result (λ screen. screen.places ≡ range_with_len 0 rows) }
@@ -57,28 +58,33 @@ impl Screen {
         Ok(Screen { display })
     }
 
-    /// Does a control function, as the screen table says, and gives what is answered. It takes no memory.
+    /// Does a control function, as the screen table says, and gives what is answered. It takes no
+    /// memory.
     pub fn apply(&mut self, func: &Func) -> Report
         ensures effect { self.new.screen ≡ effect self.old.screen func.now }
-        ensures places { self.new.places ≡ effect_places self.old.screen func.now self.old.places }
+        ensures places { MovesPlaces self.old func.now self.new }
         ensures report { result ≡ report self.old.screen func.now }
         ensures few { length result ≤ 12 }
     {
         self.display.perform(acts_of(func))
     }
 
-    /// Whether characters 20 to 7E are printed as themselves: GL is ASCII, and no single shift waits.
+    /// Whether characters 20 to 7E are printed as themselves: GL is ASCII, and no single shift
+    /// waits.
     pub fn prints_ascii(&self) -> bool
         ensures { IsTrue result ↔ PrintsAscii self.now.screen.state }
     {
         prints_ascii(&self.display.state)
     }
 
-    /// Prints characters 20 to 7E, one after another: `codes` has their code points. It takes no memory.
+    /// Prints characters 20 to 7E, one after another: `codes` has their code points. It takes no
+    /// memory.
     pub fn print_run(&mut self, codes: &[u8])
         requires { list_all is_plain codes.now ≡ true }
-        ensures effect { self.new.screen ≡ effects self.old.screen (map (λ code. Print code) codes.now) }
-        ensures places { self.new.places ≡ effects_places self.old.screen (map (λ code. Print code) codes.now) self.old.places }
+        ensures effect { self.new.screen
+            ≡ effects self.old.screen (map (λ code. Print code) codes.now) }
+        ensures places { self.new.places
+            ≡ effects_places self.old.screen (map (λ code. Print code) codes.now) self.old.places }
     {
         self.display.print_run(codes);
     }
@@ -86,7 +92,7 @@ impl Screen {
     /// Prints a character from 20 to 7E or from A0 on, as `apply` of it; nothing is answered.
     pub fn print(&mut self, character: char)
         ensures effect { self.new.screen ≡ effect self.old.screen (Print character) }
-        ensures places { self.new.places ≡ effect_places self.old.screen (Print character) self.old.places }
+        ensures places { MovesPlaces self.old (Print character) self.new }
         ensures silent { report self.old.screen (Print character) ≡ [] }
     {
         self.display.print_code(character);
@@ -95,28 +101,30 @@ impl Screen {
     /// Does a C0 control, as `apply` of it; nothing is answered.
     pub fn control(&mut self, control: u8)
         ensures effect { self.new.screen ≡ effect self.old.screen (Control control) }
-        ensures places { self.new.places ≡ effect_places self.old.screen (Control control) self.old.places }
+        ensures places { MovesPlaces self.old (Control control) self.new }
         ensures silent { report self.old.screen (Control control) ≡ [] }
     {
         self.display.perform_silently(control_action(control));
     }
 
-    /// Does the escape sequence that has no intermediate and this final byte, as `apply` of it; nothing is answered.
+    /// Does the escape sequence that has no intermediate and this final byte, as `apply` of it;
+    /// nothing is answered.
     pub fn escape(&mut self, last: u8)
         ensures effect { self.new.screen ≡ effect self.old.screen (Esc [] last) }
-        ensures places { self.new.places ≡ effect_places self.old.screen (Esc [] last) self.old.places }
+        ensures places { MovesPlaces self.old (Esc [] last) self.new }
         ensures silent { report self.old.screen (Esc [] last) ≡ [] }
     {
         self.display.perform_silently(plain_escape_action(last));
     }
 
-    /// Does a control sequence that isn't answered, as `apply` of it. It gives false where it is answered, and has done nothing
-    /// then.
+    /// Does a control sequence that isn't answered, as `apply` of it. It gives false where it is
+    /// answered, and has done nothing then.
     pub fn sequence(&mut self, sequence: &Sequence) -> bool
         ensures effect { IsTrue result → self.new.screen ≡ effect self.old.screen sequence.now }
-        ensures places { IsTrue result → self.new.places ≡ effect_places self.old.screen sequence.now self.old.places }
+        ensures places { IsTrue result → MovesPlaces self.old sequence.now self.new }
         ensures silent { IsTrue result → report self.old.screen sequence.now ≡ [] }
-        ensures coding { IsTrue result → self.new.screen.state.coding ≡ self.old.screen.state.coding }
+        ensures coding { IsTrue result
+            → self.new.screen.state.coding ≡ self.old.screen.state.coding }
         ensures undone { result ≡ false → self.new ≡ self.old }
     {
         let (mark, params, intermediates, last) = sequence.parts();
@@ -124,9 +132,10 @@ impl Screen {
             .perform_sequence(mark, params, intermediates, last)
     }
 
-    /// Takes another size. It keeps the upper left part, of the kept lines too; the cursor and the saved place go to the
-    /// nearest place, no wrap is pending, and margins and tab stops start anew. It is `BadSize` outside 2 to 200 lines by
-    /// 2 to 300 columns; a refusal leaves everything as it was.
+    /// Takes another size. It keeps the upper left part, of the kept lines too; the cursor and the
+    /// saved place go to the nearest place, no wrap is pending, and margins and tab stops start
+    /// anew. It is `BadSize` outside 2 to 200 lines by 2 to 300 columns; a refusal leaves
+    /// everything as it was.
     pub fn resized(&mut self, rows: usize, cols: usize) -> Result<(), GridFault>
         ensures ok { OnOk result (self.new.screen ≡ resized rows cols self.old.screen) }
         ensures places { OnOk result (self.new.places ≡ range_with_len 0 rows) }
@@ -162,12 +171,13 @@ impl Screen {
         self.display.page.row(line)
     }
 
-    /// The stored line that holds a line of the page: one for each. Under index, RI, IL and DL each line that stays keeps its
-    /// stored line.
+    /// The stored line that holds a line of the page: one for each. Under index, RI, IL and DL each
+    /// line that stays keeps its stored line.
     pub fn place(&self, line: usize) -> usize
         requires { line < self.now.screen.state.rows }
         ensures value { result ≡ slice_index self.now.places line }
-        ensures alone { (other : ℕ) → other < self.now.screen.state.rows → slice_index self.now.places other ≡ result → other ≡ line }
+        ensures alone { (other : ℕ) → other < self.now.screen.state.rows
+            → slice_index self.now.places other ≡ result → other ≡ line }
     {
         self.display.page.place(line)
     }

@@ -1,7 +1,8 @@
 -- Counts are at least 1.
 use Rattle.std.specs.Prelude.{ℕ, ◌<◌}
 use Rattle.terminal_model.specs.declared.action.Action.{Action}
-use Rattle.terminal_model.specs.declared.action.Action.TheVariants.{EraseCells, InsertCells, DeleteCells}
+use Rattle.terminal_model.specs.declared.action.Action.TheVariants.{EraseCells, InsertCells}
+use Rattle.terminal_model.specs.declared.action.Action.TheVariants.{DeleteCells}
 use Rattle.vt_screen_actions.specs.declared.acts.Acts.{Acts}
 use Rattle.vt_screen_actions.specs.declared.acts.Acts.TheVariants.{Nothing, One, Each}
 

@@ -3,7 +3,8 @@ use Rattle.std.specs.Prelude.{ℕ, Option}
 use Rattle.terminal_model.specs.declared.action.Action.{Action}
 use Rattle.terminal_model.specs.Functions.{rendered, mode_set, private_mode_set}
 use Rattle.vt_screen_actions.specs.declared.values.Setting.{Setting}
-use Rattle.vt_screen_actions.specs.declared.values.Setting.TheVariants.{Rendition, Mode, PrivateMode}
+use Rattle.vt_screen_actions.specs.declared.values.Setting.TheVariants.{Rendition, Mode}
+use Rattle.vt_screen_actions.specs.declared.values.Setting.TheVariants.{PrivateMode}
 
 -- one value
 abbrev pub meaning : Setting → ℕ → Option Action

@@ -1,14 +1,17 @@
 //! C0 controls and escape sequences.
 
 ghost use Rattle.std.specs.Prelude.{◌≡◌, IfSome};
-ghost use Rattle.terminal_model.specs.Functions.{alone, control_action, designated_set, designation, escape_action, escape_actions, intermediate_action};
+ghost use Rattle.terminal_model.specs.Functions.{alone, control_action, designated_set};
+ghost use Rattle.terminal_model.specs.Functions.{designation, escape_action, escape_actions};
+ghost use Rattle.terminal_model.specs.Functions.{intermediate_action};
 ghost use Rattle.vt_screen_actions.specs.Counted.{IsCounted};
 ghost use Rattle.vt_screen_actions.specs.Silent.{IsSilent};
 
 use charsets::{CharacterSet, Coding, Place, Shift};
 use terminal_model::Action;
 
-/// The action of a C0 control (ECMA-48, 8.3; VT220 Programmer Reference Manual, chapter 2); None where it is ignored.
+/// The action of a C0 control (ECMA-48, 8.3; VT220 Programmer Reference Manual, chapter 2); None
+/// where it is ignored.
 #[inline(always)]
 pub fn control_action(control: u8) -> Option<Action>
     ensures value { result ≡ control_action control }
@@ -38,7 +41,8 @@ pub fn escape_action(intermediates: &[u8], last: u8) -> Option<Action>
     }
 }
 
-/// The action of ESC and a final byte (ECMA-48, 8.3; VT220 Programmer Reference Manual, chapter 4); None where it is ignored.
+/// The action of ESC and a final byte (ECMA-48, 8.3; VT220 Programmer Reference Manual, chapter 4);
+/// None where it is ignored.
 #[inline(always)]
 pub fn plain_escape_action(last: u8) -> Option<Action>
     ensures value { result ≡ escape_action last }

@@ -1,7 +1,10 @@
 //! Control sequences.
 
 ghost use Rattle.std.specs.Prelude.{◌≡◌, ◌-◌, IfSome, slice_index_or};
-ghost use Rattle.terminal_model.specs.Functions.{alone, between_sequence, count, last_line, part_of, plain_sequence, private_sequence, protection, sequence_actions, status_reported, tab_cleared};
+ghost use Rattle.terminal_model.specs.Functions.{alone, between_sequence, count, last_line};
+ghost use Rattle.terminal_model.specs.Functions.{part_of, plain_sequence, private_sequence};
+ghost use Rattle.terminal_model.specs.Functions.{protection, sequence_actions, status_reported};
+ghost use Rattle.terminal_model.specs.Functions.{tab_cleared};
 ghost use Rattle.vt_screen_actions.specs.Acting.{actions_in};
 ghost use Rattle.vt_screen_actions.specs.Counted.{AreCounted, IsCounted};
 
@@ -134,7 +137,8 @@ fn part(params: &[u16]) -> Option<Part>
 
 /// DECSTBM (VT220 Programmer Reference Manual): absent or 0 are the first line and the last one.
 fn margins(params: &[u16]) -> Action
-    ensures { result ≡ Action.SetMargins (slice_index_or params.now 0 0 - 1) (last_line (slice_index_or params.now 1 0)) }
+    ensures { result ≡ Action.SetMargins (slice_index_or params.now 0 0 - 1)
+        (last_line (slice_index_or params.now 1 0)) }
 {
     let bottom = match value(params, 1) {
         0 => None,

@@ -1,5 +1,6 @@
 -- The lines of a page lie in a store in any order: the places say where each line of the page is.
-use Rattle.std.specs.Prelude.{◌≡◌, ◌≢◌, ℕ, ◌+◌, ◌-◌, ◌<◌, ◌≤◌, cond, nat_le, List, map, length, replicate, slice_index}
+use Rattle.std.specs.Prelude.{◌≡◌, ◌≢◌, ℕ, ◌+◌, ◌-◌, ◌<◌, ◌≤◌, cond, nat_le, List, map, length}
+use Rattle.std.specs.Prelude.{replicate, slice_index}
 use Rattle.std.specs.List.{range_with_len}
 use Rattle.cells.specs.declared.cell.Cell.{Cell}
 use Rattle.cells.specs.Moves.{is_between}
@@ -15,18 +16,28 @@ pub record Placed : Type 0 where
   pub lines : List (List Cell)
   pub places : List ℕ
 
--- the place that a line's place was before: those from top to bottom went round, the first count of them come last
+-- so many lines, stored in their order
+abbrev pub placed_in_order : ℕ → List (List Cell) → Placed
+placed_in_order rows lines = record { lines = lines; places = range_with_len 0 rows }
+
+-- the place that a line's place was before: those from top to bottom went round, the first count of
+-- them come last
 abbrev pub turned_from : ℕ → ℕ → ℕ → ℕ → ℕ
 turned_from top bottom count line =
-    cond (is_between top bottom line) (cond (nat_le (line + count) bottom) (line + count) (line + count - (bottom + 1 - top))) line
+    cond (is_between top bottom line)
+    (cond (nat_le (line + count) bottom) (line + count) (line + count - (bottom + 1 - top)))
+    line
 
 abbrev pub turned : ℕ → ℕ → ℕ → List ℕ → List ℕ
-turned top bottom count places = map (λ line. slice_index places (turned_from top bottom count line)) (range_with_len 0 (length places))
+turned top bottom count places =
+    map (λ line. slice_index places (turned_from top bottom count line))
+    (range_with_len 0 (length places))
 
 -- places in the store, no two alike
 pub record ArePlaces (size : ℕ) (places : List ℕ) : Type 0 where
   pub inside : (k : ℕ) → k < length places → slice_index places k < size
-  pub apart : (k j : ℕ) → k < length places → j < length places → slice_index places k ≡ slice_index places j → k ≡ j
+  pub apart : (k j : ℕ) → k < length places → j < length places
+      → slice_index places k ≡ slice_index places j → k ≡ j
 
 -- a store whose lines make a grid in the order of their places
 pub record IsStore (stored : List (List Cell)) (places : List ℕ) : Type 0 where
@@ -37,13 +48,18 @@ pub record IsStore (stored : List (List Cell)) (places : List ℕ) : Type 0 wher
 pub record IsTurned (top bottom count : ℕ) (old new : List ℕ) : Type 0 where
   pub size : length new ≡ length old
   pub above : (k : ℕ) → k < top → slice_index new k ≡ slice_index old k
-  pub risen : (k : ℕ) → top ≤ k → k + count ≤ bottom → slice_index new k ≡ slice_index old (k + count)
-  pub last : (k : ℕ) → top ≤ k → k ≤ bottom → bottom < k + count → slice_index new k ≡ slice_index old (k + count - (bottom + 1 - top))
+  pub risen : (k : ℕ) → top ≤ k → k + count ≤ bottom
+      → slice_index new k ≡ slice_index old (k + count)
+  pub last : (k : ℕ) → top ≤ k → k ≤ bottom → bottom < k + count
+      → slice_index new k ≡ slice_index old (k + count - (bottom + 1 - top))
   pub below : (k : ℕ) → bottom < k → slice_index new k ≡ slice_index old k
 
 -- the lines at the places are blank, and the others as they were
 pub record AreCleared (old new : List (List Cell)) (places : List ℕ) : Type 0 where
   pub size : length new ≡ length old
   pub width : (place : ℕ) → length (line_at new place) ≡ length (line_at old place)
-  pub cleared : (k : ℕ) → k < length places → line_at new (slice_index places k) ≡ replicate (length (line_at old (slice_index places k))) blank
-  pub others : (place : ℕ) → ((k : ℕ) → k < length places → slice_index places k ≢ place) → line_at new place ≡ line_at old place
+  pub cleared : (k : ℕ) → k < length places
+      → line_at new (slice_index places k)
+      ≡ replicate (length (line_at old (slice_index places k))) blank
+  pub others : (place : ℕ) → ((k : ℕ) → k < length places → slice_index places k ≢ place)
+      → line_at new place ≡ line_at old place

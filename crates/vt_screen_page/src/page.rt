@@ -1,13 +1,14 @@
 //! The page of a screen.
 
-ghost use Rattle.std.specs.Prelude.{◌≡◌, ℕ, ◌+◌, ◌-◌, ◌<◌, ◌≤◌, ◌↔◌, [], ◌∷◌, length, replicate, IfOk, OnOk, OnErr, Err, IsTrue, slice_index};
-ghost use Rattle.std.specs.List.{range_with_len};
-ghost use Rattle.cells.specs.Line.{blank, spliced, unprotected_erased, narrow_cells};
-ghost use Rattle.cells.specs.Page.{IsGrid, IsGridSize, line_at, page_from, page_marked, edited};
+ghost use Rattle.std.specs.Prelude.{◌≡◌, ℕ, ◌+◌, ◌-◌, ◌<◌, ◌≤◌, ◌↔◌, [], ◌∷◌, length, replicate};
+ghost use Rattle.std.specs.Prelude.{IfOk, OnOk, OnErr, Err, IsTrue, slice_index};
+ghost use Rattle.cells.specs.Line.{blank, unprotected_erased, narrow_cells};
+ghost use Rattle.cells.specs.Page.{IsGrid, IsGridSize, line_at, page_from, page_marked};
+ghost use Rattle.cells.specs.Page.{page_spliced, edited};
 ghost use Rattle.cells.specs.Moves.{scrolled_up, scrolled_down, erased_lines, filled};
 ghost use Rattle.cells.specs.Resizing.{page_resized};
 ghost use Rattle.scrollback.specs.Kept.{taken_in, Continues};
-ghost use Rattle.vt_screen_page.specs.Store.{turned};
+ghost use Rattle.vt_screen_page.specs.Store.{placed_in_order, turned};
 
 use crate::store;
 use cells::{Cell, GridFault, Line, Rendition, Shape};
@@ -16,8 +17,8 @@ use std::alloc::{AllocError, Global};
 use std::marker::Model;
 
 /// A page of 2 to 200 lines of 2 to 300 cells, in which the halves of wide characters are paired. A
-/// scroll moves the places of lines and no cells. Lines and columns count from 0. Only `new` and the
-/// changes of size take memory.
+/// scroll moves the places of lines and no cells. Lines and columns count from 0. Only `new` and
+/// the changes of size take memory.
 #[derive(Drop)]
 pub struct Page {
     alloc: Global,
@@ -31,7 +32,10 @@ impl Model for Page {
 
     ghost Value = { Placed };
 
-    ghost view = { λ page. record { lines = lines_in_order page.stored.items page.places.items; places = page.places.items } };
+    ghost view = { λ page. record {
+      lines = lines_in_order page.stored.items page.places.items;
+      places = page.places.items;
+    } };
 
     ghost invariant = { λ page. IsStore page.stored.items page.places.items };
 }
@@ -46,7 +50,8 @@ fn is_size(rows: usize, cols: usize) -> bool
 impl Page {
     /// A page of blanks. It is `BadSize` outside 2 to 200 lines by 2 to 300 columns.
     pub fn new(alloc: Global, rows: usize, cols: usize) -> Result<Page, GridFault>
-        ensures ok { IfOk result (λ page. page ≡ record { lines = replicate rows (replicate cols blank); places = range_with_len 0 rows }) }
+        ensures ok { IfOk result
+            (λ page. page ≡ placed_in_order rows (replicate rows (replicate cols blank))) }
         ensures size { IfOk result (λ _. IsGridSize rows cols) }
         ensures bad_size { (result ≡ Err GridFault.BadSize) ↔ (¬ IsGridSize rows cols) }
     {
@@ -61,7 +66,8 @@ impl Page {
 
     fn blank(alloc: Global, rows: usize, cols: usize) -> Result<Page, AllocError>
         requires { IsGridSize rows cols }
-        ensures { IfOk result (λ page. page ≡ record { lines = replicate rows (replicate cols blank); places = range_with_len 0 rows }) }
+        ensures { IfOk result
+            (λ page. page ≡ placed_in_order rows (replicate rows (replicate cols blank))) }
     {
         let stored = store::blank_lines(alloc, rows, cols)?;
         let places = store::places_in_order(alloc, rows)?;
@@ -99,7 +105,8 @@ impl Page {
     pub fn place(&self, line: usize) -> usize
         requires { line < length self.now.lines }
         ensures value { result ≡ slice_index self.now.places line }
-        ensures alone { (other : ℕ) → other < length self.now.lines → slice_index self.now.places other ≡ result → other ≡ line }
+        ensures alone { (other : ℕ) → other < length self.now.lines
+            → slice_index self.now.places other ≡ result → other ≡ line }
     {
         self.places[line]
     }
@@ -111,7 +118,8 @@ impl Page {
         requires inside { rest ≤ length (line_at self.old.lines line) }
         requires room { at + count ≤ length (line_at self.old.lines line) }
         requires changes { at < rest + count }
-        ensures lines { self.new.lines ≡ page_from (edited line (spliced at (replicate count blank) rest (length (line_at self.old.lines line)))) self.old.lines }
+        ensures lines { self.new.lines
+            ≡ page_spliced line at (replicate count blank) rest self.old.lines }
         ensures places { self.new.places ≡ self.old.places }
     {
         let place = self.places[line];
@@ -125,15 +133,15 @@ impl Page {
         requires inside { rest ≤ length (line_at self.old.lines line) }
         requires room { at + 1 ≤ length (line_at self.old.lines line) }
         requires narrow { cell.shape ≡ Shape.Narrow }
-        ensures lines { self.new.lines ≡ page_from (edited line (spliced at (cell ∷ []) rest (length (line_at self.old.lines line)))) self.old.lines }
+        ensures lines { self.new.lines ≡ page_spliced line at (cell ∷ []) rest self.old.lines }
         ensures places { self.new.places ≡ self.old.places }
     {
         let place = self.places[line];
         self.stored[place].put_narrow(at, cell, rest);
     }
 
-    /// Puts the halves of a wide character into a line, and lets its old cells from `rest` on follow
-    /// them.
+    /// Puts the halves of a wide character into a line, and lets its old cells from `rest` on
+    /// follow them.
     pub fn put_wide(&mut self, line: usize, at: usize, left: Cell, right: Cell, rest: usize)
         requires line_inside { line < length self.old.lines }
         requires order { at ≤ rest }
@@ -141,15 +149,16 @@ impl Page {
         requires room { at + 2 ≤ length (line_at self.old.lines line) }
         requires left { left.shape ≡ Shape.Left }
         requires right { right.shape ≡ Shape.Right }
-        ensures lines { self.new.lines ≡ page_from (edited line (spliced at (left ∷ right ∷ []) rest (length (line_at self.old.lines line)))) self.old.lines }
+        ensures lines { self.new.lines
+            ≡ page_spliced line at (left ∷ right ∷ []) rest self.old.lines }
         ensures places { self.new.places ≡ self.old.places }
     {
         let place = self.places[line];
         self.stored[place].put_wide(at, left, right, rest);
     }
 
-    /// Puts a run of characters of width 1 into a line, in place of as many old cells: `codes` has their
-    /// code points. What is torn at either end becomes blank.
+    /// Puts a run of characters of width 1 into a line, in place of as many old cells: `codes` has
+    /// their code points. What is torn at either end becomes blank.
     pub fn put_run(
         &mut self,
         line: usize,
@@ -160,7 +169,9 @@ impl Page {
     )
         requires line_inside { line < length self.old.lines }
         requires room { at + length codes.now ≤ length (line_at self.old.lines line) }
-        ensures lines { self.new.lines ≡ page_from (edited line (spliced at (narrow_cells codes.now rendition is_protected) (at + length codes.now) (length (line_at self.old.lines line)))) self.old.lines }
+        ensures lines { self.new.lines
+            ≡ page_spliced line at (narrow_cells codes.now rendition is_protected)
+            (at + length codes.now) self.old.lines }
         ensures places { self.new.places ≡ self.old.places }
     {
         let place = self.places[line];
@@ -172,7 +183,8 @@ impl Page {
         requires line_inside { line < length self.old.lines }
         requires order { from ≤ end }
         requires inside { end ≤ length (line_at self.old.lines line) }
-        ensures lines { self.new.lines ≡ page_from (edited line (unprotected_erased (line_at self.old.lines line) from end)) self.old.lines }
+        ensures lines { self.new.lines ≡ page_from (edited line
+            (unprotected_erased (line_at self.old.lines line) from end)) self.old.lines }
         ensures places { self.new.places ≡ self.old.places }
     {
         let place = self.places[line];
@@ -207,7 +219,8 @@ impl Page {
 
     /// Makes the whole page blank.
     pub fn clear(&mut self)
-        ensures lines { self.new.lines ≡ replicate (length self.old.lines) (replicate (length (line_at self.old.lines 0)) blank) }
+        ensures lines { self.new.lines ≡ replicate (length self.old.lines)
+            (replicate (length (line_at self.old.lines 0)) blank) }
         ensures places { self.new.places ≡ self.old.places }
     {
         store::fill_all(self.stored.as_mut_slice(), Cell::BLANK);
@@ -245,7 +258,8 @@ impl Page {
         requires inside { bottom < length self.old.lines }
         requires room { count ≤ bottom + 1 - top }
         ensures lines { self.new.lines ≡ page_from (scrolled_down top bottom count) self.old.lines }
-        ensures places { self.new.places ≡ turned top bottom (bottom + 1 - top - count) self.old.places }
+        ensures places { self.new.places
+            ≡ turned top bottom (bottom + 1 - top - count) self.old.places }
     {
         store::scroll_down(
             self.stored.as_mut_slice(),
@@ -278,7 +292,8 @@ impl Page {
     /// The page in another size. It keeps the upper left part: what is added is blank, and so is a
     /// half that is cut off from its other half. It is `BadSize` as in `new`.
     pub fn with_size(&self, rows: usize, cols: usize) -> Result<Page, GridFault>
-        ensures ok { IfOk result (λ page. page ≡ record { lines = page_resized rows cols self.now.lines; places = range_with_len 0 rows }) }
+        ensures ok { IfOk result
+            (λ page. page ≡ placed_in_order rows (page_resized rows cols self.now.lines)) }
         ensures size { IfOk result (λ _. IsGridSize rows cols) }
         ensures bad_size { (result ≡ Err GridFault.BadSize) ↔ (¬ IsGridSize rows cols) }
     {
@@ -293,7 +308,8 @@ impl Page {
 
     fn in_size(&self, rows: usize, cols: usize) -> Result<Page, AllocError>
         requires { IsGridSize rows cols }
-        ensures { IfOk result (λ page. page ≡ record { lines = page_resized rows cols self.now.lines; places = range_with_len 0 rows }) }
+        ensures { IfOk result
+            (λ page. page ≡ placed_in_order rows (page_resized rows cols self.now.lines)) }
     {
         let stored = store::resized_lines(
             self.alloc,
@@ -312,7 +328,8 @@ impl Page {
 
     /// Gives the page another size, as `with_size`. A refusal leaves it as it was.
     pub fn resized(&mut self, rows: usize, cols: usize) -> Result<(), GridFault>
-        ensures ok { OnOk result (self.new ≡ record { lines = page_resized rows cols self.old.lines; places = range_with_len 0 rows }) }
+        ensures ok { OnOk result
+            (self.new ≡ placed_in_order rows (page_resized rows cols self.old.lines)) }
         ensures err { OnErr result (self.new ≡ self.old) }
         ensures bad_size { (result ≡ Err GridFault.BadSize) ↔ (¬ IsGridSize rows cols) }
     {

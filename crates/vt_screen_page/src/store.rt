@@ -1,6 +1,7 @@
 //! Work on the stored lines of a page and on their places.
 
-ghost use Rattle.std.specs.Prelude.{◌≡◌, ℕ, ◌+◌, ◌-◌, ◌<◌, ◌≤◌, length, map, replicate, IfOk, slice_index};
+ghost use Rattle.std.specs.Prelude.{◌≡◌, ℕ, ◌+◌, ◌-◌, ◌<◌, ◌≤◌, length, map, replicate, IfOk};
+ghost use Rattle.std.specs.Prelude.{slice_index};
 ghost use Rattle.std.specs.List.{range_with_len};
 ghost use Rattle.cells.specs.Line.{blank};
 ghost use Rattle.cells.specs.Page.{line_at, page_from};
@@ -46,7 +47,8 @@ pub fn erase_lines(stored: &mut [Line], places: &[usize], first: usize, end: usi
     requires order { first ≤ end }
     requires inside { end ≤ length places.now }
     ensures store { IsStore stored.new places.now }
-    ensures page { lines_in_order stored.new places.now ≡ page_from (erased_lines first end) (lines_in_order stored.old places.now) }
+    ensures page { lines_in_order stored.new places.now
+        ≡ page_from (erased_lines first end) (lines_in_order stored.old places.now) }
 {
     clear_lines(stored, &places[first..end]);
 }
@@ -58,7 +60,8 @@ pub fn scroll_up(stored: &mut [Line], places: &mut [usize], top: usize, bottom: 
     requires inside { bottom < length places.old }
     requires room { count ≤ bottom + 1 - top }
     ensures store { IsStore stored.new places.new }
-    ensures page { lines_in_order stored.new places.new ≡ page_from (scrolled_up top bottom count) (lines_in_order stored.old places.old) }
+    ensures page { lines_in_order stored.new places.new
+        ≡ page_from (scrolled_up top bottom count) (lines_in_order stored.old places.old) }
     ensures places { places.new ≡ turned top bottom count places.old }
 {
     clear_lines(stored, &places[top..top + count]);
@@ -78,7 +81,8 @@ pub fn scroll_down(
     requires inside { bottom < length places.old }
     requires room { count ≤ bottom + 1 - top }
     ensures store { IsStore stored.new places.new }
-    ensures page { lines_in_order stored.new places.new ≡ page_from (scrolled_down top bottom count) (lines_in_order stored.old places.old) }
+    ensures page { lines_in_order stored.new places.new
+        ≡ page_from (scrolled_down top bottom count) (lines_in_order stored.old places.old) }
     ensures places { places.new ≡ turned top bottom (bottom + 1 - top - count) places.old }
 {
     let kept = bottom + 1 - top - count;
@@ -86,8 +90,8 @@ pub fn scroll_down(
     turn(places, top, bottom, kept);
 }
 
-/// Scrolls the lines of the page from the first one to `bottom` up by one, the first one into a ring, which
-/// hands a line back that becomes the blank one.
+/// Scrolls the lines of the page from the first one to `bottom` up by one, the first one into a
+/// ring, which hands a line back that becomes the blank one.
 pub fn scroll_into(
     alloc: Global,
     stored: &mut [Line],
@@ -99,10 +103,12 @@ pub fn scroll_into(
     requires inside { bottom < length places.old }
     requires width { ring.old.columns ≡ length (line_at (lines_in_order stored.old places.old) 0) }
     ensures store { IsStore stored.new places.new }
-    ensures page { lines_in_order stored.new places.new ≡ page_from (scrolled_up 0 bottom 1) (lines_in_order stored.old places.old) }
+    ensures page { lines_in_order stored.new places.new
+        ≡ page_from (scrolled_up 0 bottom 1) (lines_in_order stored.old places.old) }
     ensures places { places.new ≡ turned 0 bottom 1 places.old }
     ensures kept { ring.new ≡ taken_in ring.old (line_at (lines_in_order stored.old places.old) 0) }
-    ensures stands { Continues ring.old ring.new (line_at (lines_in_order stored.old places.old) 0) }
+    ensures stands { Continues ring.old ring.new
+        (line_at (lines_in_order stored.old places.old) 0) }
 {
     let place = places[0];
     let line = mem::replace(&mut stored[place], Line::empty(alloc));
@@ -153,7 +159,8 @@ fn resized_line(
     cols: usize,
 ) -> Result<Line, AllocError>
     requires { (k : ℕ) → k < length places.now → slice_index places.now k < length stored.now }
-    ensures { IfOk result (λ line. line ≡ line_resized cols (line_at (lines_in_order stored.now places.now) row)) }
+    ensures { IfOk result
+        (λ line. line ≡ line_resized cols (line_at (lines_in_order stored.now places.now) row)) }
 {
     if row < places.len() {
         stored[places[row]].resized(alloc, cols)
@@ -171,7 +178,8 @@ pub fn resized_lines(
     cols: usize,
 ) -> Result<Vec<Line>, AllocError>
     requires { (k : ℕ) → k < length places.now → slice_index places.now k < length stored.now }
-    ensures { IfOk result (λ lines. lines.items ≡ page_resized rows cols (lines_in_order stored.now places.now)) }
+    ensures { IfOk result
+        (λ lines. lines.items ≡ page_resized rows cols (lines_in_order stored.now places.now)) }
 {
     let mut lines = Vec::with_capacity(alloc, rows)?;
     for row in 0..rows {

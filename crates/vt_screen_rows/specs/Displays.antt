@@ -9,15 +9,27 @@ use Rattle.vt_screen_rows.specs.declared.display.Display.{Display}
 
 -- the scrollback has its newest line last
 abbrev pub screen_of : Display → Screen
-screen_of d = record { state = d.state; tabs = d.tabs; saved = d.saved; page = d.page.lines; kept = reverse d.ring.lines; keep = d.ring.keep }
+screen_of d =
+    record {
+      state = d.state;
+      tabs = d.tabs;
+      saved = d.saved;
+      page = d.page.lines;
+      kept = reverse d.ring.lines;
+      keep = d.ring.keep;
+    }
 
 -- a sound screen, whose kept lines are as wide as the page
 pub record IsFit (d : Display) : Type 0 where
   pub sound : IsSound (screen_of d)
   pub columns : d.ring.columns ≡ d.state.columns
 
--- the lines of the margins went up by one; a line that goes out at the first line of the page enters the scrollback
+-- the lines of the margins went up by one; a line that goes out at the first line of the page
+-- enters the scrollback
 abbrev pub scrolled : Screen → Screen
 scrolled x =
     let s : State = x.state in
-    record x { page = page_from (scrolled_up s.top s.bottom 1) x.page; kept = scrolled_kept (s.top == 0) x.keep x.page x.kept }
+    record x {
+      page = page_from (scrolled_up s.top s.bottom 1) x.page;
+      kept = scrolled_kept (s.top == 0) x.keep x.page x.kept;
+    }

@@ -1,3 +1,4 @@
 pub mod Displays
 pub mod Runs
 pub mod Places
+pub mod Acting

@@ -1,10 +1,13 @@
--- What becomes of the places of a page's lines: index, reverse index, IL and DL let those of the lines that they scroll go round, and
--- so does a wrap; nothing else moves a line to another stored line.
+-- What becomes of the places of a page's lines: index, reverse index, IL and DL let those of the
+-- lines that they scroll go round, and so does a wrap; nothing else moves a line to another stored
+-- line.
 use Rattle.std.specs.Prelude.{ℕ, ◌+◌, ◌-◌, ◌==◌, min, cond, Bool, List, [], ◌∷◌, Option, Some, None}
 use Rattle.charsets.specs.Shifts.{mapped}
 use Rattle.terminal_model.specs.declared.state.State.{State}
 use Rattle.terminal_model.specs.declared.action.Action.{Action}
-use Rattle.terminal_model.specs.declared.action.Action.TheVariants.{Print, LineFeed, Index, NextLine, ReverseIndex, InsertLines, DeleteLines}
+use Rattle.terminal_model.specs.declared.action.Action.TheVariants.{Print, LineFeed, Index}
+use Rattle.terminal_model.specs.declared.action.Action.TheVariants.{NextLine, ReverseIndex}
+use Rattle.terminal_model.specs.declared.action.Action.TheVariants.{InsertLines, DeleteLines}
 use Rattle.terminal_model.specs.Screen.{Screen}
 use Rattle.terminal_model.specs.Scrollback.{is_wrapped}
 use Rattle.terminal_model.specs.Table.{acted, columns_of, is_in_margins}
@@ -15,7 +18,8 @@ abbrev pub indexed_places : State → List ℕ → List ℕ
 indexed_places s places = cond (s.line == s.bottom) (turned s.top s.bottom 1 places) places
 
 abbrev pub lowered_places : State → List ℕ → List ℕ
-lowered_places s places = cond (s.line == s.top) (turned s.top s.bottom (s.bottom + 1 - s.top - 1) places) places
+lowered_places s places =
+    cond (s.line == s.top) (turned s.top s.bottom (s.bottom + 1 - s.top - 1) places) places
 
 -- a wrap that is due
 abbrev pub wrapped_places : Bool → State → List ℕ → List ℕ
@@ -27,10 +31,14 @@ printed_places (Some c) s places = wrapped_places (is_wrapped (columns_of c) s) 
 
 -- IL and DL: within the margins the lines from the cursor's to the last one of the margins
 abbrev pub inserted_places : ℕ → State → List ℕ → List ℕ
-inserted_places n s places = cond (is_in_margins s) (turned s.line s.bottom (s.bottom + 1 - s.line - min n (s.bottom + 1 - s.line)) places) places
+inserted_places n s places =
+    cond (is_in_margins s)
+    (turned s.line s.bottom (s.bottom + 1 - s.line - min n (s.bottom + 1 - s.line)) places)
+    places
 
 abbrev pub deleted_places : ℕ → State → List ℕ → List ℕ
-deleted_places n s places = cond (is_in_margins s) (turned s.line s.bottom (min n (s.bottom + 1 - s.line)) places) places
+deleted_places n s places =
+    cond (is_in_margins s) (turned s.line s.bottom (min n (s.bottom + 1 - s.line)) places) places
 
 abbrev pub acted_places : State → Action → List ℕ → List ℕ
 acted_places s (Print u) places = printed_places (mapped s.shifts u) s places
@@ -44,4 +52,5 @@ acted_places s other places = places
 
 abbrev pub all_acted_places : Screen → List Action → List ℕ → List ℕ
 all_acted_places x [] places = places
-all_acted_places x (a ∷ later) places = all_acted_places (acted x a) later (acted_places x.state a places)
+all_acted_places x (a ∷ later) places =
+    all_acted_places (acted x a) later (acted_places x.state a places)

@@ -4,12 +4,11 @@ use Rattle.charsets.specs.declared.sets.CharacterSet.TheVariants.{Ascii}
 use Rattle.charsets.specs.declared.unit.Unit.TheVariants.{Code}
 use Rattle.charsets.specs.Shifts.{set_at}
 use Rattle.cells.specs.Line.{spliced, narrow_cells}
-use Rattle.cells.specs.Page.{page_from, edited}
 use Rattle.terminal_model.specs.declared.action.Action.{Action}
 use Rattle.terminal_model.specs.declared.action.Action.TheVariants.{Print}
 use Rattle.terminal_model.specs.declared.state.State.{State}
 use Rattle.terminal_model.specs.Screen.{Screen}
-use Rattle.terminal_model.specs.Table.{advanced}
+use Rattle.terminal_model.specs.Table.{advanced, line_edited}
 
 -- characters are printed, one after another
 abbrev pub prints : List ℕ → List Action
@@ -26,11 +25,15 @@ pub record TakesRuns (s : State) : Type 0 where
   pub unshifted : s.shifts.single ≡ None
   pub replaces : s.modes.inserts ≡ false
 
--- characters of width 1 take the places of as many cells from the cursor on, which goes behind the last of them
+-- characters of width 1 take the places of as many cells from the cursor on, which goes behind the
+-- last of them
 abbrev pub run_placed : List ℕ → Screen → Screen
 run_placed characters x =
     let s : State = x.state in
     record x {
       state = advanced (record s { column = s.column + (length characters - 1) }) 1;
-      page = page_from (edited s.line (spliced s.column (narrow_cells characters s.rendition s.is_protecting) (s.column + length characters) s.columns)) x.page;
+      page = line_edited s
+          (spliced s.column (narrow_cells characters s.rendition s.is_protecting)
+          (s.column + length characters) s.columns)
+          x.page;
     }

@@ -3,8 +3,8 @@
 ghost use Rattle.std.specs.Prelude.{◌≡◌, ◌≤◌, length};
 ghost use Rattle.terminal_model.specs.Table.{acted};
 ghost use Rattle.terminal_model.specs.Reports.{answer};
+ghost use Rattle.vt_screen_rows.specs.Acting.{MovesLinesBy};
 ghost use Rattle.vt_screen_rows.specs.Displays.{IsFit, screen_of};
-ghost use Rattle.vt_screen_rows.specs.Places.{acted_places};
 ghost use Rattle.vt_screen_actions.specs.Counted.{IsCounted};
 
 use crate::display::Display;
@@ -23,7 +23,7 @@ impl Display {
         requires counted { IsCounted action }
         ensures screen { screen_of self.new ≡ acted (screen_of self.old) action }
         ensures fit { IsFit self.new }
-        ensures places { self.new.page.places ≡ acted_places self.old.state action self.old.page.places }
+        ensures places { MovesLinesBy self.old action self.new }
         ensures report { result ≡ answer self.old.state action }
         ensures few { length result ≤ 12 }
     {
@@ -39,7 +39,7 @@ impl Display {
         requires counted { IsCounted action }
         ensures screen { screen_of self.new ≡ acted (screen_of self.old) action }
         ensures fit { IsFit self.new }
-        ensures places { self.new.page.places ≡ acted_places self.old.state action self.old.page.places }
+        ensures places { MovesLinesBy self.old action self.new }
     {
         self.dispatch(action);
     }
@@ -50,7 +50,7 @@ impl Display {
         requires counted { IsCounted action }
         ensures screen { screen_of self.new ≡ acted (screen_of self.old) action }
         ensures width { self.new.ring.columns ≡ self.old.ring.columns }
-        ensures places { self.new.page.places ≡ acted_places self.old.state action self.old.page.places }
+        ensures places { MovesLinesBy self.old action self.new }
     {
         match action {
             Action::Print(unit) => self.print(unit),

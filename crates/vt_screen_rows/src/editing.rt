@@ -2,7 +2,9 @@
 
 ghost use Rattle.std.specs.Prelude.{◌≡◌, ◌<◌};
 ghost use Rattle.terminal_model.specs.Table.{acted};
-ghost use Rattle.terminal_model.specs.declared.action.Action.TheVariants.{DeleteCells, DeleteLines, InsertCells, InsertLines};
+ghost use Rattle.terminal_model.specs.declared.action.Action.TheVariants.{DeleteCells, DeleteLines};
+ghost use Rattle.terminal_model.specs.declared.action.Action.TheVariants.{InsertCells, InsertLines};
+ghost use Rattle.vt_screen_rows.specs.Acting.{MovesLines};
 ghost use Rattle.vt_screen_rows.specs.Displays.{IsFit, screen_of};
 ghost use Rattle.vt_screen_rows.specs.Places.{inserted_places, deleted_places};
 
@@ -38,13 +40,13 @@ impl Display {
         settle(&mut self.state);
     }
 
-    /// IL (ECMA-48, 8.3.67): within the margins blank lines come in at the cursor, which goes to the first column; else
-    /// nothing moves.
+    /// IL (ECMA-48, 8.3.67): within the margins blank lines come in at the cursor, which goes to
+    /// the first column; else nothing moves.
     pub fn insert_lines(&mut self, count: usize)
         requires { IsFit self.old }
         ensures screen { screen_of self.new ≡ acted (screen_of self.old) (InsertLines count) }
         ensures width { self.new.ring.columns ≡ self.old.ring.columns }
-        ensures places { self.new.page.places ≡ inserted_places count self.old.state self.old.page.places }
+        ensures places { MovesLines self.old (inserted_places count) self.new }
     {
         if is_in_margins(&self.state) {
             let line = self.state.line;
@@ -57,13 +59,13 @@ impl Display {
         }
     }
 
-    /// DL (ECMA-48, 8.3.32): within the margins lines go out at the cursor, which goes to the first column; else nothing
-    /// moves.
+    /// DL (ECMA-48, 8.3.32): within the margins lines go out at the cursor, which goes to the first
+    /// column; else nothing moves.
     pub fn delete_lines(&mut self, count: usize)
         requires { IsFit self.old }
         ensures screen { screen_of self.new ≡ acted (screen_of self.old) (DeleteLines count) }
         ensures width { self.new.ring.columns ≡ self.old.ring.columns }
-        ensures places { self.new.page.places ≡ deleted_places count self.old.state self.old.page.places }
+        ensures places { MovesLines self.old (deleted_places count) self.new }
     {
         if is_in_margins(&self.state) {
             let line = self.state.line;

@@ -1,9 +1,14 @@
-//! Rows that erase (ECMA-48, 8.3.38, 8.3.39 and 8.3.41; VT220 Programmer Reference Manual, erasing).
+//! Rows that erase (ECMA-48, 8.3.38, 8.3.39 and 8.3.41; VT220 Programmer Reference Manual,
+//! erasing).
 
 ghost use Rattle.std.specs.Prelude.{◌≡◌, ◌<◌, ◌≤◌, length};
 ghost use Rattle.cells.specs.Page.{IsPage, line_at, page_from};
-ghost use Rattle.terminal_model.specs.declared.action.Action.TheVariants.{EraseCells, EraseInLine, EraseInPage, EraseUnprotectedInLine, EraseUnprotectedInPage};
-ghost use Rattle.terminal_model.specs.Table.{acted, line_erased, part_erased, part_unprotected, unprotected_lines};
+ghost use Rattle.terminal_model.specs.declared.action.Action.TheVariants.{EraseCells, EraseInLine};
+ghost use Rattle.terminal_model.specs.declared.action.Action.TheVariants.{EraseInPage};
+ghost use Rattle.terminal_model.specs.declared.action.Action.TheVariants.{EraseUnprotectedInLine};
+ghost use Rattle.terminal_model.specs.declared.action.Action.TheVariants.{EraseUnprotectedInPage};
+ghost use Rattle.terminal_model.specs.Table.{acted, line_erased, part_erased, part_unprotected};
+ghost use Rattle.terminal_model.specs.Table.{unprotected_lines};
 ghost use Rattle.vt_screen_rows.specs.Displays.{IsFit, screen_of};
 
 use crate::display::Display;
@@ -54,7 +59,8 @@ impl Display {
     /// DECSEL.
     pub fn erase_unprotected_in_line(&mut self, part: Part)
         requires { IsFit self.old }
-        ensures screen { screen_of self.new ≡ acted (screen_of self.old) (EraseUnprotectedInLine part) }
+        ensures screen { screen_of self.new
+            ≡ acted (screen_of self.old) (EraseUnprotectedInLine part) }
         ensures width { self.new.ring.columns ≡ self.old.ring.columns }
         ensures places { self.new.page.places ≡ self.old.page.places }
     {
@@ -65,7 +71,8 @@ impl Display {
     /// DECSED: in the cursor's line as DECSEL, and then the other lines.
     pub fn erase_unprotected_in_page(&mut self, part: Part)
         requires { IsFit self.old }
-        ensures screen { screen_of self.new ≡ acted (screen_of self.old) (EraseUnprotectedInPage part) }
+        ensures screen { screen_of self.new
+            ≡ acted (screen_of self.old) (EraseUnprotectedInPage part) }
         ensures width { self.new.ring.columns ≡ self.old.ring.columns }
         ensures places { self.new.page.places ≡ self.old.page.places }
     {
@@ -122,7 +129,8 @@ fn erase_unprotected_lines(page: &mut Page, state: &State, first: usize, end: us
     requires page { IsPage state.now.rows state.now.columns page.old.lines }
     requires order { first ≤ end }
     requires inside { end ≤ state.now.rows }
-    ensures value { page.new.lines ≡ page_from (unprotected_lines page.old.lines state.now.columns first end) page.old.lines }
+    ensures value { page.new.lines
+        ≡ page_from (unprotected_lines page.old.lines state.now.columns first end) page.old.lines }
     ensures places { page.new.places ≡ page.old.places }
 {
     let columns = state.columns;

@@ -1,5 +1,6 @@
 //! The rows of the screen table.
-#![tactic(auto, using(crate::proofs::Widths::line_width), unfolding(terminal_model::specs::Table::acted_from))]
+#![tactic(auto, using(crate::proofs::Widths::line_width), // a line is as wide as its page
+unfolding(terminal_model::specs::Table::acted_from))]
 
 mod act;
 mod display;

@@ -3,6 +3,7 @@
 ghost use Rattle.std.specs.Prelude.{◌≡◌};
 ghost use Rattle.terminal_model.specs.Table.{acted, indexed, moved_to, reverse_indexed, with_state};
 ghost use Rattle.terminal_model.specs.declared.action.Action.TheVariants.{LineFeed};
+ghost use Rattle.vt_screen_rows.specs.Acting.{MovesLines};
 ghost use Rattle.vt_screen_rows.specs.Displays.{IsFit, screen_of, scrolled};
 ghost use Rattle.vt_screen_page.specs.Store.{turned};
 ghost use Rattle.vt_screen_rows.specs.Places.{indexed_places, lowered_places};
@@ -11,13 +12,13 @@ use crate::display::Display;
 use vt_screen_state::{go_to_first_column, settle};
 
 impl Display {
-    /// IND (VT220 Programmer Reference Manual, cursor positioning): in the last line of the margins the lines of the
-    /// margins go up by one; else the cursor goes down within the page.
+    /// IND (VT220 Programmer Reference Manual, cursor positioning): in the last line of the margins
+    /// the lines of the margins go up by one; else the cursor goes down within the page.
     pub fn index(&mut self)
         requires { IsFit self.old }
         ensures screen { screen_of self.new ≡ indexed (screen_of self.old) }
         ensures width { self.new.ring.columns ≡ self.old.ring.columns }
-        ensures places { self.new.page.places ≡ indexed_places self.old.state self.old.page.places }
+        ensures places { MovesLines self.old indexed_places self.new }
     {
         if self.state.line == self.state.bottom {
             self.scroll();
@@ -27,13 +28,14 @@ impl Display {
         settle(&mut self.state);
     }
 
-    /// Scrolls the lines of the margins up by one. A line that goes out at the first line of the page enters the
-    /// scrollback.
+    /// Scrolls the lines of the margins up by one. A line that goes out at the first line of the
+    /// page enters the scrollback.
     fn scroll(&mut self)
         requires { IsFit self.old }
         ensures screen { screen_of self.new ≡ scrolled (screen_of self.old) }
         ensures width { self.new.ring.columns ≡ self.old.ring.columns }
-        ensures places { self.new.page.places ≡ turned self.old.state.top self.old.state.bottom 1 self.old.page.places }
+        ensures places { self.new.page.places
+            ≡ turned self.old.state.top self.old.state.bottom 1 self.old.page.places }
     {
         if self.state.top == 0 {
             self.page.scroll_into(&mut self.ring, self.state.bottom);
@@ -45,9 +47,11 @@ impl Display {
     /// NEL (ECMA-48, 8.3.86): the first column, and an index.
     pub fn go_to_next_line(&mut self)
         requires { IsFit self.old }
-        ensures screen { screen_of self.new ≡ indexed (with_state (screen_of self.old) (moved_to self.old.state self.old.state.line 0)) }
+        ensures screen { screen_of self.new
+            ≡ indexed
+            (with_state (screen_of self.old) (moved_to self.old.state self.old.state.line 0)) }
         ensures width { self.new.ring.columns ≡ self.old.ring.columns }
-        ensures places { self.new.page.places ≡ indexed_places self.old.state self.old.page.places }
+        ensures places { MovesLines self.old indexed_places self.new }
     {
         go_to_first_column(&mut self.state);
         self.index();
@@ -58,7 +62,7 @@ impl Display {
         requires { IsFit self.old }
         ensures screen { screen_of self.new ≡ acted (screen_of self.old) LineFeed }
         ensures width { self.new.ring.columns ≡ self.old.ring.columns }
-        ensures places { self.new.page.places ≡ indexed_places self.old.state self.old.page.places }
+        ensures places { MovesLines self.old indexed_places self.new }
     {
         if self.state.modes.starts_lines {
             self.go_to_next_line();
@@ -67,13 +71,13 @@ impl Display {
         }
     }
 
-    /// RI (ECMA-48, 8.3.104): in the first line of the margins the lines of the margins go down by one; else the cursor
-    /// goes up within the page.
+    /// RI (ECMA-48, 8.3.104): in the first line of the margins the lines of the margins go down by
+    /// one; else the cursor goes up within the page.
     pub fn index_back(&mut self)
         requires { IsFit self.old }
         ensures screen { screen_of self.new ≡ reverse_indexed (screen_of self.old) }
         ensures width { self.new.ring.columns ≡ self.old.ring.columns }
-        ensures places { self.new.page.places ≡ lowered_places self.old.state self.old.page.places }
+        ensures places { MovesLines self.old lowered_places self.new }
     {
         if self.state.line == self.state.top {
             self.page.scroll_down(self.state.top, self.state.bottom, 1);

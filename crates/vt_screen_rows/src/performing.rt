@@ -3,13 +3,12 @@
 ghost use Rattle.std.specs.Prelude.{◌≡◌, ◌≤◌, [], None, false, length, IfSome, IsTrue};
 ghost use Rattle.terminal_model.specs.Functions.{alone, each, sequence_actions};
 ghost use Rattle.terminal_model.specs.Reports.{all_answered};
-ghost use Rattle.terminal_model.specs.Table.{all_acted};
 ghost use Rattle.vt_screen_actions.specs.Acting.{actions_in};
 ghost use Rattle.vt_screen_actions.specs.Counted.{AreCounted, IsCounted};
 ghost use Rattle.vt_screen_actions.specs.Meanings.{meaning};
 ghost use Rattle.vt_screen_actions.specs.Silent.{IsSilent};
+ghost use Rattle.vt_screen_rows.specs.Acting.{ActsByAll, AreUnanswered, MovesLinesByAll};
 ghost use Rattle.vt_screen_rows.specs.Displays.{IsFit, screen_of};
-ghost use Rattle.vt_screen_rows.specs.Places.{all_acted_places};
 
 use crate::display::Display;
 use terminal_model::{Action, Report};
@@ -21,9 +20,9 @@ impl Display {
     pub fn perform(&mut self, acts: Acts<'_>) -> Report
         requires fit { IsFit self.old }
         requires counted { AreCounted acts }
-        ensures screen { screen_of self.new ≡ all_acted (screen_of self.old) (actions_in acts.entry) }
+        ensures screen { ActsByAll self.old (actions_in acts.entry) self.new }
         ensures fit { IsFit self.new }
-        ensures places { self.new.page.places ≡ all_acted_places (screen_of self.old) (actions_in acts.entry) self.old.page.places }
+        ensures places { MovesLinesByAll self.old (actions_in acts.entry) self.new }
         ensures report { result ≡ all_answered (screen_of self.old) (actions_in acts.entry) }
         ensures few { length result ≤ 12 }
     {
@@ -43,25 +42,25 @@ impl Display {
         requires fit { IsFit self.old }
         requires counted { IfSome action IsCounted }
         requires silent { IfSome action IsSilent }
-        ensures screen { screen_of self.new ≡ all_acted (screen_of self.old) (alone action) }
+        ensures screen { ActsByAll self.old (alone action) self.new }
         ensures fit { IsFit self.new }
-        ensures places { self.new.page.places ≡ all_acted_places (screen_of self.old) (alone action) self.old.page.places }
-        ensures silent { all_answered (screen_of self.old) (alone action) ≡ [] }
+        ensures places { MovesLinesByAll self.old (alone action) self.new }
+        ensures silent { AreUnanswered self.old (alone action) }
     {
         if let Some(action) = action {
             self.change(action);
         }
     }
 
-    /// Does the actions of a control function that isn't answered, in turn. It gives false where it is answered, and has done
-    /// nothing then.
+    /// Does the actions of a control function that isn't answered, in turn. It gives false where it
+    /// is answered, and has done nothing then.
     #[inline(always)]
     pub fn perform_unanswered(&mut self, acts: Acts<'_>) -> bool
         requires fit { IsFit self.old }
         requires counted { AreCounted acts }
-        ensures screen { IsTrue result → screen_of self.new ≡ all_acted (screen_of self.old) (actions_in acts.entry) }
-        ensures silent { IsTrue result → all_answered (screen_of self.old) (actions_in acts.entry) ≡ [] }
-        ensures places { IsTrue result → self.new.page.places ≡ all_acted_places (screen_of self.old) (actions_in acts.entry) self.old.page.places }
+        ensures screen { IsTrue result → ActsByAll self.old (actions_in acts.entry) self.new }
+        ensures silent { IsTrue result → AreUnanswered self.old (actions_in acts.entry) }
+        ensures places { IsTrue result → MovesLinesByAll self.old (actions_in acts.entry) self.new }
         ensures undone { result ≡ false → screen_of self.new ≡ screen_of self.old }
         ensures unturned { result ≡ false → self.new.page.places ≡ self.old.page.places }
         ensures fit { IsFit self.new }
@@ -82,8 +81,8 @@ impl Display {
         }
     }
 
-    /// Does the actions of a control sequence that isn't answered, in turn. It gives false where it is answered, and has done
-    /// nothing then.
+    /// Does the actions of a control sequence that isn't answered, in turn. It gives false where it
+    /// is answered, and has done nothing then.
     #[inline(always)]
     pub fn perform_sequence(
         &mut self,
@@ -93,9 +92,12 @@ impl Display {
         last: u8,
     ) -> bool
         requires { IsFit self.old }
-        ensures screen { IsTrue result → screen_of self.new ≡ all_acted (screen_of self.old) (sequence_actions mark params.now intermediates.now last) }
-        ensures silent { IsTrue result → all_answered (screen_of self.old) (sequence_actions mark params.now intermediates.now last) ≡ [] }
-        ensures places { IsTrue result → self.new.page.places ≡ all_acted_places (screen_of self.old) (sequence_actions mark params.now intermediates.now last) self.old.page.places }
+        ensures screen { IsTrue result → ActsByAll self.old
+            (sequence_actions mark params.now intermediates.now last) self.new }
+        ensures silent { IsTrue result
+            → AreUnanswered self.old (sequence_actions mark params.now intermediates.now last) }
+        ensures places { IsTrue result → MovesLinesByAll self.old
+            (sequence_actions mark params.now intermediates.now last) self.new }
         ensures undone { result ≡ false → screen_of self.new ≡ screen_of self.old }
         ensures unturned { result ≡ false → self.new.page.places ≡ self.old.page.places }
         ensures fit { IsFit self.new }
@@ -106,14 +108,17 @@ impl Display {
         self.perform_any(mark, params, intermediates, last)
     }
 
-    /// The same of one with neither mark nor intermediates. CUP and SGR, the commonest, have a case of their own, so that their
-    /// rows are found when this is compiled.
+    /// The same of one with neither mark nor intermediates. CUP and SGR, the commonest, have a case
+    /// of their own, so that their rows are found when this is compiled.
     #[inline(always)]
     fn perform_plain(&mut self, params: &[u16], last: u8) -> bool
         requires { IsFit self.old }
-        ensures screen { IsTrue result → screen_of self.new ≡ all_acted (screen_of self.old) (sequence_actions None params.now [] last) }
-        ensures silent { IsTrue result → all_answered (screen_of self.old) (sequence_actions None params.now [] last) ≡ [] }
-        ensures places { IsTrue result → self.new.page.places ≡ all_acted_places (screen_of self.old) (sequence_actions None params.now [] last) self.old.page.places }
+        ensures screen { IsTrue result
+            → ActsByAll self.old (sequence_actions None params.now [] last) self.new }
+        ensures silent { IsTrue result
+            → AreUnanswered self.old (sequence_actions None params.now [] last) }
+        ensures places { IsTrue result
+            → MovesLinesByAll self.old (sequence_actions None params.now [] last) self.new }
         ensures undone { result ≡ false → screen_of self.new ≡ screen_of self.old }
         ensures unturned { result ≡ false → self.new.page.places ≡ self.old.page.places }
         ensures fit { IsFit self.new }
@@ -135,9 +140,12 @@ impl Display {
         last: u8,
     ) -> bool
         requires { IsFit self.old }
-        ensures screen { IsTrue result → screen_of self.new ≡ all_acted (screen_of self.old) (sequence_actions mark params.now intermediates.now last) }
-        ensures silent { IsTrue result → all_answered (screen_of self.old) (sequence_actions mark params.now intermediates.now last) ≡ [] }
-        ensures places { IsTrue result → self.new.page.places ≡ all_acted_places (screen_of self.old) (sequence_actions mark params.now intermediates.now last) self.old.page.places }
+        ensures screen { IsTrue result → ActsByAll self.old
+            (sequence_actions mark params.now intermediates.now last) self.new }
+        ensures silent { IsTrue result
+            → AreUnanswered self.old (sequence_actions mark params.now intermediates.now last) }
+        ensures places { IsTrue result → MovesLinesByAll self.old
+            (sequence_actions mark params.now intermediates.now last) self.new }
         ensures undone { result ≡ false → screen_of self.new ≡ screen_of self.old }
         ensures unturned { result ≡ false → self.new.page.places ≡ self.old.page.places }
         ensures fit { IsFit self.new }
@@ -149,10 +157,10 @@ impl Display {
     #[inline(always)]
     fn set_each(&mut self, setting: Setting, values: &[u16])
         requires { IsFit self.old }
-        ensures screen { screen_of self.new ≡ all_acted (screen_of self.old) (each (meaning setting) values.now) }
+        ensures screen { ActsByAll self.old (each (meaning setting) values.now) self.new }
         ensures fit { IsFit self.new }
-        ensures places { self.new.page.places ≡ all_acted_places (screen_of self.old) (each (meaning setting) values.now) self.old.page.places }
-        ensures silent { all_answered (screen_of self.old) (each (meaning setting) values.now) ≡ [] }
+        ensures places { MovesLinesByAll self.old (each (meaning setting) values.now) self.new }
+        ensures silent { AreUnanswered self.old (each (meaning setting) values.now) }
     {
         for value in values {
             if let Some(action) = setting.action(*value) {

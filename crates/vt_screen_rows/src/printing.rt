@@ -3,10 +3,13 @@
 ghost use Rattle.std.specs.Prelude.{◌≡◌, ◌<◌, ◌+◌, ◌&&◌, Some, IsTrue};
 ghost use Rattle.cells.specs.Glyph.{glyph_columns};
 ghost use Rattle.charsets.specs.declared.unit.Unit.TheVariants.{Code};
-ghost use Rattle.terminal_model.specs.Table.{acted, columns_of, drawn, drawn_as, lacks_room, marked_at, placed_narrow, placed_wide, printed, printed_as, wide_or_none, widely, wrapped};
+ghost use Rattle.terminal_model.specs.Table.{acted, columns_of, drawn, drawn_as, lacks_room};
+ghost use Rattle.terminal_model.specs.Table.{marked_at, placed_narrow, placed_wide, printed};
+ghost use Rattle.terminal_model.specs.Table.{printed_as, wide_or_none, widely, wrapped};
 ghost use Rattle.terminal_model.specs.declared.action.Action.TheVariants.{Print};
+ghost use Rattle.vt_screen_rows.specs.Acting.{MovesLines, MovesLinesBy};
 ghost use Rattle.vt_screen_rows.specs.Displays.{IsFit, screen_of};
-ghost use Rattle.vt_screen_rows.specs.Places.{acted_places, printed_places, wrapped_places};
+ghost use Rattle.vt_screen_rows.specs.Places.{printed_places, wrapped_places};
 ghost use Rattle.terminal_model.specs.Scrollback.{is_wrapped};
 
 use crate::display::Display;
@@ -28,7 +31,7 @@ impl Display {
         requires { IsFit self.old }
         ensures screen { screen_of self.new ≡ acted (screen_of self.old) (Print unit) }
         ensures width { self.new.ring.columns ≡ self.old.ring.columns }
-        ensures places { self.new.page.places ≡ acted_places self.old.state (Print unit) self.old.page.places }
+        ensures places { MovesLinesBy self.old (Print unit) self.new }
     {
         if let Some(character) = self.state.shifts.map(unit) {
             self.print_character(character);
@@ -42,7 +45,7 @@ impl Display {
         ensures screen { screen_of self.new ≡ acted (screen_of self.old) (Print (Code character)) }
         ensures fit { IsFit self.new }
         ensures width { self.new.ring.columns ≡ self.old.ring.columns }
-        ensures places { self.new.page.places ≡ acted_places self.old.state (Print (Code character)) self.old.page.places }
+        ensures places { MovesLinesBy self.old (Print (Code character)) self.new }
     {
         if character < '\u{A0}' {
             self.print(Unit::Code(character));
@@ -52,13 +55,14 @@ impl Display {
         }
     }
 
-    /// Prints a character that is in no set: one of width 1, mostly, whose width needn't be looked up.
+    /// Prints a character that is in no set: one of width 1, mostly, whose width needn't be looked
+    /// up.
     #[inline(always)]
     fn print_beyond(&mut self, character: char)
         requires { IsFit self.old }
         ensures screen { screen_of self.new ≡ printed (Some character) (screen_of self.old) }
         ensures width { self.new.ring.columns ≡ self.old.ring.columns }
-        ensures places { self.new.page.places ≡ printed_places (Some character) self.old.state self.old.page.places }
+        ensures places { MovesLines self.old (printed_places (Some character)) self.new }
     {
         if is_letter(character) {
             self.print_narrow(character);
@@ -68,12 +72,13 @@ impl Display {
     }
 
     /// Prints a character by its width.
-    #[tactic(auto, unfolding(terminal_model::specs::Table::columns_of, terminal_model::specs::Table::drawn))]
+    #[tactic(auto, // its columns, and what is drawn
+    unfolding(terminal_model::specs::Table::columns_of, terminal_model::specs::Table::drawn))]
     fn print_character(&mut self, character: char)
         requires { IsFit self.old }
         ensures screen { screen_of self.new ≡ printed (Some character) (screen_of self.old) }
         ensures width { self.new.ring.columns ≡ self.old.ring.columns }
-        ensures places { self.new.page.places ≡ printed_places (Some character) self.old.state self.old.page.places }
+        ensures places { MovesLines self.old (printed_places (Some character)) self.new }
     {
         let width = character.width();
         self.print_as(columns_in(width), drawn_as(width, character));
@@ -85,7 +90,8 @@ impl Display {
         requires { IsFit self.old }
         ensures screen { screen_of self.new ≡ printed_as 1 character (screen_of self.old) }
         ensures width { self.new.ring.columns ≡ self.old.ring.columns }
-        ensures places { self.new.page.places ≡ wrapped_places (is_wrapped 1 self.old.state) self.old.state self.old.page.places }
+        ensures places { MovesLines self.old
+            (wrapped_places (is_wrapped 1 self.old.state)) self.new }
     {
         self.wrap(self.state.is_wrap_pending);
         self.place_narrow(character);
@@ -96,7 +102,8 @@ impl Display {
         requires { IsFit self.old }
         ensures screen { screen_of self.new ≡ printed_as columns character (screen_of self.old) }
         ensures width { self.new.ring.columns ≡ self.old.ring.columns }
-        ensures places { self.new.page.places ≡ wrapped_places (is_wrapped columns self.old.state) self.old.state self.old.page.places }
+        ensures places { MovesLines self.old
+            (wrapped_places (is_wrapped columns self.old.state)) self.new }
     {
         if columns == 0 {
             self.join(character);
@@ -113,7 +120,8 @@ impl Display {
     /// A mark joins the cell that was printed last, where nothing came between; else it is dropped.
     fn join(&mut self, mark: char)
         requires { IsFit self.old }
-        ensures screen { screen_of self.new ≡ marked_at self.old.state.joining mark (screen_of self.old) }
+        ensures screen { screen_of self.new
+            ≡ marked_at self.old.state.joining mark (screen_of self.old) }
         ensures width { self.new.ring.columns ≡ self.old.ring.columns }
         ensures places { self.new.page.places ≡ self.old.page.places }
     {
@@ -128,7 +136,7 @@ impl Display {
         ensures screen { screen_of self.new ≡ wrapped is_due (screen_of self.old) }
         ensures fit { IsFit self.new }
         ensures width { self.new.ring.columns ≡ self.old.ring.columns }
-        ensures places { self.new.page.places ≡ wrapped_places is_due self.old.state self.old.page.places }
+        ensures places { MovesLines self.old (wrapped_places is_due) self.new }
     {
         if is_due {
             self.go_to_next_line();
@@ -149,12 +157,14 @@ impl Display {
         advance(&mut self.state, 1);
     }
 
-    /// A wide character in the last column goes to the next line with ?7 set, and isn't printed with ?7 reset.
+    /// A wide character in the last column goes to the next line with ?7 set, and isn't printed
+    /// with ?7 reset.
     fn print_wide(&mut self, character: char)
         requires { IsFit self.old }
         ensures screen { screen_of self.new ≡ widely character (screen_of self.old) }
         ensures width { self.new.ring.columns ≡ self.old.ring.columns }
-        ensures places { self.new.page.places ≡ wrapped_places (lacks_room self.old.state && self.old.state.modes.wraps) self.old.state self.old.page.places }
+        ensures places { MovesLines self.old
+            (wrapped_places (lacks_room self.old.state && self.old.state.modes.wraps)) self.new }
     {
         let is_due = needs_line(&self.state);
         self.wrap(is_due);
@@ -182,7 +192,8 @@ impl Display {
     }
 }
 
-/// Whether a character is one of U+00A0 to U+02FF, which take one column each, but for the soft hyphen.
+/// Whether a character is one of U+00A0 to U+02FF, which take one column each, but for the soft
+/// hyphen.
 #[inline(always)]
 fn is_letter(character: char) -> bool
     ensures columns { IsTrue result → columns_of character ≡ 1 }

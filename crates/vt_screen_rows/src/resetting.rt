@@ -2,7 +2,10 @@
 
 ghost use Rattle.std.specs.Prelude.{◌≡◌};
 ghost use Rattle.terminal_model.specs.Table.{acted};
-ghost use Rattle.terminal_model.specs.declared.action.Action.TheVariants.{Align, BlankPage, ClearTab, ClearTabs, Reset, Restore, Save, SetTab, SoftReset, Tab};
+ghost use Rattle.terminal_model.specs.declared.action.Action.TheVariants.{Align, BlankPage};
+ghost use Rattle.terminal_model.specs.declared.action.Action.TheVariants.{ClearTab, ClearTabs};
+ghost use Rattle.terminal_model.specs.declared.action.Action.TheVariants.{Reset, Restore, Save};
+ghost use Rattle.terminal_model.specs.declared.action.Action.TheVariants.{SetTab, SoftReset, Tab};
 ghost use Rattle.vt_screen_rows.specs.Displays.{IsFit, screen_of};
 
 use crate::display::Display;
@@ -57,7 +60,8 @@ impl Display {
         settle(&mut self.state);
     }
 
-    /// DECSC (VT220 Programmer Reference Manual, cursor positioning): the pending wrap is saved, and then cleared.
+    /// DECSC (VT220 Programmer Reference Manual, cursor positioning): the pending wrap is saved,
+    /// and then cleared.
     pub fn save(&mut self)
         ensures screen { screen_of self.new ≡ acted (screen_of self.old) Save }
         ensures width { self.new.ring.columns ≡ self.old.ring.columns }
@@ -113,8 +117,8 @@ impl Display {
         go_home(&mut self.state);
     }
 
-    /// The value ?3 of DECSM and DECRM (VT220 Programmer Reference Manual, DECCOLM): the page is blank, and its width
-    /// stays.
+    /// The value ?3 of DECSM and DECRM (VT220 Programmer Reference Manual, DECCOLM): the page is
+    /// blank, and its width stays.
     pub fn blank_page(&mut self)
         requires { IsFit self.old }
         ensures screen { screen_of self.new ≡ acted (screen_of self.old) BlankPage }

@@ -4,9 +4,8 @@ ghost use Rattle.std.specs.Prelude.{◌≡◌, ◌↔◌, ◌+◌, ◌<◌, ◌�
 ghost use Rattle.std.specs.List.{list_all};
 ghost use Rattle.charsets.specs.Shifts.{set_at};
 ghost use Rattle.charsets.specs.Units.{is_plain};
-ghost use Rattle.terminal_model.specs.Table.{all_acted};
+ghost use Rattle.vt_screen_rows.specs.Acting.{ActsByAll, MovesLinesByAll};
 ghost use Rattle.vt_screen_rows.specs.Displays.{IsFit, screen_of};
-ghost use Rattle.vt_screen_rows.specs.Places.{all_acted_places};
 ghost use Rattle.vt_screen_rows.specs.Runs.{PrintsAscii, TakesRuns, prints, run_placed};
 
 use crate::display::Display;
@@ -19,9 +18,9 @@ impl Display {
     pub fn print_run(&mut self, codes: &[u8])
         requires fit { IsFit self.old }
         requires plain { list_all is_plain codes.now ≡ true }
-        ensures screen { screen_of self.new ≡ all_acted (screen_of self.old) (prints codes.now) }
+        ensures screen { ActsByAll self.old (prints codes.now) self.new }
         ensures fit { IsFit self.new }
-        ensures places { self.new.page.places ≡ all_acted_places (screen_of self.old) (prints codes.now) self.old.page.places }
+        ensures places { MovesLinesByAll self.old (prints codes.now) self.new }
     {
         let mut printed = 0;
         while printed < codes.len() {
@@ -29,14 +28,15 @@ impl Display {
         }
     }
 
-    /// Prints the first one of some characters 20 to 7E, or as many of them as have room in a line, and gives how many.
+    /// Prints the first one of some characters 20 to 7E, or as many of them as have room in a line,
+    /// and gives how many.
     fn print_some(&mut self, codes: &[u8]) -> usize
         requires fit { IsFit self.old }
         requires plain { list_all is_plain codes.now ≡ true }
         requires some { 0 < length codes.now }
-        ensures screen { screen_of self.new ≡ all_acted (screen_of self.old) (prints (take result codes.now)) }
+        ensures screen { ActsByAll self.old (prints (take result codes.now)) self.new }
         ensures fit { IsFit self.new }
-        ensures places { self.new.page.places ≡ all_acted_places (screen_of self.old) (prints (take result codes.now)) self.old.page.places }
+        ensures places { MovesLinesByAll self.old (prints (take result codes.now)) self.new }
         ensures some { 0 < result }
         ensures few { result ≤ length codes.now }
     {

@@ -42,9 +42,9 @@ impl Display {
         }
     }
 
-    /// Takes another size. It keeps the upper left part; the cursor and the saved place go to the nearest place, no wrap
-    /// is pending, and margins and tab stops start anew. It is `BadSize` as in `new`; a refusal leaves everything as it
-    /// was.
+    /// Takes another size. It keeps the upper left part; the cursor and the saved place go to the
+    /// nearest place, no wrap is pending, and margins and tab stops start anew. It is `BadSize` as
+    /// in `new`; a refusal leaves everything as it was.
     pub fn resized(&mut self, rows: usize, columns: usize) -> Result<(), GridFault>
         ensures ok { OnOk result (screen_of self.new ≡ resized rows columns (screen_of self.old)) }
         ensures width { OnOk result (self.new.ring.columns ≡ columns) }

@@ -2,7 +2,8 @@
 use Rattle.std.specs.Prelude.{ℕ, ◌-◌, min, false, None}
 use Rattle.terminal_model.specs.declared.state.State.{State}
 
--- the state of a page of another size: the cursor goes to the nearest place, margins start anew, no wrap is pending
+-- the state of a page of another size: the cursor goes to the nearest place, margins start anew, no
+-- wrap is pending
 abbrev pub fitted : ℕ → ℕ → State → State
 fitted rows columns s = record s {
   rows = rows;

@@ -1,7 +1,8 @@
 //! The cursor.
 
 ghost use Rattle.std.specs.Prelude.{◌≡◌, ◌+◌, ◌-◌, ◌<◌, ◌≤◌, ◌&&◌, min};
-ghost use Rattle.terminal_model.specs.Table.{advanced, apart, following, home, lacks_room, line_down, line_named, line_up, moved_to, settled};
+ghost use Rattle.terminal_model.specs.Table.{advanced, apart, following, home, lacks_room};
+ghost use Rattle.terminal_model.specs.Table.{line_down, line_named, line_up, moved_to, settled};
 
 use terminal_model::{Position, State};
 
@@ -12,8 +13,8 @@ pub fn separate(state: &mut State)
     state.joining = None;
 }
 
-/// No mark joins what was printed, and no wrap is pending: so after every function other than print, SGR, the shifts
-/// and the designations.
+/// No mark joins what was printed, and no wrap is pending: so after every function other than
+/// print, SGR, the shifts and the designations.
 pub fn settle(state: &mut State)
     ensures { state.new ≡ settled state.old }
 {
@@ -38,8 +39,8 @@ pub fn go_to_first_column(state: &mut State)
     move_to(state, line, 0);
 }
 
-/// The cursor goes home: to the page's first place, or to that of the margins with ?6 set (VT220 Programmer Reference
-/// Manual, DECOM).
+/// The cursor goes home: to the page's first place, or to that of the margins with ?6 set (VT220
+/// Programmer Reference Manual, DECOM).
 pub fn go_home(state: &mut State)
     ensures { state.new ≡ home state.old }
 {
@@ -51,7 +52,8 @@ pub fn go_home(state: &mut State)
     move_to(state, line, 0);
 }
 
-/// CUU (ECMA-48, 8.3.22): from within or below the margins at most to their first line, else to the page's.
+/// CUU (ECMA-48, 8.3.22): from within or below the margins at most to their first line, else to the
+/// page's.
 pub fn go_up(state: &mut State, count: usize)
     ensures { state.new ≡ moved_to state.old (line_up state.old count) state.old.column }
 {
@@ -65,7 +67,8 @@ pub fn go_up(state: &mut State, count: usize)
     move_to(state, line, column);
 }
 
-/// CUD (ECMA-48, 8.3.19): from within or above the margins at most to their last line, else to the page's.
+/// CUD (ECMA-48, 8.3.19): from within or above the margins at most to their last line, else to the
+/// page's.
 pub fn go_down(state: &mut State, count: usize)
     requires line_inside { state.old.line < state.old.rows }
     requires bottom_inside { state.old.bottom < state.old.rows }
@@ -84,7 +87,8 @@ pub fn go_down(state: &mut State, count: usize)
 /// CUF (ECMA-48, 8.3.20): at most to the last column.
 pub fn go_right(state: &mut State, count: usize)
     requires { state.old.column < state.old.columns }
-    ensures { state.new ≡ moved_to state.old state.old.line (min (state.old.column + count) (state.old.columns - 1)) }
+    ensures { state.new ≡ moved_to state.old state.old.line
+        (min (state.old.column + count) (state.old.columns - 1)) }
 {
     let line = state.line;
     let column = state.column.saturating_add(count).min(state.columns - 1);
@@ -100,12 +104,14 @@ pub fn go_left(state: &mut State, count: usize)
     move_to(state, line, column);
 }
 
-/// CUP (ECMA-48, 8.3.21) and HVP (8.3.63): a place of the page, or with ?6 set of the margins' lines.
+/// CUP (ECMA-48, 8.3.21) and HVP (8.3.63): a place of the page, or with ?6 set of the margins'
+/// lines.
 pub fn go_to(state: &mut State, line: usize, column: usize)
     requires line_inside { state.old.line < state.old.rows }
     requires column_inside { state.old.column < state.old.columns }
     requires bottom_inside { state.old.bottom < state.old.rows }
-    ensures { state.new ≡ moved_to state.old (line_named state.old line) (min column (state.old.columns - 1)) }
+    ensures { state.new
+        ≡ moved_to state.old (line_named state.old line) (min column (state.old.columns - 1)) }
 {
     let line = if state.modes.counts_from_margin {
         state.top.saturating_add(line).min(state.bottom)
@@ -132,8 +138,8 @@ pub fn needs_line(state: &State) -> bool
     lacks_room(state) && state.modes.wraps
 }
 
-/// The column whose old cell follows so many new ones at the cursor: with IRM set the one that stood there (ECMA-48,
-/// 7.2.10).
+/// The column whose old cell follows so many new ones at the cursor: with IRM set the one that
+/// stood there (ECMA-48, 7.2.10).
 pub fn following(state: &State, width: usize) -> usize
     requires inside { state.now.column + width ≤ state.now.columns }
     requires few { state.now.columns ≤ 300 }
@@ -146,7 +152,8 @@ pub fn following(state: &State, width: usize) -> usize
     }
 }
 
-/// The cursor behind so many printed columns, which marks join; behind the last column the wrap is pending, with ?7 set.
+/// The cursor behind so many printed columns, which marks join; behind the last column the wrap is
+/// pending, with ?7 set.
 pub fn advance(state: &mut State, width: usize)
     requires some { 0 < width }
     requires inside { state.old.column + width ≤ state.old.columns }

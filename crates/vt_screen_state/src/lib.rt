@@ -1,4 +1,5 @@
-//! What a terminal holds beside its page, and how control functions change it. Lines and columns count from 0.
+//! What a terminal holds beside its page, and how control functions change it. Lines and columns
+//! count from 0.
 #![tactic(auto)]
 
 mod cursor;

@@ -2,17 +2,20 @@
 
 ghost use Rattle.std.specs.Prelude.{◌≡◌, ◌-◌, ◌<◌, min, nat_lt};
 ghost use Rattle.cells.specs.Page.{IsGridSize};
-ghost use Rattle.terminal_model.specs.Table.{bottom_of, is_in_margins, margins_or_none, whole_margins};
+ghost use Rattle.terminal_model.specs.Table.{bottom_of, is_in_margins, margins_or_none};
+ghost use Rattle.terminal_model.specs.Table.{whole_margins};
 ghost use Rattle.vt_screen_state.specs.Fitted.{fitted};
 
 use crate::cursor::go_home;
 use terminal_model::State;
 
-/// DECSTBM (VT220 Programmer Reference Manual): the lines from `top` to `bottom`, by default the page's last one, are
-/// the margins, and the cursor goes home; where these aren't two lines at least, nothing changes.
+/// DECSTBM (VT220 Programmer Reference Manual): the lines from `top` to `bottom`, by default the
+/// page's last one, are the margins, and the cursor goes home; where these aren't two lines at
+/// least, nothing changes.
 pub fn set_margins(state: &mut State, top: usize, bottom: Option<usize>)
     requires { state.old.line < state.old.rows }
-    ensures { state.new ≡ margins_or_none (nat_lt top (bottom_of state.old.rows bottom)) top (bottom_of state.old.rows bottom) state.old }
+    ensures { state.new ≡ margins_or_none (nat_lt top (bottom_of state.old.rows bottom)) top
+        (bottom_of state.old.rows bottom) state.old }
 {
     let last = state.rows - 1;
     let bottom = match bottom {
@@ -42,8 +45,8 @@ pub fn is_in_margins(state: &State) -> bool
     state.top <= state.line && state.line <= state.bottom
 }
 
-/// A page of another size: the cursor goes to the nearest place, no wrap is pending, no mark joins what was printed, and
-/// the margins are the whole page.
+/// A page of another size: the cursor goes to the nearest place, no wrap is pending, no mark joins
+/// what was printed, and the margins are the whole page.
 pub fn fit(state: &mut State, rows: usize, columns: usize)
     requires { IsGridSize rows columns }
     ensures { state.new ≡ fitted rows columns state.old }

@@ -3,7 +3,8 @@
 ghost use Rattle.std.specs.Prelude.{◌≡◌, ◌-◌, ◌<◌};
 ghost use Rattle.charsets.specs.Shifts.{designated, shifted};
 ghost use Rattle.terminal_model.specs.Screen.{starting_modes, starting_state};
-ghost use Rattle.terminal_model.specs.Table.{apart, homed, modes_with, rendition_with, settled, softly_reset};
+ghost use Rattle.terminal_model.specs.Table.{apart, homed, modes_with, rendition_with, settled};
+ghost use Rattle.terminal_model.specs.Table.{softly_reset};
 
 use crate::cursor::{go_home, separate, settle};
 use crate::margins::use_whole_page;
@@ -50,9 +51,11 @@ pub fn starting_state(rows: usize, columns: usize, coding: Coding) -> State
     }
 }
 
-/// SM, RM, DECSM or DECRM of a mode (ECMA-48, 7.2; VT220 Programmer Reference Manual, chapter 4); ?6 also goes home.
+/// SM, RM, DECSM or DECRM of a mode (ECMA-48, 7.2; VT220 Programmer Reference Manual, chapter 4);
+/// ?6 also goes home.
 pub fn set_mode(state: &mut State, mode: Mode, is_set: bool)
-    ensures { state.new ≡ homed mode (record state.old { modes = modes_with state.old.modes mode is_set }) }
+    ensures { state.new
+        ≡ homed mode (record state.old { modes = modes_with state.old.modes mode is_set }) }
 {
     match mode {
         Mode::Insert => state.modes.inserts = is_set,
@@ -86,7 +89,8 @@ fn change_rendition(rendition: &mut Rendition, attribute: Attribute)
 
 /// One value of SGR (ECMA-48, 8.3.117).
 pub fn render(state: &mut State, attribute: Attribute)
-    ensures { state.new ≡ apart (record state.old { rendition = rendition_with state.old.rendition attribute }) }
+    ensures { state.new
+        ≡ apart (record state.old { rendition = rendition_with state.old.rendition attribute }) }
 {
     change_rendition(&mut state.rendition, attribute);
     separate(state);
@@ -102,7 +106,8 @@ pub fn shift(state: &mut State, shift: Shift)
 
 /// Designates a set to a place (ECMA-35; VT220 Programmer Reference Manual, SCS).
 pub fn designate(state: &mut State, place: Place, set: CharacterSet)
-    ensures { state.new ≡ apart (record state.old { shifts = designated state.old.shifts place set }) }
+    ensures { state.new
+        ≡ apart (record state.old { shifts = designated state.old.shifts place set }) }
 {
     state.shifts.designate(place, set);
     separate(state);
@@ -126,7 +131,8 @@ pub fn set_eight_bit_reports(state: &mut State, is_set: bool)
 
 /// DECKPAM, or DECKPNM where false (VT220 Programmer Reference Manual, modes).
 pub fn set_application_keypad(state: &mut State, is_set: bool)
-    ensures { state.new ≡ settled (record state.old { modes = record state.old.modes { has_application_keypad = is_set } }) }
+    ensures { state.new ≡ settled
+        (record state.old { modes = record state.old.modes { has_application_keypad = is_set } }) }
 {
     state.modes.has_application_keypad = is_set;
     settle(state);
@@ -140,8 +146,8 @@ pub fn protect(state: &mut State, is_set: bool)
     settle(state);
 }
 
-/// DECSTR (VT220 Programmer Reference Manual, terminal reset), but for what is saved: the cursor, LNM, ?5, the coding and
-/// the form of reports stay.
+/// DECSTR (VT220 Programmer Reference Manual, terminal reset), but for what is saved: the cursor,
+/// LNM, ?5, the coding and the form of reports stay.
 pub fn soft_reset(state: &mut State)
     requires { state.old.line < state.old.rows }
     ensures { state.new ≡ softly_reset state.old }

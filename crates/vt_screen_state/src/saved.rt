@@ -2,7 +2,8 @@
 
 ghost use Rattle.std.specs.Prelude.{◌≡◌, ◌-◌, ◌<◌, option_map};
 ghost use Rattle.cells.specs.Page.{IsGridSize};
-ghost use Rattle.terminal_model.specs.Table.{never_saved, restored, restored_line, saved_of, saved_or_none, saved_resized};
+ghost use Rattle.terminal_model.specs.Table.{never_saved, restored, restored_line, saved_of};
+ghost use Rattle.terminal_model.specs.Table.{saved_or_none, saved_resized};
 
 use cells::Rendition;
 use charsets::Shifts;
@@ -38,8 +39,8 @@ fn never_saved() -> Saved
     }
 }
 
-/// Restores what was saved, or its starting values where nothing was, at a place of the page, and of the margins with ?6
-/// set.
+/// Restores what was saved, or its starting values where nothing was, at a place of the page, and
+/// of the margins with ?6 set.
 pub fn restore(state: &mut State, saved: Option<Saved>)
     requires line_inside { state.old.line < state.old.rows }
     requires column_inside { state.old.column < state.old.columns }

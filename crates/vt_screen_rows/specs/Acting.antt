@@ -1,0 +1,29 @@
+-- What actions make of a display.
+use Rattle.std.specs.Prelude.{◌≡◌, ℕ, List, []}
+use Rattle.terminal_model.specs.declared.action.Action.{Action}
+use Rattle.terminal_model.specs.declared.state.State.{State}
+use Rattle.terminal_model.specs.Reports.{all_answered}
+use Rattle.terminal_model.specs.Table.{all_acted}
+use Rattle.vt_screen_rows.specs.declared.display.Display.{Display}
+use Rattle.vt_screen_rows.specs.Displays.{screen_of}
+use Rattle.vt_screen_rows.specs.Places.{acted_places, all_acted_places}
+
+-- actions, in turn, made another screen of it
+abbrev pub ActsByAll : Display → List Action → Display → Type 0
+ActsByAll old actions new = screen_of new ≡ all_acted (screen_of old) actions
+
+-- actions, in turn, are answered by nothing
+abbrev pub AreUnanswered : Display → List Action → Type 0
+AreUnanswered old actions = all_answered (screen_of old) actions ≡ []
+
+-- the places of the page's lines became others
+abbrev pub MovesLines : Display → (State → List ℕ → List ℕ) → Display → Type 0
+MovesLines old change new = new.page.places ≡ change old.state old.page.places
+
+-- so they did by an action; by actions, in turn
+abbrev pub MovesLinesBy : Display → Action → Display → Type 0
+MovesLinesBy old action new = new.page.places ≡ acted_places old.state action old.page.places
+
+abbrev pub MovesLinesByAll : Display → List Action → Display → Type 0
+MovesLinesByAll old actions new =
+    new.page.places ≡ all_acted_places (screen_of old) actions old.page.places
