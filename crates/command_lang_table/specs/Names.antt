@@ -3,7 +3,7 @@ use Rattle.std.specs.Prelude.{ℕ, Bool, false, ◌||◌, List, Option, Some, No
 use Rattle.std.specs.Str.{bytes_eq}
 use Rattle.acl.specs.declared.command_name.CommandName.{CommandName}
 use Rattle.acl.specs.declared.command_name.CommandName.TheVariants as name
-use Rattle.acl.specs.declared.command_name.TheConstants.CommandName.{ALL}
+use Rattle.acl.specs.command_name.TheConstants.CommandName.{ALL}
 use Rattle.command_lang_table.specs.Rows.{row}
 use Rattle.command_lang_table.specs.declared.command.Command.{Command}
 use Rattle.command_lang_table.specs.declared.command.Command.TheVariants as command
