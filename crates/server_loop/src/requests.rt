@@ -121,16 +121,18 @@ impl<S: Read + Write + Drop, G: Gate + Drop, L: Roll> Loop<S, G, L> {
 
     // The first message of a connection.
     fn begin(&mut self, rt: &impl Wait, house: &House<L>, key: usize, message: &Message) {
+        let (Message::Attach { token, name, .. }
+        | Message::Window { token, name, .. }
+        | Message::Command { token, name, .. }) = message
+        else {
+            self.peers.fault(rt, house, key);
+            return;
+        };
+        let Some(user) = self.user_of(rt, house, key, name, token) else {
+            return;
+        };
         match message {
-            Message::Attach {
-                rows,
-                cols,
-                token,
-                name,
-            } => {
-                let Some(user) = self.user_of(rt, house, key, name, token) else {
-                    return;
-                };
+            Message::Attach { rows, cols, .. } => {
                 let event = Event::Attach {
                     user,
                     rows: *rows,
@@ -142,13 +144,9 @@ impl<S: Read + Write + Drop, G: Gate + Drop, L: Roll> Loop<S, G, L> {
                 rows,
                 cols,
                 keep,
-                token,
-                name,
                 title,
+                ..
             } => {
-                let Some(user) = self.user_of(rt, house, key, name, token) else {
-                    return;
-                };
                 let event = Event::Open {
                     user,
                     rows: *rows,
@@ -158,18 +156,10 @@ impl<S: Read + Write + Drop, G: Gate + Drop, L: Roll> Loop<S, G, L> {
                 };
                 self.join(rt, house, key, event)
             }
-            Message::Command {
-                window,
-                token,
-                name,
-                line,
-            } => {
-                let Some(user) = self.user_of(rt, house, key, name, token) else {
-                    return;
-                };
+            Message::Command { window, line, .. } => {
                 self.command(rt, house, key, user, *window, line.as_slice())
             }
-            _ => self.peers.fault(rt, house, key),
+            _ => {}
         }
     }
 
