@@ -60,7 +60,8 @@ with_names users (name ∷ names) = with_names (with_name users name) names
 
 abbrev pub change_fault : UserId → List UserId → List (Option UserId) → Option AclFault
 change_fault owner users [] = None
-change_fault owner users (name ∷ names) = option_or (new_name_fault owner users name) (change_fault owner (with_name users name) names)
+change_fault owner users (name ∷ names) =
+    option_or (new_name_fault owner users name) (change_fault owner (with_name users name) names)
 
 -- the sets of a user's bits on one object, as they are written
 abbrev pub sets_on : UserId → List BitChange → Object → List Act
@@ -81,9 +82,11 @@ name_acts users None changes objects = []
 name_acts users (Some u) changes objects = user_acts (among users u) u changes objects
 
 -- a change of bits, user by user
-abbrev pub change_acts : List UserId → List (Option UserId) → List BitChange → List Object → List Act
+abbrev pub change_acts : List UserId → List (Option UserId) → List BitChange → List Object
+    → List Act
 change_acts users [] changes objects = []
-change_acts users (name ∷ names) changes objects = name_acts users name changes objects ++ change_acts (with_name users name) names changes objects
+change_acts users (name ∷ names) changes objects =
+    name_acts users name changes objects ++ change_acts (with_name users name) names changes objects
 
 -- acladd: each name that isn't known becomes known
 abbrev pub new_acts : List UserId → Option UserId → List Act
@@ -96,7 +99,11 @@ known_acts users (name ∷ names) = new_acts users name ++ known_acts (with_name
 
 -- and is then granted this: +rwx
 abbrev pub added : List BitChange
-added = record { bit = Read; value = true } ∷ record { bit = Write; value = true } ∷ record { bit = Execute; value = true } ∷ []
+added =
+    record { bit = Read; value = true }
+    ∷ record { bit = Write; value = true }
+    ∷ record { bit = Execute; value = true }
+    ∷ []
 
 abbrev pub name_sets : List BitChange → List Object → Option UserId → List Act
 name_sets changes objects None = []
@@ -113,24 +120,31 @@ add_acts users names objects = known_acts users names ++ names_sets objects name
 -- acldel, aclgrp, aclumask: a name that is known
 abbrev pub known_name_fault : UserId → List UserId → Option UserId → Option AclFault
 known_name_fault owner users None = Some ReservedName
-known_name_fault owner users (Some u) = if same_user owner u then Some OwnerKept else (if among users u then None else Some UnknownUser)
+known_name_fault owner users (Some u) =
+    if same_user owner u then Some OwnerKept else (if among users u then None else Some UnknownUser)
 
 abbrev pub removal_acts : Option UserId → List Act
 removal_acts None = []
 removal_acts (Some u) = Gone u ∷ []
 
 -- a leader is known, and neither the owner nor the user himself. At most eight lead a user
-abbrev pub leader_fault : Edition → UserId → List UserId → (UserId → List UserId) → Option UserId → NewLeader → Option AclFault
+abbrev pub leader_fault : Edition → UserId → List UserId → (UserId → List UserId) → Option UserId
+    → NewLeader → Option AclFault
 leader_fault edition owner users leaders name Nobody = None
 leader_fault edition owner users leaders name (Named None) = Some NoSuchGroup
 leader_fault edition owner users leaders None (Named (Some leader)) = None
 leader_fault edition owner users leaders (Some u) (Named (Some leader)) =
     if same_user owner leader then Some OwnerKept
     else (if not (among users leader && not (same_user u leader)) then Some NoSuchGroup
-    else (if nat_le (length (leaders_with edition (Some leader) (leaders u))) 8 then None else Some TooManyGroups))
+    else (if nat_le (length (leaders_with edition (Some leader) (leaders u))) 8
+    then None else Some TooManyGroups))
 
-abbrev pub group_fault : Edition → UserId → List UserId → (UserId → List UserId) → Option UserId → NewLeader → Option AclFault
-group_fault edition owner users leaders name leader = option_or (known_name_fault owner users name) (leader_fault edition owner users leaders name leader)
+abbrev pub group_fault : Edition → UserId → List UserId → (UserId → List UserId) → Option UserId
+    → NewLeader → Option AclFault
+group_fault edition owner users leaders name leader =
+    option_or
+    (known_name_fault owner users name)
+    (leader_fault edition owner users leaders name leader)
 
 abbrev pub chosen_leader : NewLeader → Option UserId
 chosen_leader Nobody = None
@@ -147,7 +161,8 @@ scope_fault owner users (scope.User name) = known_name_fault owner users name
 
 abbrev pub mask_fault : UserId → List UserId → List MaskEntry → Option AclFault
 mask_fault owner users [] = None
-mask_fault owner users (e ∷ entries) = option_or (scope_fault owner users e.scope) (mask_fault owner users entries)
+mask_fault owner users (e ∷ entries) =
+    option_or (scope_fault owner users e.scope) (mask_fault owner users entries)
 
 abbrev pub scope_acts : UserId → MaskScope → Bit → Bool → List Act
 scope_acts by (scope.Preset kind) bit value = Preset kind bit value ∷ []
@@ -162,8 +177,11 @@ mask_acts by (e ∷ entries) = scope_acts by e.scope e.bit e.value ++ mask_acts 
 abbrev pub MayFollow : Edition → UserId → History → Act → Type 0
 MayFollow edition owner h (Known u) = is_known owner h u ≡ false
 MayFollow edition owner h (Gone u) = same_user owner u ≡ false
-MayFollow edition owner h (Set u bit object value) = (is_known owner h u ≡ true) × (there h object ≡ true)
-MayFollow edition owner h (Grouped u leader) = (is_known owner h u ≡ true) × (length (leaders_with edition leader (leaders_of edition h u)) ≤ 8)
+MayFollow edition owner h (Set u bit object value) =
+    (is_known owner h u ≡ true) × (there h object ≡ true)
+MayFollow edition owner h (Grouped u leader) =
+    (is_known owner h u ≡ true)
+    × (length (leaders_with edition leader (leaders_of edition h u)) ≤ 8)
 MayFollow edition owner h (Masked by u bit value) = Unit {0}
 MayFollow edition owner h (Preset kind bit value) = Unit {0}
 MayFollow edition owner h _ = ⊥
@@ -171,7 +189,8 @@ MayFollow edition owner h _ = ⊥
 -- and these acts, each after those before it
 abbrev pub AllMayFollow : Edition → UserId → History → List Act → Type 0
 AllMayFollow edition owner h [] = Unit {0}
-AllMayFollow edition owner h (a ∷ acts) = MayFollow edition owner h a × AllMayFollow edition owner (a ∷ h) acts
+AllMayFollow edition owner h (a ∷ acts) =
+    MayFollow edition owner h a × AllMayFollow edition owner (a ∷ h) acts
 
 -- an act of clients or locks, which leaves all rights as they are
 abbrev pub IsAside : Act → Type 0

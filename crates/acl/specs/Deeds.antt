@@ -12,44 +12,63 @@ use Rattle.acl_words.specs.declared.faults.AclFault.{AclFault}
 -- where the table stood for a history that the act may follow, it stands for that history and the act
 abbrev pub Takes : Table → Table → Act → Type 0
 Takes old new act =
-    (edition : Edition) (owner : UserId) (h : History) → StandsFor old edition owner h → MayFollow edition owner h act → StandsFor new edition owner (act ∷ h)
+    (edition : Edition) (owner : UserId) (h : History) → StandsFor old edition owner h
+    → MayFollow edition owner h act → StandsFor new edition owner (act ∷ h)
 
 -- and so with these acts in order
 abbrev pub TakesAll : Table → Table → List Act → Type 0
 TakesAll old new acts =
-    (edition : Edition) (owner : UserId) (h : History) → StandsFor old edition owner h → AllMayFollow edition owner h acts → StandsFor new edition owner (followed_by h acts)
+    (edition : Edition) (owner : UserId) (h : History) → StandsFor old edition owner h
+    → AllMayFollow edition owner h acts → StandsFor new edition owner (followed_by h acts)
 
 -- what follows the acts stood for h, and stands for it and the act, with the table after it
-abbrev pub Follows : (Edition → UserId → History → Type 0) → (Edition → UserId → History → Type 0) → Table → Act → Type 0
+abbrev pub Follows : (Edition → UserId → History → Type 0) → (Edition → UserId → History → Type 0)
+    → Table → Act → Type 0
 Follows follows followed t act =
-    (edition : Edition) (owner : UserId) (h : History) → follows edition owner h → MayFollow edition owner h act → StandsFor t edition owner (act ∷ h) → followed edition owner (act ∷ h)
+    (edition : Edition) (owner : UserId) (h : History) → follows edition owner h
+    → MayFollow edition owner h act → StandsFor t edition owner (act ∷ h)
+    → followed edition owner (act ∷ h)
 
 -- and so with these acts, where the table was this one
-abbrev pub FollowsAll : (Edition → UserId → History → Type 0) → (Edition → UserId → History → Type 0) → Table → List Act → Type 0
+abbrev pub FollowsAll : (Edition → UserId → History → Type 0)
+    → (Edition → UserId → History → Type 0) → Table → List Act → Type 0
 FollowsAll follows followed old acts =
-    (edition : Edition) (owner : UserId) (h : History) → StandsFor old edition owner h → AllMayFollow edition owner h acts → follows edition owner h → followed edition owner (followed_by h acts)
+    (edition : Edition) (owner : UserId) (h : History) → StandsFor old edition owner h
+    → AllMayFollow edition owner h acts → follows edition owner h
+    → followed edition owner (followed_by h acts)
 
 -- a list command is refused for this fault, or for want of memory, or is done: the fault is what the definitions give of any history
 -- that the table stands for
-abbrev pub Refuses : {X : Type 0} → Table → (Edition → UserId → History → Option AclFault) → Result X AclFault → Type 0
+abbrev pub Refuses : {X : Type 0} → Table → (Edition → UserId → History → Option AclFault)
+    → Result X AclFault → Type 0
 Refuses old fault result =
-    (edition : Edition) (owner : UserId) (h : History) → StandsFor old edition owner h → Answers result (fault edition owner h)
+    (edition : Edition) (owner : UserId) (h : History) → StandsFor old edition owner h
+    → Answers result (fault edition owner h)
 
 -- a list command was done after the history h: the table stands for h and then its acts, which are given out in order, and so does
 -- what follows the acts. Each act may follow those before it
-pub record IsDone (edition : Edition) (owner : UserId) (h : History) (given : List Act) (new : Table) (before after : List Act) (follows followed : Edition → UserId → History → Type 0) : Type 0 where
+pub record IsDone (edition : Edition) (owner : UserId) (h : History) (given : List Act)
+    (new : Table) (before after : List Act)
+    (follows followed : Edition → UserId → History → Type 0)
+    : Type 0 where
   pub follow : AllMayFollow edition owner h given
   pub stands : StandsFor new edition owner (followed_by h given)
   pub acts : after ≡ before ++ given
   pub follower : follows edition owner h → followed edition owner (followed_by h given)
 
 -- and that after each history that the table stood for
-abbrev pub Does : (old new : Table) (before after : List Act) (follows followed : Edition → UserId → History → Type 0) → (UserId → History → List Act) → Type 0
+abbrev pub Does : (old new : Table) (before after : List Act)
+    (follows followed : Edition → UserId → History → Type 0)
+    → (UserId → History → List Act) → Type 0
 Does old new before after follows followed given =
-    (edition : Edition) (owner : UserId) (h : History) → StandsFor old edition owner h → IsDone edition owner h (given owner h) new before after follows followed
+    (edition : Edition) (owner : UserId) (h : History) → StandsFor old edition owner h
+    → IsDone edition owner h (given owner h) new before after follows followed
 
 -- or after each in which these objects are there
-abbrev pub DoesOn : List Object → (old new : Table) (before after : List Act) (follows followed : Edition → UserId → History → Type 0) → (UserId → History → List Act) → Type 0
+abbrev pub DoesOn : List Object → (old new : Table) (before after : List Act)
+    (follows followed : Edition → UserId → History → Type 0)
+    → (UserId → History → List Act) → Type 0
 DoesOn objects old new before after follows followed given =
-    (edition : Edition) (owner : UserId) (h : History) → StandsFor old edition owner h → All (λ object. there h object ≡ true) objects
+    (edition : Edition) (owner : UserId) (h : History) → StandsFor old edition owner h
+    → All (λ object. there h object ≡ true) objects
     → IsDone edition owner h (given owner h) new before after follows followed

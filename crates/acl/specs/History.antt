@@ -74,7 +74,8 @@ open_count (_ ∷ h) = open_count h
 
 -- aclumask: what the masks of `by` say of u's bit on windows that `by` opens later. A mask counts since both became known
 abbrev pub decides_mask : UserId → UserId → Bit → Act → Option Bool
-decides_mask by u bit (Masked b v c value) = decided (same_user b by && same_user v u && same_bit c bit) value
+decides_mask by u bit (Masked b v c value) =
+    decided (same_user b by && same_user v u && same_bit c bit) value
 decides_mask by u bit (Known v) = decided (same_user v by || same_user v u) true
 decides_mask by u bit (Gone v) = decided (same_user v by || same_user v u) true
 decides_mask by u bit _ = None
@@ -97,25 +98,31 @@ greeting h bit (Command c) = Some (preset_of h preset.Commands bit)
 
 -- what u gets on a window that `by` opens: each bit where he opened it, else what the mask says of a known user
 abbrev pub opening : UserId → History → UserId → UserId → Bit → Option Bool
-opening owner h by u bit = if same_user by u then Some true else decided (is_known owner h u) (mask h by u bit)
+opening owner h by u bit =
+    if same_user by u then Some true else decided (is_known owner h u) (mask h by u bit)
 
 -- aclchg and the others: what an act after the history h decides of u's bit on an object
 abbrev pub decision : UserId → Act → History → UserId → Bit → Object → Option Bool
 decision owner (Known v) h u bit object = if same_user v u then greeting h bit object else None
 decision owner (Gone v) h u bit object = decided (same_user v u) false
-decision owner (Set v c place value) h u bit object = decided (same_user v u && same_bit c bit && same_object place object) value
-decision owner (Opened by w) h u bit object = if same_object (Window w) object then opening owner h by u bit else None
+decision owner (Set v c place value) h u bit object =
+    decided (same_user v u && same_bit c bit && same_object place object) value
+decision owner (Opened by w) h u bit object =
+    if same_object (Window w) object then opening owner h by u bit else None
 decision owner _ h u bit object = None
 
 -- the value of the latest act that decides u's bit on the object, and false if none does
 abbrev pub has : UserId → History → UserId → Bit → Object → Bool
 has owner [] u bit object = false
-has owner (a ∷ h) u bit object = unwrap_or (decision owner a h u bit object) (has owner h u bit object)
+has owner (a ∷ h) u bit object =
+    unwrap_or (decision owner a h u bit object) (has owner h u bit object)
 
 -- the leaders of u after an act. Nobody leads a user who is gone, and one who is gone leads nobody
 abbrev pub leaders_after : Edition → Act → UserId → List UserId → List UserId
-leaders_after edition (Grouped v leader) u before = if same_user v u then leaders_with edition leader before else before
-leaders_after edition (Gone v) u before = if same_user v u then [] else filter (λ leader. not (same_user v leader)) before
+leaders_after edition (Grouped v leader) u before =
+    if same_user v u then leaders_with edition leader before else before
+leaders_after edition (Gone v) u before =
+    if same_user v u then [] else filter (λ leader. not (same_user v leader)) before
 leaders_after edition _ u before = before
 
 abbrev pub leaders_of : Edition → History → UserId → List UserId
@@ -125,7 +132,8 @@ leaders_of edition (a ∷ h) u = leaders_after edition a u (leaders_of edition h
 -- u is the owner, or has the bit, or a leader of his has it. A leader's own leaders aren't asked
 abbrev pub may : Edition → UserId → History → UserId → Bit → Object → Bool
 may edition owner h u bit object =
-    same_user owner u || has owner h u bit object || list_any (λ leader. has owner h leader bit object) (leaders_of edition h u)
+    same_user owner u || has owner h u bit object
+    || list_any (λ leader. has owner h leader bit object) (leaders_of edition h u)
 
 -- an object that is there: a command, or an open window
 abbrev pub there : History → Object → Bool

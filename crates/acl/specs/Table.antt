@@ -44,11 +44,13 @@ shows t w = is_some (slot_of t.windows w)
 
 -- what a row has on an object
 abbrev pub bits_on : List (Option ℕ) → Object → Row → Bits
-bits_on windows (Window w) row = option_map_or (λ slot. slice_index_or row.windows slot no_bits) (slot_of windows w) no_bits
+bits_on windows (Window w) row =
+    option_map_or (λ slot. slice_index_or row.windows slot no_bits) (slot_of windows w) no_bits
 bits_on windows (Command c) row = slice_index_or row.commands (index_of_command c) no_bits
 
 abbrev pub granted : Table → UserId → Bit → Object → Bool
-granted t u bit object = option_map_or (λ row. allows bit (bits_on t.windows object row)) (row_of t u) false
+granted t u bit object =
+    option_map_or (λ row. allows bit (bits_on t.windows object row)) (row_of t u) false
 
 abbrev pub same_pair : UserId × UserId → UserId × UserId → Bool
 same_pair p q = same_user p.0 q.0 && same_user p.1 q.1
@@ -70,7 +72,12 @@ is_there t (Command c) = true
 
 -- what a name that becomes known has
 abbrev pub new_row : Bits → Bits → Row
-new_row command_preset window_preset = record { commands = replicate 31 command_preset; windows = replicate 40 window_preset; leaders = [] }
+new_row command_preset window_preset =
+    record {
+      commands = replicate 31 command_preset;
+      windows = replicate 40 window_preset;
+      leaders = [];
+    }
 
 -- the row, once `gone` leads nobody any more
 abbrev pub without_leader : UserId → Row → Row
@@ -91,13 +98,22 @@ with_window slot bits row = record row { windows = slice_set row.windows slot bi
 -- the row, with the bit on the object set
 abbrev pub with_right : List (Option ℕ) → Object → Bit → Bool → Row → Row
 with_right windows (Window w) bit value row =
-    option_map_or (λ slot. with_window slot (with_bit bit value (slice_index_or row.windows slot no_bits)) row) (slot_of windows w) row
+    option_map_or
+    (λ slot. with_window slot (with_bit bit value (slice_index_or row.windows slot no_bits)) row)
+    (slot_of windows w)
+    row
 with_right windows (Command c) bit value row =
-    record row { commands = slice_set row.commands (index_of_command c) (with_bit bit value (slice_index_or row.commands (index_of_command c) no_bits)) }
+    record row {
+      commands =
+          slice_set row.commands (index_of_command c)
+          (with_bit bit value (slice_index_or row.commands (index_of_command c) no_bits));
+    }
 
 -- whether the table lets the user
 abbrev pub lets : Table → UserId → Bit → Object → Bool
-lets t u bit object = same_user t.owner u || granted t u bit object || list_any (λ leader. granted t leader bit object) (led_by t u)
+lets t u bit object =
+    same_user t.owner u || granted t u bit object
+    || list_any (λ leader. granted t leader bit object) (led_by t u)
 
 -- the table is what the definitions give of the history of this owner's session, of this edition
 pub record StandsFor (t : Table) (edition : Edition) (owner : UserId) (h : History) : Type 0 where
@@ -106,14 +122,19 @@ pub record StandsFor (t : Table) (edition : Edition) (owner : UserId) (h : Histo
   pub users : users_in t ≡ users_of owner h
   pub known : (u : UserId) → knows t u ≡ is_known owner h u
   pub slots : SlotsStandFor t.windows (is_open h) (open_count h)
-  pub rights : (u : UserId) (bit : Bit) (object : Object) → is_there t object ≡ true → granted t u bit object ≡ has owner h u bit object
-  pub strangers : (u : UserId) (bit : Bit) (object : Object) → knows t u ≡ false → has owner h u bit object ≡ false
+  pub rights : (u : UserId) (bit : Bit) (object : Object) → is_there t object ≡ true
+      → granted t u bit object ≡ has owner h u bit object
+  pub strangers : (u : UserId) (bit : Bit) (object : Object) → knows t u ≡ false
+      → has owner h u bit object ≡ false
   pub led : (u : UserId) → led_by t u ≡ leaders_of edition h u
   pub masks : (by u : UserId) (bit : Bit) → masked t by u bit ≡ mask h by u bit
-  pub presets : (kind : PresetKind) (bit : Bit) → allows bit (preset_bits t kind) ≡ preset_of h kind bit
+  pub presets : (kind : PresetKind) (bit : Bit)
+      → allows bit (preset_bits t kind) ≡ preset_of h kind bit
 
 -- a denial of an entry tells whom it denies what, and his leaders in their order; neither his entry nor a leader's has the bit
-pub record IsDenial (edition : Edition) (owner : UserId) (h : History) (u : UserId) (bit : Bit) (object : Object) (d : EntryDenial) : Type 0 where
+pub record IsDenial (edition : Edition) (owner : UserId) (h : History) (u : UserId) (bit : Bit)
+    (object : Object) (d : EntryDenial)
+    : Type 0 where
   pub user_is : d.user ≡ u
   pub bit_is : d.bit ≡ bit
   pub object_is : d.object ≡ object

@@ -16,7 +16,8 @@ among users u = list_any (same_user u) users
 abbrev pub leaders_with : Edition → Option UserId → List UserId → List UserId
 leaders_with edition None before = []
 leaders_with First (Some leader) before = leader ∷ []
-leaders_with Second (Some leader) before = if among before leader then before else before ++ leader ∷ []
+leaders_with Second (Some leader) before =
+    if among before leader then before else before ++ leader ∷ []
 
 -- the leaders, without the one who is gone
 abbrev pub remaining_leaders : UserId → List UserId → List UserId
@@ -27,18 +28,21 @@ abbrev pub blank : UserId
 blank = record { name = replicate 20 0 }
 
 abbrev pub AreFront : ℕ → List UserId → Type 0
-AreFront count names = (count ≤ 8) × (length names ≡ 8) × (drop count names ≡ replicate (8 - count) blank)
+AreFront count names =
+    (count ≤ 8) × (length names ≡ 8) × (drop count names ≡ replicate (8 - count) blank)
 
 -- the array of a list
 abbrev pub array_of : List UserId → List UserId
 array_of xs = xs ++ replicate (8 - length xs) blank
 
-pub length-front : (count : ℕ) (names : List UserId) → AreFront count names → length (take count names) ≡ count
+pub length-front : (count : ℕ) (names : List UserId) → AreFront count names
+    → length (take count names) ≡ count
 length-front count names h =
     let P : ℕ → Type 0 = λ n. count ≤ n in
     length-take-le count names (subst P (sym h.1) h.0)
 
-pub array_of-take : (count : ℕ) (names : List UserId) → AreFront count names → array_of (take count names) ≡ names
+pub array_of-take : (count : ℕ) (names : List UserId) → AreFront count names
+    → array_of (take count names) ≡ names
 array_of-take count names h =
     ap (λ n. take count names ++ replicate (8 - n) blank) (length-front count names h)
     ∙ ap (λ r. take count names ++ r) (sym h.2)

@@ -18,11 +18,14 @@ begins_with_letter (b ∷ word) = is_letter b
 
 -- 1 to 20 of these, the first a letter; `none` is no name
 abbrev pub is_name : List ℕ → Bool
-is_name word = begins_with_letter word && nat_le (length word) 20 && list_all is_name_byte word && not (pointwise nat_eq word (codes "none"))
+is_name word =
+    begins_with_letter word && nat_le (length word) 20 && list_all is_name_byte word
+    && not (pointwise nat_eq word (codes "none"))
 
 -- the user whom a word names
 abbrev pub named_by : List ℕ → Option UserId
-named_by word = if is_name word then Some (record { name = word ++ replicate (20 - length word) 0 }) else None
+named_by word =
+    if is_name word then Some (record { name = word ++ replicate (20 - length word) 0 }) else None
 
 -- the bytes before the first zero
 abbrev pub before_zero : List ℕ → List ℕ

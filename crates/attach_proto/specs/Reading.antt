@@ -162,7 +162,8 @@ same_side Peer Server = false
 
 abbrev pub of_kind : Side → Option Kind → List ℕ → Front
 of_kind side None bytes = Broken BadKind
-of_kind side (Some k) bytes = if same_side (reader_of k) side then sized k bytes else Broken WrongSide
+of_kind side (Some k) bytes =
+    if same_side (reader_of k) side then sized k bytes else Broken WrongSide
 
 unfoldable pub front : Side → List ℕ → Front
 front side [] = Part

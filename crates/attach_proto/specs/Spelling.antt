@@ -80,7 +80,8 @@ named name rest = length name ∷ (name ++ rest)
 
 abbrev pub payload : Message → List ℕ
 payload (Attach rows cols token name) = two rows ++ (two cols ++ (token ++ name))
-payload (Window rows cols keep token name title) = two rows ++ (two cols ++ (two keep ++ (token ++ named name title)))
+payload (Window rows cols keep token name title) =
+    two rows ++ (two cols ++ (two keep ++ (token ++ named name title)))
 payload (Command window token name line) = window_byte window ∷ (token ++ named name line)
 payload (Keys bytes) = bytes
 payload (Resize rows cols) = two rows ++ two cols
@@ -106,8 +107,10 @@ IsSome bytes = 0 < length bytes
 -- its fields have a spelling
 abbrev pub HasFields : Message → Type 0
 HasFields (Attach rows cols token name) = IsToken token × IsText name
-HasFields (Window rows cols keep token name title) = IsToken token × (length name < 256) × IsText name × IsText title
-HasFields (Command window token name line) = IfSome window (λ n. n < 255) × IsToken token × (length name < 256) × IsText name
+HasFields (Window rows cols keep token name title) =
+    IsToken token × (length name < 256) × IsText name × IsText title
+HasFields (Command window token name line) =
+    IfSome window (λ n. n < 255) × IsToken token × (length name < 256) × IsText name
 HasFields (Keys bytes) = IsSome bytes
 HasFields (Resize rows cols) = Unit {0}
 HasFields (Output bytes) = IsSome bytes

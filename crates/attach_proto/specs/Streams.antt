@@ -14,7 +14,8 @@ pub record IsRead (side : Side) (m : Message) : Type 0 where
   pub side_is : reader_of (kind_of m) ≡ side
 
 -- the stream is the frames of these messages, and then this rest
-pub record Splits (side : Side) (stream : List ℕ) (messages : List Message) (rest : List ℕ) : Type 0 where
+pub record Splits (side : Side) (stream : List ℕ) (messages : List Message) (rest : List ℕ)
+    : Type 0 where
   pub whole : stream ≡ flat_map spelling messages ++ rest
   pub each : AllByRecursion (IsRead side) messages
 
@@ -28,7 +29,10 @@ IsUnended (h ∷ l ∷ bytes) = (256 * h + l ≤ 8192) × (length bytes < 256 * 
 
 -- nothing, or the beginning of a frame of this side, with no fault in it
 abbrev pub Waits : Side → List ℕ → Type 0
-Waits side rest = (rest ≡ []) ⊎ ((k : Kind) × (more : List ℕ) × (rest ≡ code k ∷ more) × (reader_of k ≡ side) × IsUnended more)
+Waits side rest =
+    (rest ≡ [])
+    ⊎ ((k : Kind) × (more : List ℕ)
+    × (rest ≡ code k ∷ more) × (reader_of k ≡ side) × IsUnended more)
 
 -- ---- faults, each at the byte that shows it, whatever follows
 
@@ -38,13 +42,18 @@ IsNoPayload k bytes = (m : Message) → kind_of m ≡ k → payload m ≡ bytes 
 
 abbrev pub HasFault : Side → List ℕ → ProtoFault → Type 0
 -- at the kind
-HasFault side rest BadKind = (byte : ℕ) × (more : List ℕ) × (rest ≡ byte ∷ more) × ((k : Kind) → code k ≢ byte)
-HasFault side rest WrongSide = (k : Kind) × (more : List ℕ) × (rest ≡ code k ∷ more) × (reader_of k ≢ side)
+HasFault side rest BadKind =
+    (byte : ℕ) × (more : List ℕ) × (rest ≡ byte ∷ more) × ((k : Kind) → code k ≢ byte)
+HasFault side rest WrongSide =
+    (k : Kind) × (more : List ℕ) × (rest ≡ code k ∷ more) × (reader_of k ≢ side)
 -- at the second byte of the length
-HasFault side rest TooLong = (k : Kind) × (h : ℕ) × (l : ℕ) × (more : List ℕ) × (rest ≡ code k ∷ h ∷ l ∷ more) × (reader_of k ≡ side) × (8192 < 256 * h + l)
+HasFault side rest TooLong =
+    (k : Kind) × (h : ℕ) × (l : ℕ) × (more : List ℕ) × (rest ≡ code k ∷ h ∷ l ∷ more)
+    × (reader_of k ≡ side) × (8192 < 256 * h + l)
 -- at the end of the payload
 HasFault side rest BadPayload =
-    (k : Kind) × (h : ℕ) × (l : ℕ) × (bytes : List ℕ) × (more : List ℕ) × (rest ≡ code k ∷ h ∷ l ∷ (bytes ++ more)) × (reader_of k ≡ side)
+    (k : Kind) × (h : ℕ) × (l : ℕ) × (bytes : List ℕ) × (more : List ℕ)
+    × (rest ≡ code k ∷ h ∷ l ∷ (bytes ++ more)) × (reader_of k ≡ side)
     × (length bytes ≡ 256 * h + l) × (length bytes ≤ 8192) × IsNoPayload k bytes
 HasFault side rest NoMemory = ⊥
 
@@ -70,14 +79,18 @@ pub record HasRead (r : Reading) (messages : List Message) (stream : List ℕ) :
 abbrev pub Behind : Side → List ℕ → Option ProtoFault → Type 0
 Behind side rest fault = MatchOption fault (Waits side rest) (HasFault side rest)
 
-pub record IsRun (side : Side) (bytes : List ℕ) (messages : List Message) (taken : ℕ) (fault : Option ProtoFault) : Type 0 where
+pub record IsRun (side : Side) (bytes : List ℕ) (messages : List Message) (taken : ℕ)
+    (fault : Option ProtoFault)
+    : Type 0 where
   pub within : taken ≤ length bytes
   pub splits : Splits side bytes messages (drop taken bytes)
   pub behind : Behind side (drop taken bytes) fault
 
 -- The reader took a piece: these messages came with it, whatever stream it had read.
 abbrev pub TakesPiece : Reading → List ℕ → List Message → Reading → Type 0
-TakesPiece old piece made new = (messages : List Message) (stream : List ℕ) → HasRead old messages stream → HasRead new (messages ++ made) (stream ++ piece)
+TakesPiece old piece made new =
+    (messages : List Message) (stream : List ℕ) → HasRead old messages stream
+    → HasRead new (messages ++ made) (stream ++ piece)
 
 -- what a reader that keeps this answers: its fault, for good
 abbrev pub Answers : Reading → Result (Prim.Unit {0}) ProtoFault → Type 0

@@ -55,7 +55,8 @@ fn read_run(
     bytes: &[u8],
     out: &mut Vec<Message>,
 ) -> Result<(usize, Option<ProtoFault>), AllocError>
-    ensures ok { IfOk result (λ r. (made : List Message) × (out.new.items ≡ out.old.items ++ made) × IsRun side bytes.now made r.0 r.1) }
+    ensures ok { IfOk result (λ r. (made : List Message) × (out.new.items ≡ out.old.items ++ made)
+        × IsRun side bytes.now made r.0 r.1) }
     ensures err { OnErr result (out.new.items ≡ out.old.items) }
 {
     let mut run = run_of(alloc, side, bytes)?;
@@ -103,7 +104,8 @@ impl Reader {
 
     fn take(&mut self, piece: &[u8], out: &mut Vec<Message>) -> Result<(), AllocError>
         requires { self.old.fault ≡ None }
-        ensures ok { OnOk result ((made : List Message) × (out.new.items ≡ out.old.items ++ made) × TakesPiece self.old piece.now made self.new) }
+        ensures ok { OnOk result ((made : List Message) × (out.new.items ≡ out.old.items ++ made)
+            × TakesPiece self.old piece.now made self.new) }
         ensures err { OnErr result ((self.new ≡ self.old) × (out.new.items ≡ out.old.items)) }
         ensures fault { OnOk result (self.new.fault ≡ Some ProtoFault.NoMemory → ⊥) }
         ensures side { self.new.side ≡ self.old.side }
@@ -126,13 +128,16 @@ impl Reader {
     /// Reads one piece, and adds the messages that are whole with it.
     pub fn feed(&mut self, piece: &[u8], out: &mut Vec<Message>) -> Result<(), ProtoFault>
         // Without memory nothing of this piece was read.
-        ensures memory { result ≡ Err ProtoFault.NoMemory → (self.new ≡ self.old) × (out.new.items ≡ out.old.items) }
+        ensures memory { result ≡ Err ProtoFault.NoMemory
+            → (self.new ≡ self.old) × (out.new.items ≡ out.old.items) }
         // Else it was, whatever was read before.
         ensures reads { (result ≡ Err ProtoFault.NoMemory → ⊥) →
-            (made : List Message) × (out.new.items ≡ out.old.items ++ made) × TakesPiece self.old piece.now made self.new }
+            (made : List Message) × (out.new.items ≡ out.old.items ++ made)
+            × TakesPiece self.old piece.now made self.new }
         // The answer is the fault that it keeps.
         ensures answer { (result ≡ Err ProtoFault.NoMemory → ⊥) → Answers self.new result }
-        ensures stays { IfSome self.old.fault (λ f. (self.new ≡ self.old) × (out.new.items ≡ out.old.items) × (result ≡ Err f)) }
+        ensures stays { IfSome self.old.fault (λ f.
+            (self.new ≡ self.old) × (out.new.items ≡ out.old.items) × (result ≡ Err f)) }
         ensures side { self.new.side ≡ self.old.side }
     {
         if let Some(fault) = self.fault {

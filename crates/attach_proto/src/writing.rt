@@ -188,7 +188,8 @@ fn put_payload(out: &mut Vec<u8>, message: &Message) -> Result<(), AllocError>
 fn frame_of(alloc: Global, message: &Message) -> Result<Option<Vec<u8>>, AllocError>
     requires { HasFields message.now }
     ensures { IfOk result (λ made. MatchOption made (length (payload message.now) ≤ 8192 → ⊥)
-        (λ v. (length (payload message.now) ≤ 8192) × (v.items ≡ frame (kind_of message.now) (payload message.now)))) }
+        (λ v. (length (payload message.now) ≤ 8192)
+        × (v.items ≡ frame (kind_of message.now) (payload message.now)))) }
 {
     let mut payload = Vec::new(alloc);
     put_payload(&mut payload, message)?;
@@ -205,7 +206,8 @@ fn frame_of(alloc: Global, message: &Message) -> Result<Option<Vec<u8>>, AllocEr
 /// Adds the one frame that spells the message.
 #[tactic(auto, unfolding(crate::specs::Spelling::spelling))]
 pub fn write_message(alloc: Global, message: &Message, out: &mut Vec<u8>) -> Result<(), WriteFault>
-    ensures ok { OnOk result (IsSpellable message.now × (out.new.items ≡ out.old.items ++ spelling message.now)) }
+    ensures ok { OnOk result (IsSpellable message.now
+        × (out.new.items ≡ out.old.items ++ spelling message.now)) }
     ensures unspellable { result ≡ Err WriteFault.Unspellable → IsSpellable message.now → ⊥ }
     ensures err { OnErr result (out.new.items ≡ out.old.items) }
 {

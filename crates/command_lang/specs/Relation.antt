@@ -28,12 +28,16 @@ pub record Relates (line : List ℕ) (c : Command) : Type 0 where
 -- The line is no command, and this is its first fault. A long line, or one that isn't UTF-8, has no other fault.
 pub data Refuses : List ℕ → ParseFault → Type 0 where
   long : {line : List ℕ} → 1024 < length line → Refuses line (at 1024 faults.TooLong)
-  no_text : {line : List ℕ} → length line ≤ 1024 → is_utf8 line ≡ false → Refuses line (at 0 faults.BadWord)
-  fault : {line : List ℕ} {ws : List Word} {f : ParseFault} → HasWords line ws → first_of (line_faults (length line) ws) ≡ Some f → Refuses line f
+  no_text : {line : List ℕ} → length line ≤ 1024 → is_utf8 line ≡ false
+      → Refuses line (at 0 faults.BadWord)
+  fault : {line : List ℕ} {ws : List Word} {f : ParseFault} → HasWords line ws
+      → first_of (line_faults (length line) ws) ≡ Some f → Refuses line f
 
 -- no fault of the line's words is at a place before this one's
 abbrev pub NoneBefore : List ℕ → ParseFault → Type 0
-NoneBefore line f = (ws : List Word) → HasWords line ws → AllByRecursion (λ g. f.place ≤ g.place) (line_faults (length line) ws)
+NoneBefore line f =
+    (ws : List Word) → HasWords line ws
+    → AllByRecursion (λ g. f.place ≤ g.place) (line_faults (length line) ws)
 
 -- The same, computed.
 abbrev pub faults_of : List ℕ → List ParseFault
@@ -48,4 +52,7 @@ command_or None = Err no_memory
 command_or (Some c) = Ok c
 
 abbrev pub read_line : List ℕ → Result Command ParseFault
-read_line line = elim (first_of (faults_of line)) [ Some f ↦ Err f | None ↦ command_or (line_command (words (chars line))) ]
+read_line line = elim (first_of (faults_of line)) [
+  | Some f ↦ Err f
+  | None ↦ command_or (line_command (words (chars line)))
+]

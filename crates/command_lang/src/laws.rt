@@ -8,8 +8,10 @@ ghost use Rattle.command_lang.specs.Relation.{Relates, Refuses, read_line};
 
 /// Each line is a command or has a first fault, and not both; what is computed of it is that command or that fault.
 pub fn each_line_is_a_command_or_faulty()
-    ensures either { (line : List ℕ) → ((c : Command) × Relates line c) ⊎ ((f : ParseFault) × Refuses line f) }
-    ensures not_both { (line : List ℕ) (c : Command) (f : ParseFault) → Relates line c → Refuses line f → ⊥ }
+    ensures either { (line : List ℕ)
+        → ((c : Command) × Relates line c) ⊎ ((f : ParseFault) × Refuses line f) }
+    ensures not_both { (line : List ℕ) (c : Command) (f : ParseFault) → Relates line c
+        → Refuses line f → ⊥ }
     ensures command { (line : List ℕ) (c : Command) → Relates line c ↔ (read_line line ≡ Ok c) }
     ensures fault { (line : List ℕ) (f : ParseFault) → Refuses line f ↔ (read_line line ≡ Err f) }
 {}

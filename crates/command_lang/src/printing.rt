@@ -17,7 +17,8 @@ use std::alloc::{AllocError, Global};
 pub fn print(alloc: Global, command: &Command) -> Result<String, AllocError>
     ensures text { IfOk result (λ t. string_bytes t ≡ printed command.now) }
     // What any line gives, this line gives too, where it isn't too long.
-    ensures reads_back { IfOk result (λ t. (line : List ℕ) → Relates line command.now → ReadsBack (string_bytes t) command.now) }
+    ensures reads_back { IfOk result (λ t. (line : List ℕ) → Relates line command.now
+        → ReadsBack (string_bytes t) command.now) }
 {
     command_line(alloc, command)
 }

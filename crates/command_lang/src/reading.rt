@@ -20,7 +20,8 @@ fn command_in(alloc: Global, line: &[u8]) -> Result<Command, ParseFault>
     ensures ok { IfOk result (λ c. Relates line.now c) }
     ensures err { IfErr result (λ f. (f ≡ no_memory) ⊎ Refuses line.now f) }
     ensures long { 1024 < length line.now → result ≡ Err (at 1024 faults.TooLong) }
-    ensures no_text { length line.now ≤ 1024 → is_utf8 line.now ≡ false → result ≡ Err (at 0 faults.BadWord) }
+    ensures no_text { length line.now ≤ 1024 → is_utf8 line.now ≡ false
+        → result ≡ Err (at 0 faults.BadWord) }
 {
     if line.len() > LONGEST_LINE {
         return Err(ParseFault {
@@ -49,7 +50,8 @@ pub fn parse(alloc: Global, line: &[u8]) -> Result<Command, ParseFault>
     ensures err { IfErr result (λ f. (f ≡ no_memory) ⊎ Refuses line.now f) }
     // These two take no memory.
     ensures long { 1024 < length line.now → result ≡ Err (at 1024 faults.TooLong) }
-    ensures no_text { length line.now ≤ 1024 → is_utf8 line.now ≡ false → result ≡ Err (at 0 faults.BadWord) }
+    ensures no_text { length line.now ≤ 1024 → is_utf8 line.now ≡ false
+        → result ≡ Err (at 0 faults.BadWord) }
     // No fault of the line's words is at a place before the one that is answered.
     ensures least { IfErr result (λ f. (f ≡ no_memory) ⊎ NoneBefore line.now f) }
 {

@@ -111,7 +111,8 @@ words_of _ = []
 abbrev pub is_plain : ℕ → Bool
 is_plain c =
     is_ascii_alphanumeric c
-    || (c == 0x5F || (c == 0x2D || (c == 0x2B || (c == 0x2C || (c == 0x23 || (c == 0x3F || c == 0x2A))))))
+    || (c == 0x5F
+    || (c == 0x2D || (c == 0x2B || (c == 0x2C || (c == 0x23 || (c == 0x3F || c == 0x2A))))))
 
 abbrev pub octal : ℕ → List ℕ
 octal c = (0x30 + c / 64 % 8) ∷ (0x30 + c / 8 % 8) ∷ (0x30 + c % 8) ∷ []
@@ -133,7 +134,8 @@ needs_no_quotes text = not (is_empty_text text) && list_all is_plain (chars text
 
 -- the characters of a word as it is printed
 abbrev pub printed_word : List ℕ → List ℕ
-printed_word text = if needs_no_quotes text then chars text else 0x22 ∷ (quoted (chars text) ++ 0x22 ∷ [])
+printed_word text =
+    if needs_no_quotes text then chars text else 0x22 ∷ (quoted (chars text) ++ 0x22 ∷ [])
 
 -- words, each behind a blank
 abbrev pub printed_words : List (List ℕ) → List ℕ

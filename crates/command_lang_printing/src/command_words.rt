@@ -11,7 +11,8 @@ use std::alloc::{AllocError, Global};
 
 /// Appends an item, with a comma before each but the first.
 fn put_item(i: usize, item: &str, out: &mut String) -> Result<(), AllocError>
-    ensures { OnOk result (string_bytes out.new ≡ string_bytes out.old ++ print.item_behind i item.now) }
+    ensures { OnOk result (string_bytes out.new ≡ string_bytes out.old
+        ++ print.item_behind i item.now) }
 {
     if i > 0 {
         out.push(',')?;
@@ -21,7 +22,8 @@ fn put_item(i: usize, item: &str, out: &mut String) -> Result<(), AllocError>
 
 /// Appends items with commas between them.
 fn put_items(items: &[Text], out: &mut String) -> Result<(), AllocError>
-    ensures { OnOk result (string_bytes out.new ≡ string_bytes out.old ++ print.items_word items.now) }
+    ensures { OnOk result (string_bytes out.new ≡ string_bytes out.old
+        ++ print.items_word items.now) }
 {
     for i in 0..items.len() {
         put_item(i, items[i].as_str(), out)?;
@@ -31,7 +33,8 @@ fn put_items(items: &[Text], out: &mut String) -> Result<(), AllocError>
 
 /// Appends users.
 fn put_users(users: &Users, out: &mut String) -> Result<(), AllocError>
-    ensures { OnOk result (string_bytes out.new ≡ string_bytes out.old ++ print.users_word users.now) }
+    ensures { OnOk result (string_bytes out.new ≡ string_bytes out.old
+        ++ print.users_word users.now) }
 {
     match users {
         Users::All => out.push('*'),
@@ -66,7 +69,8 @@ fn sign_before(last: Option<bool>, value: bool) -> Option<char>
 
 /// Appends a bit that is given or taken.
 fn put_change(last: Option<bool>, change: BitChange, out: &mut String) -> Result<(), AllocError>
-    ensures { OnOk result (string_bytes out.new ≡ string_bytes out.old ++ print.change_behind last change) }
+    ensures { OnOk result (string_bytes out.new ≡ string_bytes out.old
+        ++ print.change_behind last change) }
 {
     if let Some(sign) = sign_before(last, change.value) {
         out.push(sign)?;
@@ -76,7 +80,8 @@ fn put_change(last: Option<bool>, change: BitChange, out: &mut String) -> Result
 
 /// Appends bits: each group of one sign together.
 fn put_bits(bits: &[BitChange], out: &mut String) -> Result<(), AllocError>
-    ensures { OnOk result (string_bytes out.new ≡ string_bytes out.old ++ print.bits_word bits.now) }
+    ensures { OnOk result (string_bytes out.new ≡ string_bytes out.old
+        ++ print.bits_word bits.now) }
 {
     let mut last = None;
     for i in 0..bits.len() {
@@ -89,7 +94,8 @@ fn put_bits(bits: &[BitChange], out: &mut String) -> Result<(), AllocError>
 
 /// Appends users, if any.
 fn put_mask_users(users: &Option<Users>, out: &mut String) -> Result<(), AllocError>
-    ensures { OnOk result (string_bytes out.new ≡ string_bytes out.old ++ print.mask_users_word users.now) }
+    ensures { OnOk result (string_bytes out.new ≡ string_bytes out.old
+        ++ print.mask_users_word users.now) }
 {
     match users {
         Some(users) => put_users(users, out),

@@ -33,7 +33,8 @@ fn octal_digit(value: u32) -> char
 
 /// Appends an escape with three octal digits.
 fn put_octal(c: char, out: &mut String) -> Result<(), AllocError>
-    ensures { OnOk result (string_bytes out.new ≡ string_bytes out.old ++ encode_utf8_all (0x5C ∷ octal c)) }
+    ensures { OnOk result (string_bytes out.new ≡ string_bytes out.old
+        ++ encode_utf8_all (0x5C ∷ octal c)) }
 {
     let code = c as u32;
     out.push('\\')?;
@@ -44,7 +45,8 @@ fn put_octal(c: char, out: &mut String) -> Result<(), AllocError>
 
 /// Appends a character that stands between `"`.
 fn put_escaped(c: char, out: &mut String) -> Result<(), AllocError>
-    ensures { OnOk result (string_bytes out.new ≡ string_bytes out.old ++ encode_utf8_all (escaped c)) }
+    ensures { OnOk result (string_bytes out.new ≡ string_bytes out.old
+        ++ encode_utf8_all (escaped c)) }
 {
     if c == '"' || c == '\\' {
         out.push('\\')?;
@@ -65,7 +67,8 @@ fn needs_no_quotes(text: &str) -> bool
 
 /// Appends the characters of a word that stands between `"`.
 fn put_quoted(text: &str, out: &mut String) -> Result<(), AllocError>
-    ensures { OnOk result (string_bytes out.new ≡ string_bytes out.old ++ encode_utf8_all (quoted (chars text.now))) }
+    ensures { OnOk result (string_bytes out.new ≡ string_bytes out.old
+        ++ encode_utf8_all (quoted (chars text.now))) }
 {
     for c in text.chars() {
         put_escaped(c, out)?;
@@ -75,7 +78,8 @@ fn put_quoted(text: &str, out: &mut String) -> Result<(), AllocError>
 
 /// Appends a word, between `"` where it has to be.
 fn put_word(text: &str, out: &mut String) -> Result<(), AllocError>
-    ensures { OnOk result (string_bytes out.new ≡ string_bytes out.old ++ encode_utf8_all (printed_word text.now)) }
+    ensures { OnOk result (string_bytes out.new ≡ string_bytes out.old
+        ++ encode_utf8_all (printed_word text.now)) }
 {
     if needs_no_quotes(text) {
         out.push_str(text)

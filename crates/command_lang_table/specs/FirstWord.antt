@@ -12,4 +12,5 @@ known place None = Err (at place faults.UnknownCommand)
 known place (Some n) = Ok n
 
 abbrev pub name_in : Word → Result CommandName ParseFault
-name_in w = if w.is_closed then known w.place (command_named w.text) else Err (at w.place faults.BadQuote)
+name_in w =
+    if w.is_closed then known w.place (command_named w.text) else Err (at w.place faults.BadQuote)

@@ -15,7 +15,9 @@ named_faults (Some n) place end ws = words_faults (takes n) 0 end ws
 -- the faults of the words of a line of that length, by rising place
 abbrev pub line_faults : ℕ → List Word → List ParseFault
 line_faults end [] = at end faults.MissingWord ∷ []
-line_faults end (w ∷ ws) = if w.is_closed then named_faults (command_named w.text) w.place end ws else at w.place faults.BadQuote ∷ []
+line_faults end (w ∷ ws) =
+    if w.is_closed then named_faults (command_named w.text) w.place end ws
+    else at w.place faults.BadQuote ∷ []
 
 -- want of memory, at no place
 abbrev pub no_memory : ParseFault

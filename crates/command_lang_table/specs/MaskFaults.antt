@@ -12,5 +12,6 @@ unless fine kind = if fine then None else Some kind
 abbrev pub mask_fault : List ℕ → Option FaultKind
 mask_fault text =
     if not (is_bits (drop (sign_place text) text)) then Some faults.BadBits
-    else if not (is_empty_text (take (sign_place text) text)) && has_empty_item (take (sign_place text) text) then Some faults.BadWord
+    else if not (is_empty_text (take (sign_place text) text))
+    && has_empty_item (take (sign_place text) text) then Some faults.BadWord
     else None

@@ -51,7 +51,8 @@ with_word _ text = None
 -- with several words
 abbrev pub with_words : CommandName → List (List ℕ) → Option Command
 with_words name.Aclgrp (user ∷ leader ∷ []) = Some (command.Aclgrp user (Some (leader_of leader)))
-with_words name.Aclchg (users ∷ bits ∷ list ∷ []) = Some (command.Aclchg (users_of users) (bits_of bits) (items_of list))
+with_words name.Aclchg (users ∷ bits ∷ list ∷ []) =
+    Some (command.Aclchg (users_of users) (bits_of bits) (items_of list))
 with_words name.Aclumask texts = Some (command.Aclumask (map mask_of texts))
 with_words _ texts = None
 

@@ -23,7 +23,8 @@ with_alias name alias words = record { name = name; alias = Some alias; words = 
 
 abbrev pub row : CommandName → TableRow
 row name.Acladd = with_alias (codes "acladd") (codes "addacl") (One kind.Items)
-row name.Aclchg = with_alias (codes "aclchg") (codes "chacl") (Three kind.Items kind.Bits kind.Items)
+row name.Aclchg =
+    with_alias (codes "aclchg") (codes "chacl") (Three kind.Items kind.Bits kind.Items)
 row name.Acldel = named (codes "acldel") (One kind.Text)
 row name.Aclgrp = named (codes "aclgrp") (OneOrTwo kind.Text kind.Text)
 row name.Aclumask = with_alias (codes "aclumask") (codes "umask") (Several kind.Mask)

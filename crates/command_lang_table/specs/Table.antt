@@ -27,7 +27,8 @@ kind_at Nothing i = None
 kind_at (One a) i = if i == 0 then Some a else None
 kind_at (Perhaps a) i = if i == 0 then Some a else None
 kind_at (OneOrTwo a b) i = if i == 0 then Some a else if i == 1 then Some b else None
-kind_at (Three a b c) i = if i == 0 then Some a else if i == 1 then Some b else if i == 2 then Some c else None
+kind_at (Three a b c) i =
+    if i == 0 then Some a else if i == 1 then Some b else if i == 2 then Some c else None
 kind_at (Several a) i = Some a
 
 -- why a text isn't what a word has to be
@@ -61,7 +62,8 @@ word_fault k w = at_place w.place (if w.is_closed then judged k w.text else Some
 -- The faults of a command's words from number i on, in a line of that length, by rising place.
 unfoldable pub words_faults : Words → ℕ → ℕ → List Word → List ParseFault
 words_faults r i end [] = if nat_lt i (least r) then at end faults.MissingWord ∷ [] else []
-words_faults r i end (w ∷ ws) = option_to_list (word_fault (kind_at r i) w) ++ words_faults r (i + 1) end ws
+words_faults r i end (w ∷ ws) =
+    option_to_list (word_fault (kind_at r i) w) ++ words_faults r (i + 1) end ws
 
 abbrev pub first_of : {A : Type 0} → List A → Option A
 first_of [] = None

@@ -27,7 +27,9 @@ number_after n [] = n
 number_after n (d ∷ digits) = number_after (n * 10 + (d - 0x30)) digits
 
 abbrev pub is_number : ℕ → List ℕ → Bool
-is_number limit text = (list_all is_digit text && (nat_lt 0 (length text) && nat_lt (length text) 5)) && nat_le (number_after 0 text) limit
+is_number limit text =
+    (list_all is_digit text && (nat_lt 0 (length text) && nat_lt (length text) 5))
+    && nat_le (number_after 0 text) limit
 
 abbrev pub number_in : ℕ → List ℕ → Option ℕ
 number_in limit text = if is_number limit text then Some (number_after 0 text) else None
@@ -89,7 +91,8 @@ is_letter c = is_some (bit_of c)
 -- what may follow a sign, which wants a letter, or a letter
 abbrev pub goes_on : Bool → List ℕ → Bool
 goes_on wanting [] = not wanting
-goes_on wanting (c ∷ cs) = if is_letter c then goes_on false cs else ((is_sign c && not wanting) && goes_on true cs)
+goes_on wanting (c ∷ cs) =
+    if is_letter c then goes_on false cs else ((is_sign c && not wanting) && goes_on true cs)
 
 abbrev pub is_bits : List ℕ → Bool
 is_bits [] = false
@@ -108,7 +111,8 @@ value_after value c (Some b) = value
 -- the bits that groups give and take, in order
 abbrev pub bits_after : Bool → List ℕ → List BitChange
 bits_after value [] = []
-bits_after value (c ∷ cs) = change_of value (bit_of c) ++ bits_after (value_after value c (bit_of c)) cs
+bits_after value (c ∷ cs) =
+    change_of value (bit_of c) ++ bits_after (value_after value c (bit_of c)) cs
 
 abbrev pub bits_of : List ℕ → List BitChange
 bits_of text = bits_after true text
@@ -121,4 +125,8 @@ abbrev pub mask_users : List ℕ → Option Users
 mask_users text = if is_empty_text text then None else Some (users_of text)
 
 abbrev pub mask_of : List ℕ → Mask
-mask_of text = record { users = mask_users (take (sign_place text) text); bits = bits_of (drop (sign_place text) text) }
+mask_of text =
+    record {
+      users = mask_users (take (sign_place text) text);
+      bits = bits_of (drop (sign_place text) text);
+    }

@@ -15,8 +15,10 @@ use std::alloc::Global;
 
 /// The command of a line's words, or the first fault; the line has that length in bytes.
 pub fn command_of(alloc: Global, line: &[Word], end: usize) -> Result<Command, ParseFault>
-    ensures ok { IfOk result (λ c. (line_faults end line.now ≡ []) × (line_command line.now ≡ Some c)) }
-    ensures err { IfErr result (λ f. (f ≡ no_memory) ⊎ (first_of (line_faults end line.now) ≡ Some f)) }
+    ensures ok { IfOk result (λ c. (line_faults end line.now ≡ [])
+        × (line_command line.now ≡ Some c)) }
+    ensures err { IfErr result (λ f. (f ≡ no_memory)
+        ⊎ (first_of (line_faults end line.now) ≡ Some f)) }
 {
     let Some((first, rest)) = line.split_first() else {
         return Err(ParseFault {

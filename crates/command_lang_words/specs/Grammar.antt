@@ -14,7 +14,9 @@ is_octal c = nat_lt 0x2F c && nat_lt c 0x38
 -- the character of three octal digits of value at most 177, if the characters begin with them
 abbrev pub octal_front : List ℕ → Option ℕ
 octal_front (a ∷ b ∷ c ∷ cs) =
-    if (is_octal a && nat_lt a 0x32) && (is_octal b && is_octal c) then Some (((a - 0x30) * 8 + (b - 0x30)) * 8 + (c - 0x30)) else None
+    if (is_octal a && nat_lt a 0x32) && (is_octal b && is_octal c)
+    then Some (((a - 0x30) * 8 + (b - 0x30)) * 8 + (c - 0x30))
+    else None
 octal_front _ = None
 
 -- Behind a backslash: three octal digits stand for the character of their value, else one character for itself.
@@ -51,8 +53,10 @@ pub data Double : List ℕ → List ℕ → Option (List ℕ) → Type 0 where
 
 -- A part of a word.
 pub data Part : List ℕ → List ℕ → Option (List ℕ) → Type 0 where
-  single : {cs text : List ℕ} {end : Option (List ℕ)} → Single cs text end → Part (0x27 ∷ cs) text end
-  double : {cs text : List ℕ} {end : Option (List ℕ)} → Double cs text end → Part (0x22 ∷ cs) text end
+  single : {cs text : List ℕ} {end : Option (List ℕ)} → Single cs text end
+      → Part (0x27 ∷ cs) text end
+  double : {cs text : List ℕ} {end : Option (List ℕ)} → Double cs text end
+      → Part (0x22 ∷ cs) text end
   character : {c : ℕ} {cs text : List ℕ} {end : Option (List ℕ)} → c ≢ 0x27 → c ≢ 0x22
       → Character (c ∷ cs) text end
       → Part (c ∷ cs) text end
@@ -74,7 +78,8 @@ size cs = length (encode_utf8_all cs)
 
 -- a word that is closed, or inside which the line ends
 abbrev pub word_at : ℕ → List ℕ → Bool → Word
-word_at place text is_closed = record { place = place; text = encode_utf8_all text; is_closed = is_closed }
+word_at place text is_closed =
+    record { place = place; text = encode_utf8_all text; is_closed = is_closed }
 
 -- The words of the characters at the end of a line of that length: the place of a word is that of its first byte. A word has
 -- at least one part, which may be empty.

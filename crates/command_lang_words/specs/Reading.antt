@@ -6,11 +6,15 @@ use Rattle.std.specs.declared.alloc.AllocError.{AllocError}
 use denote.Ref.{Bor}
 
 -- A front of the characters is a thing of this kind: its text was appended, and what follows it is the rest.
-pub record Reads (Kind : List ℕ → List ℕ → Option (List ℕ) → Type 0) (cs old new : List ℕ) (rest : Option (List ℕ)) : Type 0 where
+pub record Reads (Kind : List ℕ → List ℕ → Option (List ℕ) → Type 0)
+    (cs old new : List ℕ) (rest : Option (List ℕ))
+    : Type 0 where
   pub text : List ℕ
   pub put : new ≡ old ++ encode_utf8_all text
   pub read : Kind cs text rest
 
 -- The same of a function's answer, where memory sufficed.
-abbrev pub Puts : (List ℕ → List ℕ → Option (List ℕ) → Type 0) → List ℕ → List ℕ → List ℕ → Result (Option (Bor (List ℕ))) AllocError → Type 0
-Puts Kind cs old new result = IfOk result (λ rest. Reads Kind cs old new (option_map (λ l. l.now) rest))
+abbrev pub Puts : (List ℕ → List ℕ → Option (List ℕ) → Type 0) → List ℕ → List ℕ → List ℕ
+    → Result (Option (Bor (List ℕ))) AllocError → Type 0
+Puts Kind cs old new result =
+    IfOk result (λ rest. Reads Kind cs old new (option_map (λ l. l.now) rest))

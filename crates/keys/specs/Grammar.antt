@@ -27,9 +27,11 @@ open_line (prompt bytes) = Some bytes
 -- The keys that are bound behind the command key. A digit selects the window of that name.
 abbrev pub bindings : List (ℕ × Command)
 bindings =
-    (0x6E, Next) ∷ (0x20, Next) ∷ (0x70, Prev) ∷ (0x64, Detach) ∷ (0x6B, Kill) ∷ (0x53, Split false) ∷ (0x7C, Split true) ∷ (0x09, Focus)
+    (0x6E, Next) ∷ (0x20, Next) ∷ (0x70, Prev) ∷ (0x64, Detach) ∷ (0x6B, Kill) ∷ (0x53, Split false)
+    ∷ (0x7C, Split true) ∷ (0x09, Focus)
     ∷ (0x58, Remove) ∷ (0x51, Only) ∷ (0x77, Windows) ∷ (0x2A, Displays) ∷ (0x01, Other)
-    ∷ map (λ k. (k, Select (k ∷ []))) (0x30 ∷ 0x31 ∷ 0x32 ∷ 0x33 ∷ 0x34 ∷ 0x35 ∷ 0x36 ∷ 0x37 ∷ 0x38 ∷ 0x39 ∷ [])
+    ∷ map (λ k. (k, Select (k ∷ [])))
+    (0x30 ∷ 0x31 ∷ 0x32 ∷ 0x33 ∷ 0x34 ∷ 0x35 ∷ 0x36 ∷ 0x37 ∷ 0x38 ∷ 0x39 ∷ [])
 
 -- what the key does there
 abbrev pub binding : ℕ → Option Command
@@ -82,25 +84,31 @@ line_items bytes k = if ends_line k then line bytes ∷ [] else []
 -- and prompts. The keys of a prompt are those that edit its line, up to one that ends or closes it.
 pub data Keys : List ℕ → List Item → Rest → Type 0 where
   none : Keys [] [] nothing
-  plain : {k : ℕ} {keys : List ℕ} {given : List Item} {rest : Rest} → k ≢ 0x01 → Keys keys given rest → Keys (k ∷ keys) (typed k ∷ given) rest
+  plain : {k : ℕ} {keys : List ℕ} {given : List Item} {rest : Rest} → k ≢ 0x01
+      → Keys keys given rest → Keys (k ∷ keys) (typed k ∷ given) rest
   waits : Keys (0x01 ∷ []) [] command_key
-  behind : {k : ℕ} {keys : List ℕ} {given : List Item} {rest : Rest} → k ≢ 0x3A → Keys keys given rest → Keys (0x01 ∷ k ∷ keys) (key_items k ++ given) rest
-  opens : (edits : List ℕ) → list_all stays edits ≡ true → Keys (0x01 ∷ 0x3A ∷ edits) [] (prompt (line_of [] edits))
-  ends : (edits : List ℕ) (k : ℕ) (keys : List ℕ) {given : List Item} {rest : Rest} → list_all stays edits ≡ true → stays k ≡ false → Keys keys given rest
+  behind : {k : ℕ} {keys : List ℕ} {given : List Item} {rest : Rest} → k ≢ 0x3A
+      → Keys keys given rest → Keys (0x01 ∷ k ∷ keys) (key_items k ++ given) rest
+  opens : (edits : List ℕ) → list_all stays edits ≡ true
+      → Keys (0x01 ∷ 0x3A ∷ edits) [] (prompt (line_of [] edits))
+  ends : (edits : List ℕ) (k : ℕ) (keys : List ℕ) {given : List Item} {rest : Rest}
+      → list_all stays edits ≡ true → stays k ≡ false → Keys keys given rest
       → Keys (0x01 ∷ 0x3A ∷ (edits ++ k ∷ keys)) (line_items (line_of [] edits) k ++ given) rest
 
 -- The same, computed key by key: what a key completes behind what is unended, and what is unended then.
 abbrev pub rest_step : Rest → ℕ → List Item × Rest
 rest_step nothing k = if k == 0x01 then ([], command_key) else (typed k ∷ [], nothing)
 rest_step command_key k = if k == 0x3A then ([], prompt []) else (key_items k, nothing)
-rest_step (prompt bytes) k = if stays k then ([], prompt (line_after_key bytes k)) else (line_items bytes k, nothing)
+rest_step (prompt bytes) k =
+    if stays k then ([], prompt (line_after_key bytes k)) else (line_items bytes k, nothing)
 
 abbrev pub with_front : List Item → List Item × Rest → List Item × Rest
 with_front front later = (front ++ later.0, later.1)
 
 unfoldable pub items_from : Rest → List ℕ → List Item × Rest
 items_from rest [] = ([], rest)
-items_from rest (k ∷ keys) = let step = rest_step rest k in with_front step.0 (items_from step.1 keys)
+items_from rest (k ∷ keys) =
+    let step = rest_step rest k in with_front step.0 (items_from step.1 keys)
 
 abbrev pub items : List ℕ → List Item × Rest
 items keys = items_from nothing keys

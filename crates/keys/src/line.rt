@@ -79,7 +79,8 @@ impl Line {
 
     /// Puts a byte at the end, where there is room.
     fn put(&mut self, byte: u8)
-        ensures { self.new ≡ (if nat_lt (length self.old) 1024 then self.old ++ byte ∷ [] else self.old) }
+        ensures { self.new ≡
+            (if nat_lt (length self.old) 1024 then self.old ++ byte ∷ [] else self.old) }
     {
         if self.count < ROOM {
             self.bytes[self.count] = byte;

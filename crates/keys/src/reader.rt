@@ -102,9 +102,11 @@ impl KeyReader {
 
     /// Reads one key, and gives what it completes.
     pub fn push(&mut self, key: u8) -> Option<KeyItem>
-        ensures next { rest_step (rest_of self.old) key ≡ (item_list result self.new.line, rest_of self.new) }
+        ensures next { rest_step (rest_of self.old) key ≡
+            (item_list result self.new.line, rest_of self.new) }
         // Whatever keys were read, this one is read behind them.
-        ensures stands { (keys : List ℕ) → StandsFor self.old keys → StandsFor self.new (keys ++ key ∷ []) }
+        ensures stands { (keys : List ℕ) → StandsFor self.old keys
+            → StandsFor self.new (keys ++ key ∷ []) }
         ensures gives { (keys : List ℕ) → StandsFor self.old keys →
             (items (keys ++ key ∷ [])).0 ≡ (items keys).0 ++ item_list result self.new.line }
     {
@@ -113,7 +115,8 @@ impl KeyReader {
 
     /// Reads one key, by what the keys before it left open.
     fn step(&mut self, key: u8) -> Option<KeyItem>
-        ensures { rest_step (rest_of self.old) key ≡ (item_list result self.new.line, rest_of self.new) }
+        ensures { rest_step (rest_of self.old) key ≡
+            (item_list result self.new.line, rest_of self.new) }
     {
         match self.mode {
             Mode::Typing => {

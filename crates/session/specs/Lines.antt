@@ -9,4 +9,5 @@ with_byte byte (line ∷ lines) = (byte ∷ line) ∷ lines
 -- what stands before each line feed, and what stands behind the last one, unless it is nothing
 abbrev pub lines_of : List ℕ → List (List ℕ)
 lines_of [] = []
-lines_of (byte ∷ bytes) = if byte == 0x0A then [] ∷ lines_of bytes else with_byte byte (lines_of bytes)
+lines_of (byte ∷ bytes) =
+    if byte == 0x0A then [] ∷ lines_of bytes else with_byte byte (lines_of bytes)

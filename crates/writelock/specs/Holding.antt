@@ -82,7 +82,9 @@ abbrev pub given : Edition → UserId → Act → History → ℕ → Option Use
 given edition owner (Mode by v mode) h w held = decided (v == w && not (is_off mode)) by
 given edition owner (Opened by v) h w held = decided (v == w && is_on (default_of h)) by
 given edition owner (Entered u v) h w held =
-    decided (v == w && is_auto (mode_of h w) && is_none held && may edition owner h u Write (Window w)) u
+    decided
+    (v == w && is_auto (mode_of h w) && is_none held && may edition owner h u Write (Window w))
+    u
 given edition owner _ h w held = None
 
 -- who holds the lock after an act: the user whom it gives the lock, or the holder whose lock it doesn't release
@@ -98,4 +100,6 @@ or_else None held = held
 abbrev pub holder : Edition → UserId → History → ℕ → Option UserId
 holder edition owner [] w = None
 holder edition owner (a ∷ h) w =
-    or_else (given edition owner a h w (holder edition owner h w)) (kept edition owner a h w (holder edition owner h w))
+    or_else
+    (given edition owner a h w (holder edition owner h w))
+    (kept edition owner a h w (holder edition owner h w))

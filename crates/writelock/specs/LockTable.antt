@@ -25,17 +25,23 @@ lock_in t w = lock_at t.windows.serials t.locks w
 
 -- the lock of an open window, by the definitions
 abbrev pub lock_of : Edition → UserId → History → ℕ → Option Lock
-lock_of edition owner h w = if is_open h w then Some (record { mode = mode_of h w; holder = holder edition owner h w }) else None
+lock_of edition owner h w =
+    if is_open h w then Some (record { mode = mode_of h w; holder = holder edition owner h w })
+    else None
 
 -- these locks are what the definitions give, holders may write, and no window that isn't open is held
-pub record AreLocks (default : LockMode) (locks : ℕ → Option Lock) (edition : Edition) (owner : UserId) (h : History) : Type 0 where
+pub record AreLocks (default : LockMode) (locks : ℕ → Option Lock)
+    (edition : Edition) (owner : UserId) (h : History)
+    : Type 0 where
   pub default_is : default ≡ default_of h
   pub locks_are : (w : ℕ) → locks w ≡ lock_of edition owner h w
-  pub able : (w : ℕ) (u : UserId) → holder edition owner h w ≡ Some u → may edition owner h u Write (Window w) ≡ true
+  pub able : (w : ℕ) (u : UserId) → holder edition owner h w ≡ Some u
+      → may edition owner h u Write (Window w) ≡ true
   pub unheld : (w : ℕ) → is_open h w ≡ false → holder edition owner h w ≡ None
 
 -- the locks are what the definitions give of the history of this owner's session, of this edition
-pub record LocksStandFor (t : Locks) (edition : Edition) (owner : UserId) (h : History) : Type 0 where
+pub record LocksStandFor (t : Locks) (edition : Edition) (owner : UserId) (h : History)
+    : Type 0 where
   pub slots : SlotsStandFor t.windows.serials (is_open h) (open_count h)
   pub all : length t.locks ≡ 40
   pub are : AreLocks t.default (lock_in t) edition owner h
@@ -49,7 +55,8 @@ frees _ u w = false
 -- who holds on after an act of a list command, with these lists after it
 abbrev pub remaining : Table → Act → ℕ → Option UserId → Option UserId
 remaining acl act w None = None
-remaining acl act w (Some u) = if frees act u w || not (lets acl u Write (Window w)) then None else Some u
+remaining acl act w (Some u) =
+    if frees act u w || not (lets acl u Write (Window w)) then None else Some u
 
 abbrev pub with_remaining : Table → Act → ℕ → Lock → Lock
 with_remaining acl act w lock = record lock { holder = remaining acl act w lock.holder }
@@ -70,15 +77,28 @@ has_holder user (Some holder) = same_user holder user
 
 -- nobody, where he held it in auto
 abbrev pub left_by : UserId → Lock → Lock
-left_by user lock = record lock { holder = if is_auto lock.mode && has_holder user lock.holder then None else lock.holder }
+left_by user lock =
+    record lock {
+      holder =
+          if is_auto lock.mode && has_holder user lock.holder then None else lock.holder;
+    }
 
 -- he, where it is free in auto and he may write
 abbrev pub entered_by : UserId → Bool → Lock → Lock
-entered_by user may_write lock = record lock { holder = if is_auto lock.mode && is_none lock.holder && may_write then Some user else lock.holder }
+entered_by user may_write lock =
+    record lock {
+      holder =
+          if is_auto lock.mode && is_none lock.holder && may_write then Some user else lock.holder;
+    }
 
 -- nobody, where this user held it
 abbrev pub without_holder : Option UserId → Lock → Lock
-without_holder gone lock = record lock { holder = if option_map_or (λ user. has_holder user lock.holder) gone false then None else lock.holder }
+without_holder gone lock =
+    record lock {
+      holder =
+          if option_map_or (λ user. has_holder user lock.holder) gone false then None
+          else lock.holder;
+    }
 
 -- a free lock stops nobody, and one that is held every other user
 abbrev pub stops_nobody_but : UserId → Option UserId → Bool
