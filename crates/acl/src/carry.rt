@@ -1,6 +1,6 @@
 //! How the acts of a list command are carried out.
 
-ghost use Rattle.std.specs.Prelude.{◌≡◌, ◌+◌, ◌≤◌, ◌<◌, count_by, length, take, drop, vec_len, OnOk, OnErr, IfErr, IfOk, Ok, Err, Option};
+ghost use Rattle.std.specs.Prelude.{◌≡◌, ◌+◌, ◌≤◌, ◌<◌, count_by, take, drop, vec_len, OnOk, OnErr, IfErr, Ok, Err, Option};
 ghost use Rattle.indexmap.specs.IndexMap.{spare};
 ghost use Rattle.std.specs.Vec.{vec_capacity};
 ghost use Rattle.acl.specs.Commands.{Answers, makes_known, sets_mask};
@@ -9,7 +9,7 @@ ghost use Rattle.acl.specs.Lists.{table_of};
 
 use crate::follower::Follower;
 use crate::lists::Lists;
-use acl_words::{AclFault, Act, UserId};
+use acl_words::{AclFault, Act};
 
 /// How many names become known.
 fn count_known(acts: &[Act]) -> usize

@@ -1,7 +1,6 @@
 //! The leaders of a user.
 
-ghost use Rattle.std.specs.Prelude.{◌≡◌, ◌<◌, ◌≤◌, ◌∷◌, ◌++◌, [], None, Some, not, filter, length, nat_le, if◌then◌else◌};
-ghost use Rattle.acl_words.specs.Same.{same_user};
+ghost use Rattle.std.specs.Prelude.{◌≡◌, ◌<◌, ◌≤◌, ◌∷◌, ◌++◌, [], None, Some, length, nat_le, if◌then◌else◌};
 ghost use Rattle.acl_words.specs.Leaders.{among, leaders_with, remaining_leaders};
 
 use crate::edition::Edition;

@@ -1,6 +1,6 @@
 //! What messages hold. Contracts see each field as its list of bytes.
 
-ghost use Rattle.std.specs.Prelude.{◌≡◌, ◌==◌, length, IfOk};
+ghost use Rattle.std.specs.Prelude.{◌≡◌, ◌==◌, IfOk};
 ghost use Rattle.std.specs.List.{list_all};
 ghost use Rattle.attach_proto.specs.Texts.{Gives, token_of, text_of, IsToken, IsText, is_token, is_digit};
 

@@ -1,6 +1,6 @@
 //! UTF-8, byte by byte.
 
-ghost use Rattle.std.specs.Prelude.{◌≡◌, ◌<◌, ◌≤◌, ℕ, [], ◌∷◌, ◌++◌, true, false, nat_lt};
+ghost use Rattle.std.specs.Prelude.{◌≡◌, ◌<◌, ◌≤◌, [], ◌∷◌, ◌++◌, true};
 ghost use Rattle.std.specs.Prelude.{option_to_list};
 ghost use Rattle.charsets.specs.Utf8.{is_lead, follows, continues, code_of_2, code_of_3, code_of_4};
 ghost use Rattle.charsets.specs.Utf8.{codes, with_front, broken_gives};

@@ -1,7 +1,7 @@
 //! The names of the commands, by their table.
 
 ghost use Rattle.std.specs.Prelude.{◌≡◌};
-ghost use Rattle.command_lang_table.specs.Names.{name_text, is_alias, is_called, command_named};
+ghost use Rattle.command_lang_table.specs.Names.{name_text, is_called, command_named};
 
 use crate::rows::row;
 use acl::CommandName;

@@ -2,7 +2,7 @@
 
 ghost use Rattle.std.specs.Prelude.{◌≡◌, ◌≤◌, length, IfOk};
 ghost use Rattle.std.specs.Str.{chars};
-ghost use Rattle.command_lang_words.specs.Grammar.{size, Line, IsCut};
+ghost use Rattle.command_lang_words.specs.Grammar.{size, IsCut};
 
 use crate::parts::put_parts;
 use crate::text::Text;

@@ -1,8 +1,7 @@
 //! Control functions as bytes.
 
 ghost use Rattle.std.specs.Prelude.{◌≡◌, ◌<◌, ◌≤◌, ◌+◌, ◌*◌, ℕ, List, [], ◌∷◌, ◌++◌, length, take};
-ghost use Rattle.std.specs.Prelude.{OnOk, OnErr, option_to_list};
-ghost use Rattle.std.specs.List.{flat_map};
+ghost use Rattle.std.specs.Prelude.{OnOk, OnErr};
 ghost use Rattle.control_parser.specs.Spelling.{parameter, numerals, spelling, coding_of, IsGiven};
 ghost use Rattle.control_parser.specs.Spelling.{ReadsAs};
 

@@ -1,11 +1,11 @@
 //! What the parser keeps of a sequence that is not ended.
 
-ghost use Rattle.std.specs.Prelude.{◌≡◌, ◌==◌, ◌∷◌, [], true, false, Some, None, length, IsTrue};
+ghost use Rattle.std.specs.Prelude.{◌≡◌, ◌==◌, true, false, Some, None, IsTrue};
 ghost use Rattle.control_parser.specs.Text.{is_intermediate};
 ghost use Rattle.control_parser.specs.Steps.{TakesDigits, no_text, text_grown, begun_step};
-ghost use Rattle.control_parser.specs.Steps.{broken_step, escape_step, control_step, breaks_string};
-ghost use Rattle.control_parser.specs.Steps.{is_final_from, step_of, alone_of};
-ghost use Rattle.control_parser.specs.Grammar.{code, is_control, is_c1, is_sequence_text};
+ghost use Rattle.control_parser.specs.Steps.{broken_step, escape_step, breaks_string};
+ghost use Rattle.control_parser.specs.Steps.{step_of, alone_of};
+ghost use Rattle.control_parser.specs.Grammar.{code, is_control, is_c1};
 
 use crate::func::Func;
 use crate::intermediates::Intermediates;

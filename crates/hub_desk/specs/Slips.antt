@@ -1,5 +1,5 @@
 -- What a step files.
-use Rattle.std.specs.Prelude.{ℕ, List, [], ◌∷◌, ◌++◌, Option, Some, None, option_map}
+use Rattle.std.specs.Prelude.{List, [], ◌∷◌, ◌++◌, Option, Some, None, option_map}
 use Rattle.session_model.specs.Trace.{Reply}
 use Rattle.session_core.specs.Noted.{Noted}
 use Rattle.hub_trail.specs.declared.kept.Kept.{Kept}

@@ -1,6 +1,6 @@
 //! What lies under the hub's lock.
 
-ghost use Rattle.std.specs.Prelude.{◌≡◌, ◌↔◌, ◌+◌, ◌<◌, ◌≤◌, length, IfOk, OnErr, Err, IsSome, None, Some};
+ghost use Rattle.std.specs.Prelude.{◌≡◌, ◌↔◌, ◌<◌, ◌≤◌, length, IfOk, OnErr, Err, IsSome, None, Some};
 ghost use Rattle.std.specs.Prelude.{[], false, is_some, replicate, slice_get, slice_set, true};
 ghost use Rattle.session_model.specs.Trace.{begun, happening};
 ghost use Rattle.hub_trail.specs.Filing.{kept_of};

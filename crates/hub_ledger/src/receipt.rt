@@ -1,6 +1,6 @@
 //! Receipts.
 
-ghost use Rattle.std.specs.Prelude.{◌≡◌, ◌↔◌, ◌≤◌, ◌<◌, ◌+◌, true, length};
+ghost use Rattle.std.specs.Prelude.{◌≡◌, ◌↔◌, ◌≤◌, ◌<◌, ◌+◌, true};
 ghost use Rattle.hub_ledger.specs.Seats.{AllBelow, Rise};
 ghost use Rattle.hub_ledger.specs.Closing.{AreOf, before, times};
 

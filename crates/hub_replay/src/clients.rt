@@ -1,6 +1,6 @@
 //! Rows of clients: each has a serial and a user, and the newest is first.
 
-ghost use Rattle.std.specs.Prelude.{◌≡◌, ◌&&◌, ◌==◌, not};
+ghost use Rattle.std.specs.Prelude.{◌≡◌, ◌&&◌, ◌==◌};
 ghost use Rattle.std.specs.List.{list_any};
 ghost use Rattle.acl.specs.Same.{same_user};
 ghost use Rattle.hub_replay.specs.Clients.{user_in, has_other, last_in};

@@ -6,7 +6,7 @@ ghost use Rattle.std.specs.Prelude.{◌≡◌};
 use crate::compare::{are_all_same, are_same_entries, is_same_answer};
 use acl::{Edition, UserId};
 use hub::{Answer, Hub, HubFault, Seat, Session};
-use session_model::{Effect, Event, Reply};
+use session_model::{Event, Reply};
 use std::alloc::Global;
 use std::marker::Brand;
 use std::process::Abort;

@@ -11,7 +11,7 @@ use regions::Rects;
 use std::alloc::{AllocError, Global};
 use std::process::Abort;
 use std::test::Fail;
-use view::{Contents, Cursor, KeyModes, Pane, View, compose};
+use view::{Contents, KeyModes, Pane, View, compose};
 
 const LETTERS: [Cell; 3] = [
     Cell::BLANK,

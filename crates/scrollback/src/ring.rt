@@ -1,7 +1,7 @@
 //! A ring of lines.
 
-ghost use Rattle.std.specs.Prelude.{◌≡◌, [], ◌∷◌, ◌++◌, length, map, reverse, slice_get};
-ghost use Rattle.std.specs.Prelude.{option_copied, IfOk, OnOk, OnErr, IfSome, IfNone};
+ghost use Rattle.std.specs.Prelude.{◌≡◌, [], ◌++◌, length, map, reverse, slice_get};
+ghost use Rattle.std.specs.Prelude.{option_copied, IfOk, OnOk, OnErr};
 ghost use Rattle.std.specs.Prelude.{replicate, ◌+◌, ◌≤◌};
 ghost use Rattle.circular_buffer.specs.Buffer.{buffer as buffer_of};
 ghost use Rattle.cells.specs.Line.{blank};

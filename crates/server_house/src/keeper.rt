@@ -4,7 +4,7 @@ ghost use Rattle.std.specs.Prelude.{◌≡◌, ◌<◌, ◌≤◌};
 
 use crate::house::House;
 use acl::Edition;
-use hub::{Hub, HubFault, Seat, Session};
+use hub::{Hub, Seat, Session};
 use server_turn::Users;
 use std::alloc::{AllocError, Global};
 use std::marker::Brand;

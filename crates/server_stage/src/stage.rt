@@ -1,6 +1,6 @@
 //! One loop over a new session, and its peers.
 
-ghost use Rattle.std.specs.Prelude.{◌≡◌, ◌<◌, ◌≤◌};
+ghost use Rattle.std.specs.Prelude.{◌≡◌, ◌<◌};
 
 use acl::Edition;
 use hub_record::{Filed, KeptRef};

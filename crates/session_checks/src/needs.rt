@@ -1,7 +1,7 @@
 //! What commands need.
 
 ghost use Rattle.std.specs.Prelude.{◌≡◌};
-ghost use Rattle.session_model.specs.Needs.{needs, nothing, multiuser, client, window, typing};
+ghost use Rattle.session_model.specs.Needs.{needs, multiuser, client, window};
 ghost use Rattle.session_model.specs.Needs.{of_lock};
 
 use acl::LockMode;

@@ -1,7 +1,7 @@
 //! The kinds of events, and the words that their lines begin with.
 
 ghost use Rattle.std.specs.Prelude.{◌≡◌};
-ghost use Rattle.session_lines.specs.Script.{word_of, all_kinds, kind_of};
+ghost use Rattle.session_lines.specs.Script.{word_of, kind_of};
 
 /// The kind of an event.
 #[derive(Clone, Copy, PartialEq, Eq, Debug)]

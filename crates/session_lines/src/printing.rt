@@ -1,14 +1,13 @@
 //! Lines that the simulator prints.
 
 ghost use Rattle.std.specs.Prelude.{◌≡◌, ◌++◌, OnOk, OnErr, codes};
-ghost use Rattle.std.specs.Fmt.{decimal};
 ghost use Rattle.std.specs.String.{string_bytes};
 ghost use Rattle.session_model.specs.Texts.{text_of};
 ghost use Rattle.session_model.specs.Trace.{happening};
 ghost use Rattle.view.specs.View.{place_of};
 ghost use Rattle.session_lines.specs.Printed.{is_plain, escape, escaped, line, number_of_reason};
 ghost use Rattle.session_lines.specs.Printed.{gone_line, effect_line, text_line, done_line};
-ghost use Rattle.session_lines.specs.Printed.{reply_line, marks_text, cell_text, row_line};
+ghost use Rattle.session_lines.specs.Printed.{reply_line, cell_text, row_line};
 ghost use Rattle.session_lines.specs.Printed.{cursor_line, view_lines};
 
 use cells::{Cell, Marks};

@@ -20,4 +20,3 @@ pub mod Promises
 pub mod Denying
 pub mod Keeps
 pub mod Sound
-pub mod Calls

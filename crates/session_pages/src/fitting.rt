@@ -3,7 +3,6 @@
 ghost use Rattle.std.specs.Prelude.{◌≡◌, None, ◌<◌, IfOk, OnOk, OnErr};
 ghost use Rattle.command_lang.specs.command.Command.TheVariants as command;
 ghost use Rattle.session_model.specs.Tables as model;
-ghost use Rattle.session_clients.specs.Stands.{ClientStands};
 ghost use Rattle.session_state.specs.Doing.{HasRoom, Does, IsAsBefore};
 ghost use Rattle.session_pages.specs.Giving.{IsFocusedBox};
 

@@ -1,7 +1,6 @@
 //! Who gives a command, and for which window.
 
 ghost use Rattle.std.specs.Prelude.{◌≡◌, option_copied};
-ghost use Rattle.std.specs.Option.{option_map};
 ghost use Rattle.session_pages.specs.Giving.{FindsGiver, FindsWindow, HasNumber, refusal_of};
 
 use regions::RegionFault;

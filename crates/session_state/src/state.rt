@@ -1,6 +1,6 @@
 //! What a session has.
 
-ghost use Rattle.std.specs.Prelude.{◌≡◌, IfOk};
+ghost use Rattle.std.specs.Prelude.{IfOk};
 ghost use Rattle.session_model.specs.Tables.{fresh};
 
 use acl::{Acl, Edition, UserId};

@@ -1,6 +1,6 @@
 //! What the regions of a client's page show.
 
-ghost use Rattle.std.specs.Prelude.{◌≡◌, ℕ, IfOk, List, map};
+ghost use Rattle.std.specs.Prelude.{◌≡◌, IfOk, List, map};
 ghost use Rattle.acl.specs.declared.user_id.UserId.{UserId};
 ghost use Rattle.regions.specs.declared.shown.Shown.{Shown};
 ghost use Rattle.session_model.specs.Tables.{Tables};

@@ -13,7 +13,7 @@ use crate::pane::{Contents, Pane};
 use crate::region_rows::{REVERSE, box_row, first_shown};
 use crate::text::text_row;
 use crate::view::{Cursor, KeyModes, View};
-use cells::{Cell, GridFault, Rendition};
+use cells::{Cell, Rendition};
 use regions::{Rect, Rects};
 use std::alloc::{AllocError, Global};
 

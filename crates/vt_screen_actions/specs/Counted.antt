@@ -1,5 +1,5 @@
 -- Counts are at least 1.
-use Rattle.std.specs.Prelude.{ℕ, ◌<◌}
+use Rattle.std.specs.Prelude.{◌<◌}
 use Rattle.terminal_model.specs.declared.action.Action.{Action}
 use Rattle.terminal_model.specs.declared.action.Action.TheVariants.{EraseCells, InsertCells}
 use Rattle.terminal_model.specs.declared.action.Action.TheVariants.{DeleteCells}

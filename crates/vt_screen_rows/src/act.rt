@@ -10,9 +10,9 @@ ghost use Rattle.vt_screen_actions.specs.Counted.{IsCounted};
 use crate::display::Display;
 use terminal_model::{Action, Report};
 use vt_screen_state::{
-    designate, go_down, go_left, go_right, go_to, go_to_first_column, go_up, move_to, protect,
-    render, report_of, set_application_keypad, set_coding, set_eight_bit_reports, set_margins,
-    set_mode, settle, shift,
+    designate, go_down, go_left, go_right, go_to, go_to_first_column, go_up, protect, render,
+    report_of, set_application_keypad, set_coding, set_eight_bit_reports, set_margins, set_mode,
+    settle, shift,
 };
 
 impl Display {

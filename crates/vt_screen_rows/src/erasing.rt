@@ -1,8 +1,8 @@
 //! Rows that erase (ECMA-48, 8.3.38, 8.3.39 and 8.3.41; VT220 Programmer Reference Manual,
 //! erasing).
 
-ghost use Rattle.std.specs.Prelude.{◌≡◌, ◌<◌, ◌≤◌, length};
-ghost use Rattle.cells.specs.Page.{IsPage, line_at, page_from};
+ghost use Rattle.std.specs.Prelude.{◌≡◌, ◌<◌, ◌≤◌};
+ghost use Rattle.cells.specs.Page.{IsPage, page_from};
 ghost use Rattle.terminal_model.specs.declared.action.Action.TheVariants.{EraseCells, EraseInLine};
 ghost use Rattle.terminal_model.specs.declared.action.Action.TheVariants.{EraseInPage};
 ghost use Rattle.terminal_model.specs.declared.action.Action.TheVariants.{EraseUnprotectedInLine};

@@ -5,7 +5,7 @@ ghost use Rattle.cells.specs.Glyph.{glyph_columns};
 ghost use Rattle.charsets.specs.declared.unit.Unit.TheVariants.{Code};
 ghost use Rattle.terminal_model.specs.Table.{acted, columns_of, drawn, drawn_as, lacks_room};
 ghost use Rattle.terminal_model.specs.Table.{marked_at, placed_narrow, placed_wide, printed};
-ghost use Rattle.terminal_model.specs.Table.{printed_as, wide_or_none, widely, wrapped};
+ghost use Rattle.terminal_model.specs.Table.{printed_as, widely, wrapped};
 ghost use Rattle.terminal_model.specs.declared.action.Action.TheVariants.{Print};
 ghost use Rattle.vt_screen_rows.specs.Acting.{MovesLines, MovesLinesBy};
 ghost use Rattle.vt_screen_rows.specs.Displays.{IsFit, screen_of};

@@ -2,7 +2,7 @@
 
 ghost use Rattle.std.specs.Prelude.{◌≡◌, ◌+◌, ◌<◌, ◌≤◌, ◌++◌, length};
 ghost use Rattle.control_parser.specs.Spelling.{decimal};
-ghost use Rattle.terminal_model.specs.Reports.{answer, introducer, reported_line};
+ghost use Rattle.terminal_model.specs.Reports.{answer, introducer};
 
 use charsets::Coding;
 use terminal_model::{Action, Report, State};

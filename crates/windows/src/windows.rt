@@ -33,7 +33,6 @@ impl Windows {
     ghost use Rattle.session_model.specs.Tables as model;
     ghost use Rattle.session_model.specs.Tables.{row_of};
     ghost use Rattle.session_model.specs.Naming.{with_number, window_named, lowest, free_number};
-    ghost use Rattle.session_model.specs.declared.refusal.Refusal.TheVariants.{NoMemory};
     ghost use Rattle.windows.specs.declared.window.Window.{Window};
     ghost use Rattle.windows.specs.Standing.{StandFor, Finds, Answers, AnswersIfRoom, at_serial};
     ghost use Rattle.windows.specs.Standing.{written_in, fed_in, resized_in, retitled_in};

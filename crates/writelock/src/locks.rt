@@ -21,7 +21,7 @@ impl Locks {
     ghost use Rattle.std.specs.Prelude.{◌≡◌, ◌<◌, ◌∷◌, [], ℕ, true, false, Some, None, nat_eq, is_ok, length, IfErr, if◌then◌else◌};
     ghost use Rattle.std.specs.Option.{option_map, option_map_or};
     ghost use Rattle.acl.specs.Same.{same_user};
-    ghost use Rattle.acl.specs.History.{History, is_known, is_open, open_count, may};
+    ghost use Rattle.acl.specs.History.{History, is_open, open_count, may};
     ghost use Rattle.acl.specs.Deeds.{Follows};
     ghost use Rattle.acl.specs.Lists.{table_of};
     ghost use Rattle.acl.specs.declared.edition.Edition.{Edition};
