@@ -1,6 +1,9 @@
--- The list commands of the GNU Screen manual (acladd, aclchg, acldel, aclgrp, aclumask): the fault that refuses one, which is the
--- first from the left, and the acts of one that is done. A name is none where its word is no name.
-use Rattle.std.specs.Prelude.{◌≡◌, ◌≤◌, Bool, true, false, not, ◌||◌, ◌&&◌, nat_lt, nat_le, List, [], ◌∷◌, ◌++◌, Option, Some, None, Result, Ok, Err, map, length, if◌then◌else◌}
+-- The list commands of the GNU Screen manual (acladd, aclchg, acldel, aclgrp, aclumask): the fault
+-- that refuses one, which is the first from the left, and the acts of one that is done. A name is
+-- none where its word is no name.
+use Rattle.std.specs.Prelude.{◌≡◌, ◌≤◌, Bool, true, false, not, ◌||◌, ◌&&◌, nat_lt, nat_le, List}
+use Rattle.std.specs.Prelude.{[], ◌∷◌, ◌++◌, Option, Some, None, Result, Ok, Err, map, length}
+use Rattle.std.specs.Prelude.{if◌then◌else◌}
 use Rattle.std.specs.Option.{option_or}
 use Rattle.acl_words.specs.Same.{same_user}
 pub use Rattle.acl_words.specs.Faults.{number_of_fault}
@@ -11,9 +14,14 @@ use Rattle.acl_words.specs.declared.bits.Bit.TheVariants.{Read, Write, Execute}
 use Rattle.acl_words.specs.declared.bits.BitChange.{BitChange}
 use Rattle.acl_words.specs.declared.act.Object.{Object}
 use Rattle.acl_words.specs.declared.act.Act.{Act}
-use Rattle.acl_words.specs.declared.act.Act.TheVariants.{Known, Gone, Set, Grouped, Masked, Preset, Attached, Parted, Entered, Left, Mode, Default}
+use Rattle.acl_words.specs.declared.act.Act.TheVariants.{Known, Gone, Set, Grouped, Masked, Preset}
+use Rattle.acl_words.specs.declared.act.Act.TheVariants.{Attached, Parted, Entered, Left, Mode}
+use Rattle.acl_words.specs.declared.act.Act.TheVariants.{Default}
 use Rattle.acl_words.specs.declared.faults.AclFault.{AclFault}
-use Rattle.acl_words.specs.declared.faults.AclFault.TheVariants.{UnknownUser, OwnerKept, TooManyUsers, ReservedName, NoSuchGroup, NoMemory, TooManyGroups}
+use Rattle.acl_words.specs.declared.faults.AclFault.TheVariants.{UnknownUser, OwnerKept}
+use Rattle.acl_words.specs.declared.faults.AclFault.TheVariants.{TooManyUsers, ReservedName}
+use Rattle.acl_words.specs.declared.faults.AclFault.TheVariants.{NoSuchGroup, NoMemory}
+use Rattle.acl_words.specs.declared.faults.AclFault.TheVariants.{TooManyGroups}
 use Rattle.acl_words.specs.declared.edition.Edition.{Edition}
 use Rattle.acl_words.specs.declared.entries.NewLeader.{NewLeader}
 use Rattle.acl_words.specs.declared.entries.NewLeader.TheVariants.{Nobody, Named}
@@ -173,7 +181,8 @@ abbrev pub mask_acts : UserId → List MaskEntry → List Act
 mask_acts by [] = []
 mask_acts by (e ∷ entries) = scope_acts by e.scope e.bit e.value ++ mask_acts by entries
 
--- an act of a list command that may come after h: it names users who are known, or not yet, and objects that are there
+-- an act of a list command that may come after h: it names users who are known, or not yet, and
+-- objects that are there
 abbrev pub MayFollow : Edition → UserId → History → Act → Type 0
 MayFollow edition owner h (Known u) = is_known owner h u ≡ false
 MayFollow edition owner h (Gone u) = same_user owner u ≡ false

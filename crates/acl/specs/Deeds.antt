@@ -9,7 +9,8 @@ use Rattle.acl_words.specs.declared.act.Object.{Object}
 use Rattle.acl_words.specs.declared.act.Act.{Act}
 use Rattle.acl_words.specs.declared.faults.AclFault.{AclFault}
 
--- where the table stood for a history that the act may follow, it stands for that history and the act
+-- where the table stood for a history that the act may follow, it stands for that history and the
+-- act
 abbrev pub Takes : Table → Table → Act → Type 0
 Takes old new act =
     (edition : Edition) (owner : UserId) (h : History) → StandsFor old edition owner h
@@ -37,16 +38,16 @@ FollowsAll follows followed old acts =
     → AllMayFollow edition owner h acts → follows edition owner h
     → followed edition owner (followed_by h acts)
 
--- a list command is refused for this fault, or for want of memory, or is done: the fault is what the definitions give of any history
--- that the table stands for
+-- a list command is refused for this fault, or for want of memory, or is done: the fault is what
+-- the definitions give of any history that the table stands for
 abbrev pub Refuses : {X : Type 0} → Table → (Edition → UserId → History → Option AclFault)
     → Result X AclFault → Type 0
 Refuses old fault result =
     (edition : Edition) (owner : UserId) (h : History) → StandsFor old edition owner h
     → Answers result (fault edition owner h)
 
--- a list command was done after the history h: the table stands for h and then its acts, which are given out in order, and so does
--- what follows the acts. Each act may follow those before it
+-- a list command was done after the history h: the table stands for h and then its acts, which are
+-- given out in order, and so does what follows the acts. Each act may follow those before it
 pub record IsDone (edition : Edition) (owner : UserId) (h : History) (given : List Act)
     (new : Table) (before after : List Act)
     (follows followed : Edition → UserId → History → Type 0)

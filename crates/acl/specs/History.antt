@@ -1,7 +1,10 @@
--- What the acts of a session decide: who is known, who has which right, who leads whom. A history is a list of acts, the newest
--- first. The rules are those of the GNU Screen manual, section "Multiuser Session", with the entries named below; what those leave
--- open (what a name that becomes known gets, when a mask counts, how many leaders a user has) is this project's own profile.
-use Rattle.std.specs.Prelude.{ℕ, Bool, true, false, not, ◌||◌, ◌&&◌, ◌==◌, ◌+◌, ◌-◌, List, [], ◌∷◌, Option, Some, None, unwrap_or, filter, ◌++◌, if◌then◌else◌}
+-- What the acts of a session decide: who is known, who has which right, who leads whom. A history
+-- is a list of acts, the newest first. The rules are those of the GNU Screen manual, section
+-- "Multiuser Session", with the entries named below; what those leave open (what a name that
+-- becomes known gets, when a mask counts, how many leaders a user has) is this project's own
+-- profile.
+use Rattle.std.specs.Prelude.{ℕ, Bool, true, false, not, ◌||◌, ◌&&◌, ◌==◌, ◌+◌, ◌-◌, List, [], ◌∷◌}
+use Rattle.std.specs.Prelude.{Option, Some, None, unwrap_or, filter, ◌++◌, if◌then◌else◌}
 use Rattle.std.specs.List.{list_any}
 use Rattle.acl_words.specs.Same.{same_user, same_bit, same_object, same_preset}
 use Rattle.acl_words.specs.declared.user_id.UserId.{UserId}
@@ -11,7 +14,8 @@ use Rattle.acl_words.specs.declared.act.Object.TheVariants.{Window, Command}
 use Rattle.acl_words.specs.declared.act.PresetKind.{PresetKind}
 use Rattle.acl_words.specs.declared.act.PresetKind.TheVariants as preset
 use Rattle.acl_words.specs.declared.act.Act.{Act}
-use Rattle.acl_words.specs.declared.act.Act.TheVariants.{Known, Gone, Set, Grouped, Masked, Preset, Opened, Closed}
+use Rattle.acl_words.specs.declared.act.Act.TheVariants.{Known, Gone, Set, Grouped, Masked, Preset}
+use Rattle.acl_words.specs.declared.act.Act.TheVariants.{Opened, Closed}
 use Rattle.acl_words.specs.declared.edition.Edition.{Edition}
 pub use Rattle.acl_words.specs.Leaders.{among, leaders_with}
 
@@ -72,7 +76,8 @@ open_count (Opened by w ∷ h) = open_count h + 1
 open_count (Closed w ∷ h) = if is_open h w then open_count h - 1 else open_count h
 open_count (_ ∷ h) = open_count h
 
--- aclumask: what the masks of `by` say of u's bit on windows that `by` opens later. A mask counts since both became known
+-- aclumask: what the masks of `by` say of u's bit on windows that `by` opens later. A mask counts
+-- since both became known
 abbrev pub decides_mask : UserId → UserId → Bit → Act → Option Bool
 decides_mask by u bit (Masked b v c value) =
     decided (same_user b by && same_user v u && same_bit c bit) value
@@ -96,7 +101,8 @@ abbrev pub greeting : History → Bit → Object → Option Bool
 greeting h bit (Window w) = decided (is_open h w) (preset_of h preset.Windows bit)
 greeting h bit (Command c) = Some (preset_of h preset.Commands bit)
 
--- what u gets on a window that `by` opens: each bit where he opened it, else what the mask says of a known user
+-- what u gets on a window that `by` opens: each bit where he opened it, else what the mask says of
+-- a known user
 abbrev pub opening : UserId → History → UserId → UserId → Bit → Option Bool
 opening owner h by u bit =
     if same_user by u then Some true else decided (is_known owner h u) (mask h by u bit)

@@ -1,5 +1,6 @@
 -- The table that the code keeps, and the histories that it stands for.
-use Rattle.std.specs.Prelude.{◌≡◌, ℕ, Bool, true, false, ◌&&◌, ◌||◌, All, List, [], Option, is_some, slice_index_or, slice_set, replicate, unwrap_or, if◌then◌else◌}
+use Rattle.std.specs.Prelude.{◌≡◌, ℕ, Bool, true, false, ◌&&◌, ◌||◌, All, List, [], Option, is_some}
+use Rattle.std.specs.Prelude.{slice_index_or, slice_set, replicate, unwrap_or, if◌then◌else◌}
 use Rattle.std.specs.Option.{option_map_or}
 use Rattle.std.specs.List.{list_any}
 use Rattle.std.specs.Map.{lookup, keys_of}
@@ -7,7 +8,8 @@ use Rattle.acl_words.specs.Same.{same_user, index_of_command}
 use Rattle.acl_words.specs.Leaders.{remaining_leaders}
 use Rattle.acl_words.specs.BitSets.{allows, with_bit, no_bits, all_bits}
 use Rattle.acl_slots.specs.Slots.{slot_of, SlotsStandFor}
-use Rattle.acl.specs.History.{History, is_known, users_of, is_open, open_count, mask, preset_of, has, leaders_of}
+use Rattle.acl.specs.History.{History, is_known, users_of, is_open, open_count, mask, preset_of}
+use Rattle.acl.specs.History.{has, leaders_of}
 use Rattle.acl_words.specs.declared.user_id.UserId.{UserId}
 use Rattle.acl_words.specs.declared.bits.Bit.{Bit}
 use Rattle.acl_words.specs.declared.bits.Bits.{Bits}
@@ -19,7 +21,8 @@ use Rattle.acl_words.specs.declared.edition.Edition.{Edition}
 use Rattle.acl_words.specs.declared.entries.EntryDenial.{EntryDenial}
 use Rattle.acl.specs.declared.rows.Row.{Row}
 
--- a session's rights: a row for each known user, masks by opener and user, and the slots of open windows
+-- a session's rights: a row for each known user, masks by opener and user, and the slots of open
+-- windows
 pub record Table : Type 0 where
   pub edition : Edition
   pub owner : UserId
@@ -131,7 +134,8 @@ pub record StandsFor (t : Table) (edition : Edition) (owner : UserId) (h : Histo
   pub presets : (kind : PresetKind) (bit : Bit)
       → allows bit (preset_bits t kind) ≡ preset_of h kind bit
 
--- a denial of an entry tells whom it denies what, and his leaders in their order; neither his entry nor a leader's has the bit
+-- a denial of an entry tells whom it denies what, and his leaders in their order; neither his entry
+-- nor a leader's has the bit
 pub record IsDenial (edition : Edition) (owner : UserId) (h : History) (u : UserId) (bit : Bit)
     (object : Object) (d : EntryDenial)
     : Type 0 where

@@ -1,4 +1,5 @@
-ghost use Rattle.std.specs.Prelude.{◌≡◌, ◌+◌, ◌≤◌, [], is_ok, IfOk, IfErr, OnOk, OnErr, length, slice_get, true, false, vec_len};
+ghost use Rattle.std.specs.Prelude.{◌≡◌, ◌+◌, ◌≤◌, [], is_ok, IfOk, IfErr, OnOk, OnErr, length};
+ghost use Rattle.std.specs.Prelude.{slice_get, true, false, vec_len};
 ghost use Rattle.std.specs.Vec.{vec_capacity};
 
 use crate::carry::conclude;
@@ -15,11 +16,11 @@ use std::marker::Model;
 /// The access lists of a session: who is known, what each user may do, who leads whom, masks and
 /// presets.
 ///
-/// Each list command is done whole or refused whole; the refusal is its first fault from the left, or
-/// that memory was refused. Its words for users are given as `UserId::of` answers them, none for a word
-/// that is no name. Its acts go to the end of `acts`, in order, and each to the follower once it is
-/// done. `room` is how many acts more there is room for behind them, which a caller may then push
-/// without a growth.
+/// Each list command is done whole or refused whole; the refusal is its first fault from the left,
+/// or that memory was refused. Its words for users are given as `UserId::of` answers them, none for
+/// a word that is no name. Its acts go to the end of `acts`, in order, and each to the follower
+/// once it is done. `room` is how many acts more there is room for behind them, which a caller may
+/// then push without a growth.
 #[derive(Drop)]
 pub struct Acl {
     lists: Lists,
@@ -37,8 +38,11 @@ impl Model for Acl {
 
 impl Acl {
     ghost use Rattle.std.specs.Prelude.{◌≡◌, ◌∷◌, ◌<◌};
-    ghost use Rattle.acl.specs.History.{History, is_known, is_open, open_count, users_of, leaders_of, there, may};
-    ghost use Rattle.acl.specs.Commands.{add_acts, change_fault, change_acts, known_name_fault, removal_acts, group_fault, group_acts, mask_fault, mask_acts};
+    ghost use Rattle.acl.specs.History.{History, is_known, is_open, open_count, users_of};
+    ghost use Rattle.acl.specs.History.{leaders_of, there, may};
+    ghost use Rattle.acl.specs.Commands.{add_acts, change_fault, change_acts, known_name_fault};
+    ghost use Rattle.acl.specs.Commands.{removal_acts, group_fault, group_acts, mask_fault};
+    ghost use Rattle.acl.specs.Commands.{mask_acts};
     ghost use Rattle.acl.specs.Deeds.{Refuses, Does, DoesOn};
     ghost use Rattle.acl.specs.Table.{StandsFor, IsDenial, knows, led_by, lets, users_in};
     ghost use Rattle.acl.specs.Lists.{table_of};
@@ -103,8 +107,8 @@ impl Acl {
         self.lists.leaders_of(user)
     }
 
-    /// Whether the user has the bit on an object that is there, himself or by a leader of his, or else
-    /// why not.
+    /// Whether the user has the bit on an object that is there, himself or by a leader of his, or
+    /// else why not.
     pub fn may(&self, user: UserId, bit: Bit, object: Object) -> Result<(), EntryDenial>
         ensures answer { (edition : Edition) (owner : UserId) (h : History) →
             StandsFor self.now edition owner h → there h object ≡ true →
@@ -152,8 +156,8 @@ impl Acl {
         conclude(&mut self.lists, planned, start, room, acts, follower)
     }
 
-    /// `acladd`: makes names known, and then grants each of these users each bit on the objects, which
-    /// are there.
+    /// `acladd`: makes names known, and then grants each of these users each bit on the objects,
+    /// which are there.
     pub fn add<F: Follower>(
         &mut self,
         names: &[Option<UserId>],

@@ -1,6 +1,7 @@
 //! How the acts of a list command are carried out.
 
-ghost use Rattle.std.specs.Prelude.{◌≡◌, ◌+◌, ◌≤◌, ◌<◌, count_by, take, drop, vec_len, OnOk, OnErr, IfErr, Ok, Err, Option};
+ghost use Rattle.std.specs.Prelude.{◌≡◌, ◌+◌, ◌≤◌, ◌<◌, count_by, take, drop, vec_len, OnOk, OnErr};
+ghost use Rattle.std.specs.Prelude.{IfErr, Ok, Err, Option};
 ghost use Rattle.indexmap.specs.IndexMap.{spare};
 ghost use Rattle.std.specs.Vec.{vec_capacity};
 ghost use Rattle.acl.specs.Commands.{Answers, makes_known, sets_mask};
@@ -74,8 +75,8 @@ fn apply_all<F: Follower>(lists: &mut Lists, acts: &[Act], follower: &mut F)
     }
 }
 
-/// Does the acts from `start` on where they were planned well, with room for so many more behind them;
-/// else takes them back, and answers the fault.
+/// Does the acts from `start` on where they were planned well, with room for so many more behind
+/// them; else takes them back, and answers the fault.
 pub fn conclude<F: Follower>(
     lists: &mut Lists,
     planned: Result<(), AclFault>,

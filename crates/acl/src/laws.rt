@@ -1,9 +1,10 @@
-//! Laws of the definitions, for the crates above. Each function here does nothing; its contract says
-//! what holds.
+//! Laws of the definitions, for the crates above. Each function here does nothing; its contract
+//! says what holds.
 
 ghost use Rattle.std.specs.Prelude.{◌≡◌, ◌∷◌, ◌++◌, ℕ, List};
 ghost use Rattle.std.specs.List.{AllByRecursion};
-ghost use Rattle.acl.specs.History.{History, followed_by, is_known, is_open, open_count, users_of, among};
+ghost use Rattle.acl.specs.History.{History, followed_by, is_known, is_open, open_count, users_of};
+ghost use Rattle.acl.specs.History.{among};
 ghost use Rattle.acl.specs.Commands.{IsAside, AllMayFollow};
 ghost use Rattle.acl.specs.Table.{Table, StandsFor};
 ghost use Rattle.acl_words.specs.declared.act.Act.{Act};

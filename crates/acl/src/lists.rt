@@ -22,16 +22,19 @@ pub struct Lists {
 }
 
 impl Lists {
-    ghost use Rattle.std.specs.Prelude.{◌≡◌, ◌+◌, ◌≤◌, ◌<◌, ◌∷◌, [], true, false, is_ok, IfOk, IfErr, length, slice_get, nat_le, Some, if◌then◌else◌};
+    ghost use Rattle.std.specs.Prelude.{◌≡◌, ◌+◌, ◌≤◌, ◌<◌, ◌∷◌, [], true, false, is_ok, IfOk};
+    ghost use Rattle.std.specs.Prelude.{IfErr, length, slice_get, nat_le, Some, if◌then◌else◌};
     ghost use Rattle.std.specs.List.{list_any};
     ghost use Rattle.indexmap.specs.IndexMap.{spare};
-    ghost use Rattle.acl.specs.History.{History, among, is_known, is_open, open_count, there, leaders_with, may};
+    ghost use Rattle.acl.specs.History.{History, among, is_known, is_open, open_count, there};
+    ghost use Rattle.acl.specs.History.{leaders_with, may};
     ghost use Rattle.acl.specs.Commands.{makes_known, sets_mask};
     ghost use Rattle.acl.specs.Deeds.{Takes};
     ghost use Rattle.acl.specs.Table.{StandsFor, IsDenial, knows, granted, led_by, lets, users_in};
     ghost use Rattle.acl.specs.Lists.{table_of};
     ghost use Rattle.acl_words.specs.declared.edition.Edition.{Edition};
-    ghost use Rattle.acl_words.specs.declared.act.Act.TheVariants.{Known, Gone, Set, Grouped, Masked, Preset, Opened, Closed};
+    ghost use Rattle.acl_words.specs.declared.act.Act.TheVariants.{Known, Gone, Set, Grouped};
+    ghost use Rattle.acl_words.specs.declared.act.Act.TheVariants.{Masked, Preset, Opened, Closed};
 
     /// The lists of a session that only its owner has entered.
     pub(crate) fn new(alloc: Global, owner: UserId, edition: Edition) -> Result<Self, AllocError>
@@ -127,8 +130,8 @@ impl Lists {
         users.iter().any(|user| self.is_granted(*user, bit, object))
     }
 
-    /// Whether the user has the bit on an object that is there, himself or by a leader of his, or else
-    /// why not.
+    /// Whether the user has the bit on an object that is there, himself or by a leader of his, or
+    /// else why not.
     pub fn may(&self, user: UserId, bit: Bit, object: Object) -> Result<(), EntryDenial>
         ensures answer { (edition : Edition) (owner : UserId) (h : History) →
             StandsFor (table_of self.now) edition owner h → there h object ≡ true →

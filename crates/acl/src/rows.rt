@@ -5,7 +5,8 @@ ghost use Rattle.acl.specs.History.{leaders_with};
 ghost use Rattle.std.specs.Map.{lookup};
 ghost use Rattle.indexmap.specs.IndexMap.{spare};
 ghost use Rattle.acl_words.specs.Same.{same_user};
-ghost use Rattle.acl.specs.Table.{mask_bits, opening_bits, with_window, without_leader, bits_on, with_right};
+ghost use Rattle.acl.specs.Table.{mask_bits, opening_bits, with_window, without_leader, bits_on};
+ghost use Rattle.acl.specs.Table.{with_right};
 
 use acl_slots::Slots;
 use acl_words::{Bit, Bits, Edition, Leaders, Object, UserId};

@@ -1,5 +1,6 @@
 -- The slots that open windows stand in. A slot has a window's serial number, or nothing.
-use Rattle.std.specs.Prelude.{◌≡◌, ℕ, ◌≤◌, Bool, false, ◌==◌, List, [], ◌∷◌, Option, Some, None, is_some, is_none, position, length, ◌+◌, if◌then◌else◌}
+use Rattle.std.specs.Prelude.{◌≡◌, ℕ, ◌≤◌, Bool, false, ◌==◌, List, [], ◌∷◌, Option, Some, None}
+use Rattle.std.specs.Prelude.{is_some, is_none, position, length, ◌+◌, if◌then◌else◌}
 use Rattle.std.specs.Option.{option_map_or}
 
 abbrev pub is_window : ℕ → Option ℕ → Bool

@@ -25,7 +25,8 @@ fn without_window(slot: Option<u32>, window: u32) -> Option<u32>
 }
 
 impl Slots {
-    ghost use Rattle.std.specs.Prelude.{◌≡◌, ◌<◌, IfSome, None, Some, map, replicate, slice_set, slice_index_or};
+    ghost use Rattle.std.specs.Prelude.{◌≡◌, ◌<◌, IfSome, None, Some, map, replicate, slice_set};
+    ghost use Rattle.std.specs.Prelude.{slice_index_or};
     ghost use Rattle.acl_slots.specs.Slots.{slot_of, free_slot, without_window};
 
     /// No window is open.

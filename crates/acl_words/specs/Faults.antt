@@ -1,7 +1,10 @@
 -- The numbers of faults.
 use Rattle.std.specs.Prelude.{ℕ}
 use Rattle.acl_words.specs.declared.faults.AclFault.{AclFault}
-use Rattle.acl_words.specs.declared.faults.AclFault.TheVariants.{UnknownUser, OwnerKept, TooManyUsers, ReservedName, NoSuchGroup, NoMemory, TooManyGroups}
+use Rattle.acl_words.specs.declared.faults.AclFault.TheVariants.{UnknownUser, OwnerKept}
+use Rattle.acl_words.specs.declared.faults.AclFault.TheVariants.{TooManyUsers, ReservedName}
+use Rattle.acl_words.specs.declared.faults.AclFault.TheVariants.{NoSuchGroup, NoMemory}
+use Rattle.acl_words.specs.declared.faults.AclFault.TheVariants.{TooManyGroups}
 
 -- a fault's number
 abbrev pub number_of_fault : AclFault → ℕ

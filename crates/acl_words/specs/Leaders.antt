@@ -1,5 +1,6 @@
 -- A user's leaders, which are names at the front of a fixed array, whose rest is blank.
-use Rattle.std.specs.Prelude.{◌≡◌, ℕ, Bool, not, ◌-◌, ◌≤◌, List, [], ◌∷◌, ◌++◌, Option, Some, None, filter, length, take, drop, replicate, if◌then◌else◌}
+use Rattle.std.specs.Prelude.{◌≡◌, ℕ, Bool, not, ◌-◌, ◌≤◌, List, [], ◌∷◌, ◌++◌, Option, Some, None}
+use Rattle.std.specs.Prelude.{filter, length, take, drop, replicate, if◌then◌else◌}
 use Rattle.std.specs.List.{list_any}
 use Rattle.std.proofs.Common.{take-append-drop, length-take-le, ap, ◌∙◌, sym, subst}
 use Rattle.acl_words.specs.Same.{same_user}
@@ -11,8 +12,9 @@ use Rattle.acl_words.specs.declared.user_id.UserId.{UserId}
 abbrev pub among : List UserId → UserId → Bool
 among users u = list_any (same_user u) users
 
--- aclgrp: a user's leaders, once he is given one, or none. In the first edition a new leader takes the former one's place; in the
--- second he comes last, and one who leads the user already keeps his place
+-- aclgrp: a user's leaders, once he is given one, or none. In the first edition a new leader takes
+-- the former one's place; in the second he comes last, and one who leads the user already keeps his
+-- place
 abbrev pub leaders_with : Edition → Option UserId → List UserId → List UserId
 leaders_with edition None before = []
 leaders_with First (Some leader) before = leader ∷ []

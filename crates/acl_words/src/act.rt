@@ -24,7 +24,8 @@ pub enum LockMode {
     On,
 }
 
-/// What happened to the rights and locks of a session. Windows and clients are named by serial numbers.
+/// What happened to the rights and locks of a session. Windows and clients are named by serial
+/// numbers.
 #[derive(Clone, Copy, PartialEq, Eq, Debug)]
 pub enum Act {
     Known {

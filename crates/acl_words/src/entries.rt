@@ -19,7 +19,8 @@ pub enum NewLeader {
     Named(Option<UserId>),
 }
 
-/// Whose mask is set: a preset, or the mask of the user whom a word names (none where it is no name).
+/// Whose mask is set: a preset, or the mask of the user whom a word names (none where it is no
+/// name).
 #[derive(Clone, Copy, PartialEq, Eq, Debug)]
 pub enum MaskScope {
     Preset(PresetKind),

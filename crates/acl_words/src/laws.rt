@@ -1,5 +1,5 @@
-//! A law of the definitions, for the crates above. The function does nothing; its contract says what
-//! holds.
+//! A law of the definitions, for the crates above. The function does nothing; its contract says
+//! what holds.
 
 ghost use Rattle.std.specs.Prelude.{◌≡◌, true};
 ghost use Rattle.acl_words.specs.Same.{same_user};

@@ -1,4 +1,5 @@
-ghost use Rattle.std.specs.Prelude.{◌≡◌, ◌≤◌, ◌<◌, ◌==◌, IfSome, nat_eq, codes, position, unwrap_or};
+ghost use Rattle.std.specs.Prelude.{◌≡◌, ◌≤◌, ◌<◌, ◌==◌, IfSome, nat_eq, codes, position};
+ghost use Rattle.std.specs.Prelude.{unwrap_or};
 ghost use Rattle.std.specs.List.{list_all};
 ghost use Rattle.std.specs.Cmp.Lexicographic.{pointwise};
 ghost use Rattle.acl_words.specs.Names.{is_letter, is_name_byte, is_name, begins_with_letter};
@@ -6,7 +7,8 @@ ghost use Rattle.acl_words.specs.Names.{is_letter, is_name_byte, is_name, begins
 /// The most bytes of a name.
 const LONGEST: usize = 20;
 
-/// A user's name: 1 to 20 characters of `a` to `z`, `0` to `9` and `_`, the first of them a letter. `none` is no name.
+/// A user's name: 1 to 20 characters of `a` to `z`, `0` to `9` and `_`, the first of them a letter.
+/// `none` is no name.
 #[derive(Clone, Copy, PartialEq, Eq, Hash, Debug)]
 pub struct UserId {
     name: [u8; 20],

@@ -1,7 +1,9 @@
--- The front of a stream, read from the left: a whole frame, a fault, or less than a whole frame. That it tells what `Streams` and `Spelling` say is proved
--- of each function that cites it.
-use Rattle.std.specs.Prelude.{ℕ, ◌+◌, ◌*◌, Bool, true, false, nat_lt, ◌==◌, if◌then◌else◌, List, [], ◌∷◌, length, take, drop, Option, Some, None}
-use Rattle.attach_proto.specs.declared.fault.ProtoFault.TheVariants.{BadKind, TooLong, BadPayload, WrongSide}
+-- The front of a stream, read from the left: a whole frame, a fault, or less than a whole frame.
+-- That it tells what `Streams` and `Spelling` say is proved of each function that cites it.
+use Rattle.std.specs.Prelude.{ℕ, ◌+◌, ◌*◌, Bool, true, false, nat_lt, ◌==◌, if◌then◌else◌, List, []}
+use Rattle.std.specs.Prelude.{◌∷◌, length, take, drop, Option, Some, None}
+use Rattle.attach_proto.specs.declared.fault.ProtoFault.TheVariants.{BadKind, TooLong, BadPayload}
+use Rattle.attach_proto.specs.declared.fault.ProtoFault.TheVariants.{WrongSide}
 use Rattle.attach_proto.specs.declared.side.Side.{Side}
 use Rattle.attach_proto.specs.declared.side.Side.TheVariants.{Server, Peer}
 use Rattle.attach_proto.specs.declared.why.Why.{Why}
@@ -9,7 +11,9 @@ use Rattle.attach_proto.specs.declared.why.Why.TheVariants as why
 use Rattle.attach_proto.specs.declared.kind.Kind.{Kind}
 use Rattle.attach_proto.specs.declared.kind.Kind.TheVariants as kind
 use Rattle.attach_proto.specs.declared.message.Message.{Message}
-use Rattle.attach_proto.specs.declared.message.Message.TheVariants.{Attach, Window, Command, Keys, Resize, Output, Detach, Welcome, Draw, Input, Say, Size, Gone}
+use Rattle.attach_proto.specs.declared.message.Message.TheVariants.{Attach, Window, Command, Keys}
+use Rattle.attach_proto.specs.declared.message.Message.TheVariants.{Resize, Output, Detach, Welcome}
+use Rattle.attach_proto.specs.declared.message.Message.TheVariants.{Draw, Input, Say, Size, Gone}
 use Rattle.attach_proto.specs.declared.reading.Front.{Front}
 use Rattle.attach_proto.specs.declared.reading.Front.TheVariants.{Part, Broken, Whole}
 use Rattle.attach_proto.specs.Texts.{token_of, text_of}

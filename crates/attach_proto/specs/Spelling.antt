@@ -1,5 +1,6 @@
 -- The one spelling of each message.
-use Rattle.std.specs.Prelude.{ℕ, ◌/◌, ◌%◌, ◌<◌, ◌≤◌, List, [], ◌∷◌, ◌++◌, length, Option, Some, None, IfSome}
+use Rattle.std.specs.Prelude.{ℕ, ◌/◌, ◌%◌, ◌<◌, ◌≤◌, List, [], ◌∷◌, ◌++◌, length, Option, Some}
+use Rattle.std.specs.Prelude.{None, IfSome}
 use Rattle.attach_proto.specs.Texts.{IsToken, IsText}
 use Rattle.attach_proto.specs.declared.side.Side.{Side}
 use Rattle.attach_proto.specs.declared.side.Side.TheVariants.{Server, Peer}
@@ -8,7 +9,9 @@ use Rattle.attach_proto.specs.declared.why.Why.TheVariants as why
 use Rattle.attach_proto.specs.declared.kind.Kind.{Kind}
 use Rattle.attach_proto.specs.declared.kind.Kind.TheVariants as kind
 use Rattle.attach_proto.specs.declared.message.Message.{Message}
-use Rattle.attach_proto.specs.declared.message.Message.TheVariants.{Attach, Window, Command, Keys, Resize, Output, Detach, Welcome, Draw, Input, Say, Size, Gone}
+use Rattle.attach_proto.specs.declared.message.Message.TheVariants.{Attach, Window, Command, Keys}
+use Rattle.attach_proto.specs.declared.message.Message.TheVariants.{Resize, Output, Detach, Welcome}
+use Rattle.attach_proto.specs.declared.message.Message.TheVariants.{Draw, Input, Say, Size, Gone}
 
 -- a number of two bytes
 abbrev pub two : ℕ → List ℕ

@@ -2,7 +2,8 @@
 
 ghost use Rattle.std.specs.Prelude.{◌≡◌, ◌==◌, IfOk};
 ghost use Rattle.std.specs.List.{list_all};
-ghost use Rattle.attach_proto.specs.Texts.{Gives, token_of, text_of, IsToken, IsText, is_token, is_digit};
+ghost use Rattle.attach_proto.specs.Texts.{Gives, token_of, text_of, IsToken, IsText, is_token};
+ghost use Rattle.attach_proto.specs.Texts.{is_digit};
 
 use crate::fault::Unread;
 use std::alloc::{AllocError, Global};

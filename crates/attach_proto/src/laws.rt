@@ -7,8 +7,8 @@ ghost use Rattle.attach_proto.specs.declared.message.Message.{Message};
 ghost use Rattle.attach_proto.specs.Spelling.{spelling, IsSpellable};
 ghost use Rattle.attach_proto.specs.Streams.{IsRead, Splits, Reading, HasRead};
 
-/// Two frames at the front of one stream spell one message: each message has a spelling of its own, and
-/// none begins another.
+/// Two frames at the front of one stream spell one message: each message has a spelling of its own,
+/// and none begins another.
 pub fn spelled_apart()
     ensures { (m n : Message) (x y : List ℕ) → IsSpellable m → IsSpellable n
         → spelling m ++ x ≡ spelling n ++ y → (m ≡ n) × (x ≡ y) }

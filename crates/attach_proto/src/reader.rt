@@ -1,6 +1,7 @@
 //! A stream that comes in pieces.
 
-ghost use Rattle.std.specs.Prelude.{◌≡◌, ◌++◌, ◌≤◌, List, [], drop, vec_len, IfOk, IfSome, OnOk, OnErr, Some, None, Ok, Err};
+ghost use Rattle.std.specs.Prelude.{◌≡◌, ◌++◌, ◌≤◌, List, [], drop, vec_len, IfOk, IfSome, OnOk};
+ghost use Rattle.std.specs.Prelude.{OnErr, Some, None, Ok, Err};
 ghost use Rattle.attach_proto.specs.declared.message.Message.{Message};
 ghost use Rattle.attach_proto.specs.Streams.{HasRead, IsRun, TakesPiece, Answers};
 

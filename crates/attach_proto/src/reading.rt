@@ -2,7 +2,10 @@
 
 ghost use Rattle.std.specs.Prelude.{◌≡◌, ◌<◌, IfOk, Some, None};
 ghost use Rattle.attach_proto.specs.Texts.{Gives};
-ghost use Rattle.attach_proto.specs.Reading.{front, one_at, two_at, split_at, token_at, name_at, end_at, some_of, window_of, attach_of, window_frame_of, command_of, size_of, number_of, message_of, sized, of_length};
+ghost use Rattle.attach_proto.specs.Reading.{front, one_at, two_at, split_at, token_at, name_at};
+ghost use Rattle.attach_proto.specs.Reading.{end_at, some_of, window_of, attach_of};
+ghost use Rattle.attach_proto.specs.Reading.{window_frame_of, command_of, size_of, number_of};
+ghost use Rattle.attach_proto.specs.Reading.{message_of, sized, of_length};
 
 use crate::fault::{ProtoFault, Unread};
 use crate::fields::{Bytes, Text, Token};

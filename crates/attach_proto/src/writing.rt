@@ -1,8 +1,10 @@
 //! Messages as frames.
 
-ghost use Rattle.std.specs.Prelude.{◌≡◌, ◌++◌, [], ◌<◌, ◌≤◌, length, OnOk, OnErr, IfOk, IfSome, MatchOption, Err, true, false};
+ghost use Rattle.std.specs.Prelude.{◌≡◌, ◌++◌, [], ◌<◌, ◌≤◌, length, OnOk, OnErr, IfOk, IfSome};
+ghost use Rattle.std.specs.Prelude.{MatchOption, Err, true, false};
 ghost use Rattle.attach_proto.specs.Texts.{IsToken, IsText};
-ghost use Rattle.attach_proto.specs.Spelling.{two, named, window_byte, kind_of, payload, frame, spelling, HasFields, IsSpellable};
+ghost use Rattle.attach_proto.specs.Spelling.{two, named, window_byte, kind_of, payload, frame};
+ghost use Rattle.attach_proto.specs.Spelling.{spelling, HasFields, IsSpellable};
 
 use crate::fault::WriteFault;
 use crate::fields::{Bytes, Text, Token};

@@ -1,4 +1,5 @@
-//! Tests of the frames between server and peers: their table, their faults, cuts and refused memory.
+//! Tests of the frames between server and peers: their table, their faults, cuts and refused
+//! memory.
 #![tactic(auto)]
 
 #[cfg(test)]

@@ -1,5 +1,5 @@
-//! Growths that are refused. Run as it stands it meets no refusal; with each allocation refused in turn, a refused call
-//! has read or written nothing and does it when it is asked again.
+//! Growths that are refused. Run as it stands it meets no refusal; with each allocation refused in
+//! turn, a refused call has read or written nothing and does it when it is asked again.
 
 use attach_proto::{Message, ProtoFault, Reader, Side, WriteFault, write_message};
 use std::alloc::Global;

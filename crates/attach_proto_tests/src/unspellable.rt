@@ -75,7 +75,8 @@ fn message(alloc: Global, case: Case) -> Result<Message, Fail> {
     }
 }
 
-/// Whether so many bytes are written behind others, or none where the message is Unspellable; the others stay.
+/// Whether so many bytes are written behind others, or none where the message is Unspellable; the
+/// others stay.
 fn is_written(alloc: Global, message: &Message, want: Option<usize>) -> Result<bool, AllocError> {
     let mut out = Vec::from_slice(alloc, b"before")?;
     let answer = write_message(alloc, message, &mut out);

@@ -1,5 +1,6 @@
 -- Lines and commands.
-use Rattle.std.specs.Prelude.{◌≡◌, ℕ, ◌<◌, ◌≤◌, true, false, nat_lt, if◌then◌else◌, List, [], ◌∷◌, length, Option, Some, None, Result, Ok, Err}
+use Rattle.std.specs.Prelude.{◌≡◌, ℕ, ◌<◌, ◌≤◌, true, false, nat_lt, if◌then◌else◌, List, [], ◌∷◌}
+use Rattle.std.specs.Prelude.{length, Option, Some, None, Result, Ok, Err}
 use Rattle.std.specs.List.{AllByRecursion}
 use Rattle.std.specs.Str.{chars, is_utf8}
 use Rattle.command_lang_words.specs.declared.word.Word.{Word}
@@ -25,7 +26,8 @@ pub record Relates (line : List ℕ) (c : Command) : Type 0 where
   pub fine : line_faults (length line) words ≡ []
   pub means : line_command words ≡ Some c
 
--- The line is no command, and this is its first fault. A long line, or one that isn't UTF-8, has no other fault.
+-- The line is no command, and this is its first fault. A long line, or one that isn't UTF-8, has no
+-- other fault.
 pub data Refuses : List ℕ → ParseFault → Type 0 where
   long : {line : List ℕ} → 1024 < length line → Refuses line (at 1024 faults.TooLong)
   no_text : {line : List ℕ} → length line ≤ 1024 → is_utf8 line ≡ false

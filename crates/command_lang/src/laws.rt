@@ -6,7 +6,8 @@ ghost use Rattle.command_lang_table.specs.declared.command.Command.TheVariants a
 ghost use Rattle.command_lang_table.specs.declared.fault.ParseFault.{ParseFault};
 ghost use Rattle.command_lang.specs.Relation.{Relates, Refuses, read_line};
 
-/// Each line is a command or has a first fault, and not both; what is computed of it is that command or that fault.
+/// Each line is a command or has a first fault, and not both; what is computed of it is that
+/// command or that fault.
 pub fn each_line_is_a_command_or_faulty()
     ensures either { (line : List ℕ)
         → ((c : Command) × Relates line c) ⊎ ((f : ParseFault) × Refuses line f) }

@@ -12,8 +12,9 @@ use std::alloc::{AllocError, Global};
 
 /// The line of a command: its name and its words with one blank between them.
 ///
-/// A word that is empty, or that holds another character than ASCII's letters and digits and `_ - + , # ? *`, stands
-/// between `"`. Numbers and bits are written in one form: `number 007` is printed as `number 7`.
+/// A word that is empty, or that holds another character than ASCII's letters and digits and
+/// `_ - + , # ? *`, stands between `"`. Numbers and bits are written in one form: `number 007` is
+/// printed as `number 7`.
 pub fn print(alloc: Global, command: &Command) -> Result<String, AllocError>
     ensures text { IfOk result (λ t. string_bytes t ≡ printed command.now) }
     // What any line gives, this line gives too, where it isn't too long.

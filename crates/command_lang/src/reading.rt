@@ -43,8 +43,9 @@ fn command_in(alloc: Global, line: &[u8]) -> Result<Command, ParseFault>
 
 /// The command of a line, or why it is none.
 ///
-/// A line of more than 1,024 bytes is TooLong at 1,024, and one that isn't UTF-8 is BadWord at 0. Else the fault of the
-/// least place is answered; at one word BadQuote goes first, then the lower number. NoMemory is at 0.
+/// A line of more than 1,024 bytes is TooLong at 1,024, and one that isn't UTF-8 is BadWord at 0.
+/// Else the fault of the least place is answered; at one word BadQuote goes first, then the lower
+/// number. NoMemory is at 0.
 pub fn parse(alloc: Global, line: &[u8]) -> Result<Command, ParseFault>
     ensures ok { IfOk result (λ c. Relates line.now c) }
     ensures err { IfErr result (λ f. (f ≡ no_memory) ⊎ Refuses line.now f) }

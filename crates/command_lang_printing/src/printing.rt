@@ -3,7 +3,8 @@
 ghost use Rattle.std.specs.Prelude.{◌≡◌, ◌++◌, ◌∷◌, ◌<◌, ◌+◌, IfOk, OnOk};
 ghost use Rattle.std.specs.String.{string_bytes};
 ghost use Rattle.std.specs.Str.{chars, encode_utf8_all};
-ghost use Rattle.command_lang_printing.specs.Printing.{is_plain, octal, escaped, quoted, needs_no_quotes, printed_word, printed};
+ghost use Rattle.command_lang_printing.specs.Printing.{is_plain, octal, escaped, quoted};
+ghost use Rattle.command_lang_printing.specs.Printing.{needs_no_quotes, printed_word, printed};
 
 use crate::command_words::command_words;
 use command_lang_table::{Command, name_text};

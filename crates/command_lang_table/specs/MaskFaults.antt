@@ -1,5 +1,6 @@
 -- Why a word isn't users, if any, and bits.
-use Rattle.std.specs.Prelude.{ℕ, Bool, not, ◌&&◌, if◌then◌else◌, List, take, drop, Option, Some, None}
+use Rattle.std.specs.Prelude.{ℕ, Bool, not, ◌&&◌, if◌then◌else◌, List, take, drop, Option, Some}
+use Rattle.std.specs.Prelude.{None}
 use Rattle.command_lang_table.specs.declared.fault.FaultKind.{FaultKind}
 use Rattle.command_lang_table.specs.declared.fault.FaultKind.TheVariants as faults
 use Rattle.command_lang_table.specs.Values.{is_bits, has_empty_item, is_empty_text, sign_place}

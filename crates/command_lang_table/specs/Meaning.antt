@@ -6,7 +6,9 @@ use Rattle.acl.specs.declared.command_name.CommandName.TheVariants as name
 use Rattle.command_lang_table.specs.declared.command.Command.{Command}
 use Rattle.command_lang_table.specs.declared.command.Command.TheVariants as command
 use Rattle.command_lang_words.specs.declared.word.Word.{Word}
-use Rattle.command_lang_table.specs.Values.{number_in, lock_mode_in, switch_in, coding_in, is_vertical, items_of, users_of, leader_of, bits_of, mask_of}
+use Rattle.command_lang_table.specs.Values.{number_in, lock_mode_in, switch_in, coding_in}
+use Rattle.command_lang_table.specs.Values.{is_vertical, items_of, users_of, leader_of, bits_of}
+use Rattle.command_lang_table.specs.Values.{mask_of}
 use Rattle.command_lang_table.specs.Names.{command_named}
 
 -- without a word

@@ -1,5 +1,5 @@
--- The table of commands, by their entries in the GNU Screen manual; scrollview, the three words of writelock and the limits of
--- numbers are this project's own.
+-- The table of commands, by their entries in the GNU Screen manual; scrollview, the three words of
+-- writelock and the limits of numbers are this project's own.
 use Rattle.std.specs.Prelude.{ℕ, List, codes, Option, Some, None}
 use Rattle.std.specs.Option.{option_map}
 use Rattle.acl.specs.declared.command_name.CommandName.{CommandName}
@@ -7,7 +7,8 @@ use Rattle.acl.specs.declared.command_name.CommandName.TheVariants as name
 use Rattle.command_lang_table.specs.declared.rows.Entry.{Entry}
 use Rattle.command_lang_table.specs.declared.rows.Kind.TheVariants as kind
 use Rattle.command_lang_table.specs.declared.rows.Words.{Words}
-use Rattle.command_lang_table.specs.declared.rows.Words.TheVariants.{Nothing, One, Perhaps, OneOrTwo, Three, Several}
+use Rattle.command_lang_table.specs.declared.rows.Words.TheVariants.{Nothing, One, Perhaps}
+use Rattle.command_lang_table.specs.declared.rows.Words.TheVariants.{OneOrTwo, Three, Several}
 
 -- a command's name, another word for it, and the words that it takes
 pub record TableRow : Type 0 where

@@ -1,15 +1,18 @@
 -- The faults of a command's words.
-use Rattle.std.specs.Prelude.{ℕ, ◌+◌, not, nat_lt, ◌==◌, if◌then◌else◌, List, [], ◌∷◌, ◌++◌, Option, Some, None, option_to_list}
+use Rattle.std.specs.Prelude.{ℕ, ◌+◌, not, nat_lt, ◌==◌, if◌then◌else◌, List, [], ◌∷◌, ◌++◌, Option}
+use Rattle.std.specs.Prelude.{Some, None, option_to_list}
 use Rattle.std.specs.Option.{is_some}
 use Rattle.command_lang_table.specs.declared.rows.Kind.{Kind}
 use Rattle.command_lang_table.specs.declared.rows.Kind.TheVariants as kind
 use Rattle.command_lang_table.specs.declared.rows.Words.{Words}
-use Rattle.command_lang_table.specs.declared.rows.Words.TheVariants.{Nothing, One, Perhaps, OneOrTwo, Three, Several}
+use Rattle.command_lang_table.specs.declared.rows.Words.TheVariants.{Nothing, One, Perhaps}
+use Rattle.command_lang_table.specs.declared.rows.Words.TheVariants.{OneOrTwo, Three, Several}
 use Rattle.command_lang_words.specs.declared.word.Word.{Word}
 use Rattle.command_lang_table.specs.declared.fault.FaultKind.{FaultKind}
 use Rattle.command_lang_table.specs.declared.fault.FaultKind.TheVariants as faults
 use Rattle.command_lang_table.specs.declared.fault.ParseFault.{ParseFault}
-use Rattle.command_lang_table.specs.Values.{is_number, lock_mode_in, switch_in, coding_in, is_vertical, is_bits, has_empty_item}
+use Rattle.command_lang_table.specs.Values.{is_number, lock_mode_in, switch_in, coding_in}
+use Rattle.command_lang_table.specs.Values.{is_vertical, is_bits, has_empty_item}
 use Rattle.command_lang_table.specs.MaskFaults.{unless, mask_fault}
 
 -- how many words there are at least

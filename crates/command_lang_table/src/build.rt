@@ -2,7 +2,8 @@
 
 ghost use Rattle.std.specs.Prelude.{◌≡◌, ◌∷◌, [], IfOk, map};
 ghost use Rattle.command_lang_table.specs.Values.{number_in, mask_of};
-ghost use Rattle.command_lang_table.specs.Meaning.{bare, with_word, with_words, command_of, texts_of};
+ghost use Rattle.command_lang_table.specs.Meaning.{bare, with_word, with_words, command_of};
+ghost use Rattle.command_lang_table.specs.Meaning.{texts_of};
 
 use crate::command::{Command, Masks};
 use crate::values::{

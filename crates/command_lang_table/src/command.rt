@@ -37,7 +37,8 @@ pub enum Coding {
     Ecma35,
 }
 
-/// A command, with what its words mean. Names, list items and windows stay texts until the session looks them up.
+/// A command, with what its words mean. Names, list items and windows stay texts until the session
+/// looks them up.
 #[derive(Drop, Debug)]
 pub enum Command {
     Acladd(Users),

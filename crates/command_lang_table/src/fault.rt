@@ -63,7 +63,8 @@ impl ParseFault {
         }
     }
 
-    /// The place of the fault: the first byte of its word, or the line's length where a word is missing.
+    /// The place of the fault: the first byte of its word, or the line's length where a word is
+    /// missing.
     pub fn place(self) -> usize
         ensures { result ≡ self.place }
     {

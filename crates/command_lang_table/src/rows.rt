@@ -34,7 +34,8 @@ pub enum Words {
     Several(Kind),
 }
 
-/// A row of the table: the word that names the command, another word for it, and the words that it takes.
+/// A row of the table: the word that names the command, another word for it, and the words that it
+/// takes.
 #[derive(Clone, Copy, Debug)]
 pub struct Entry {
     pub name: &'static str,

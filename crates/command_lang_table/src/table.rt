@@ -2,7 +2,8 @@
 
 ghost use Rattle.std.specs.Prelude.{◌≡◌};
 ghost use Rattle.command_lang_table.specs.Names.{command_named};
-ghost use Rattle.command_lang_table.specs.Table.{least, kind_at, kind_fault, word_fault, words_faults, first_of};
+ghost use Rattle.command_lang_table.specs.Table.{least, kind_at, kind_fault, word_fault};
+ghost use Rattle.command_lang_table.specs.Table.{words_faults, first_of};
 ghost use Rattle.command_lang_table.specs.MaskFaults.{unless};
 ghost use Rattle.command_lang_table.specs.FirstWord.{name_in};
 

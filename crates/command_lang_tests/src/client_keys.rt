@@ -100,7 +100,8 @@ fn selects(command: &Command, window: &str) -> bool {
     }
 }
 
-/// Run as it stands this meets no refusal; with each allocation refused in turn, the command is given all the same.
+/// Run as it stands this meets no refusal; with each allocation refused in turn, the command is
+/// given all the same.
 #[test]
 fn a_refused_command_is_given_when_asked_again(rt: HostRuntime) -> Result<(), Fail> {
     let command = command_twice(rt.alloc(), Binding::Select(7))?;

@@ -1,4 +1,5 @@
-//! Tests of lines and commands: their table, made-up texts and refused memory; and of the keys that give them.
+//! Tests of lines and commands: their table, made-up texts and refused memory; and of the keys that
+//! give them.
 #![tactic(auto)]
 
 #[cfg(test)]

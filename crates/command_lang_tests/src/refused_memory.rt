@@ -1,5 +1,5 @@
-//! Growths that are refused. Run as it stands it meets no refusal; with each allocation refused in turn, a refused call
-//! says so and does its work when it is asked again.
+//! Growths that are refused. Run as it stands it meets no refusal; with each allocation refused in
+//! turn, a refused call says so and does its work when it is asked again.
 
 use command_lang::{Command, FaultKind, ParseFault, parse, print};
 use std::alloc::{AllocError, Global};

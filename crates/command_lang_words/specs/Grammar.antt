@@ -1,10 +1,12 @@
--- How the characters of a line are cut into words, as in the GNU Screen manual, chapter Customizing Screen, section The
--- .screenrc File: a line is blanks and words, a word is parts, and a part is a text in ', a text in ", a backslash with
--- what it stands for, or a plain character. Octal from 000 to 177 is this project's choice.
+-- How the characters of a line are cut into words, as in the GNU Screen manual, chapter Customizing
+-- Screen, section The .screenrc File: a line is blanks and words, a word is parts, and a part is a
+-- text in ', a text in ", a backslash with what it stands for, or a plain character. Octal from 000
+-- to 177 is this project's choice.
 --
--- Each relation has the characters that a thing begins with, the characters that it gives, and what follows it: none where
--- the line ends inside.
-use Rattle.std.specs.Prelude.{◌≡◌, ◌≢◌, ℕ, ◌+◌, ◌-◌, ◌*◌, Bool, true, false, ◌&&◌, nat_lt, if◌then◌else◌, drop, List, [], ◌∷◌, ◌++◌, length, Option, Some, None}
+-- Each relation has the characters that a thing begins with, the characters that it gives, and what
+-- follows it: none where the line ends inside.
+use Rattle.std.specs.Prelude.{◌≡◌, ◌≢◌, ℕ, ◌+◌, ◌-◌, ◌*◌, Bool, true, false, ◌&&◌, nat_lt}
+use Rattle.std.specs.Prelude.{if◌then◌else◌, drop, List, [], ◌∷◌, ◌++◌, length, Option, Some, None}
 use Rattle.std.specs.Str.{encode_utf8_all}
 use Rattle.command_lang_words.specs.declared.word.Word.{Word}
 
@@ -19,7 +21,8 @@ octal_front (a ∷ b ∷ c ∷ cs) =
     else None
 octal_front _ = None
 
--- Behind a backslash: three octal digits stand for the character of their value, else one character for itself.
+-- Behind a backslash: three octal digits stand for the character of their value, else one character
+-- for itself.
 pub data Escaped : List ℕ → List ℕ → Option (List ℕ) → Type 0 where
   octal : {cs : List ℕ} {c : ℕ} → octal_front cs ≡ Some c → Escaped cs (c ∷ []) (Some (drop 3 cs))
   itself : {c : ℕ} {rest : List ℕ} → octal_front (c ∷ rest) ≡ None
@@ -81,8 +84,8 @@ abbrev pub word_at : ℕ → List ℕ → Bool → Word
 word_at place text is_closed =
     record { place = place; text = encode_utf8_all text; is_closed = is_closed }
 
--- The words of the characters at the end of a line of that length: the place of a word is that of its first byte. A word has
--- at least one part, which may be empty.
+-- The words of the characters at the end of a line of that length: the place of a word is that of
+-- its first byte. A word has at least one part, which may be empty.
 pub data Line (end : ℕ) : List ℕ → List Word → Type 0 where
   last : Line end [] []
   blank : {cs : List ℕ} {ws : List Word} → Line end cs ws → Line end (0x20 ∷ cs) ws

@@ -1,6 +1,8 @@
--- The words of a line, computed: `IsCut` of the grammar holds of these alone. The first number of a function bounds how
--- many characters it reads; each gives the text and what follows it, as the relation of its name does.
-use Rattle.std.specs.Prelude.{ℕ, zero, suc, ◌-◌, true, false, ◌==◌, List, [], ◌∷◌, ◌++◌, length, drop, Option, Some, None}
+-- The words of a line, computed: `IsCut` of the grammar holds of these alone. The first number of a
+-- function bounds how many characters it reads; each gives the text and what follows it, as the
+-- relation of its name does.
+use Rattle.std.specs.Prelude.{ℕ, zero, suc, ◌-◌, true, false, ◌==◌, List, [], ◌∷◌, ◌++◌, length}
+use Rattle.std.specs.Prelude.{drop, Option, Some, None}
 use Rattle.command_lang_words.specs.declared.word.Word.{Word}
 use Rattle.command_lang_words.specs.Grammar.{octal_front, size, word_at}
 

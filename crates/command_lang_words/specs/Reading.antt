@@ -5,7 +5,8 @@ use Rattle.std.specs.Str.{encode_utf8_all}
 use Rattle.std.specs.declared.alloc.AllocError.{AllocError}
 use denote.Ref.{Bor}
 
--- A front of the characters is a thing of this kind: its text was appended, and what follows it is the rest.
+-- A front of the characters is a thing of this kind: its text was appended, and what follows it is
+-- the rest.
 pub record Reads (Kind : List ℕ → List ℕ → Option (List ℕ) → Type 0)
     (cs old new : List ℕ) (rest : Option (List ℕ))
     : Type 0 where

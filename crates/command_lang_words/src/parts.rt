@@ -2,7 +2,8 @@
 
 ghost use Rattle.std.specs.Prelude.{◌≡◌, ◌∷◌};
 ghost use Rattle.std.specs.String.{string_bytes};
-ghost use Rattle.command_lang_words.specs.Grammar.{is_octal, octal_front, Escaped, Character, Single, Double, Part, Parts};
+ghost use Rattle.command_lang_words.specs.Grammar.{is_octal, octal_front, Escaped, Character};
+ghost use Rattle.command_lang_words.specs.Grammar.{Single, Double, Part, Parts};
 ghost use Rattle.command_lang_words.specs.Reading.{Puts};
 
 use std::alloc::AllocError;

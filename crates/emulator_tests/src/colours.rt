@@ -7,8 +7,8 @@ use std::process::Abort;
 use std::str::Chars;
 use std::test::Fail;
 
-/// Bytes; the foregrounds of the page's cells and their backgrounds, line by line, each line ended by `|`: a colour's
-/// number, or `.` for none.
+/// Bytes; the foregrounds of the page's cells and their backgrounds, line by line, each line ended
+/// by `|`: a colour's number, or `.` for none.
 type Row = (&'static [u8], &'static str, &'static str);
 
 const SMALL: Size = (2, 5, 0);

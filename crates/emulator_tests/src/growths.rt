@@ -1,5 +1,6 @@
-//! Growths that are refused. Played as it stands this meets no refusal; `rt try --test --fail-alloc 1..` refuses each
-//! allocation in turn, and what was there must then still be there.
+//! Growths that are refused. Played as it stands this meets no refusal;
+//! `rt try --test --fail-alloc 1..` refuses each allocation in turn, and what was there must then
+//! still be there.
 
 use crate::judging::shows;
 use cells::GridFault;

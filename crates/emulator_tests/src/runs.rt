@@ -9,7 +9,8 @@ const LONGEST: usize = 100;
 /// Bytes outside 20 to 7E.
 const OUTSIDE: [u8; 7] = [0x00, 0x1F, 0x7F, 0x80, 0x9F, 0xC0, 0xFF];
 
-/// Whether each list of this length ends its run at the one byte that is outside, wherever that stands.
+/// Whether each list of this length ends its run at the one byte that is outside, wherever that
+/// stands.
 fn ends_at_each(length: usize) -> bool {
     let mut bytes = [b'~'; LONGEST];
     let length = length.min(LONGEST);

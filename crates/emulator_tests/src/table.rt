@@ -1,11 +1,12 @@
-//! Every row of the screen table: bytes in; page, cursor, modes and answers out, whole and at every cut.
+//! Every row of the screen table: bytes in; page, cursor, modes and answers out, whole and at every
+//! cut.
 
 use crate::judging::{Size, fed, has_modes, made, shows};
 use std::process::Abort;
 use std::test::Fail;
 
-/// Bytes; the lines of the page, each ended by `|`, where a blank is `_`; the cursor's line and column from 0; the letters
-/// of the modes that are set (`judging::LETTERS`); what is answered.
+/// Bytes; the lines of the page, each ended by `|`, where a blank is `_`; the cursor's line and
+/// column from 0; the letters of the modes that are set (`judging::LETTERS`); what is answered.
 type Row = (
     &'static [u8],
     &'static str,
@@ -61,7 +62,8 @@ const SETS: [Row; 13] = [
     ),
 ];
 
-/// Controls, and functions that go to another place (ECMA-48, 8.3; VT220 Programmer Reference Manual, chapter 4).
+/// Controls, and functions that go to another place (ECMA-48, 8.3; VT220 Programmer Reference
+/// Manual, chapter 4).
 const PLACES: [Row; 34] = [
     (b"\x08a", "a____|_____|_____|", (0, 1), b"wc", b""),
     (b"ab\rc", "cb___|_____|_____|", (0, 1), b"wc", b""),
@@ -171,7 +173,8 @@ const PLACES: [Row; 34] = [
     (b"abcde\x1B[2;2rf", "abcde|f____|_____|", (1, 1), b"wc", b""),
 ];
 
-/// Functions that erase, insert and delete (ECMA-48, 8.3; VT220 Programmer Reference Manual, chapter 4).
+/// Functions that erase, insert and delete (ECMA-48, 8.3; VT220 Programmer Reference Manual,
+/// chapter 4).
 const EDITS: [Row; 22] = [
     (b"\x1B#8", "EEEEE|EEEEE|EEEEE|", (0, 0), b"wc", b""),
     (

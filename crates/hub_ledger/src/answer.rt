@@ -17,7 +17,8 @@ pub enum HubFault {
     TrailFull,
     #[error("out of memory")]
     NoMemory,
-    /// The event writes an entry, and a place that the seat was told isn't below the trail's length.
+    /// The event writes an entry, and a place that the seat was told isn't below the trail's
+    /// length.
     #[error("the seat is of another hub")]
     Strange,
 }

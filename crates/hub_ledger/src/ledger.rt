@@ -1,6 +1,7 @@
 //! What lies under the hub's lock.
 
-ghost use Rattle.std.specs.Prelude.{◌≡◌, ◌↔◌, ◌<◌, ◌≤◌, length, IfOk, OnErr, Err, IsSome, None, Some};
+ghost use Rattle.std.specs.Prelude.{◌≡◌, ◌↔◌, ◌<◌, ◌≤◌, length, IfOk, OnErr, Err, IsSome, None};
+ghost use Rattle.std.specs.Prelude.{Some};
 ghost use Rattle.std.specs.Prelude.{[], false, is_some, replicate, slice_get, slice_set, true};
 ghost use Rattle.session_model.specs.Trace.{begun, happening};
 ghost use Rattle.hub_trail.specs.Filing.{kept_of};
@@ -27,7 +28,8 @@ use std::sync::ledger::{Blank, Book, Ledger as Roll, Share};
 const FULL: usize = 4194304;
 
 /// What lies under the hub's lock: a session that stands for a run, its trail, and what waits for
-/// each seat. Its shares count the receipts of all seats: there are as many as the trail has entries.
+/// each seat. Its shares count the receipts of all seats: there are as many as the trail has
+/// entries.
 #[derive(Drop)]
 pub struct Ledger<L: Roll> {
     desk: Desk,

@@ -42,7 +42,8 @@ pub fn verdicts_are_decided()
     ensures { VerdictsAreDecided }
 {}
 
-/// Entries are legal exactly where the first ones are, and those behind after the acts of the first.
+/// Entries are legal exactly where the first ones are, and those behind after the acts of the
+/// first.
 pub fn entries_are_legal_in_parts()
     ensures { LegalInParts }
 {}

@@ -1,6 +1,7 @@
 -- The seats of clients and windows. A peer belongs to the seat that attached or opened it; serials
 -- count from 0, so the seats stand in lists by them.
-use Rattle.std.specs.Prelude.{ℕ, Bool, ◌<◌, List, [], ◌∷◌, ◌++◌, if◌then◌else◌, length, Option, slice_get}
+use Rattle.std.specs.Prelude.{ℕ, Bool, ◌<◌, List, [], ◌∷◌, ◌++◌, if◌then◌else◌, length, Option}
+use Rattle.std.specs.Prelude.{slice_get}
 use Rattle.std.specs.List.{AllByRecursion}
 use Rattle.session_model.specs.declared.event.Effect.{Effect}
 use Rattle.session_model.specs.declared.event.Effect.TheVariants.{Input, Deliver, Say, Size}

@@ -1,10 +1,15 @@
--- The items of a client's keys. C-a is the command key, as in the GNU Screen manual, section Default Key Bindings; this
--- project's own are the prompt's edits, which are those of a line by ECMA-48's DEL and BS, and its length of 1,024 bytes.
-use Rattle.std.specs.Prelude.{◌≡◌, ◌≢◌, ℕ, Bool, true, false, not, ◌&&◌, ◌||◌, nat_lt, ◌==◌, if◌then◌else◌, List, [], ◌∷◌, ◌++◌, length, map, find, Option, Some, None}
+-- The items of a client's keys. C-a is the command key, as in the GNU Screen manual, section
+-- Default Key Bindings; this project's own are the prompt's edits, which are those of a line by
+-- ECMA-48's DEL and BS, and its length of 1,024 bytes.
+use Rattle.std.specs.Prelude.{◌≡◌, ◌≢◌, ℕ, Bool, true, false, not, ◌&&◌, ◌||◌, nat_lt, ◌==◌}
+use Rattle.std.specs.Prelude.{if◌then◌else◌, List, [], ◌∷◌, ◌++◌, length, map, find, Option, Some}
+use Rattle.std.specs.Prelude.{None}
 use Rattle.std.specs.Option.{option_map}
 use Rattle.std.specs.List.{list_all}
 use Rattle.command_lang.specs.command.Command.{Command}
-use Rattle.command_lang.specs.command.Command.TheVariants.{Next, Prev, Detach, Kill, Split, Focus, Remove, Only, Windows, Displays, Select, Other}
+use Rattle.command_lang.specs.command.Command.TheVariants.{Next, Prev, Detach, Kill, Split, Focus}
+use Rattle.command_lang.specs.command.Command.TheVariants.{Remove, Only, Windows, Displays, Select}
+use Rattle.command_lang.specs.command.Command.TheVariants.{Other}
 
 -- A typed byte, the command of a bound key, a line of the prompt.
 pub data Item : Type 0 where
@@ -80,8 +85,9 @@ stays k = not (ends_line k || closes k)
 abbrev pub line_items : List ℕ → ℕ → List Item
 line_items bytes k = if ends_line k then line bytes ∷ [] else []
 
--- Keys, the items that they complete, and what is unended at their end: typed bytes, the command key with the key behind it,
--- and prompts. The keys of a prompt are those that edit its line, up to one that ends or closes it.
+-- Keys, the items that they complete, and what is unended at their end: typed bytes, the command
+-- key with the key behind it, and prompts. The keys of a prompt are those that edit its line, up to
+-- one that ends or closes it.
 pub data Keys : List ℕ → List Item → Rest → Type 0 where
   none : Keys [] [] nothing
   plain : {k : ℕ} {keys : List ℕ} {given : List Item} {rest : Rest} → k ≢ 0x01
@@ -95,7 +101,8 @@ pub data Keys : List ℕ → List Item → Rest → Type 0 where
       → list_all stays edits ≡ true → stays k ≡ false → Keys keys given rest
       → Keys (0x01 ∷ 0x3A ∷ (edits ++ k ∷ keys)) (line_items (line_of [] edits) k ++ given) rest
 
--- The same, computed key by key: what a key completes behind what is unended, and what is unended then.
+-- The same, computed key by key: what a key completes behind what is unended, and what is unended
+-- then.
 abbrev pub rest_step : Rest → ℕ → List Item × Rest
 rest_step nothing k = if k == 0x01 then ([], command_key) else (typed k ∷ [], nothing)
 rest_step command_key k = if k == 0x3A then ([], prompt []) else (key_items k, nothing)

@@ -66,8 +66,8 @@ const BELOW: Step = Step::Split(Way::Below);
 
 const RIGHT: Step = Step::Split(Way::Right);
 
-/// Halves over one another, from window 7. Two: regions in rows 1 to 11 and 13 to 22, captions in rows 12 and
-/// 23. Three: rows 1 to 5, 7 to 11, 13 to 22; captions 6, 12, 23.
+/// Halves over one another, from window 7. Two: regions in rows 1 to 11 and 13 to 22, captions in
+/// rows 12 and 23. Three: rows 1 to 5, 7 to 11, 13 to 22; captions 6, 12, 23.
 const STACKED: [Row; 3] = [
     Row {
         steps: &[BELOW],
@@ -115,9 +115,9 @@ const BESIDE: [Row; 2] = [
     },
 ];
 
-/// The focus follows the order of the splits: from 7 (upper), over 2 (lower left) and the new one (lower
-/// right), to 7 again. The upper one goes: its sibling, in two halves, has its room. The focused region stays
-/// where the page is too small.
+/// The focus follows the order of the splits: from 7 (upper), over 2 (lower left) and the new one
+/// (lower right), to 7 again. The upper one goes: its sibling, in two halves, has its room. The
+/// focused region stays where the page is too small.
 const FOCUSED: [Row; 7] = [
     Row {
         steps: &[BELOW, Step::Next, Step::Show(SECOND), RIGHT],
@@ -298,7 +298,8 @@ fn faults_have_numbers_and_texts(rt: HostRuntime) -> Result<(), Fail> {
     Ok(())
 }
 
-/// A split, asked for once more where memory is refused; nothing has changed then. Whether all was so.
+/// A split, asked for once more where memory is refused; nothing has changed then. Whether all was
+/// so.
 fn splits_at_last(alloc: Global, layout: &mut Layout, way: Way) -> Result<bool, RegionFault> {
     let count = layout.shown().len();
     let mut is_kept = true;

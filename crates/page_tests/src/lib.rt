@@ -1,4 +1,5 @@
-//! Tests of the parts of a page: cells and lines, scrolled lines, what left at the top, and layouts of regions.
+//! Tests of the parts of a page: cells and lines, scrolled lines, what left at the top, and layouts
+//! of regions.
 #![tactic(auto)]
 
 #[cfg(test)]

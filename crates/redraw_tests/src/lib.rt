@@ -1,4 +1,5 @@
-//! Tests of draws: views that are composed, frames from one to another, and terminals that read them.
+//! Tests of draws: views that are composed, frames from one to another, and terminals that read
+//! them.
 #![tactic(auto)]
 
 #[cfg(test)]

@@ -1,6 +1,6 @@
 //! Growths that are refused leave all as it was. Run as it stands, a test here meets no refusal;
-//! `rt try --test --fail-alloc N` refuses the Nth allocation. At most one is refused in a run, so a second
-//! try never is.
+//! `rt try --test --fail-alloc N` refuses the Nth allocation. At most one is refused in a run, so a
+//! second try never is.
 
 ghost use Rattle.std.specs.Prelude.{◌≡◌, OnOk, IfOk};
 ghost use Rattle.view.specs.View.{HasSize};

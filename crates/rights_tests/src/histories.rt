@@ -219,7 +219,8 @@ const RETURNED: [Row; 9] = [
     (Call::Open(Own, 3), Bob, Write, THREE, Passes),
 ];
 
-/// What a new name gets on commands, and that a command's entry is a window's no more than another command's.
+/// What a new name gets on commands, and that a command's entry is a window's no more than another
+/// command's.
 const COMMANDS: [Row; 7] = [
     (
         Call::Change(Bob, Execute, false, KILL),
@@ -264,7 +265,8 @@ const HELD: [Row; 6] = [
     (Call::Nothing, Eve, Write, TWO, Passes),
 ];
 
-/// A lock goes with the rights of its holder, with his leader's, with him, and with his last client.
+/// A lock goes with the rights of its holder, with his leader's, with him, and with his last
+/// client.
 const RELEASED: [Row; 10] = [
     (
         Call::Lock(Eve, 2, LockMode::On),
@@ -346,7 +348,8 @@ const ENTERED: [Row; 10] = [
     (Call::Enter(Bob, 2), Eve, Write, TWO, Passes),
 ];
 
-/// The mode of windows that are opened later: in on they are held by who opens them, in auto by nobody yet.
+/// The mode of windows that are opened later: in on they are held by who opens them, in auto by
+/// nobody yet.
 const DEFAULTS: [Row; 7] = [
     (Call::Default(LockMode::On), Ann, Write, TWO, Passes),
     (Call::Open(Ann, 3), Own, Write, THREE, Locked(Ann)),

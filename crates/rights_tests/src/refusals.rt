@@ -14,7 +14,8 @@ const TRIES: usize = 2;
 /// A word for a user: a name, or none.
 type Word = Option<Name>;
 
-/// The words of an aclchg, and its fault, where so many users are known besides own, ann, bob and eve.
+/// The words of an aclchg, and its fault, where so many users are known besides own, ann, bob and
+/// eve.
 const CHANGES: [(u8, [Word; 2], Option<AclFault>); 13] = [
     (0, [Some(Bob), Some(Own)], Some(OwnerKept)),
     (0, [Some(Bob), None], Some(ReservedName)),

@@ -220,7 +220,8 @@ impl Stage {
         }
     }
 
-    /// Whether the user has the bit on the object, and for w on a window also whether no lock stops him.
+    /// Whether the user has the bit on the object, and for w on a window also whether no lock stops
+    /// him.
     pub fn answer(&self, user: UserId, bit: Bit, object: Object) -> Answer {
         if let Err(denial) = self.acl.may(user, bit, object) {
             let leaders = denial.leaders.as_slice();

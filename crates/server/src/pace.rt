@@ -4,8 +4,8 @@ use crate::door::Shared;
 use std::sync::Wait;
 use std::time::{Clock, Duration};
 
-// While more may come at once, draws wait for so many milliseconds at most: each client is shown the
-// last.
+// While more may come at once, draws wait for so many milliseconds at most: each client is shown
+// the last.
 const MOST: u64 = 20;
 
 /// What a loop knows of whether draws are to wait.
@@ -51,8 +51,8 @@ impl Pace {
         true
     }
 
-    /// Whether the draws of this turn are to wait, as they do where keys were typed in it, whose echo
-    /// may come at once. Without a clock they don't.
+    /// Whether the draws of this turn are to wait, as they do where keys were typed in it, whose
+    /// echo may come at once. Without a clock they don't.
     pub fn holds<R: Clock + Wait>(&mut self, rt: &R, shared: &Shared, awaits_echo: bool) -> bool {
         self.awaits_echo = awaits_echo;
         let is_much = awaits_echo || 0 < *shared.busy.lock(rt);

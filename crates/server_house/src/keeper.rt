@@ -131,9 +131,9 @@ where
     Ok(wrong.is_none())
 }
 
-/// Keeps a house of a new session for these users: tells that it has begun, and runs a loop for each
-/// of 1 to 8 places, each in a thread, until all have ended. The answer is whether each answer that
-/// a loop was given stands in the session's trail.
+/// Keeps a house of a new session for these users: tells that it has begun, and runs a loop for
+/// each of 1 to 8 places, each in a thread, until all have ended. The answer is whether each answer
+/// that a loop was given stands in the session's trail.
 pub fn keep<P, K, R, B>(
     rt: &R,
     alloc: Global,

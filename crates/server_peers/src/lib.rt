@@ -1,5 +1,5 @@
-//! The connections of one loop of the server, and their part in the session: what they are sent, when
-//! they are drawn, and how they leave.
+//! The connections of one loop of the server, and their part in the session: what they are sent,
+//! when they are drawn, and how they leave.
 #![tactic(auto)]
 
 mod end;

@@ -1,5 +1,5 @@
-//! A stage for tests of the server: one loop over a new session, or two that run at once. They are made
-//! and taken down here, so that a test proves nothing of what a session holds.
+//! A stage for tests of the server: one loop over a new session, or two that run at once. They are
+//! made and taken down here, so that a test proves nothing of what a session holds.
 #![tactic(auto)]
 
 mod latched;

@@ -129,8 +129,8 @@ struct Lists {
     numbers: Numbers,
 }
 
-/// What the lists left: the first of them after which a connection got another answer than it is due
-/// or the others didn't stay, and what the window's program and its client were sent.
+/// What the lists left: the first of them after which a connection got another answer than it is
+/// due or the others didn't stay, and what the window's program and its client were sent.
 #[derive(Drop)]
 struct Left {
     wrong: Option<Vec<u8>>,

@@ -29,9 +29,9 @@ fn is_line(cells: &[Cell], text: &str) -> bool {
     true
 }
 
-/// Whether a terminal of this size that has read these bytes has this text in its first line and the
-/// cursor behind it, the caption of the window 0 named `w` in the last line but one, this message
-/// in the last, and nothing else.
+/// Whether a terminal of this size that has read these bytes has this text in its first line and
+/// the cursor behind it, the caption of the window 0 named `w` in the last line but one, this
+/// message in the last, and nothing else.
 pub fn shows(
     alloc: Global,
     size: (usize, usize),

@@ -18,8 +18,8 @@ struct Ended {
     len: usize,
 }
 
-/// A window of the owner, his client, which types these frames, and a connection that sends nothing.
-/// The loop ends as it says, or else so.
+/// A window of the owner, his client, which types these frames, and a connection that sends
+/// nothing. The loop ends as it says, or else so.
 #[derive(Drop)]
 struct Ending {
     keys: &'static [u8],
@@ -105,8 +105,8 @@ fn quit_alone(rt: HostRuntime) -> Result<(), Fail> {
     Ok(())
 }
 
-/// A client types 128 frames of 8,192 bytes into a window whose program takes its WELCOME alone, and
-/// in the last frame's turn nothing before the third write.
+/// A client types 128 frames of 8,192 bytes into a window whose program takes its WELCOME alone,
+/// and in the last frame's turn nothing before the third write.
 #[derive(Drop)]
 struct Flood;
 

@@ -1,5 +1,6 @@
 -- The users' file: lines of a name, one blank and a token.
-use Rattle.std.specs.Prelude.{◌≡◌, ◌⊎◌, ℕ, ◌+◌, ◌<◌, Bool, true, ◌&&◌, ◌||◌, nat_le, ◌==◌, List, [], ◌∷◌, ◌++◌, length, map, All, Contains}
+use Rattle.std.specs.Prelude.{◌≡◌, ◌⊎◌, ℕ, ◌+◌, ◌<◌, Bool, true, ◌&&◌, ◌||◌, nat_le, ◌==◌, List, []}
+use Rattle.std.specs.Prelude.{◌∷◌, ◌++◌, length, map, All, Contains}
 use Rattle.std.specs.List.{flat_map, list_all}
 use Rattle.acl.specs.Names.{is_name}
 

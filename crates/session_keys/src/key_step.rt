@@ -141,8 +141,8 @@ fn give_order(
     Ok(())
 }
 
-/// Keys that complete no command: they are typed. Each client shows what it showed, so nobody leaves
-/// a window.
+/// Keys that complete no command: they are typed. Each client shows what it showed, so nobody
+/// leaves a window.
 fn give_typed(
     state: &mut State,
     caller: Caller,
@@ -187,8 +187,8 @@ fn give_read(
 
 /// A step of a client's keys: they are read up to the first one that completes a command or a line
 /// of the prompt. What they type goes to the window in focus, the command is obeyed, the client is
-/// told of what was refused, each thing once, and then users leave windows. Gives how many keys were
-/// read.
+/// told of what was refused, each thing once, and then users leave windows. Gives how many keys
+/// were read.
 pub fn keys(
     state: &mut State,
     client: u32,

@@ -13,8 +13,8 @@ use session_orders::order;
 use session_state::{Caller, Made, State};
 use std::alloc::{AllocError, Global};
 
-/// What a client's status line says of what a command lists: the lists of windows and of clients are
-/// made anew at each draw.
+/// What a client's status line says of what a command lists: the lists of windows and of clients
+/// are made anew at each draw.
 fn message_of(alloc: Global, command: &Command, text: &Bytes) -> Result<Message, AllocError>
     ensures { IfOk result (λ message. message ≡ message_of command.now text.now) }
 {

@@ -9,8 +9,8 @@ use session_keys::keys;
 use session_model::{Done, Reply, Verdict};
 use session_state::{Made, State};
 
-/// A client gives keys: they are read up to the first that completes a command or a line. Users leave
-/// windows only where there is one.
+/// A client gives keys: they are read up to the first that completes a command or a line. Users
+/// leave windows only where there is one.
 pub(crate) fn give_keys(
     state: &mut State,
     client: u32,

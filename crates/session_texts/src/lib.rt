@@ -92,8 +92,8 @@ fn push_client_parts(
     push_number(focus, out)
 }
 
-/// Appends a client's item: its serial, its user and the number of the window in focus, or `-`, with
-/// blanks between.
+/// Appends a client's item: its serial, its user and the number of the window in focus, or `-`,
+/// with blanks between.
 pub fn push_client(
     serial: u32,
     user: UserId,

@@ -1,4 +1,5 @@
-//! `vtcat --rows N --cols N [--keep N]`: shows the page that a VT220 has when it has read standard input.
+//! `vtcat --rows N --cols N [--keep N]`: shows the page that a VT220 has when it has read standard
+//! input.
 #![tactic(auto)]
 
 use std::io::Write;

@@ -107,9 +107,9 @@ fn show<R: Read + Drop, W: Write>(
     writer.flush()
 }
 
-/// Reads all bytes into a VT220 of the size that the words name, of which the first is the program's name, and writes its
-/// page, a line each between `|`, and `cursor L C`. Gives the status to exit with: 0; 1 for a fault; 2 where the words aren't
-/// understood.
+/// Reads all bytes into a VT220 of the size that the words name, of which the first is the
+/// program's name, and writes its page, a line each between `|`, and `cursor L C`. Gives the status
+/// to exit with: 0; 1 for a fault; 2 where the words aren't understood.
 pub fn cat<R: Read + Drop, W: Write, E: Write>(
     alloc: Global,
     words: &[String],

@@ -1,6 +1,8 @@
--- Who holds the write lock of a window, by the acts of a history. The entries of the GNU Screen manual are writelock and
--- defwritelock; when a lock is taken by entering, and what frees it, is this project's own profile.
-use Rattle.std.specs.Prelude.{ℕ, Bool, true, false, not, ◌||◌, ◌&&◌, ◌==◌, List, [], ◌∷◌, Option, Some, None, filter, is_none, if◌then◌else◌}
+-- Who holds the write lock of a window, by the acts of a history. The entries of the GNU Screen
+-- manual are writelock and defwritelock; when a lock is taken by entering, and what frees it, is
+-- this project's own profile.
+use Rattle.std.specs.Prelude.{ℕ, Bool, true, false, not, ◌||◌, ◌&&◌, ◌==◌, List, [], ◌∷◌, Option}
+use Rattle.std.specs.Prelude.{Some, None, filter, is_none, if◌then◌else◌}
 use Rattle.std.specs.List.{list_any}
 use Rattle.acl.specs.Same.{same_user}
 use Rattle.acl.specs.History.{History, may, decided, latest}
@@ -11,7 +13,8 @@ use Rattle.acl.specs.declared.act.Object.TheVariants.{Window}
 use Rattle.acl.specs.declared.act.LockMode.{LockMode}
 use Rattle.acl.specs.declared.act.LockMode.TheVariants.{Off, Auto, On}
 use Rattle.acl.specs.declared.act.Act.{Act}
-use Rattle.acl.specs.declared.act.Act.TheVariants.{Gone, Set, Opened, Closed, Attached, Parted, Entered, Left, Mode, Default}
+use Rattle.acl.specs.declared.act.Act.TheVariants.{Gone, Set, Opened, Closed, Attached, Parted}
+use Rattle.acl.specs.declared.act.Act.TheVariants.{Entered, Left, Mode, Default}
 
 abbrev pub is_off : LockMode → Bool
 is_off Off = true
@@ -87,7 +90,8 @@ given edition owner (Entered u v) h w held =
     u
 given edition owner _ h w held = None
 
--- who holds the lock after an act: the user whom it gives the lock, or the holder whose lock it doesn't release
+-- who holds the lock after an act: the user whom it gives the lock, or the holder whose lock it
+-- doesn't release
 abbrev pub kept : Edition → UserId → Act → History → ℕ → Option UserId → Option UserId
 kept edition owner a h w None = None
 kept edition owner a h w (Some u) = if releases edition owner a h u w then None else Some u

@@ -1,5 +1,6 @@
 -- The locks that the code keeps, and the histories that they stand for.
-use Rattle.std.specs.Prelude.{◌≡◌, ℕ, Bool, true, false, ◌==◌, ◌&&◌, ◌||◌, not, option_and_then, List, Option, Some, None, is_none, slice_get, length, if◌then◌else◌}
+use Rattle.std.specs.Prelude.{◌≡◌, ℕ, Bool, true, false, ◌==◌, ◌&&◌, ◌||◌, not, option_and_then}
+use Rattle.std.specs.Prelude.{List, Option, Some, None, is_none, slice_get, length, if◌then◌else◌}
 use Rattle.std.specs.Option.{option_map_or}
 use Rattle.acl.specs.Same.{same_user}
 use Rattle.acl.specs.History.{History, is_open, open_count, may}
@@ -29,7 +30,8 @@ lock_of edition owner h w =
     if is_open h w then Some (record { mode = mode_of h w; holder = holder edition owner h w })
     else None
 
--- these locks are what the definitions give, holders may write, and no window that isn't open is held
+-- these locks are what the definitions give, holders may write, and no window that isn't open is
+-- held
 pub record AreLocks (default : LockMode) (locks : ℕ → Option Lock)
     (edition : Edition) (owner : UserId) (h : History)
     : Type 0 where

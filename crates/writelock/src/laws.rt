@@ -1,5 +1,5 @@
-//! Laws of the definitions, for the crates above. Each function here does nothing; its contract says
-//! what holds.
+//! Laws of the definitions, for the crates above. Each function here does nothing; its contract
+//! says what holds.
 
 ghost use Rattle.std.specs.Prelude.{◌≡◌, ◌∷◌, ℕ, List, Some, true};
 ghost use Rattle.acl.specs.History.{History, may, followed_by};

@@ -2,7 +2,8 @@
 
 ghost use Rattle.std.specs.Prelude.{◌≡◌};
 ghost use Rattle.acl.specs.Lists.{table_of};
-ghost use Rattle.writelock.specs.LockTable.{frees, remaining, after_act, lock_by, opened_by, left_by, entered_by, without_holder, has_holder};
+ghost use Rattle.writelock.specs.LockTable.{frees, remaining, after_act, lock_by, opened_by};
+ghost use Rattle.writelock.specs.LockTable.{left_by, entered_by, without_holder, has_holder};
 
 use acl::{Act, Bit, Lists, LockMode, Object, UserId};
 

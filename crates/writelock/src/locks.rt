@@ -18,14 +18,16 @@ pub struct Locks {
 }
 
 impl Locks {
-    ghost use Rattle.std.specs.Prelude.{◌≡◌, ◌<◌, ◌∷◌, [], ℕ, true, false, Some, None, nat_eq, is_ok, length, IfErr, if◌then◌else◌};
+    ghost use Rattle.std.specs.Prelude.{◌≡◌, ◌<◌, ◌∷◌, [], ℕ, true, false, Some, None, nat_eq};
+    ghost use Rattle.std.specs.Prelude.{is_ok, length, IfErr, if◌then◌else◌};
     ghost use Rattle.std.specs.Option.{option_map, option_map_or};
     ghost use Rattle.acl.specs.Same.{same_user};
     ghost use Rattle.acl.specs.History.{History, is_open, open_count, may};
     ghost use Rattle.acl.specs.Deeds.{Follows};
     ghost use Rattle.acl.specs.Lists.{table_of};
     ghost use Rattle.acl.specs.declared.edition.Edition.{Edition};
-    ghost use Rattle.acl.specs.declared.act.Act.TheVariants.{Opened, Closed, Parted, Entered, Left, Mode, Default};
+    ghost use Rattle.acl.specs.declared.act.Act.TheVariants.{Opened, Closed, Parted, Entered, Left};
+    ghost use Rattle.acl.specs.declared.act.Act.TheVariants.{Mode, Default};
     ghost use Rattle.acl.specs.declared.bits.Bit.TheVariants.{Write};
     ghost use Rattle.acl.specs.declared.act.Object.TheVariants.{Window};
     ghost use Rattle.writelock.specs.Holding.{is_off, mode_of, holder, loses_last};
@@ -175,8 +177,8 @@ impl Locks {
         }
     }
 
-    /// `writelock`: sets the mode of an open window. The lock is the user's, who may write there, or in
-    /// mode off nobody's.
+    /// `writelock`: sets the mode of an open window. The lock is the user's, who may write there,
+    /// or in mode off nobody's.
     pub fn set_mode(&mut self, by: UserId, window: u32, mode: LockMode)
         ensures { (edition : Edition) (owner : UserId) (h : History) →
             LocksStandFor self.old edition owner h →
