@@ -21,9 +21,14 @@ use std::marker::Model;
 /// a word that is no name. Its acts go to the end of `acts`, in order, and each to the follower
 /// once it is done. `room` is how many acts more there is room for behind them, which a caller may
 /// then push without a growth.
-#[derive(Drop)]
 pub struct Acl {
     lists: Lists,
+}
+
+impl Drop for Acl {
+    fn drop(self) {
+        let Acl { lists: _ } = self;
+    }
 }
 
 impl Model for Acl {

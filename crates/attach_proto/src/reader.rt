@@ -73,12 +73,22 @@ fn drop_front(bytes: &mut Vec<u8>, taken: usize)
 }
 
 /// Reads the frames of a connection. It answers a fault for good.
-#[derive(Drop)]
 pub struct Reader {
     alloc: Global,
     side: Side,
     rest: Vec<u8>,
     fault: Option<ProtoFault>,
+}
+
+impl Drop for Reader {
+    fn drop(self) {
+        let Reader {
+            alloc: _,
+            side: _,
+            rest: _,
+            fault: _,
+        } = self;
+    }
 }
 
 impl Model for Reader {

@@ -35,11 +35,16 @@ fn used_after(used: usize, start: usize, rest: usize, width: usize) -> usize
 }
 
 /// A line of cells, in which the halves of wide characters are paired. Its width stays.
-#[derive(Drop)]
 pub struct Line {
     cells: Vec<Cell>,
     /// The cells from this column on are blank, so that `clear` needn't touch them.
     used: usize,
+}
+
+impl Drop for Line {
+    fn drop(self) {
+        let Line { cells: _, used: _ } = self;
+    }
 }
 
 impl Model for Line {

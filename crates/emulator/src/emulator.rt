@@ -42,13 +42,23 @@ pub struct Stopped {
 }
 
 /// A VT220 that reads bytes, however they come.
-#[derive(Drop)]
 pub struct Emulator {
     decoder: Decoder,
     parser: Parser,
     screen: Screen,
     /// Where a control sequence is read that comes whole.
     sequence: Sequence,
+}
+
+impl Drop for Emulator {
+    fn drop(self) {
+        let Emulator {
+            decoder: _,
+            parser: _,
+            screen: _,
+            sequence: _,
+        } = self;
+    }
 }
 
 impl Model for Emulator {

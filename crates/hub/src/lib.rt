@@ -25,9 +25,14 @@ use std::sync::ledger::{Blank, Ledger as Roll};
 use std::sync::{Mutex, Wait};
 
 /// A session that threads share.
-#[derive(Drop)]
 pub struct Hub<L: Roll> {
     ledger: Mutex<Ledger<L>>,
+}
+
+impl<L: Roll> Drop for Hub<L> {
+    fn drop(self) {
+        let Hub { ledger: _ } = self;
+    }
 }
 
 impl<L: Roll> Hub<L> {
@@ -91,6 +96,7 @@ impl<L: Roll> Hub<L> {
         ensures none { length seats.items ≡ L.parts
             → ((result.1 ≡ None) ↔ AreThere result.0.entries (receipts_of seats.items)) }
     {
-        self.ledger.into_inner().close(seats)
+        let Hub { ledger } = self;
+        ledger.into_inner().close(seats)
     }
 }

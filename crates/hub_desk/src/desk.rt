@@ -16,13 +16,24 @@ use session_model::{Event, Refusal, Reply};
 use std::alloc::{AllocError, Global};
 
 /// A session with its trail, the seats of its peers, and what waits for each seat.
-#[derive(Drop)]
 pub struct Desk {
     pub alloc: Global,
     pub session: Session,
     pub entries: Entries,
     pub peers: Peers,
     pub waiting: Waiting,
+}
+
+impl Drop for Desk {
+    fn drop(self) {
+        let Desk {
+            alloc: _,
+            session: _,
+            entries: _,
+            peers: _,
+            waiting: _,
+        } = self;
+    }
 }
 
 /// Whether a step was refused for want of memory.
@@ -101,7 +112,13 @@ impl Desk {
     pub fn into_entries(self) -> Entries
         ensures { result ≡ self.entries }
     {
-        let Desk { entries, .. } = self;
+        let Desk {
+            alloc: _,
+            session: _,
+            entries,
+            peers: _,
+            waiting: _,
+        } = self;
         entries
     }
 }

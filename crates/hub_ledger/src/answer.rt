@@ -56,11 +56,20 @@ impl<T: Drop> From<AllocFailed<T>> for HubFault {
 }
 
 /// The answer to one submitted event. Nothing but a submit makes one, and nothing copies it.
-#[derive(Drop)]
 pub struct Answer<'a> {
     pub(crate) event: Event<'a>,
     pub(crate) reply: Reply,
     pub(crate) place: Option<usize>,
+}
+
+impl Drop for Answer<'_> {
+    fn drop(self) {
+        let Answer {
+            event: _,
+            reply: _,
+            place: _,
+        } = self;
+    }
 }
 
 impl<'a> Model for Answer<'a> {

@@ -30,10 +30,15 @@ const FULL: usize = 4194304;
 /// What lies under the hub's lock: a session that stands for a run, its trail, and what waits for
 /// each seat. Its shares count the receipts of all seats: there are as many as the trail has
 /// entries.
-#[derive(Drop)]
 pub struct Ledger<L: Roll> {
     desk: Desk,
     book: Book<L>,
+}
+
+impl<L: Roll> Drop for Ledger<L> {
+    fn drop(self) {
+        let Ledger { desk: _, book: _ } = self;
+    }
 }
 
 impl<L: Roll> Model for Ledger<L> {

@@ -8,11 +8,21 @@ use hub_record::{Filed, KeptEvent, KeptReply};
 use hub_trail::Ending;
 
 /// That an entry stands at a place of the trail, with this event and this reply.
-#[derive(Debug, Drop)]
+#[derive(Debug)]
 pub struct Receipt {
     pub(crate) place: usize,
     pub(crate) event: KeptEvent,
     pub(crate) reply: KeptReply,
+}
+
+impl Drop for Receipt {
+    fn drop(self) {
+        let Receipt {
+            place: _,
+            event: _,
+            reply: _,
+        } = self;
+    }
 }
 
 impl Receipt {

@@ -11,11 +11,20 @@ use std::marker::Model;
 
 /// The trail of a session: its edition and its owner, and the entries of all its steps, in their
 /// order. Tables of rights and locks can judge it.
-#[derive(Drop)]
 pub struct Trail {
     edition: Edition,
     owner: UserId,
     entries: Vec<Filed>,
+}
+
+impl Drop for Trail {
+    fn drop(self) {
+        let Trail {
+            edition: _,
+            owner: _,
+            entries: _,
+        } = self;
+    }
 }
 
 impl Model for Trail {

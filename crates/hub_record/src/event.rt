@@ -86,9 +86,15 @@ fn lent(kept: &Kept) -> KeptRef<'_>
 
 /// An event that a trail keeps: 16 bytes, and a block of memory for any but Keys. Contracts see it
 /// as hub_trail's `Kept`.
-#[derive(Debug, Drop)]
+#[derive(Debug)]
 pub struct KeptEvent {
     form: Form,
+}
+
+impl Drop for KeptEvent {
+    fn drop(self) {
+        let KeptEvent { form: _ } = self;
+    }
 }
 
 impl Model for KeptEvent {

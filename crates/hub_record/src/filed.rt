@@ -12,12 +12,23 @@ use std::mem::size_of;
 
 /// One entry of a trail: an event, what was checked, what was done, and what was answered.
 /// Contracts see it as hub_trail's `Entry`.
-#[derive(Debug, Drop)]
+#[derive(Debug)]
 pub struct Filed {
     event: KeptEvent,
     verdicts: Vec<Verdict>,
     acts: Vec<Act>,
     reply: KeptReply,
+}
+
+impl Drop for Filed {
+    fn drop(self) {
+        let Filed {
+            event: _,
+            verdicts: _,
+            acts: _,
+            reply: _,
+        } = self;
+    }
 }
 
 // With the two verdicts of Keys an entry takes at most 200 bytes.

@@ -17,9 +17,15 @@ enum Form {
 
 /// A reply without its text: 24 bytes, and a block of memory for a refusal. Contracts see it as
 /// hub_trail's `Ending`.
-#[derive(Debug, Drop)]
+#[derive(Debug)]
 pub struct KeptReply {
     form: Form,
+}
+
+impl Drop for KeptReply {
+    fn drop(self) {
+        let KeptReply { form: _ } = self;
+    }
 }
 
 impl Model for KeptReply {

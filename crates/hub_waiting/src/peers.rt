@@ -9,10 +9,18 @@ use session_model::{Effect, Event, Reply};
 use std::alloc::{AllocError, Global};
 
 /// The seats of clients and of windows, by their serials.
-#[derive(Drop)]
 pub struct Peers {
     pub clients: Vec<usize>,
     pub windows: Vec<usize>,
+}
+
+impl Drop for Peers {
+    fn drop(self) {
+        let Peers {
+            clients: _,
+            windows: _,
+        } = self;
+    }
 }
 
 /// Whether a step attached a client.

@@ -16,10 +16,15 @@ use std::mem;
 pub const MOST: usize = 256;
 
 /// What waits for each seat, and whether a step other than a Draw came since its last take.
-#[derive(Drop)]
 pub struct Waiting {
     pub lists: Vec<Vec<Effect>>,
     pub marks: Vec<bool>,
+}
+
+impl Drop for Waiting {
+    fn drop(self) {
+        let Waiting { lists: _, marks: _ } = self;
+    }
 }
 
 impl Waiting {

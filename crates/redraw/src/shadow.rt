@@ -10,11 +10,20 @@ use std::marker::Model;
 use view::{Cursor, KeyModes, View};
 
 /// A terminal's size, and the view that it shows, if that is known.
-#[derive(Drop)]
 pub struct Shadow {
     pub(crate) rows: u16,
     pub(crate) cols: u16,
     pub(crate) known: Option<View>,
+}
+
+impl Drop for Shadow {
+    fn drop(self) {
+        let Shadow {
+            rows: _,
+            cols: _,
+            known: _,
+        } = self;
+    }
 }
 
 impl Model for Shadow {

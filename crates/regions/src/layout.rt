@@ -20,11 +20,20 @@ use std::marker::Model;
 pub const REGIONS: usize = 16;
 
 /// The regions of a client's page, what they show, and which one has the focus.
-#[derive(Drop)]
 pub struct Layout {
     tree: Node,
     focus: usize,
     shown: Vec<Shown>,
+}
+
+impl Drop for Layout {
+    fn drop(self) {
+        let Layout {
+            tree: _,
+            focus: _,
+            shown: _,
+        } = self;
+    }
 }
 
 impl Model for Layout {

@@ -15,13 +15,23 @@ pub const LAST: usize = 4;
 
 /// The bytes that a connection has still to write, and whether a step other than a draw was made
 /// since its last draw.
-#[derive(Drop)]
 pub struct Turn {
     bytes: Vec<u8>,
     // How many of the bytes were written.
     sent: usize,
     told: bool,
     has_ended: bool,
+}
+
+impl Drop for Turn {
+    fn drop(self) {
+        let Turn {
+            bytes: _,
+            sent: _,
+            told: _,
+            has_ended: _,
+        } = self;
+    }
 }
 
 impl Model for Turn {

@@ -13,9 +13,15 @@ use std::alloc::Global;
 use std::marker::Model;
 
 /// Who may connect: names and tokens, the first the session's owner.
-#[derive(Debug, Drop)]
+#[derive(Debug)]
 pub struct Users {
     pub(crate) list: Vec<User>,
+}
+
+impl Drop for Users {
+    fn drop(self) {
+        let Users { list: _ } = self;
+    }
 }
 
 impl Model for Users {

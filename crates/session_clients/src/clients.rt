@@ -28,9 +28,14 @@ use std::marker::Model;
 use view::View;
 
 /// The attached clients, by rising serials.
-#[derive(Drop)]
 pub struct Clients {
     rows: Rows<Client>,
+}
+
+impl Drop for Clients {
+    fn drop(self) {
+        let Clients { rows: _ } = self;
+    }
 }
 
 impl Model for Clients {

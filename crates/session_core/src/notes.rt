@@ -10,10 +10,18 @@ use std::marker::Model;
 
 /// What a step did to rights and locks, and what it checked. Each step that isn't refused for want
 /// of memory makes them anew.
-#[derive(Drop)]
 pub struct Notes {
     acts: Vec<Act>,
     verdicts: Vec<Verdict>,
+}
+
+impl Drop for Notes {
+    fn drop(self) {
+        let Notes {
+            acts: _,
+            verdicts: _,
+        } = self;
+    }
 }
 
 impl Model for Notes {

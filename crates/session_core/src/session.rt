@@ -26,10 +26,15 @@ use std::mem;
 use view::View;
 
 /// A session: its windows, the clients that show them, and who may do what.
-#[derive(Drop)]
 pub struct Session {
     alloc: Global,
     state: State,
+}
+
+impl Drop for Session {
+    fn drop(self) {
+        let Session { alloc: _, state: _ } = self;
+    }
 }
 
 /// What was taken of an event.

@@ -6,9 +6,15 @@ use std::alloc::{AllocError, Global};
 use std::marker::Model;
 
 /// Bytes of an effect or a text. Contracts see them as a list.
-#[derive(Debug, Drop)]
+#[derive(Debug)]
 pub struct Bytes {
     items: Vec<u8>,
+}
+
+impl Drop for Bytes {
+    fn drop(self) {
+        let Bytes { items: _ } = self;
+    }
 }
 
 impl Model for Bytes {

@@ -92,7 +92,7 @@ pub enum Effect {
 }
 
 /// What a step did that wasn't refused.
-#[derive(Debug, Drop)]
+#[derive(Debug)]
 pub struct Done {
     /// How many bytes of a Keys event were read; 0 for others.
     pub taken: usize,
@@ -102,6 +102,17 @@ pub struct Done {
     pub number: u8,
     /// What a command lists, if it does.
     pub text: Option<Bytes>,
+}
+
+impl Drop for Done {
+    fn drop(self) {
+        let Done {
+            taken: _,
+            made: _,
+            number: _,
+            text: _,
+        } = self;
+    }
 }
 
 /// What was answered to an event.

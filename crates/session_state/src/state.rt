@@ -11,7 +11,6 @@ use writelock::Locks;
 
 /// What a session has at a moment: its lists, its locks, whether other users than the owner may be
 /// there, the open windows, the attached clients, and the serials that come next.
-#[derive(Drop)]
 pub struct State {
     pub alloc: Global,
     pub acl: Acl,
@@ -21,6 +20,21 @@ pub struct State {
     pub clients: Clients,
     pub next_window: u64,
     pub next_client: u64,
+}
+
+impl Drop for State {
+    fn drop(self) {
+        let State {
+            alloc: _,
+            acl: _,
+            locks: _,
+            is_multiuser: _,
+            windows: _,
+            clients: _,
+            next_window: _,
+            next_client: _,
+        } = self;
+    }
 }
 
 impl State {

@@ -15,9 +15,14 @@ use std::alloc::Global;
 use std::marker::Model;
 
 /// The open windows, by rising serials.
-#[derive(Drop)]
 pub struct Windows {
     rows: Rows<Window>,
+}
+
+impl Drop for Windows {
+    fn drop(self) {
+        let Windows { rows: _ } = self;
+    }
 }
 
 impl Model for Windows {
