@@ -31,20 +31,11 @@ impl KeyModes {
 }
 
 /// A page with its cursor and the two modes of the keyboard.
+#[derive(Drop)]
 pub struct View {
     pub(crate) grid: Grid,
     pub(crate) cursor: Cursor,
     pub(crate) modes: KeyModes,
-}
-
-impl Drop for View {
-    fn drop(self) {
-        let View {
-            grid: _,
-            cursor: _,
-            modes: _,
-        } = self;
-    }
 }
 
 impl Model for View {
