@@ -10,8 +10,8 @@ returns-then-read-eq0-clause-steps c =
     ends _ _ _ c.args.client c.steps.part bytes c.step-reply.new.notes _ _ _ c.step-reply.result c.read_by-read.result c.read_by-read.ensures c.steps.invariant.run
     rest (rest_from bytes c.steps.part) (c.step-reply.ensures.step (sym c.wants_memory.ensures ∙ c.if-wants_memory.false)) last
 
-pub steps-preserved-else-rest-read-2 : goal.steps-preserved-else-rest-read-2
-steps-preserved-else-rest-read-2 c =
+pub steps-preserved-else-rest-read : goal.steps-preserved-else-rest-read
+steps-preserved-else-rest-read c =
     let bytes = c.args.bytes.now in
     let rest = take (length bytes - c.steps.part) (drop c.steps.part bytes) in
     let some : 0 < c.read_by-read.result = omega (arith, c.if-read-eq0.false) in
