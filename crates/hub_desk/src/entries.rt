@@ -28,14 +28,17 @@ impl Entries {
         self.list.reserve(1)
     }
 
-    /// Writes the entry of a step, if it has one.
+    /// Writes the entry of a step, if it has one. The step's room is given back: what is kept for
+    /// good takes what it says and no more.
     pub fn write(&mut self, slip: Option<Slip>, notes: Notes, reply: &Reply)
         requires { vec_len self.old.list < vec_capacity self.old.list }
         ensures { trail_in self.new ≡ with_entries (trail_in self.old)
             (written (kept_by slip) notes reply.now) }
     {
         if let Some(Slip { event, spare }) = slip {
-            let (acts, verdicts) = notes.into_parts();
+            let (mut acts, mut verdicts) = notes.into_parts();
+            acts.shrink_to_fit();
+            verdicts.shrink_to_fit();
             let reply = KeptReply::of(reply, spare);
             self.list
                 .push_reserved(Filed::new(event, verdicts, acts, reply));

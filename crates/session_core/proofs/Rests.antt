@@ -8,7 +8,7 @@ use Rattle.session_core.specs.declared.session.Session.{Session}
 use Rattle.session_core.specs.declared.session.Taken.TheVariants.{Whole}
 use Rattle.session_core.specs.Stands.{Takes}
 use Rattle.session_core.specs.Headline.{read_by, SomeSteps, take_call}
-use Rattle.session_core.proofs.Reading.{last_read, some_left}
+use Rattle.session_core.proofs.RunReading.{last_read, some_left}
 use Rattle.session_core.proofs.Runs.{one_step, then_steps}
 
 -- what stands behind a place

@@ -17,7 +17,7 @@ use Rattle.session_laws.proofs.Promising.{step_keeps}
 use Rattle.session_state.specs.declared.made.Made.{Made}
 use Rattle.session_state.specs.declared.state.State.{State}
 use Rattle.session_state.specs.Stands.{Stands}
-use Rattle.session_steps.specs.Taking.{TakenAs}
+use Rattle.session_core.specs.Taking.{TakenAs}
 use Rattle.session_core.specs.Noted.{Noted}
 use Rattle.session_core.specs.declared.session.Session.{Session}
 use Rattle.session_core.specs.Stands.{StandsFor, Takes, entry_of}

@@ -7,7 +7,7 @@ use Rattle.session_model.specs.Trace.{Trace}
 use Rattle.session_model.specs.Tables.{Client, client_at}
 use Rattle.session_model.specs.Granted.{granted_view}
 use Rattle.session_model.specs.Run.{tables_of}
-use Rattle.session_steps.specs.Viewed.{ViewOf}
+use Rattle.session_view.specs.Viewed.{ViewOf}
 use Rattle.session_core.specs.Headline.{IsViewOf}
 
 pub sees : (h : Trace) (client : ℕ) (result : Result View Refusal) (o : Option Client) → client_at (tables_of h) client ≡ o → ViewOf (tables_of h) o result → IsViewOf h client result

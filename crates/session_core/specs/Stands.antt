@@ -4,7 +4,7 @@ use Rattle.session_model.specs.declared.event.Effect.{Effect}
 use Rattle.session_model.specs.Trace.{Happening, Reply, Entry, Trace, with_step}
 use Rattle.session_model.specs.Run.{IsRun, tables_of}
 use Rattle.session_state.specs.Stands.{Stands}
-pub use Rattle.session_steps.specs.Taking.{wants_memory}
+pub use Rattle.session_core.specs.Taking.{wants_memory}
 use Rattle.session_core.specs.Noted.{Noted}
 use Rattle.session_core.specs.declared.session.Session.{Session}
 

@@ -1,8 +1,22 @@
 //! The core of a multiuser terminal multiplexer: one atomic step for each event.
 #![tactic(auto)]
 
+mod coming;
+mod commanding;
+mod drawing;
+mod dropping;
+mod given;
+mod going;
+mod key_step;
 mod notes;
+mod obeying;
+mod orders;
+mod programs;
+mod reading;
+mod saying;
 mod session;
+mod taking;
+mod typing;
 
 pub use notes::Notes;
 pub use session::Session;

@@ -16,11 +16,12 @@ ghost use Rattle.session_core.specs.Headline.{HasCome, run_call, take_call, IsPa
 ghost use Rattle.session_core.specs.Headline.{read_by};
 
 use crate::notes::Notes;
+use crate::taking::take;
 use acl::{Edition, UserId};
 use session_clients::Client;
 use session_model::{Effect, Event, Ran, Refusal, Reply};
 use session_state::{Made, State};
-use session_steps::{take, view_of};
+use session_view::view_of;
 use std::alloc::Global;
 use std::mem;
 use view::View;

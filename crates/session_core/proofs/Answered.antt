@@ -1,0 +1,178 @@
+-- Deeds that were answered, and lines.
+use Rattle.std.proofs.Common.{◌≡◌, ℕ, true, false, List, [], Option, Some, None}
+use Rattle.std.proofs.Common.{Result, Ok, Err, refl, ap, sym, ◌∙◌, append-nil, inl, inr, length}
+use Rattle.std.specs.Prelude.{◌⊎◌}
+use Rattle.command_lang.specs.command.Command.{Command}
+use Rattle.command_lang.specs.fault.ParseFault.{ParseFault}
+use Rattle.command_lang.specs.fault.FaultKind.{FaultKind}
+use Rattle.command_lang.specs.fault.FaultKind.TheVariants as fault
+use Rattle.command_lang.specs.Relation.{Relates, Refuses, read_line}
+use Rattle.command_lang.specs.LineFaults.{no_memory}
+use Rattle.command_lang.proofs.OneReading.{relates-reads, refuses-reads}
+use Rattle.acl.specs.declared.user_id.UserId.{UserId}
+use Rattle.session_model.specs.declared.refusal.Refusal.{Refusal}
+use Rattle.session_model.specs.declared.refusal.Refusal.TheVariants.{NoMemory, NoWindow}
+use Rattle.session_model.specs.declared.refusal.Refusal.TheVariants.{UnknownUser, Line}
+use Rattle.session_model.specs.declared.verdict.Verdict.{Verdict}
+use Rattle.session_model.specs.Trace.{Reply, Command as Given}
+use Rattle.session_model.specs.Tables.{Tables, Client, is_known}
+use Rattle.session_model.specs.Lines.{Caller, line_caller}
+use Rattle.session_model.specs.Commands.{Ruling, ruling}
+use Rattle.session_model.specs.Deeds.{Deed, Answer, given}
+use Rattle.session_model.specs.Events.{Outcome, outcome, finished, refused, done, reply_of}
+use Rattle.session_model.specs.Events.{answered, commanded, line_ruling, keys_outcome}
+use Rattle.session_rows.proofs.Serials.{if_true, if_false}
+use Rattle.session_state.specs.declared.made.Made.{Made}
+use Rattle.session_state.specs.declared.state.State.{State}
+use Rattle.session_state.specs.Stands.{Stands}
+use Rattle.session_state.specs.Doing.{HasDone, IsAsBefore, did}
+use Rattle.session_leaving.specs.Leaving.{HasLeft}
+use Rattle.session_core.specs.Reads.{Ruled}
+use Rattle.session_core.specs.Reads.{ReadFor, read_of}
+use Rattle.session_core.specs.Lines.{Parses, line_refusal, refusal_by}
+use Rattle.session_core.specs.Stepping.{HasHappened, Stepped}
+use Rattle.session_core.proofs.Outcomes.{was_refused, was_done, nothing_done}
+
+-- ---- a row that is there, or is not
+
+-- what is done of it
+abbrev pub of_row : {X : Type 0} → Tables → (X → Deed) → Option X → Outcome
+of_row t f o = elim o [ None ↦ refused t [] NoWindow | Some x ↦ finished t [] done (f x) ]
+
+module _ {X : Type 0} (t : Tables) (f : X → Deed) where
+  row_done : (o : Option X) (d : Deed) → given o NoWindow (λ x. Ok (f x)) ≡ Ok d
+      → of_row t f o ≡ finished t [] done d
+  unfolding given
+  row_done None d is = absurd (cc (is))
+  row_done (Some x) d is =
+      let same : f x ≡ d = cc (is) in ap (λ (e : Deed). finished t [] done e) same
+
+  row_refused : (o : Option X) (r : Refusal) → given o NoWindow (λ x. Ok (f x)) ≡ Err r
+      → of_row t f o ≡ refused t [] r
+  unfolding given
+  row_refused None r is =
+      let same : NoWindow ≡ r = cc (is) in ap (λ (e : Refusal). refused t [] e) same
+  row_refused (Some x) r is = absurd (cc (is))
+
+  pub was_settled : (o : Option X) (d : Deed) (said : Reply) (middle new : State)
+      (before second after : Made) (past : List Verdict)
+      → given o NoWindow (λ x. Ok (f x)) ≡ Ok d → done ≡ said → HasDone t d middle before second
+      → HasLeft t d new second after → HasHappened (of_row t f o) said new before after past past
+  was_settled o d said middle new before second after past is same did left =
+      was_done t [] d (of_row t f o) done said middle new before before second after past past
+      (row_done o d is) same refl refl did left (sym (append-nil past))
+
+  pub was_unsettled : (o : Option X) (r : Refusal) (old new : State) (before after : Made)
+      (past : List Verdict) → (r ≡ NoMemory) ⊎ (given o NoWindow (λ x. Ok (f x)) ≡ Err r)
+      → Stands t old → IsAsBefore old new before after
+      → Stepped (of_row t f o) (Err r) new before after past past
+  was_unsettled o r old new before after past (inl full) st same = inl full
+  was_unsettled o r old new before after past (inr is) st same =
+      inr (was_refused t [] r (of_row t f o) old new before after past past (row_refused o r is) st same
+      (sym (append-nil past)))
+
+-- ---- lines
+
+pub line_fails : (line : List ℕ) (f : ParseFault) → (f ≡ no_memory) ⊎ Refuses line f
+    → Parses line (Err (line_refusal f))
+line_fails line f (inl full) = inl (ap line_refusal full)
+line_fails line f (inr refuses) = by f.kind where
+  by : (kind : FaultKind) → (refusal_by f kind ≡ NoMemory)
+      ⊎ ((g : ParseFault) × (read_line line ≡ Err g) × (refusal_by f kind ≡ Line g))
+  by fault.NoMemory = inl refl
+  by kind = inr (f, refuses-reads line f refuses, refl)
+
+pub line_says : (line : List ℕ) (order : Command) → Relates line order
+    → Parses line (Ok order)
+line_says line order relates = relates-reads line order relates
+
+module _ (t : Tables) (user : UserId) (number : Option ℕ) (line : List ℕ) where
+  abbrev who : Caller
+  who = line_caller t user number
+
+  abbrev outcome_here : Outcome
+  outcome_here = outcome t (Given user number line)
+
+  pub user_unknown : (s : State) (m : Made) (past : List Verdict) → is_known t user ≡ false
+      → Stands t s → HasHappened outcome_here (Err UnknownUser) s m m past past
+  user_unknown s m past other st =
+      was_refused t [] UnknownUser outcome_here s s m m past past
+      (if_false (is_known t user) _ _ other) st (nothing_done s m) (sym (append-nil past))
+
+  module _ (known : is_known t user ≡ true) where
+    read_so : (r : Result Command ParseFault) → read_line line ≡ r
+        → outcome_here ≡ commanded t (line_ruling t who r)
+    read_so r is =
+        if_true (is_known t user) _ _ known
+        ∙ ap (λ (a : Result Command ParseFault). commanded t (line_ruling t who a)) is
+
+    -- a line has a fault
+    pub line_faulty : (r : Refusal) (s : State) (m : Made) (past : List Verdict)
+        → Parses line (Err r) → Stands t s → Stepped outcome_here (Err r) s m m past past
+    line_faulty r s m past (inl full) st = inl full
+    line_faulty r s m past (inr why) st =
+        inr (was_refused t [] r outcome_here s s m m past past
+        (read_so (Err why.0) why.1 ∙ ap (λ (f : Refusal). refused t [] f) (sym why.2)) st
+        (nothing_done s m) (sym (append-nil past)))
+
+    module _ (order : Command) (says : read_line line ≡ Ok order) where
+      abbrev by_table : Ruling
+      by_table = ruling t who order
+
+      -- a command is refused
+      pub was_ruled_out : (r : Refusal) (old new : State) (before after : Made)
+          (past noted : List Verdict) → Ruled t by_table (Err r) new before after past noted
+          → Stands t old → IsAsBefore old new before after
+          → Stepped outcome_here (Err r) new before after past noted
+      was_ruled_out r old new before after past noted (inl full) st same = inl full
+      was_ruled_out r old new before after past noted (inr ruled) st same =
+          inr (was_refused t by_table.verdicts r outcome_here old new before after past noted
+          (read_so (Ok order) says ∙ ap (λ (a : Answer). answered t by_table.verdicts a) ruled.0) st
+          same ruled.1)
+
+      -- a command is obeyed
+      pub was_obeyed : (lists : Option (List ℕ)) (said : Reply) (middle new : State)
+          (before second after : Made) (past noted : List Verdict)
+          → Ruled t by_table (Ok lists) middle before second past noted
+          → reply_of 0 0 0 lists ≡ said
+          → ((d : Deed) → Stands (did t d) middle → HasLeft t d new second after)
+          → HasHappened outcome_here said new before after past noted
+      was_obeyed lists said middle new before second after past noted ruled same left =
+          let d : Deed = ruled.0.0 in
+          was_done t by_table.verdicts d outcome_here (reply_of 0 0 0 d.lists) said middle new before
+          before second after past noted
+          (read_so (Ok order) says ∙ ap (λ (a : Answer). answered t by_table.verdicts a) ruled.0.1)
+          (ap (λ (l : Option (List ℕ)). reply_of 0 0 0 l) (sym ruled.0.2) ∙ same) refl refl ruled.0.3
+          (left d ruled.0.3.stands) ruled.1
+
+-- ---- keys
+
+-- the outcome of the keys of a client that may be there
+abbrev pub of_keys : Tables → List ℕ → Option Client → Outcome
+of_keys t bytes o = elim o [
+  | None ↦ refused t [] NoWindow
+  | Some c ↦ keys_outcome t c (read_of c bytes)
+]
+
+pub was_read : (t : Tables) (o : Option Client) (bytes : List ℕ) (count : ℕ) (said : Reply)
+    (new : State) (before after : Made) (past noted : List Verdict)
+    → ReadFor t o bytes (Ok count) new before after past noted → reply_of count 0 0 None ≡ said
+    → HasHappened (of_keys t bytes o) said new before after past noted
+was_read t None bytes count said new before after past noted read same = absurd read
+was_read t (Some c) bytes count said new before after past noted read same = record {
+  replied = ap (λ (n : ℕ). reply_of n 0 0 None) (sym read.count_is) ∙ same;
+  stands = read.ended.stands;
+  acts = read.ended.acts;
+  effects = read.ended.effects;
+  verdicts = read.verdicts;
+}
+
+pub was_unread : (t : Tables) (o : Option Client) (bytes : List ℕ) (r : Refusal)
+    (old new : State) (before after : Made) (past noted : List Verdict)
+    → ReadFor t o bytes (Err r) new before after past noted → Stands t old
+    → IsAsBefore old new before after
+    → Stepped (of_keys t bytes o) (Err r) new before after past noted
+was_unread t None bytes r old new before after past noted why st same =
+    inr (was_refused t [] r (refused t [] NoWindow) old new before after past noted
+    (ap (λ (f : Refusal). refused t [] f) (sym why.0)) st same (why.1 ∙ sym (append-nil past)))
+was_unread t (Some c) bytes r old new before after past noted full st same = inl full

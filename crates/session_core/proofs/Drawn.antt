@@ -1,0 +1,108 @@
+-- Draws are steps.
+use Rattle.std.proofs.Common.{◌≡◌, ℕ, List, [], Option, Some, None, Err, refl, ap, sym, subst}
+use Rattle.std.proofs.Common.{◌∙◌, append-nil, true, false, inl, inr}
+use Rattle.std.specs.Prelude.{MatchOption, ◌⊎◌}
+use Rattle.acl.specs.declared.act.Act.{Act}
+use Rattle.acl.specs.History.{followed_by}
+use Rattle.session_model.specs.declared.event.Effect.{Effect}
+use Rattle.session_model.specs.declared.refusal.Refusal.{Refusal}
+use Rattle.session_model.specs.declared.refusal.Refusal.TheVariants.{NoMemory, NoWindow}
+use Rattle.session_model.specs.declared.verdict.Verdict.{Verdict}
+use Rattle.session_model.specs.Trace.{Entry, Draw, Reply}
+use Rattle.session_model.specs.Tables.{Client, Tables, client_at}
+use Rattle.session_model.specs.Deeds.{changing}
+use Rattle.session_model.specs.Events.{Outcome, outcome, finished, refused, done, left_acts}
+use Rattle.session_model.specs.Run.{IsDraw, drawn_on}
+use Rattle.session_state.specs.declared.made.Made.{Made}
+use Rattle.session_state.specs.declared.state.State.{State}
+use Rattle.session_state.specs.Stands.{Stands}
+use Rattle.session_state.specs.Doing.{IsAsBefore}
+use Rattle.session_view.specs.Drawn.{HasDrawn}
+use Rattle.session_core.specs.Taking.{TakenAs, wants_memory}
+use Rattle.session_core.proofs.Still.{none_left}
+
+module _ (t : Tables) (client : ℕ) where
+  abbrev entry : Reply → List Effect → Entry
+  entry reply effects = record {
+    event = Draw client;
+    reply = reply;
+    acts = [];
+    verdicts = [];
+    effects = effects;
+  }
+
+  abbrev outcome_of : Option Client → Outcome
+  outcome_of o = elim o [
+    | None ↦ refused t [] NoWindow
+    | Some c ↦ finished t [] done (changing t)
+  ]
+
+  left : left_acts t.clients t.clients ≡ []
+  left = none_left t.clients t.clients (λ user w is. is)
+
+  pub drawn_taken : (c : Client) (reply : Reply) (new : State) (before after : Made)
+      (past : List Verdict) → client_at t client ≡ Some c → done ≡ reply
+      → HasDrawn t c new before after → TakenAs (Draw client) reply t new before after past past
+  drawn_taken c reply new before after past at same drawn =
+      let is : outcome t (Draw client) ≡ finished t [] done (changing t) = ap outcome_of at in
+      let kept : (outcome t (Draw client)).tables ≡ t =
+      ap (λ (o : Outcome). o.tables) is
+      ∙ ap (λ (acts : List Act). record t { acts = followed_by t.acts acts }) left in (
+        entry reply drawn.effects,
+        refl,
+        refl,
+        record {
+          step = record {
+            reply = sym same ∙ sym (ap (λ (o : Outcome). o.reply) is);
+            acts = sym (ap (λ (o : Outcome). o.acts) is ∙ left);
+            verdicts = sym (ap (λ (o : Outcome). o.verdicts) is);
+            effects = subst (λ (o : Option Client). MatchOption o (drawn.effects ≡ [])
+                (IsDraw t drawn.effects)) (sym at) drawn.is_draw;
+          };
+          stands = subst (λ (u : Tables). Stands u new)
+              (sym (ap (λ (u : Tables). drawn_on (client_at u client) drawn.effects u) kept
+              ∙ ap (λ (o : Option Client). drawn_on o drawn.effects t) at)) drawn.stands;
+          acts = drawn.acts_are ∙ sym (append-nil before.acts.items);
+          effects = drawn.effects_are;
+          verdicts = sym (append-nil past);
+        },
+      )
+
+  -- no client has the serial
+  pub undrawn_taken : (r : Refusal) (old new : State) (before after : Made) (past : List Verdict)
+      → client_at t client ≡ None → r ≡ NoWindow → Stands t old → IsAsBefore old new before after
+      → TakenAs (Draw client) (Err r) t new before after past past
+  undrawn_taken r old new before after past at why st same =
+      let none : List Effect = [] in
+      let is : outcome t (Draw client) ≡ refused t [] NoWindow = ap outcome_of at in (
+        entry (Err r) [],
+        refl,
+        refl,
+        record {
+          step = record {
+            reply = ap (λ (f : Refusal). Err f) why ∙ sym (ap (λ (o : Outcome). o.reply) is);
+            acts = sym (ap (λ (o : Outcome). o.acts) is);
+            verdicts = sym (ap (λ (o : Outcome). o.verdicts) is);
+            effects = subst (λ (o : Option Client). MatchOption o (none ≡ []) (IsDraw t none))
+                (sym at) refl;
+          };
+          stands = subst (λ (u : Tables). Stands u new)
+              (sym (ap (λ (u : Tables). drawn_on (client_at u client) [] u)
+              (ap (λ (o : Outcome). o.tables) is)
+              ∙ ap (λ (o : Option Client). drawn_on o [] t) at))
+              (subst (λ (s : State). Stands t s) (sym same.state) st);
+          acts = same.acts ∙ sym (append-nil before.acts.items);
+          effects = same.effects ∙ sym (append-nil before.effects.items);
+          verdicts = sym (append-nil past);
+        },
+      )
+
+  pub undrawn_or : (r : Refusal) (old new : State) (before after : Made) (past : List Verdict)
+      → (r ≡ NoMemory) ⊎ ((r ≡ NoWindow) × (client_at t client ≡ None)) → Stands t old
+      → IsAsBefore old new before after → wants_memory (Err r) ≡ false
+      → TakenAs (Draw client) (Err r) t new before after past past
+  undrawn_or r old new before after past (inr why) st same other =
+      undrawn_taken r old new before after past why.1 why.0 st same
+  undrawn_or r old new before after past (inl full) st same other =
+      let want : wants_memory (Err r) ≡ true = ap (λ (f : Refusal). wants_memory (Err f)) full in
+      absurd (cc (want, other))

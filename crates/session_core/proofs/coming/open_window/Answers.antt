@@ -1,0 +1,30 @@
+use Rattle.std.proofs.Common.{ℕ, List, None, Ok, refl, ap, sym, ◌∙◌}
+use Rattle.session_model.specs.declared.check.Check.{Check}
+use Rattle.session_model.specs.Trace.{Open}
+use Rattle.session_model.specs.Tables.{Window}
+use Rattle.session_model.specs.Deeds.{Deed}
+use Rattle.session_model.specs.Events.{outcome, reply_of, open_checks, opens, new_window}
+use Rattle.session_state.specs.declared.made.Made.{Made}
+use Rattle.session_core.proofs.Outcomes.{was_passed}
+use Rattle.session_core.proofs.coming.open_window.Goals as goal
+
+pub returns-clause-step : goal.returns-clause-step
+returns-clause-step c = λ t st fit.
+    let user = c.args.user in
+    let rows = c.args.rows in
+    let cols = c.args.cols in
+    let keep = c.args.keep in
+    let title = c.args.title.now in
+    let before = c.args.made.now in
+    let first : Made = record before { acts = c.reserve.new.self } in
+    let cs : List Check = open_checks t user rows cols keep title in
+    let w : Window = new_window t rows cols keep title in
+    let d : Deed = opens t user w in
+    let passed = c.in_ok-check_open.ensures t st in
+    let done = c.in_ok-window.ensures.answer t st fit passed.none in
+    was_passed t cs d (outcome t (Open user rows cols keep title)) (reply_of 0 w.serial w.number None)
+    (Ok c.made_so.result) c.open.new.state c.leave.new.state before first c.open.new.made
+    c.leave.new.made c.args.verdicts.now.items c.check_open.new.verdicts.items refl passed.none
+    (ap (λ (p : ℕ × ℕ). reply_of 0 p.0 p.1 None) (sym done.0) ∙ sym c.made_so.ensures)
+    c.in_ok-reserve.ensures.items refl done.1
+    (c.leave.ensures t d (c.of-focuses.ensures t st fit.sound) done.1.stands) passed.noted

@@ -1,0 +1,46 @@
+use Rattle.std.proofs.Common.{Option, None, Ok, Err, refl, sym, subst, ◌∙◌}
+use Rattle.std.proofs.lemmas.Result.{err_from_is_err_and}
+use Rattle.session_model.specs.Tables.{Window}
+use Rattle.session_model.specs.Commands.{ruling}
+use Rattle.session_model.specs.Events.{reply_of}
+use Rattle.session_core.specs.Reads.{Ruled}
+use Rattle.session_core.proofs.Answered.{was_ruled_out, was_obeyed}
+use Rattle.session_core.proofs.commanding.give_line.Goals as goal
+
+pub returns-in_err-text-clause-step : goal.returns-in_err-text-clause-step
+returns-in_err-text-clause-step c = λ t st fit.
+    let user = c.args.user in
+    let order = c.in_ok-command.command in
+    let r = c.in_err-text.field-0.0 in
+    let before = c.args.made.now in
+    let after = c.order.new.made in
+    let past = c.args.verdicts.now.items in
+    let noted = c.order.new.verdicts.items in
+    let p = err_from_is_err_and c.from_residual-in_err-text.result
+    c.from_residual-in_err-text.ensures.1 in
+    rw (p.1, p.2)
+    (was_ruled_out t user c.args.window c.args.line.now
+    (sym (c.is_known.ensures t st) ∙ c.if-not-is_known.false) order c.in_ok-command.ensures r
+    c.args.state.now c.order.new.state before after past noted
+    (subst (λ (o : Option Window). Ruled t
+    (ruling t (record { user = user; client = None; window = o }) order) (Err r) c.order.new.state
+    before after past noted) (c.window_numbered.ensures t st fit) (c.in_err-text.ensures.ruled t st fit))
+    st c.in_err-text.ensures.err)
+
+pub returns-clause-step : goal.returns-clause-step
+returns-clause-step c = λ t st fit.
+    let user = c.args.user in
+    let order = c.in_ok-command.command in
+    let lists = c.in_ok-text.text in
+    let before = c.args.made.now in
+    let second = c.order.new.made in
+    let past = c.args.verdicts.now.items in
+    let noted = c.order.new.verdicts.items in
+    was_obeyed t user c.args.window c.args.line.now
+    (sym (c.is_known.ensures t st) ∙ c.if-not-is_known.false) order c.in_ok-command.ensures lists
+    (reply_of 0 0 0 lists) c.order.new.state c.leave.new.state before second c.leave.new.made past
+    noted
+    (subst (λ (o : Option Window). Ruled t
+    (ruling t (record { user = user; client = None; window = o }) order) (Ok lists) c.order.new.state
+    before second past noted) (c.window_numbered.ensures t st fit) (c.in_ok-text.ensures.ruled t st fit))
+    refl (λ d did. c.leave.ensures t d (c.of-focuses.ensures t st fit.sound) did)

@@ -1,0 +1,11 @@
+use Rattle.session_core.specs.Reads.{keys_deed}
+use Rattle.session_core.proofs.KeyStepping.{keys_ended}
+use Rattle.session_core.proofs.key_step.give_order.Goals as goal
+
+pub returns-clause-ok : goal.returns-clause-ok
+returns-clause-ok c = λ t row keys st fit at same read.
+    let given = c.in_ok-give.ensures.ok t row keys st fit at same read in
+    keys_ended t row keys c.give.new.state c.leave.new.state c.args.made.now c.give.new.made
+    c.leave.new.made c.args.verdicts.now.items c.give.new.verdicts.items given
+    (c.leave.ensures t (keys_deed t row keys) (c.of-focuses.ensures t st fit.sound)
+    given.done.stands)

@@ -1,0 +1,27 @@
+use Rattle.std.proofs.Common.{[], Ok, refl, ap, sym, append-nil}
+use Rattle.std.specs.Option.{option_copied}
+use Rattle.session_model.specs.Trace.{Output}
+use Rattle.session_model.specs.Tables.{Window, window_at}
+use Rattle.session_model.specs.Events.{outcome, done, finished, outputs}
+use Rattle.session_rows.proofs.Matching.{both_back}
+use Rattle.windows.specs.Standing.{WindowStands, at_serial}
+use Rattle.session_state.specs.declared.made.Made.{Made}
+use Rattle.session_core.proofs.Outcomes.{was_done, for_there}
+use Rattle.session_core.proofs.programs.write.Goals as goal
+
+pub returns-clause-step : goal.returns-clause-step
+returns-clause-step c = λ past t st fit.
+    let window = c.args.window in
+    let bytes = c.args.bytes.now in
+    let before = c.args.made.now in
+    let first : Made = record before { acts = c.reserve.new.self } in
+    let row = both_back WindowStands (at_serial window t.windows) (option_copied c.get.result)
+    c.in-Some._window.now (c.get.ensures.finds t.windows st.windows) (ap option_copied c.in-Some.is) in
+    let did = c.in_ok-output.ensures.answer t row.0 st fit row.1 in
+    was_done t [] (outputs t row.0 bytes) (outcome t (Output window bytes)) done (Ok c.made_so.result)
+    c.output.new.state c.leave.new.state before first c.output.new.made c.leave.new.made past past
+    (for_there t (λ (w : Window). finished t [] done (outputs t w bytes)) (window_at t window) row.0
+    row.1)
+    (sym c.made_so.ensures) c.in_ok-reserve.ensures.items refl did.1
+    (c.leave.ensures t (outputs t row.0 bytes) (c.of-focuses.ensures t st fit.sound) did.1.stands)
+    (sym (append-nil past))

@@ -1,0 +1,43 @@
+use Rattle.std.proofs.Common.{◌≡◌, ◌++◌, ◌∷◌, [], ℕ, List, subst, ap, sym, ◌∙◌}
+use Rattle.std.specs.Prelude.{◌⊎◌}
+use Rattle.session_model.specs.declared.event.Effect.TheVariants.{Say}
+use Rattle.session_model.specs.declared.message.Message.{Message}
+use Rattle.session_model.specs.declared.message.Message.TheVariants.{Text}
+use Rattle.session_model.specs.Texts.{text_of}
+use Rattle.session_model.specs.declared.refusal.Refusal.TheVariants.{NoMemory}
+use Rattle.session_model.specs.Checks.{typing_checks}
+use Rattle.session_state.specs.declared.caller.Caller.{Caller}
+use Rattle.session_state.specs.declared.made.Made.{Made}
+use Rattle.session_state.specs.Doing.{caller_in}
+use Rattle.session_checks.specs.Checked.{Passed, Failed}
+use Rattle.session_core.specs.Typing.{Typed, input_to}
+use Rattle.session_core.proofs.Inputs.{typed_through, typed_refused_or}
+use Rattle.session_core.proofs.typing.type_bytes.Goals as goal
+
+pub returns-in_ok-put_typed-in-Ok-clause-ok : goal.returns-in_ok-put_typed-in-Ok-clause-ok
+returns-in_ok-put_typed-in-Ok-clause-ok c = λ t row st fit at same.
+    typed_through t row c.args.typed c.args.made.now _ c.args.verdicts.now.items
+    c.check_typing.new.verdicts.items (sym c.is_empty.ensures ∙ c.if-is_empty.false)
+    (subst (λ (k : Caller). Passed t (typing_checks k.user (caller_in t k).window)
+    c.args.verdicts.now.items c.check_typing.new.verdicts.items) same (c.in-Ok.ensures t st fit))
+    (c.in_ok-put_typed-in-Ok.ensures.ok
+    ∙ ap (λ (k : Caller). c.args.made.now.effects.items ++ input_to k.window c.args.typed) same)
+
+pub returns-in_ok-push-in-Err-clause-ok : goal.returns-in_ok-push-in-Err-clause-ok
+returns-in_ok-push-in-Err-clause-ok c = λ t row st fit at same.
+    let r = c.in-Err.refusal in
+    let past = c.args.verdicts.now.items in
+    let noted = c.check_typing.new.verdicts.items in
+    let after : Made = record c.args.made.now { effects = c.push.new.self } in
+    let text = c.in_ok-text-in-Err.ensures.ok
+    ∙ ap (λ (xs : List ℕ). xs ++ text_of r) c.new-text.ensures.items in
+    subst (λ (m : Message). Typed t row c.args.typed m c.args.made.now after past noted)
+    (sym (ap Text (c.in_ok-of-in-Err.ensures ∙ c.deref.ensures.value ∙ text)))
+    (typed_refused_or t row c.args.client c.args.typed r c.args.made.now after past noted
+    (sym c.is_empty.ensures ∙ c.if-is_empty.false) at
+    (sym c.wants_memory.ensures ∙ c.if-wants_memory.false)
+    (subst (λ (k : Caller). (r ≡ NoMemory) ⊎ Failed t (typing_checks k.user (caller_in t k).window)
+    r past noted) same (c.in-Err.ensures t st fit))
+    (c.in_ok-push-in-Err.ensures.items
+    ∙ ap (λ (xs : List ℕ). c.args.made.now.effects.items ++ Say c.args.client xs ∷ [])
+    (c.from_vec.ensures ∙ text)))

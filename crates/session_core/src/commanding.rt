@@ -1,0 +1,78 @@
+//! Commands that users give by lines.
+
+ghost use Rattle.std.specs.Prelude.{◌≡◌, OnErr};
+ghost use Rattle.session_model.specs.Trace.{Command as Given};
+ghost use Rattle.session_state.specs.Doing.{IsAsBefore};
+ghost use Rattle.session_core.specs.Lines.{line_refusal, Parses, IsNumbered};
+ghost use Rattle.session_core.specs.Stepping.{Steps};
+
+use crate::orders::order;
+use acl::UserId;
+use command_lang::{Command, FaultKind, ParseFault, parse};
+use session_checks::is_known;
+use session_leaving::{Focuses, leave};
+use session_model::{Done, Refusal, Reply, Verdict};
+use session_state::{Caller, Made, State};
+use std::alloc::Global;
+
+/// Why a line with a fault is refused.
+fn line_refusal(fault: ParseFault) -> Refusal
+    ensures { result ≡ line_refusal fault }
+{
+    match fault.kind {
+        FaultKind::NoMemory => Refusal::NoMemory,
+        _ => Refusal::Line(fault),
+    }
+}
+
+/// The command that a line says.
+fn command_of(alloc: Global, line: &[u8]) -> Result<Command, Refusal>
+    ensures { Parses line.now result }
+{
+    match parse(alloc, line) {
+        Ok(command) => Ok(command),
+        Err(fault) => Err(line_refusal(fault)),
+    }
+}
+
+/// The serial of the window of a number.
+fn window_numbered(state: &State, number: Option<u8>) -> Option<u32>
+    ensures { IsNumbered state.now number result }
+{
+    let number = number?;
+    let window = state.windows.by_number(u16::from(number))?;
+    Some(window.serial)
+}
+
+/// A known user gives a command by a line, for the window of a number.
+pub(crate) fn give_line(
+    state: &mut State,
+    user: UserId,
+    window: Option<u8>,
+    line: &[u8],
+    made: &mut Made,
+    verdicts: &mut Vec<Verdict>,
+) -> Reply
+    ensures step { Steps (Given user window line.now) state.old result state.new made.old made.new
+        verdicts.old.items verdicts.new.items }
+    ensures err { OnErr result (IsAsBefore state.old state.new made.old made.new) }
+{
+    if !is_known(state, user) {
+        return Err(Refusal::UnknownUser);
+    }
+    let focuses = Focuses::of(state);
+    let command = command_of(state.alloc, line)?;
+    let caller = Caller {
+        user,
+        client: None,
+        window: window_numbered(state, window),
+    };
+    let text = order(state, caller, &command, made, verdicts)?;
+    leave(state, &focuses, made);
+    Ok(Done {
+        taken: 0,
+        made: 0,
+        number: 0,
+        text,
+    })
+}

@@ -1,0 +1,29 @@
+//! What programs of windows write.
+
+ghost use Rattle.std.specs.Prelude.{List, OnErr};
+ghost use Rattle.session_model.specs.declared.verdict.Verdict.{Verdict};
+ghost use Rattle.session_model.specs.Trace.{Output};
+ghost use Rattle.session_state.specs.Doing.{IsAsBefore};
+ghost use Rattle.session_core.specs.Stepping.{Steps};
+
+use crate::coming::made_so;
+use session_events::output;
+use session_leaving::{Focuses, leave};
+use session_model::{Refusal, Reply};
+use session_state::{Made, State};
+
+/// The program of a window writes.
+pub(crate) fn write(state: &mut State, window: u32, bytes: &[u8], made: &mut Made) -> Reply
+    ensures step { (past : List Verdict) → Steps (Output window bytes.now) state.old result
+        state.new made.old made.new past past }
+    ensures err { OnErr result (IsAsBefore state.old state.new made.old made.new) }
+{
+    let Some(_window) = state.windows.get(window) else {
+        return Err(Refusal::NoWindow);
+    };
+    let focuses = Focuses::of(state);
+    made.acts.reserve(256)?;
+    output(state, window, bytes, made)?;
+    leave(state, &focuses, made);
+    Ok(made_so(0, 0))
+}

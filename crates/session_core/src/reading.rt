@@ -1,0 +1,32 @@
+//! Keys of clients.
+
+ghost use Rattle.std.specs.Prelude.{OnErr};
+ghost use Rattle.session_model.specs.Trace.{Keys};
+ghost use Rattle.session_state.specs.Doing.{IsAsBefore};
+ghost use Rattle.session_core.specs.Stepping.{Steps};
+
+use crate::key_step::keys;
+use session_model::{Done, Reply, Verdict};
+use session_state::{Made, State};
+
+/// A client gives keys: they are read up to the first that completes a command or a line. Users
+/// leave windows only where there is one.
+pub(crate) fn give_keys(
+    state: &mut State,
+    client: u32,
+    bytes: &[u8],
+    made: &mut Made,
+    verdicts: &mut Vec<Verdict>,
+) -> Reply
+    ensures step { Steps (Keys client bytes.now) state.old result state.new made.old made.new
+        verdicts.old.items verdicts.new.items }
+    ensures err { OnErr result (IsAsBefore state.old state.new made.old made.new) }
+{
+    let taken = keys(state, client, bytes, made, verdicts)?;
+    Ok(Done {
+        taken,
+        made: 0,
+        number: 0,
+        text: None,
+    })
+}
