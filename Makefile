@@ -3,7 +3,7 @@ RT ?= rt
 PREFIX ?= /usr/local
 PROGRAMS = muxd mux muxsim vtcat
 TESTS = $(notdir $(patsubst %/,%,$(dir $(wildcard crates/*_tests/src))))
-SCRIPTS = $(addprefix contrib/, mux-shell mux-attach mux-over-ssh new-token)
+SCRIPTS = $(addprefix contrib/, mux-shell mux-attach mux-over-ssh mux-command mux-watch muxd-wait new-token)
 
 .PHONY: demo shell build try check test edits examples lint install
 
@@ -59,6 +59,7 @@ lint:
 	shellcheck -s sh $(SCRIPTS) examples/shell.sh $(filter-out %.c %.py, $(wildcard tests/outside/*))
 	tic -c contrib/mux.ti
 	cd man && mandoc -T lint *.1 *.5 *.8
+	tools/crates-table README.md
 
 # Installs what make build made, with its man pages, scripts, the unit and the terminal descriptions.
 BIN = $(DESTDIR)$(PREFIX)/bin
