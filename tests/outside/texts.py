@@ -388,8 +388,106 @@ def teaching(play):
     on.wait("ann", "end of mux-attach", lambda: on.prompts("ann") > before)
 
 
+def policies(play):
+    """docs/POLICIES.md: each policy on a server of its own, and what its guests may not."""
+    on = play.on
+    text = play.text
+    text.leave("mux-shell --title shop sudo -iu lab", "it is played with docs/TEACHING.md")
+    on.open("own")
+    on.run("own", "for name in own sue pia ben kay ann bob jo kim; do new-token --users ~/session/users $name; done")
+    on.run("own", "export MUX_SOCKET=~/session/socket")
+    play.run("own", 'own() { mux-command --user own --token ~/session/own.token "$@"; }')
+    on.run("own", "as() { name=$1; shift; mux-command --user $name --token ~/session/$name.token \"$@\"; }")
+
+    def opened(user, title):
+        """A window, whose program reads what is typed."""
+        on.run("own", "setsid -f mux-shell --user %s --token ~/session/%s.token --title %s cat" % (user, user, title))
+        on.run("own", "muxd-wait --user %s --token ~/session/%s.token --window %s" % (user, user, title))
+
+    def begun():
+        """A server with three windows."""
+        on.run("own", "setsid -f muxd --socket ~/session/socket --users ~/session/users > ~/session/log 2>&1")
+        on.run("own", "muxd-wait")
+        for title in ("desk", "shop", "board"):
+            opened("own", title)
+
+    def lines(*given):
+        """Lines of the text, each of which is done."""
+        for line in given:
+            play.run("own", line)
+            on.run("own", "echo status $?", ["status 0"])
+            on.run("own", "clear")
+
+    def may_not(user, window, line, denial):
+        """A guest's command is refused as is said."""
+        on.run("own", "clear; as %s %s '%s'" % (user, "--window %s" % window if window else "", line), [denial])
+
+    def may(user, window, line):
+        """A guest's command is done."""
+        on.run("own", "clear; as %s %s '%s' && echo it is done" % (user, "--window %s" % window, line), ["it is done"])
+
+    def over():
+        """The session's end."""
+        on.run("own", "own quit; while [ -e ~/session/socket ]; do sleep 0.1; done; clear")
+
+    # stuff meets the checks of keys: with x on it for a moment, what may be typed is told by it.
+    begun()
+    lines("own multiuser on", "own 'aclumask ?-rwx ??-x'", "own 'aclchg sue +r shop'", "own 'aclumask sue-rwx'",
+          "own 'aclchg sue +x detach,next,prev,scrollview'")
+    for command in ("acladd sue", "aclchg sue +w shop", "acldel own", "aclgrp sue own", "aclumask sue+rwx"):
+        may_not("sue", None, command, "denied: x on %s: entry sue -x" % command.split()[0])
+    may_not("sue", None, "windows", "denied: x on windows: entry sue -x")
+    on.run("own", "own 'aclchg sue +x windows,stuff,shop,board'")
+    on.run("own", "clear; as sue windows", ["0 ?  1 shop  2 ?"])
+    opened("own", "later")
+    on.run("own", "clear; as sue windows", ["0 ?  1 shop  2 ?  3 ?"])
+    may_not("sue", "1", "stuff x", "denied: w on window 1: entry sue -w")
+    lines("own 'aclchg sue +w shop'")
+    may("sue", "1", "stuff x")
+    lines("own 'aclchg sue -w shop'")
+    may_not("sue", "1", "stuff x", "denied: w on window 1: entry sue -w")
+    lines("own 'acldel sue'")
+    may_not("sue", "1", "stuff x", "unknown user")
+    over()
+
+    begun()
+    lines("own multiuser on", "own 'aclumask ?-wx ??-x'", "own 'aclchg pia,ben,kay +x detach,next,prev,scrollview'",
+          "own 'aclumask -wx'", "own 'aclchg * -w #'", "own 'aclchg pia +w board'")
+    opened("own", "later")
+    on.run("own", "own 'aclchg pia,ben +x #,stuff,windows'")
+    on.run("own", "clear; as ben windows", ["0 desk  1 shop  2 board  3 later"])
+    may("pia", "2", "stuff x")
+    may_not("pia", "3", "stuff x", "denied: w on window 3: entry pia -w")
+    may_not("ben", "2", "stuff x", "denied: w on window 2: entry ben -w")
+    may_not("ben", None, "aclchg ben +w board", "denied: x on aclchg: entry ben -x")
+    lines("own 'aclchg * -w #'", "own 'aclchg pen +w #'", "own 'aclumask pen+w'", "own 'aclgrp pia pen'")
+    may("pia", "2", "stuff x")
+    lines("own 'aclgrp pia none'")
+    may_not("pia", "2", "stuff x", "denied: w on window 2: entry pia -w")
+    lines("own 'aclgrp ben pen'")
+    may("ben", "2", "stuff x")
+    over()
+
+    begun()
+    lines("own multiuser on", "own 'acladd ann,bob'", "own 'aclumask ?-wx ??-x'",
+          "own 'aclchg jo,kim +x detach,select,next,prev,other,scrollview,windows'", "own 'aclumask jo,kim-wx'",
+          "mux-command --user ann --token ~/session/ann.token 'aclumask jo,kim-wx'",
+          "mux-command --user bob --token ~/session/bob.token 'aclumask jo,kim-wx'",
+          "own 'aclchg ann,bob -x acladd,aclchg,acldel,aclgrp,aclumask'")
+    opened("ann", "hers")
+    on.run("own", "own 'aclchg jo +x stuff,#'")
+    on.run("own", "clear; as jo windows", ["0 desk  1 shop  2 board  3 hers"])
+    may("bob", "3", "stuff x")
+    for window in "03":
+        may_not("jo", window, "stuff x", "denied: w on window %s: entry jo -w" % window)
+    may_not("ann", None, "aclchg jo +w hers", "denied: x on aclchg: entry ann -x")
+    over()
+    text.leave("$ muxsim --show own < support.mux", "make examples compares what it prints")
+
+
 PLAYS = {
     "README.md": readme,
+    "docs/POLICIES.md": policies,
     "docs/TEACHING.md": teaching,
     "docs/FIRST-SESSION.md": first_session,
 }
