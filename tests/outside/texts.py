@@ -202,11 +202,12 @@ class Play:
 
     def real(self, line):
         """Paths of the system are folders of the play's own."""
-        return re.sub(r"/srv/(?=\w)", self.on.far + "/", line)
+        return re.sub(r"/(srv|etc/mux|run/mux)/(?=\w)", self.on.far + "/", line)
 
     def run(self, pane, line):
-        """A command line that ends."""
-        printed = self.text.take("$ " + line)
+        """A command line that ends, of a user or of root."""
+        root = self.text.lines and self.text.lines[0][0] == "# " + line
+        printed = self.text.take(("# " if root else "$ ") + line)
         self.on.run(pane, self.real(line), printed)
 
     def attach(self, pane, line, caption, taken=None):
@@ -485,8 +486,96 @@ def policies(play):
     text.leave("$ muxsim --show own < support.mux", "make examples compares what it prints")
 
 
+def operating(play):
+    """docs/OPERATING.md: what its units start is started by hand."""
+    on = play.on
+    text = play.text
+    system = "it needs systemd, or changes the system; what the unit starts is started here by hand"
+    for line in ("new-token ann", "loginctl enable-linger", "systemctl --user enable --now muxd",
+                 "mux-shell --user ann --title shell"):
+        text.leave("$ " + line, system)
+    text.leave("# useradd --system --shell /usr/sbin/nologin mux", system)
+    on.open("root")
+    os.mkdir(os.path.join(on.far, "ops"))
+    play.run("root", "for name in own console wall ann bob guest1 guest2; do"
+             " new-token --users /etc/mux/ops/users $name; done")
+    text.leave("# systemctl enable --now muxd@ops", system)
+    on.run("root", play.real("(umask 007; setsid -f muxd --socket /run/mux/ops/socket --users /etc/mux/ops/users"
+                             " > /run/mux/log 2>&1)"))
+    play.run("root", "export MUX_SOCKET=/run/mux/ops/socket")
+    on.run("root", "muxd-wait")
+    play.run("root", 'own() { mux-command --user own --token /etc/mux/ops/own.token "$@"; }')
+    play.run("root", "own multiuser on")
+    for line in ("useradd --system --create-home --groups dialout,ops mux-console", "install -d -m 700 /etc/mux/console",
+                 "printf '%s\\n' GROUP=ops 'COMMAND=ssh -e none -tt admin@web1' > /etc/mux/console/web1.conf",
+                 "ln -s /etc/mux/ops/console.token /etc/mux/console/web1.token",
+                 "systemctl enable --now mux-console@web1"):
+        text.leave("# " + line, system)
+    for line in ("own 'aclumask ?-wx ??-x'",
+                 "own 'aclchg ann,bob +x detach,select,next,prev,other,scrollview,windows'",
+                 "own 'aclchg console +x screen,aclumask'",
+                 "mux-command --user console --token /etc/mux/ops/console.token 'aclumask -wx'",
+                 "own 'aclchg console -x aclumask'"):
+        play.run("root", line)
+        on.run("root", "echo status $?", ["status 0"])
+        on.run("root", "clear")
+    console = play.real("setsid -f mux-shell --user console --token /etc/mux/ops/console.token --title web1 -- cat")
+    on.run("root", console)
+    on.run("root", play.real("muxd-wait --window web1 --user console --token /etc/mux/ops/console.token; clear"))
+    on.run("root", play.real("mux-command --user ann --token /etc/mux/ops/ann.token windows"), ["0 web1"])
+    on.open("ann")
+    on.run("ann", play.real("export MUX_SOCKET=/run/mux/ops/socket"))
+    on.type("ann", play.real("mux-attach --user ann --token /etc/mux/ops/ann.token\n"))
+    on.shows("ann", "^0 web1")
+    on.type("ann", "x")
+    on.shows("ann", "^denied: w on window 0: entry ann -w")
+    text.take("own 'aclchg ann +w web1'")
+    on.run("root", "own 'aclchg ann +w web1'")
+    on.type("ann", "hello wall\n")
+    on.shows("ann", "^hello wall")
+    for line in ("own 'aclumask ?-rwx ??-x'", "own 'aclchg wall +r web1'", "own 'aclchg wall +x select'",
+                 "own 'aclumask wall-rwx'"):
+        play.run("root", line)
+    on.open("wall")
+    on.run("wall", play.real("export MUX_SOCKET=/run/mux/ops/socket; cd /etc/mux/ops"))
+    play.attach("wall", "mux-watch --user wall --token wall.token --window web1", "^0 web1")
+    on.shows("wall", "^hello wall")
+    on.type("wall", "x")
+    on.type("ann", "again\n")
+    on.shows("wall", "^again")
+    if any(line.startswith("denied") for line in on.page("wall")):
+        raise Fault("mux-watch types")
+    on.tmux("resize-window", "-t", "texts:wall", "-x", "60", "-y", "12")
+    time.sleep(1)
+    on.shows("wall", "^again")
+    for line in ("make install", "loginctl enable-linger", "systemctl stop"):
+        text.leave(line, system)
+    text.leave("mux-shell script -f FILE", "its program's matter")
+    text.leave("tic -x /usr/local/share/mux/mux.ti", "make lint compiles it")
+    text.leave("$ infocmp -x mux-8color | ssh HOST tic -x -", "it needs another host")
+    text.leave("$ TERM=vt220 ssh HOST", "it needs another host")
+    text.leave("mux-over-ssh --user ann HOST", "tests/outside/terminals plays it")
+    text.take("own wall 'back at three'")
+    on.run("root", "own wall 'back at three'")
+    on.shows("ann", "^own: back at three")
+    on.run("root", "own quit")
+    # The wall waits for the next server, and ends by C-c with its terminal as it was.
+    on.run("root", play.real("while [ -e /run/mux/ops/socket ]; do sleep 0.1; done; setsid -f muxd --socket"
+                             " /run/mux/ops/socket --users /etc/mux/ops/users > /run/mux/log 2>&1; muxd-wait"))
+    on.run("root", "own multiuser on; own aclchg wall +r desk; own 'aclchg wall +x select'")
+    on.run("root", play.real("setsid -f mux-shell --user own --token /etc/mux/ops/own.token --title web1 sh -c 'echo new; cat'"))
+    on.run("root", "muxd-wait --window web1 --user own --token %s/ops/own.token; own 'aclchg wall +r web1'" % on.far)
+    on.shows("wall", "^new")
+    before = on.prompts("wall")
+    on.keys("wall", "C-c")
+    on.wait("wall", "end of mux-watch", lambda: on.prompts("wall") > before)
+    on.run("wall", "stty -a | grep -c ' echo '", ["1"])
+    on.run("root", "own quit")
+
+
 PLAYS = {
     "README.md": readme,
+    "docs/OPERATING.md": operating,
     "docs/POLICIES.md": policies,
     "docs/TEACHING.md": teaching,
     "docs/FIRST-SESSION.md": first_session,
