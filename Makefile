@@ -71,7 +71,7 @@ install:
 	done
 	install -d $(BIN) $(MAN)/man1 $(MAN)/man5 $(MAN)/man8 $(UNITS) $(DESTDIR)$(PREFIX)/share/mux
 	install -m 755 $(addprefix bin/, $(PROGRAMS)) $(SCRIPTS) $(BIN)
-	install -m 644 man/mux.1 man/muxsim.1 man/vtcat.1 $(MAN)/man1
+	install -m 644 man/*.1 $(MAN)/man1
 	install -m 644 man/mux-users.5 $(MAN)/man5
 	install -m 644 man/muxd.8 $(MAN)/man8
 	install -m 644 contrib/mux.ti $(DESTDIR)$(PREFIX)/share/mux

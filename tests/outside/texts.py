@@ -573,8 +573,109 @@ def operating(play):
     on.run("root", "own quit")
 
 
+def muxd_page(play):
+    """man/muxd.8: a session of one's own, and one of a group with a shell of another login."""
+    on = play.on
+    on.open("ann")
+    play.run("ann", "new-token ann")
+    play.run("ann", "mkdir -p -m 700 $XDG_RUNTIME_DIR/mux")
+    play.run("ann", "setsid -f muxd --socket $XDG_RUNTIME_DIR/mux/socket --users ~/.config/mux/users")
+    play.run("ann", "setsid -f mux-shell --user ann --title shell")
+    play.run("ann", "muxd-wait --user ann --window shell")
+    play.attach("ann", "mux-attach --user ann", "^0 shell")
+    before = on.prompts("ann")
+    on.keys("ann", "C-a", "d")
+    on.wait("ann", "end of mux-attach", lambda: on.prompts("ann") > before)
+    on.run("ann", "mux-command --user ann quit; clear")
+    for line in ("$ loginctl enable-linger", "$ systemctl --user start muxd"):
+        play.text.leave(line, "it needs systemd")
+    play.text.leave("# install -d -m 2750 -o ann -g ops /srv/ops", "it needs other logins")
+    os.mkdir(os.path.join(on.far, "ops"))
+    play.run("ann", "new-token --users ~/ops/users own; new-token --users ~/ops/users ann")
+    play.run("ann", "(umask 007; setsid -f muxd --socket /srv/ops/socket --users ~/ops/users)")
+    on.run("ann", "ls -l %s/ops" % on.far, ["srwxrwx---"])
+    play.run("ann", "export MUX_SOCKET=/srv/ops/socket")
+    play.run("ann", "setsid -f mux-shell --user own --token ~/ops/own.token --title lesson sudo -iu lab")
+    on.run("ann", "muxd-wait --user own --token ~/ops/own.token --window lesson; echo status $?", ["status 0"])
+    # The page's .Dl lines stand in its prose.
+    play.text.leave("$ mux-shell --title lesson sudo -iu lab", "as above")
+    on.run("ann", "mux-command --user own --token ~/ops/own.token quit")
+
+
+def mux_users_page(play):
+    """man/mux-users.5: the folder and the umask of a group."""
+    on = play.on
+    on.open("ann")
+    play.text.leave("# install -d -m 2750 -o ann -g ops /srv/ops", "it needs other logins")
+    os.mkdir(os.path.join(on.far, "ops"))
+    on.run("ann", "new-token --users ~/ops/users own")
+    play.run("ann", "(umask 007; setsid -f muxd --socket /srv/ops/socket --users ~/ops/users)")
+    on.run("ann", play.real("muxd-wait --socket /srv/ops/socket; ls -l /srv/ops"), ["srwxrwx---"])
+    on.run("ann", play.real("mux-command --socket /srv/ops/socket --user own --token ~/ops/own.token quit"))
+
+
+def printing_page(play):
+    """man/muxsim.1, man/vtcat.1: the example prints what stands below it."""
+    play.on.open("ann")
+    line = play.text.lines[0][0][2:]
+    play.run("ann", line)
+
+
+def session_pages(play):
+    """Pages of scripts that join a session: their examples, on a server with a window, where all is open."""
+    on = play.on
+    on.open("ann")
+    on.run("ann", "new-token ann; for name in own bob wall; do new-token $name; done; mkdir $XDG_RUNTIME_DIR/mux")
+    on.run("ann", "export MUX_USER=ann; setsid -f muxd --socket $XDG_RUNTIME_DIR/mux/socket"
+           " --users ~/.config/mux/users > log 2>&1")
+    on.run("ann", "muxd-wait; for title in shell second board; do setsid -f mux-shell --user ann --title $title cat;"
+           " muxd-wait --window $title; done; mux-command multiuser on; mux-command acladd bob,wall; clear")
+    while play.text.lines:
+        line = play.text.lines[0][0][2:]
+        if "ssh" in line:
+            play.text.leave("$ " + line, "tests/outside/terminals plays it")
+        elif "mux-attach" in line or "mux-watch" in line:
+            play.attach("ann", line, "^[02] (shell|board)")
+            before = on.prompts("ann")
+            on.keys("ann", *(["C-c"] if "mux-watch" in line else ["C-a", "d"]))
+            on.wait("ann", "end of `%s`" % line, lambda: on.prompts("ann") > before)
+        else:
+            play.run("ann", line)
+            on.run("ann", "echo status $?", ["status 0"])
+            on.run("ann", "clear")
+    on.run("ann", "mux-command quit")
+
+
+def words_agree():
+    """The words of each script's --help are those of its page."""
+    for name in sorted(os.listdir(os.path.join(TOP, "contrib"))):
+        path = os.path.join(TOP, "contrib", name)
+        if not os.access(path, os.X_OK):
+            continue
+        page = os.path.join(TOP, "man", name + ".1")
+        if not os.path.exists(page):
+            raise Fault("contrib/%s has no page man/%s.1" % (name, name))
+        done = subprocess.run([path, "--help"], stdout=subprocess.PIPE, check=True)
+        words = set(re.findall(r"^  --([a-z-]+)", done.stdout.decode(), re.MULTILINE))
+        with open(page, encoding="utf-8") as file:
+            said = set(re.findall(r"^\.It Fl Fl ([a-z-]+)", file.read(), re.MULTILINE))
+        if words != said:
+            raise Fault("man/%s.1 and --help differ: %s" % (name, ", ".join(sorted(words ^ said))))
+
+
 PLAYS = {
     "README.md": readme,
+    "man/muxd.8": muxd_page,
+    "man/mux-users.5": mux_users_page,
+    "man/muxsim.1": printing_page,
+    "man/vtcat.1": printing_page,
+    "man/new-token.1": session_pages,
+    "man/muxd-wait.1": session_pages,
+    "man/mux-command.1": session_pages,
+    "man/mux-watch.1": session_pages,
+    "man/mux-attach.1": session_pages,
+    "man/mux-over-ssh.1": session_pages,
+    "man/mux-shell.1": session_pages,
     "docs/OPERATING.md": operating,
     "docs/POLICIES.md": policies,
     "docs/TEACHING.md": teaching,
@@ -606,6 +707,12 @@ def programs(folder):
 def main(names):
     """Plays the texts."""
     status = 0
+    try:
+        words_agree()
+        print("the words of --help and of the pages agree")
+    except Fault as fault:
+        print("FAILED: %s" % fault)
+        status = 1
     for name in names or PLAYS:
         folder = tempfile.mkdtemp(prefix="mux-texts.")
         os.chmod(folder, 0o755)
