@@ -60,6 +60,8 @@ lint:
 	tic -c contrib/mux.ti
 	cd man && mandoc -T lint *.1 *.5 *.8
 	tools/crates-table README.md
+	tools/proved-table
+	tools/walk docs/READING.md
 
 # Installs what make build made, with its man pages, scripts, the unit and the terminal descriptions.
 BIN = $(DESTDIR)$(PREFIX)/bin
