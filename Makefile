@@ -3,7 +3,7 @@ RT ?= rt
 PREFIX ?= /usr/local
 PROGRAMS = muxd mux muxsim vtcat
 TESTS = $(notdir $(patsubst %/,%,$(dir $(wildcard crates/*_tests/src))))
-SCRIPTS = $(addprefix contrib/, mux-shell mux-attach mux-over-ssh new-token)
+SCRIPTS = $(addprefix contrib/, mux-shell mux-attach mux-over-ssh mux-command mux-watch muxd-wait new-token)
 
 .PHONY: demo shell build try check test edits examples lint install
 
@@ -59,6 +59,9 @@ lint:
 	shellcheck -s sh $(SCRIPTS) examples/shell.sh $(filter-out %.c %.py, $(wildcard tests/outside/*))
 	tic -c contrib/mux.ti
 	cd man && mandoc -T lint *.1 *.5 *.8
+	tools/crates-table README.md
+	tools/proved-table
+	tools/walk docs/READING.md
 
 # Installs what make build made, with its man pages, scripts, the unit and the terminal descriptions.
 BIN = $(DESTDIR)$(PREFIX)/bin
@@ -70,7 +73,7 @@ install:
 	done
 	install -d $(BIN) $(MAN)/man1 $(MAN)/man5 $(MAN)/man8 $(UNITS) $(DESTDIR)$(PREFIX)/share/mux
 	install -m 755 $(addprefix bin/, $(PROGRAMS)) $(SCRIPTS) $(BIN)
-	install -m 644 man/mux.1 man/muxsim.1 man/vtcat.1 $(MAN)/man1
+	install -m 644 man/*.1 $(MAN)/man1
 	install -m 644 man/mux-users.5 $(MAN)/man5
 	install -m 644 man/muxd.8 $(MAN)/man8
 	install -m 644 contrib/mux.ti $(DESTDIR)$(PREFIX)/share/mux

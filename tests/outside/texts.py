@@ -1,0 +1,737 @@
+#!/usr/bin/env python3
+"""Plays the command lines of the texts that users read, as they are printed, from an empty home in a terminal.
+
+usage: tests/outside/texts.py [TEXT..]
+
+A text's command lines are those lines of its blocks that begin with `$ ` (typed by a user), `# ` (by root) or `C-a: ` (at
+the prompt of a session), and the words in backquotes that begin with the name of a program or a script, or with `C-a: `, but for patterns of words (`[..]`).
+Each is either typed into a pane of tmux, in the text's order, and what the text prints below it has to be shown; or it is
+named here with why it is left out. A line that stands in a text and not here, or here and not in the text, is a fault: so
+a text isn't changed without its play. Pictures of two terminals are compared with the panes.
+
+Of muxd(8), mux-users(5) and of each script's page the words of --help are compared, too.
+
+Needs tmux and script (or socat). MUXD, MUX, MUXSIM and VTCAT name the programs (those of bin/, if they aren't set). Where
+root plays it, `sudo -iu lab` is played by a stand-in that runs a shell as the login nobody.
+"""
+import os
+import re
+import shutil
+import subprocess
+import sys
+import tempfile
+import time
+
+TOP = os.path.dirname(os.path.dirname(os.path.dirname(os.path.realpath(__file__))))
+PROGRAMS = ("muxd", "mux", "muxsim", "vtcat")
+SPAN = re.compile(r"`((?:C-a: |(?:mux|muxd|muxsim|vtcat|new-token|mux-[a-z-]+|muxd-wait|own|make|sudo|loginctl|systemctl|tic) |rm -r )[^`]*)`")
+
+
+class Fault(Exception):
+    """What isn't as the text says."""
+
+
+def unescaped(line):
+    """A line of a man page's literal block as it is shown."""
+    return line.replace("\\e", "\\").replace("\\&", "").replace("\\(dq", '"')
+
+
+def blocks_of(path):
+    """The literal blocks of a text, each a list of lines."""
+    with open(path, encoding="utf-8") as file:
+        lines = file.read().split("\n")
+    blocks, block, inside, fence = [], [], False, False
+    for line in lines:
+        if not path.endswith(".md"):
+            if line.startswith(".Bd -literal"):
+                inside = True
+            elif line == ".Ed":
+                inside = False
+            elif line.startswith(".Dl "):
+                blocks.append([unescaped(line[4:])])
+            elif inside:
+                block.append(unescaped(line))
+                continue
+        elif line.startswith("```"):
+            fence = not fence
+        elif not fence and line.startswith("    "):
+            block.append(line[4:])
+            continue
+        if block:
+            blocks.append(block)
+            block = []
+    return blocks
+
+
+class Text:
+    """A text, and which of its command lines are still to be played."""
+
+    def __init__(self, name):
+        self.name = name
+        path = os.path.join(TOP, name)
+        self.lines = []
+        for block in blocks_of(path):
+            for line in block:
+                if re.match(r"\$ |# |C-a: ", line):
+                    self.lines.append([line, []])
+                elif line.startswith("> ") and self.lines:
+                    self.lines[-1][0] += "\n" + line[2:]
+                elif self.lines and block is not None:
+                    self.lines[-1][1].append(line)
+            if self.lines:
+                self.lines.append(None)
+        self.lines = [line for line in self.lines if line]
+        with open(path, encoding="utf-8") as file:
+            text = file.read()
+        self.pictures = re.findall(r"```text\n(.*?)```\n", text, re.DOTALL)
+        self.spans = []
+        if name.endswith(".md"):
+            prose = re.sub(r"^    .*$", "", text, flags=re.MULTILINE)
+            spans = [re.sub(r"\s+", " ", span) for span in SPAN.findall(prose)]
+            # Names of a program's ways, and patterns of words, are no command lines.
+            self.spans = [span for span in spans
+                          if not re.search(r"\[|\.\.|\\|^mux (attach|window|command)$", span)]
+
+    def take(self, line):
+        """The next command line of a block, or one of the prose; what the text prints below it."""
+        if self.lines and self.lines[0][0] == line:
+            return self.lines.pop(0)[1]
+        if line in self.spans:
+            self.spans = [span for span in self.spans if span != line]
+            return []
+        here = self.lines[0][0] if self.lines else "nothing more"
+        raise Fault("%s: has no `%s` here; its next line is `%s`" % (self.name, line, here))
+
+    def leave(self, line, why):
+        """Passes over a line that isn't played."""
+        self.take(line)
+        print("%s: left out: %s (%s)" % (self.name, line, why))
+
+    def end(self):
+        """Every line was played or left out."""
+        left = [line[0] for line in self.lines] + self.spans
+        if left:
+            raise Fault("%s: not played: %s" % (self.name, "; ".join("`%s`" % line for line in left)))
+
+
+class Terminals:
+    """Panes of a tmux of its own, with an empty home."""
+
+    def __init__(self, folder):
+        self.folder = folder
+        self.home = os.path.join(folder, "home")
+        self.far = os.path.join(folder, "srv")
+        os.mkdir(self.home, 0o755)
+        os.mkdir(self.far, 0o755)
+        os.mkdir(os.path.join(folder, "run"), 0o700)
+        self.panes = {}
+
+    def tmux(self, *words):
+        """What tmux prints."""
+        done = subprocess.run(("tmux", "-S", os.path.join(self.folder, "tmux"), "-f", "/dev/null") + words,
+                              stdout=subprocess.PIPE, stderr=subprocess.PIPE, check=False)
+        return done.stdout.decode()
+
+    def open(self, name, rows=30, cols=120):
+        """A terminal with a shell, as a login finds it."""
+        done = os.path.join(self.folder, name + ".done")
+        with open(done, "w", encoding="ascii"):
+            pass
+        words = ["env", "-i", "HOME=" + self.home, "PATH=%s/bin:%s:/usr/sbin" % (self.folder, os.environ["PATH"]),
+                 "TERM=screen", "LC_ALL=C.UTF-8", "PS1=$ ", "TMPDIR=/tmp", "SHELL=/bin/sh", "PROMPT_DIRTRIM=1",
+                 "XDG_RUNTIME_DIR=" + os.path.join(self.folder, "run"),
+                 "PROMPT_COMMAND=echo done >>" + done, "bash", "--norc", "--noprofile"]
+        kind = "new-window" if self.panes else "new-session"
+        extra = ["-n", name] if self.panes else ["-s", "texts", "-n", name, "-x", str(cols), "-y", str(rows)]
+        self.tmux(kind, "-d", *extra, "cd; exec " + " ".join("'%s'" % word for word in words))
+        self.tmux("set-option", "-g", "status", "off")
+        self.tmux("resize-window", "-t", "texts:" + name, "-x", str(cols), "-y", str(rows))
+        self.panes[name] = done
+        self.wait(name, "a prompt", lambda: self.prompts(name) > 0)
+
+    def prompts(self, name):
+        """How many prompts the shell of a terminal made."""
+        with open(self.panes[name], encoding="ascii") as file:
+            return len(file.readlines())
+
+    def page(self, name):
+        """The lines of a terminal."""
+        return self.tmux("capture-pane", "-p", "-t", "texts:" + name).split("\n")
+
+    def wait(self, name, what, holds, seconds=20):
+        """Waits until something holds."""
+        end = time.time() + seconds
+        while not holds():
+            if time.time() > end:
+                raise Fault("no %s; terminal %s shows\n%s" % (what, name, "\n".join(self.page(name)).rstrip()))
+            time.sleep(0.1)
+
+    def keys(self, name, *keys):
+        """Types keys by tmux's names."""
+        self.tmux("send-keys", "-t", "texts:" + name, *keys)
+
+    def type(self, name, text):
+        """Types text as it is."""
+        self.tmux("send-keys", "-t", "texts:" + name, "-l", text)
+
+    def shows(self, name, pattern, seconds=20):
+        """A line with the pattern is shown."""
+        self.wait(name, "line with " + pattern,
+                  lambda: any(re.search(pattern, line) for line in self.page(name)), seconds)
+
+    def run(self, name, line, printed=()):
+        """Types a command line, waits until it has ended, and looks for what it is to print."""
+        before = self.prompts(name)
+        self.type(name, line)
+        self.keys(name, "Enter")
+        self.wait(name, "end of `%s`" % line, lambda: self.prompts(name) > before)
+        for text in printed:
+            self.shows(name, re.escape(text.strip()), 5)
+
+    def end(self):
+        """Ends the panes."""
+        self.tmux("kill-server")
+
+
+class Play:
+    """One text, played in terminals of its own."""
+
+    def __init__(self, name, folder):
+        self.text = Text(name)
+        self.on = Terminals(folder)
+
+    def real(self, line):
+        """Paths of the system are folders of the play's own."""
+        return re.sub(r"/(srv|etc/mux|run/mux)/(?=\w)", self.on.far + "/", line)
+
+    def run(self, pane, line):
+        """A command line that ends, of a user or of root."""
+        root = self.text.lines and self.text.lines[0][0] == "# " + line
+        printed = self.text.take(("# " if root else "$ ") + line)
+        self.on.run(pane, self.real(line), printed)
+
+    def attach(self, pane, line, caption, taken=None):
+        """A command line that attaches the terminal, which then shows a caption."""
+        self.text.take(taken or "$ " + line)
+        self.on.type(pane, self.real(line))
+        self.on.keys(pane, "Enter")
+        self.on.shows(pane, caption)
+
+    def prompt(self, pane, line):
+        """A command at the prompt, typed with no blank between."""
+        self.text.take("C-a: " + line)
+        self.on.keys(pane, "C-a")
+        self.on.type(pane, ": " + line)
+        time.sleep(0.2)
+        self.on.keys(pane, "Enter")
+        time.sleep(0.3)
+
+    def picture(self, left, right):
+        """The text's next picture of two terminals."""
+        want = self.text.pictures.pop(0)
+        end = time.time() + 10
+        while True:
+            pages = [self.on.page(pane)[:8] for pane in (left, right)]
+            have = "".join("|%-44s| |%-44s|\n" % rows for rows in zip(*pages))
+            if have == want:
+                return
+            if time.time() > end:
+                raise Fault("%s: a picture differs; it is\n%s" % (self.text.name, have))
+            time.sleep(0.1)
+
+
+def first_session(play):
+    """docs/FIRST-SESSION.md: two terminals of 8 lines by 44 columns."""
+    on = play.on
+    on.open("ann", 8, 44)
+    on.open("bob", 8, 44)
+    for line in ("mkdir -m 700 ~/first && cd ~/first",
+                 "new-token --users users ann; new-token --users users bob",
+                 "export MUX_SOCKET=~/first/socket",
+                 "setsid -f muxd --socket ~/first/socket --users users > log 2>&1",
+                 "muxd-wait",
+                 "setsid -f mux-shell --user ann --token ann.token sh",
+                 "muxd-wait --user ann --token ann.token --window sh"):
+        play.run("ann", line)
+    play.attach("ann", "mux-attach --user ann --token ann.token", r"^0 sh")
+    for line in ("multiuser on", "aclumask ?-rwx ??-x", "aclchg bob +rw 0", "aclchg bob +x detach,windows",
+                 "aclumask -rwx"):
+        play.prompt("ann", line)
+    play.run("bob", "cd ~/first; export MUX_SOCKET=~/first/socket")
+    play.attach("bob", "mux-attach --user bob --token bob.token", r"^0 sh")
+    on.shows("bob", r"^\$")
+    on.type("bob", "echo hello ann")
+    on.keys("bob", "Enter")
+    on.shows("ann", "^hello ann")
+    on.type("ann", "echo hello bob")
+    on.keys("ann", "Enter")
+    play.picture("ann", "bob")
+    on.keys("ann", "C-a")
+    on.type("ann", ":aclchg bob -w 0")
+    play.picture("ann", "bob")
+    on.keys("ann", "Enter")
+    time.sleep(0.5)
+    on.type("bob", "rm notes")
+    on.keys("bob", "Enter")
+    play.picture("ann", "bob")
+    play.prompt("ann", "aclchg bob +w 0")
+    play.prompt("ann", "writelock on")
+    on.type("bob", "ls")
+    on.keys("bob", "Enter")
+    play.picture("ann", "bob")
+    play.prompt("ann", "writelock off")
+    on.type("bob", "echo thanks")
+    on.keys("bob", "Enter")
+    play.picture("ann", "bob")
+    on.keys("ann", "C-a", "*")
+    on.keys("bob", "C-a", "w")
+    play.picture("ann", "bob")
+    play.prompt("ann", "aclchg bob -r 0")
+    play.picture("ann", "bob")
+    before = on.prompts("bob")
+    play.prompt("ann", "quit")
+    on.wait("bob", "end of mux-attach", lambda: on.prompts("bob") > before)
+    on.run("bob", "echo status $?", ["status 0"])
+    play.text.take("rm -r ~/first")
+    on.run("ann", "rm -r ~/first; ls ~ | wc -l", ["0"])
+    play.text.leave("mux-shell --title lesson sudo -iu lab", "it is played with docs/TEACHING.md")
+
+
+def readme(play):
+    """README.md: a first session with the defaults."""
+    on = play.on
+    text = play.text
+    for line in ("make try-server", "make build", "make dist", "make RT=/path/to/rt", "make demo", "make test"):
+        text.leave(line, "it builds; tests/outside/package plays what it gives")
+    text.leave("make install PREFIX=$HOME/.local", "it builds; tests/outside/package plays what it gives")
+    on.open("ann")
+    for line in ("new-token ann",
+                 "mkdir -p -m 700 $XDG_RUNTIME_DIR/mux",
+                 "setsid -f muxd --socket $XDG_RUNTIME_DIR/mux/socket --users ~/.config/mux/users"
+                 " > $XDG_RUNTIME_DIR/mux/log 2>&1",
+                 "muxd-wait",
+                 "setsid -f mux-shell --user ann --title shell",
+                 "muxd-wait --user ann --window shell"):
+        play.run("ann", line)
+    play.attach("ann", "mux-attach --user ann", "^0 shell")
+    before = on.prompts("ann")
+    on.keys("ann", "C-a", "d")
+    on.wait("ann", "end of mux-attach", lambda: on.prompts("ann") > before)
+    play.attach("ann", "mux-attach --user ann", "^0 shell", taken="mux-attach --user ann")
+    on.type("ann", "echo $((6 * 7))")
+    on.keys("ann", "Enter")
+    on.shows("ann", "^42")
+    before = on.prompts("ann")
+    on.keys("ann", "C-a")
+    on.type("ann", ":quit")
+    on.keys("ann", "Enter")
+    on.wait("ann", "end of mux-attach", lambda: on.prompts("ann") > before)
+    # The terminal that started them is gone, and the session isn't.
+    text.leave("mux-shell --title lesson sudo -iu lab", "it is played with docs/TEACHING.md")
+    text.leave("make demo SCRIPT=classroom", "make examples compares what it prints")
+    text.leave("make lint", "it checks the texts")
+
+
+def teaching(play):
+    """docs/TEACHING.md, "With a server": two folders, a shell of another login."""
+    on = play.on
+    text = play.text
+    text.leave("make demo SCRIPT=class", "make examples compares what it prints")
+    text.leave("make examples", "it compares the pictures")
+    text.leave("sudo -iu lab", "it is played below")
+    for line in ("# useradd -m -s /bin/bash lab",
+                 "# echo 'tess ALL = (lab) NOPASSWD: ALL' > /etc/sudoers.d/mux-lab",
+                 "# install -d -m 2750 -o tess -g class /srv/class"):
+        text.leave(line, "it changes the system; a folder and a stand-in for sudo are taken")
+    os.mkdir(os.path.join(on.far, "class"), 0o2750)
+    on.open("tess")
+    play.run("tess", "for name in own tess ann bob eve; do new-token --users ~/class/users $name; done")
+    play.run("tess", "(umask 007; setsid -f muxd --socket /srv/class/socket --users ~/class/users > ~/class/log 2>&1)")
+    play.run("tess", "export MUX_SOCKET=/srv/class/socket")
+    play.run("tess", "muxd-wait")
+    play.run("tess", "setsid -f mux-shell --user own --token ~/class/own.token --title lesson sudo -iu lab")
+    play.run("tess", "own() { mux-command --user own --token ~/class/own.token \"$@\"; }")
+    for line in ("own multiuser on", "own 'aclumask ?-wx ??-x'",
+                 "own 'aclchg tess,ann,bob,eve +x detach,next,prev,scrollview'", "own 'aclchg tess +w lesson'",
+                 "own 'aclumask -wx tess+w'"):
+        play.run("tess", line)
+    on.open("ann")
+    on.run("ann", "cd " + on.home)
+    text.take("mux-attach --socket /srv/class/socket --user ann --token FILE")
+    on.type("ann", play.real("mux-attach --socket /srv/class/socket --user ann --token ~/class/ann.token\n"))
+    on.shows("ann", "^0 lesson")
+    on.type("ann", "x")
+    on.shows("ann", "^denied: w on window 0: entry ann -w")
+    for line, seen in (("own displays", "0 ann 0"), ("own 'aclchg ann +w lesson'", ""),
+                       ("own 'wall \"well done, ann\"'", "")):
+        text.take(line)
+        on.run("tess", line, [seen] if seen else [])
+    on.shows("ann", "^own: well done, ann")
+    # The lesson's shell can't read the tokens, though ann may type there.
+    on.type("ann", "echo I am $(id -un); cat %s/class/users\n" % on.home)
+    if os.getuid() == 0:
+        on.shows("ann", "Permission denied")
+        on.shows("ann", "^I am nobody")
+    text.take("own 'aclchg ann -w lesson'")
+    on.run("tess", "own 'aclchg ann -w lesson'")
+    on.type("ann", "x")
+    on.shows("ann", "^denied: w on window 0: entry ann -w")
+    play.attach("tess", "mux-attach --user tess --token ~/class/tess.token", "^0 lesson",
+                taken="mux-attach --user tess --token ~/class/tess.token")
+    on.type("tess", "echo I am tess\n")
+    on.shows("ann", "^I am tess")
+    before = on.prompts("tess")
+    on.keys("tess", "C-a", "d")
+    on.wait("tess", "end of mux-attach", lambda: on.prompts("tess") > before)
+    before = on.prompts("ann")
+    text.take("own quit")
+    on.run("tess", "own quit")
+    on.wait("ann", "end of mux-attach", lambda: on.prompts("ann") > before)
+
+
+def policies(play):
+    """docs/POLICIES.md: each policy on a server of its own, and what its guests may not."""
+    on = play.on
+    text = play.text
+    text.leave("mux-shell --title shop sudo -iu lab", "it is played with docs/TEACHING.md")
+    on.open("own")
+    on.run("own", "for name in own sue pia ben kay ann bob jo kim; do new-token --users ~/session/users $name; done")
+    on.run("own", "export MUX_SOCKET=~/session/socket")
+    play.run("own", 'own() { mux-command --user own --token ~/session/own.token "$@"; }')
+    on.run("own", "as() { name=$1; shift; mux-command --user $name --token ~/session/$name.token \"$@\"; }")
+
+    def opened(user, title):
+        """A window, whose program reads what is typed."""
+        on.run("own", "setsid -f mux-shell --user %s --token ~/session/%s.token --title %s cat" % (user, user, title))
+        on.run("own", "muxd-wait --user %s --token ~/session/%s.token --window %s" % (user, user, title))
+
+    def begun():
+        """A server with three windows."""
+        on.run("own", "setsid -f muxd --socket ~/session/socket --users ~/session/users > ~/session/log 2>&1")
+        on.run("own", "muxd-wait")
+        for title in ("desk", "shop", "board"):
+            opened("own", title)
+
+    def lines(*given):
+        """Lines of the text, each of which is done."""
+        for line in given:
+            play.run("own", line)
+            on.run("own", "echo status $?", ["status 0"])
+            on.run("own", "clear")
+
+    def may_not(user, window, line, denial):
+        """A guest's command is refused as is said."""
+        on.run("own", "clear; as %s %s '%s'" % (user, "--window %s" % window if window else "", line), [denial])
+
+    def may(user, window, line):
+        """A guest's command is done."""
+        on.run("own", "clear; as %s %s '%s' && echo it is done" % (user, "--window %s" % window, line), ["it is done"])
+
+    def over():
+        """The session's end."""
+        on.run("own", "own quit; while [ -e ~/session/socket ]; do sleep 0.1; done; clear")
+
+    # stuff meets the checks of keys: with x on it for a moment, what may be typed is told by it.
+    begun()
+    lines("own multiuser on", "own 'aclumask ?-rwx ??-x'", "own 'aclchg sue +r shop'", "own 'aclumask sue-rwx'",
+          "own 'aclchg sue +x detach,next,prev,scrollview'")
+    for command in ("acladd sue", "aclchg sue +w shop", "acldel own", "aclgrp sue own", "aclumask sue+rwx"):
+        may_not("sue", None, command, "denied: x on %s: entry sue -x" % command.split()[0])
+    may_not("sue", None, "windows", "denied: x on windows: entry sue -x")
+    on.run("own", "own 'aclchg sue +x windows,stuff,shop,board'")
+    on.run("own", "clear; as sue windows", ["0 ?  1 shop  2 ?"])
+    opened("own", "later")
+    on.run("own", "clear; as sue windows", ["0 ?  1 shop  2 ?  3 ?"])
+    may_not("sue", "1", "stuff x", "denied: w on window 1: entry sue -w")
+    lines("own 'aclchg sue +w shop'")
+    may("sue", "1", "stuff x")
+    lines("own 'aclchg sue -w shop'")
+    may_not("sue", "1", "stuff x", "denied: w on window 1: entry sue -w")
+    lines("own 'acldel sue'")
+    may_not("sue", "1", "stuff x", "unknown user")
+    over()
+
+    begun()
+    lines("own multiuser on", "own 'aclumask ?-wx ??-x'", "own 'aclchg pia,ben,kay +x detach,next,prev,scrollview'",
+          "own 'aclumask -wx'", "own 'aclchg * -w #'", "own 'aclchg pia +w board'")
+    opened("own", "later")
+    on.run("own", "own 'aclchg pia,ben +x #,stuff,windows'")
+    on.run("own", "clear; as ben windows", ["0 desk  1 shop  2 board  3 later"])
+    may("pia", "2", "stuff x")
+    may_not("pia", "3", "stuff x", "denied: w on window 3: entry pia -w")
+    may_not("ben", "2", "stuff x", "denied: w on window 2: entry ben -w")
+    may_not("ben", None, "aclchg ben +w board", "denied: x on aclchg: entry ben -x")
+    lines("own 'aclchg * -w #'", "own 'aclchg pen +w #'", "own 'aclumask pen+w'", "own 'aclgrp pia pen'")
+    may("pia", "2", "stuff x")
+    lines("own 'aclgrp pia none'")
+    may_not("pia", "2", "stuff x", "denied: w on window 2: entry pia -w")
+    lines("own 'aclgrp ben pen'")
+    may("ben", "2", "stuff x")
+    over()
+
+    begun()
+    lines("own multiuser on", "own 'acladd ann,bob'", "own 'aclumask ?-wx ??-x'",
+          "own 'aclchg jo,kim +x detach,select,next,prev,other,scrollview,windows'", "own 'aclumask jo,kim-wx'",
+          "mux-command --user ann --token ~/session/ann.token 'aclumask jo,kim-wx'",
+          "mux-command --user bob --token ~/session/bob.token 'aclumask jo,kim-wx'",
+          "own 'aclchg ann,bob -x acladd,aclchg,acldel,aclgrp,aclumask'")
+    opened("ann", "hers")
+    on.run("own", "own 'aclchg jo +x stuff,#'")
+    on.run("own", "clear; as jo windows", ["0 desk  1 shop  2 board  3 hers"])
+    may("bob", "3", "stuff x")
+    for window in "03":
+        may_not("jo", window, "stuff x", "denied: w on window %s: entry jo -w" % window)
+    may_not("ann", None, "aclchg jo +w hers", "denied: x on aclchg: entry ann -x")
+    over()
+    text.leave("$ muxsim --show own < support.mux", "make examples compares what it prints")
+
+
+def operating(play):
+    """docs/OPERATING.md: what its units start is started by hand."""
+    on = play.on
+    text = play.text
+    system = "it needs systemd, or changes the system; what the unit starts is started here by hand"
+    for line in ("new-token ann", "loginctl enable-linger", "systemctl --user enable --now muxd",
+                 "mux-shell --user ann --title shell"):
+        text.leave("$ " + line, system)
+    text.leave("# useradd --system --shell /usr/sbin/nologin mux", system)
+    on.open("root")
+    os.mkdir(os.path.join(on.far, "ops"))
+    play.run("root", "for name in own console wall ann bob guest1 guest2; do"
+             " new-token --users /etc/mux/ops/users $name; done")
+    text.leave("# systemctl enable --now muxd@ops", system)
+    on.run("root", play.real("(umask 007; setsid -f muxd --socket /run/mux/ops/socket --users /etc/mux/ops/users"
+                             " > /run/mux/log 2>&1)"))
+    play.run("root", "export MUX_SOCKET=/run/mux/ops/socket")
+    on.run("root", "muxd-wait")
+    play.run("root", 'own() { mux-command --user own --token /etc/mux/ops/own.token "$@"; }')
+    play.run("root", "own multiuser on")
+    for line in ("useradd --system --create-home --groups dialout,ops mux-console", "install -d -m 700 /etc/mux/console",
+                 "printf '%s\\n' GROUP=ops 'COMMAND=ssh -e none -tt admin@web1' > /etc/mux/console/web1.conf",
+                 "ln -s /etc/mux/ops/console.token /etc/mux/console/web1.token",
+                 "systemctl enable --now mux-console@web1"):
+        text.leave("# " + line, system)
+    for line in ("own 'aclumask ?-wx ??-x'",
+                 "own 'aclchg ann,bob +x detach,select,next,prev,other,scrollview,windows'",
+                 "own 'aclchg console +x screen,aclumask'",
+                 "mux-command --user console --token /etc/mux/ops/console.token 'aclumask -wx'",
+                 "own 'aclchg console -x aclumask'"):
+        play.run("root", line)
+        on.run("root", "echo status $?", ["status 0"])
+        on.run("root", "clear")
+    console = play.real("setsid -f mux-shell --user console --token /etc/mux/ops/console.token --title web1 -- cat")
+    on.run("root", console)
+    on.run("root", play.real("muxd-wait --window web1 --user console --token /etc/mux/ops/console.token; clear"))
+    on.run("root", play.real("mux-command --user ann --token /etc/mux/ops/ann.token windows"), ["0 web1"])
+    on.open("ann")
+    on.run("ann", play.real("export MUX_SOCKET=/run/mux/ops/socket"))
+    on.type("ann", play.real("mux-attach --user ann --token /etc/mux/ops/ann.token\n"))
+    on.shows("ann", "^0 web1")
+    on.type("ann", "x")
+    on.shows("ann", "^denied: w on window 0: entry ann -w")
+    text.take("own 'aclchg ann +w web1'")
+    on.run("root", "own 'aclchg ann +w web1'")
+    on.type("ann", "hello wall\n")
+    on.shows("ann", "^hello wall")
+    for line in ("own 'aclumask ?-rwx ??-x'", "own 'aclchg wall +r web1'", "own 'aclchg wall +x select'",
+                 "own 'aclumask wall-rwx'"):
+        play.run("root", line)
+    on.open("wall")
+    on.run("wall", play.real("export MUX_SOCKET=/run/mux/ops/socket; cd /etc/mux/ops"))
+    play.attach("wall", "mux-watch --user wall --token wall.token --window web1", "^0 web1")
+    on.shows("wall", "^hello wall")
+    on.type("wall", "x")
+    on.type("ann", "again\n")
+    on.shows("wall", "^again")
+    if any(line.startswith("denied") for line in on.page("wall")):
+        raise Fault("mux-watch types")
+    on.tmux("resize-window", "-t", "texts:wall", "-x", "60", "-y", "12")
+    time.sleep(1)
+    on.shows("wall", "^again")
+    for line in ("make install", "loginctl enable-linger", "systemctl stop"):
+        text.leave(line, system)
+    text.leave("mux-shell script -f FILE", "its program's matter")
+    text.leave("tic -x /usr/local/share/mux/mux.ti", "make lint compiles it")
+    text.leave("$ infocmp -x mux-8color | ssh HOST tic -x -", "it needs another host")
+    text.leave("$ TERM=vt220 ssh HOST", "it needs another host")
+    text.leave("mux-over-ssh --user ann HOST", "tests/outside/terminals plays it")
+    text.take("own wall 'back at three'")
+    on.run("root", "own wall 'back at three'")
+    on.shows("ann", "^own: back at three")
+    on.run("root", "own quit")
+    # The wall waits for the next server, and ends by C-c with its terminal as it was.
+    on.run("root", play.real("while [ -e /run/mux/ops/socket ]; do sleep 0.1; done; setsid -f muxd --socket"
+                             " /run/mux/ops/socket --users /etc/mux/ops/users > /run/mux/log 2>&1; muxd-wait"))
+    on.run("root", "own multiuser on; own aclchg wall +r desk; own 'aclchg wall +x select'")
+    on.run("root", play.real("setsid -f mux-shell --user own --token /etc/mux/ops/own.token --title web1 sh -c 'echo new; cat'"))
+    on.run("root", "muxd-wait --window web1 --user own --token %s/ops/own.token; own 'aclchg wall +r web1'" % on.far)
+    on.shows("wall", "^new")
+    before = on.prompts("wall")
+    on.keys("wall", "C-c")
+    on.wait("wall", "end of mux-watch", lambda: on.prompts("wall") > before)
+    on.run("wall", "stty -a | grep -c ' echo '", ["1"])
+    on.run("root", "own quit")
+
+
+def muxd_page(play):
+    """man/muxd.8: a session of one's own, and one of a group with a shell of another login."""
+    on = play.on
+    on.open("ann")
+    play.run("ann", "new-token ann")
+    play.run("ann", "mkdir -p -m 700 $XDG_RUNTIME_DIR/mux")
+    play.run("ann", "setsid -f muxd --socket $XDG_RUNTIME_DIR/mux/socket --users ~/.config/mux/users")
+    play.run("ann", "setsid -f mux-shell --user ann --title shell")
+    play.run("ann", "muxd-wait --user ann --window shell")
+    play.attach("ann", "mux-attach --user ann", "^0 shell")
+    before = on.prompts("ann")
+    on.keys("ann", "C-a", "d")
+    on.wait("ann", "end of mux-attach", lambda: on.prompts("ann") > before)
+    on.run("ann", "mux-command --user ann quit; clear")
+    for line in ("$ loginctl enable-linger", "$ systemctl --user start muxd"):
+        play.text.leave(line, "it needs systemd")
+    play.text.leave("# install -d -m 2750 -o ann -g ops /srv/ops", "it needs other logins")
+    os.mkdir(os.path.join(on.far, "ops"))
+    play.run("ann", "new-token --users ~/ops/users own; new-token --users ~/ops/users ann")
+    play.run("ann", "(umask 007; setsid -f muxd --socket /srv/ops/socket --users ~/ops/users)")
+    on.run("ann", "ls -l %s/ops" % on.far, ["srwxrwx---"])
+    play.run("ann", "export MUX_SOCKET=/srv/ops/socket")
+    play.run("ann", "setsid -f mux-shell --user own --token ~/ops/own.token --title lesson sudo -iu lab")
+    on.run("ann", "muxd-wait --user own --token ~/ops/own.token --window lesson; echo status $?", ["status 0"])
+    # The page's .Dl lines stand in its prose.
+    play.text.leave("$ mux-shell --title lesson sudo -iu lab", "as above")
+    on.run("ann", "mux-command --user own --token ~/ops/own.token quit")
+
+
+def mux_users_page(play):
+    """man/mux-users.5: the folder and the umask of a group."""
+    on = play.on
+    on.open("ann")
+    play.text.leave("# install -d -m 2750 -o ann -g ops /srv/ops", "it needs other logins")
+    os.mkdir(os.path.join(on.far, "ops"))
+    on.run("ann", "new-token --users ~/ops/users own")
+    play.run("ann", "(umask 007; setsid -f muxd --socket /srv/ops/socket --users ~/ops/users)")
+    on.run("ann", play.real("muxd-wait --socket /srv/ops/socket; ls -l /srv/ops"), ["srwxrwx---"])
+    on.run("ann", play.real("mux-command --socket /srv/ops/socket --user own --token ~/ops/own.token quit"))
+
+
+def printing_page(play):
+    """man/muxsim.1, man/vtcat.1: the example prints what stands below it."""
+    play.on.open("ann")
+    line = play.text.lines[0][0][2:]
+    play.run("ann", line)
+
+
+def session_pages(play):
+    """Pages of scripts that join a session: their examples, on a server with a window, where all is open."""
+    on = play.on
+    on.open("ann")
+    on.run("ann", "new-token ann; for name in own bob wall; do new-token $name; done; mkdir $XDG_RUNTIME_DIR/mux")
+    on.run("ann", "export MUX_USER=ann; setsid -f muxd --socket $XDG_RUNTIME_DIR/mux/socket"
+           " --users ~/.config/mux/users > log 2>&1")
+    on.run("ann", "muxd-wait; for title in shell second board; do setsid -f mux-shell --user ann --title $title cat;"
+           " muxd-wait --window $title; done; mux-command multiuser on; mux-command acladd bob,wall; clear")
+    while play.text.lines:
+        line = play.text.lines[0][0][2:]
+        if "ssh" in line:
+            play.text.leave("$ " + line, "tests/outside/terminals plays it")
+        elif "mux-attach" in line or "mux-watch" in line:
+            play.attach("ann", line, "^[02] (shell|board)")
+            before = on.prompts("ann")
+            on.keys("ann", *(["C-c"] if "mux-watch" in line else ["C-a", "d"]))
+            on.wait("ann", "end of `%s`" % line, lambda: on.prompts("ann") > before)
+        else:
+            play.run("ann", line)
+            on.run("ann", "echo status $?", ["status 0"])
+            on.run("ann", "clear")
+    on.run("ann", "mux-command quit")
+
+
+def words_agree():
+    """The words of each script's --help are those of its page."""
+    for name in sorted(os.listdir(os.path.join(TOP, "contrib"))):
+        path = os.path.join(TOP, "contrib", name)
+        if not os.access(path, os.X_OK):
+            continue
+        page = os.path.join(TOP, "man", name + ".1")
+        if not os.path.exists(page):
+            raise Fault("contrib/%s has no page man/%s.1" % (name, name))
+        done = subprocess.run([path, "--help"], stdout=subprocess.PIPE, check=True)
+        words = set(re.findall(r"^  --([a-z-]+)", done.stdout.decode(), re.MULTILINE))
+        with open(page, encoding="utf-8") as file:
+            said = set(re.findall(r"^\.It Fl Fl ([a-z-]+)", file.read(), re.MULTILINE))
+        if words != said:
+            raise Fault("man/%s.1 and --help differ: %s" % (name, ", ".join(sorted(words ^ said))))
+
+
+PLAYS = {
+    "README.md": readme,
+    "man/muxd.8": muxd_page,
+    "man/mux-users.5": mux_users_page,
+    "man/muxsim.1": printing_page,
+    "man/vtcat.1": printing_page,
+    "man/new-token.1": session_pages,
+    "man/muxd-wait.1": session_pages,
+    "man/mux-command.1": session_pages,
+    "man/mux-watch.1": session_pages,
+    "man/mux-attach.1": session_pages,
+    "man/mux-over-ssh.1": session_pages,
+    "man/mux-shell.1": session_pages,
+    "docs/OPERATING.md": operating,
+    "docs/POLICIES.md": policies,
+    "docs/TEACHING.md": teaching,
+    "docs/FIRST-SESSION.md": first_session,
+}
+
+
+def programs(folder):
+    """A folder with the programs and scripts, and a stand-in for sudo."""
+    os.mkdir(os.path.join(folder, "bin"))
+    for program in PROGRAMS:
+        path = os.environ.get(program.upper(), os.path.join(TOP, "bin", program))
+        if not os.access(path, os.X_OK):
+            sys.exit("tests/outside/texts.py: no program %s; make build makes it" % path)
+        os.symlink(os.path.realpath(path), os.path.join(folder, "bin", program))
+    for name in os.listdir(os.path.join(TOP, "contrib")):
+        path = os.path.join(TOP, "contrib", name)
+        if os.access(path, os.X_OK) and os.path.isfile(path):
+            os.symlink(path, os.path.join(folder, "bin", name))
+    sudo = os.path.join(folder, "bin", "sudo")
+    with open(sudo, "w", encoding="ascii") as file:
+        if os.getuid() == 0:
+            file.write("#!/bin/sh\ncd /\nexec setpriv --reuid=65534 --regid=65534 --clear-groups env HOME=/ sh\n")
+        else:
+            file.write("#!/bin/sh\nexec sh\n")
+    os.chmod(sudo, 0o755)
+
+
+def main(names):
+    """Plays the texts."""
+    status = 0
+    try:
+        words_agree()
+        print("the words of --help and of the pages agree")
+    except Fault as fault:
+        print("FAILED: %s" % fault)
+        status = 1
+    for name in names or PLAYS:
+        folder = tempfile.mkdtemp(prefix="mux-texts.")
+        os.chmod(folder, 0o755)
+        play = None
+        try:
+            programs(folder)
+            play = Play(name, folder)
+            PLAYS[name](play)
+            play.text.end()
+            print("%s: played" % name)
+        except Fault as fault:
+            print("FAILED: %s: %s" % (name, fault))
+            status = 1
+        finally:
+            if play:
+                play.on.end()
+            shutil.rmtree(folder, ignore_errors=True)
+    return status
+
+
+if __name__ == "__main__":
+    sys.exit(main(sys.argv[1:]))
