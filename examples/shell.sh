@@ -101,9 +101,13 @@ give() {
 }
 until give windows | grep -q shell; do sleep 0.1; done
 
-# At first the session is ann's alone, and knows nobody else.
+# At first the session is ann's alone, and knows nobody else.  A new name gets nothing; bob gets r and w on window 0, and
+# no command but detach, so that he can't undo what ann takes from him; and nothing on windows that she opens later.
 give 'multiuser on'
-give 'acladd bob'
+give 'aclumask ?-rwx ??-x'
+give 'aclchg bob +rw 0'
+give 'aclchg bob +x detach'
+give 'aclumask bob-rwx'
 
 attach ann
 ann=$!

@@ -3,16 +3,17 @@
 
 usage: tests/outside/texts.py [TEXT..]
 
-A text's command lines are those lines of its blocks that begin with `$ ` (typed by a user), `# ` (by root) or `C-a: ` (at
-the prompt of a session), and the words in backquotes that begin with the name of a program or a script, or with `C-a: `, but for patterns of words (`[..]`).
-Each is either typed into a pane of tmux, in the text's order, and what the text prints below it has to be shown; or it is
-named here with why it is left out. A line that stands in a text and not here, or here and not in the text, is a fault: so
-a text isn't changed without its play. Pictures of two terminals are compared with the panes.
+A text's command lines are those lines of its blocks that begin with `$ ` (typed by a user), `# ` (by root) or `C-a: `
+(at the prompt of a session), and the words in backquotes that begin with the name of a program or a script, or with
+`C-a: `, but for patterns of words (`[..]`). Each is either typed into a pane of tmux, in the text's order, and what the
+text prints below it has to be shown; or it is named here with why it is left out. A line that stands in a text and not
+here, or here and not in the text, is a fault: so a text isn't changed without its play. Pictures of two terminals are
+compared with the panes.
 
 Of muxd(8), mux-users(5) and of each script's page the words of --help are compared, too.
 
-Needs tmux and script (or socat). MUXD, MUX, MUXSIM and VTCAT name the programs (those of bin/, if they aren't set). Where
-root plays it, `sudo -iu lab` is played by a stand-in that runs a shell as the login nobody.
+Needs tmux and script (or socat). MUXD, MUX, MUXSIM and VTCAT name the programs (those of bin/, if they aren't set).
+Where root plays it, `sudo -iu lab` is played by a stand-in that runs a shell as the login nobody.
 """
 import os
 import re
@@ -24,7 +25,8 @@ import time
 
 TOP = os.path.dirname(os.path.dirname(os.path.dirname(os.path.realpath(__file__))))
 PROGRAMS = ("muxd", "mux", "muxsim", "vtcat")
-SPAN = re.compile(r"`((?:C-a: |(?:mux|muxd|muxsim|vtcat|new-token|mux-[a-z-]+|muxd-wait|own|make|sudo|loginctl|systemctl|tic) |rm -r )[^`]*)`")
+SPAN = re.compile(r"`((?:C-a: |(?:mux|muxd|muxsim|vtcat|new-token|mux-[a-z-]+|muxd-wait|own|make|sudo|loginctl"
+                  r"|systemctl|tic) |rm -r )[^`]*)`")
 
 
 class Fault(Exception):
@@ -87,7 +89,7 @@ class Text:
         self.spans = []
         if name.endswith(".md"):
             prose = re.sub(r"^    .*$", "", text, flags=re.MULTILINE)
-            spans = [re.sub(r"\s+", " ", span) for span in SPAN.findall(prose)]
+            spans = SPAN.findall(re.sub(r"\s+", " ", prose))
             # Names of a program's ways, and patterns of words, are no command lines.
             self.spans = [span for span in spans
                           if not re.search(r"\[|\.\.|\\|^mux (attach|window|command)$", span)]
@@ -506,7 +508,8 @@ def operating(play):
     on.run("root", "muxd-wait")
     play.run("root", 'own() { mux-command --user own --token /etc/mux/ops/own.token "$@"; }')
     play.run("root", "own multiuser on")
-    for line in ("useradd --system --create-home --groups dialout,ops mux-console", "install -d -m 700 /etc/mux/console",
+    for line in ("useradd --system --create-home --groups dialout,ops mux-console",
+                 "install -d -m 700 /etc/mux/console",
                  "printf '%s\\n' GROUP=ops 'COMMAND=ssh -e none -tt admin@web1' > /etc/mux/console/web1.conf",
                  "ln -s /etc/mux/ops/console.token /etc/mux/console/web1.token",
                  "systemctl enable --now mux-console@web1"):
@@ -563,7 +566,8 @@ def operating(play):
     on.run("root", play.real("while [ -e /run/mux/ops/socket ]; do sleep 0.1; done; setsid -f muxd --socket"
                              " /run/mux/ops/socket --users /etc/mux/ops/users > /run/mux/log 2>&1; muxd-wait"))
     on.run("root", "own multiuser on; own aclchg wall +r desk; own 'aclchg wall +x select'")
-    on.run("root", play.real("setsid -f mux-shell --user own --token /etc/mux/ops/own.token --title web1 sh -c 'echo new; cat'"))
+    on.run("root", play.real("setsid -f mux-shell --user own --token /etc/mux/ops/own.token --title web1"
+                             " sh -c 'echo new; cat'"))
     on.run("root", "muxd-wait --window web1 --user own --token %s/ops/own.token; own 'aclchg wall +r web1'" % on.far)
     on.shows("wall", "^new")
     before = on.prompts("wall")
@@ -571,6 +575,13 @@ def operating(play):
     on.wait("wall", "end of mux-watch", lambda: on.prompts("wall") > before)
     on.run("wall", "stty -a | grep -c ' echo '", ["1"])
     on.run("root", "own quit")
+
+
+def words_alone(play):
+    """docs/FOR-SCREEN-USERS.md and examples/README.md: no line to be typed as it stands."""
+    for line in {"docs/FOR-SCREEN-USERS.md": ("mux-attach --user NAME", "muxsim --edition 1"),
+                 "examples/README.md": ("make build", "make demo SCRIPT=rights", "make examples")}[play.text.name]:
+        play.text.leave(line, "it is a pattern, or builds")
 
 
 def muxd_page(play):
@@ -665,6 +676,8 @@ def words_agree():
 
 PLAYS = {
     "README.md": readme,
+    "docs/FOR-SCREEN-USERS.md": words_alone,
+    "examples/README.md": words_alone,
     "man/muxd.8": muxd_page,
     "man/mux-users.5": mux_users_page,
     "man/muxsim.1": printing_page,
