@@ -140,7 +140,7 @@ step 'ann gives it back, but locks the window (writelock on); bob types "ls".'
 give --window 0 'writelock off'
 printf '\001:wall "go on, bob"\r' >&3
 until_shown bob '^|ann: go on, bob'
-step 'ann frees the lock, and says so to all (C-a : wall "go on, bob").'
+step 'ann frees the lock, and says so to all (C-a: wall "go on, bob").'
 
 printf 'echo thanks\r' >&4
 until_shown bob '^|thanks'

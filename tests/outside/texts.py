@@ -494,7 +494,7 @@ def operating(play):
     text = play.text
     system = "it needs systemd, or changes the system; what the unit starts is started here by hand"
     for line in ("new-token ann", "loginctl enable-linger", "systemctl --user enable --now muxd",
-                 "mux-shell --user ann --title shell"):
+                 "setsid -f mux-shell --user ann --title shell"):
         text.leave("$ " + line, system)
     text.leave("# useradd --system --shell /usr/sbin/nologin mux", system)
     on.open("root")
