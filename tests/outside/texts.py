@@ -667,9 +667,12 @@ def words_agree():
         if not os.path.exists(page):
             raise Fault("contrib/%s has no page man/%s.1" % (name, name))
         done = subprocess.run([path, "--help"], stdout=subprocess.PIPE, check=True)
-        words = set(re.findall(r"^  --([a-z-]+)", done.stdout.decode(), re.MULTILINE))
+        listed = re.findall(r"^  (--[a-z-]+(?: [A-Z]+)?(?:, --[a-z-]+(?: [A-Z]+)?)*)", done.stdout.decode(),
+                            re.MULTILINE)
+        words = set(re.findall(r"--([a-z-]+)", " ".join(listed)))
         with open(page, encoding="utf-8") as file:
-            said = set(re.findall(r"^\.It Fl Fl ([a-z-]+)", file.read(), re.MULTILINE))
+            tagged = re.findall(r"^\.It .*", file.read(), re.MULTILINE)
+        said = set(re.findall(r"Fl Fl ([a-z-]+)", " ".join(tagged)))
         if words != said:
             raise Fault("man/%s.1 and --help differ: %s" % (name, ", ".join(sorted(words ^ said))))
 
