@@ -396,6 +396,7 @@ def policies(play):
     on = play.on
     text = play.text
     text.leave("mux-shell --title shop sudo -iu lab", "it is played with docs/TEACHING.md")
+    text.leave("mux-shell --title shop podman run --rm -it debian bash", "it needs podman, and fetches an image")
     on.open("own")
     on.run("own", "for name in own sue pia ben kay ann bob jo kim; do new-token --users ~/session/users $name; done")
     on.run("own", "export MUX_SOCKET=~/session/socket")
