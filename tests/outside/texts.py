@@ -18,6 +18,7 @@ Where root plays it, `sudo -iu lab` is played by a stand-in that runs a shell as
 import os
 import re
 import shutil
+import signal
 import subprocess
 import sys
 import tempfile
@@ -126,6 +127,7 @@ class Terminals:
         os.mkdir(self.home, 0o755)
         os.mkdir(self.far, 0o755)
         os.mkdir(os.path.join(folder, "run"), 0o700)
+        os.mkdir(os.path.join(folder, "tmp"), 0o700)
         self.panes = {}
 
     def tmux(self, *words):
@@ -139,8 +141,9 @@ class Terminals:
         done = os.path.join(self.folder, name + ".done")
         with open(done, "w", encoding="ascii"):
             pass
-        words = ["env", "-i", "HOME=" + self.home, "PATH=%s/bin:%s:/usr/sbin" % (self.folder, os.environ["PATH"]),
-                 "TERM=screen", "LC_ALL=C.UTF-8", "PS1=$ ", "TMPDIR=/tmp", "SHELL=/bin/sh", "PROMPT_DIRTRIM=1",
+        words = ["env", "-i", "MUX_TEXTS=" + self.folder, "HOME=" + self.home,
+                 "PATH=%s/bin:%s:/usr/sbin" % (self.folder, os.environ["PATH"]),
+                 "TERM=screen", "LC_ALL=C.UTF-8", "PS1=$ ", "TMPDIR=%s/tmp" % self.folder, "SHELL=/bin/sh",
                  "XDG_RUNTIME_DIR=" + os.path.join(self.folder, "run"),
                  "PROMPT_COMMAND=echo done >>" + done, "bash", "--norc", "--noprofile"]
         kind = "new-window" if self.panes else "new-session"
@@ -191,8 +194,22 @@ class Terminals:
             self.shows(name, re.escape(text.strip()), 5)
 
     def end(self):
-        """Ends the panes."""
+        """Ends the panes, and all that was started in them, which has the folder in its environment."""
         self.tmux("kill-server")
+        mark = b"MUX_TEXTS=" + self.folder.encode() + b"\0"
+        for sign in (signal.SIGTERM, signal.SIGKILL):
+            left = 0
+            for name in os.listdir("/proc"):
+                try:
+                    with open("/proc/%s/environ" % name, "rb") as file:
+                        if name.isdigit() and mark in file.read():
+                            os.kill(int(name), sign)
+                            left += 1
+                except OSError:
+                    pass
+            if not left:
+                return
+            time.sleep(0.5)
 
 
 class Play:
