@@ -62,6 +62,7 @@ lint:
 	tools/crates-table README.md
 	tools/proved-table
 	tools/walk docs/READING.md
+	tools/prose README.md docs/*.md examples/README.md
 
 # Installs what make build made, with its man pages, scripts, the unit and the terminal descriptions.
 BIN = $(DESTDIR)$(PREFIX)/bin

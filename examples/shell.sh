@@ -101,9 +101,13 @@ give() {
 }
 until give windows | grep -q shell; do sleep 0.1; done
 
-# At first the session is ann's alone, and knows nobody else.
+# At first the session is ann's alone, and knows nobody else.  A new name gets nothing; bob gets r and w on window 0, and
+# no command but detach, so that he can't undo what ann takes from him; and nothing on windows that she opens later.
 give 'multiuser on'
-give 'acladd bob'
+give 'aclumask ?-rwx ??-x'
+give 'aclchg bob +rw 0'
+give 'aclchg bob +x detach'
+give 'aclumask bob-rwx'
 
 attach ann
 ann=$!
@@ -136,7 +140,7 @@ step 'ann gives it back, but locks the window (writelock on); bob types "ls".'
 give --window 0 'writelock off'
 printf '\001:wall "go on, bob"\r' >&3
 until_shown bob '^|ann: go on, bob'
-step 'ann frees the lock, and says so to all (C-a : wall "go on, bob").'
+step 'ann frees the lock, and says so to all (C-a: wall "go on, bob").'
 
 printf 'echo thanks\r' >&4
 until_shown bob '^|thanks'

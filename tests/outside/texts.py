@@ -3,20 +3,22 @@
 
 usage: tests/outside/texts.py [TEXT..]
 
-A text's command lines are those lines of its blocks that begin with `$ ` (typed by a user), `# ` (by root) or `C-a: ` (at
-the prompt of a session), and the words in backquotes that begin with the name of a program or a script, or with `C-a: `, but for patterns of words (`[..]`).
-Each is either typed into a pane of tmux, in the text's order, and what the text prints below it has to be shown; or it is
-named here with why it is left out. A line that stands in a text and not here, or here and not in the text, is a fault: so
-a text isn't changed without its play. Pictures of two terminals are compared with the panes.
+A text's command lines are those lines of its blocks that begin with `$ ` (typed by a user), `# ` (by root) or `C-a: `
+(at the prompt of a session), and the words in backquotes that begin with the name of a program or a script, or with
+`C-a: `, but for patterns of words (`[..]`). Each is either typed into a pane of tmux, in the text's order, and what the
+text prints below it has to be shown; or it is named here with why it is left out. A line that stands in a text and not
+here, or here and not in the text, is a fault: so a text isn't changed without its play. Pictures of two terminals are
+compared with the panes.
 
 Of muxd(8), mux-users(5) and of each script's page the words of --help are compared, too.
 
-Needs tmux and script (or socat). MUXD, MUX, MUXSIM and VTCAT name the programs (those of bin/, if they aren't set). Where
-root plays it, `sudo -iu lab` is played by a stand-in that runs a shell as the login nobody.
+Needs tmux and script (or socat). MUXD, MUX, MUXSIM and VTCAT name the programs (those of bin/, if they aren't set).
+Where root plays it, `sudo -iu lab` is played by a stand-in that runs a shell as the login nobody.
 """
 import os
 import re
 import shutil
+import signal
 import subprocess
 import sys
 import tempfile
@@ -24,7 +26,8 @@ import time
 
 TOP = os.path.dirname(os.path.dirname(os.path.dirname(os.path.realpath(__file__))))
 PROGRAMS = ("muxd", "mux", "muxsim", "vtcat")
-SPAN = re.compile(r"`((?:C-a: |(?:mux|muxd|muxsim|vtcat|new-token|mux-[a-z-]+|muxd-wait|own|make|sudo|loginctl|systemctl|tic) |rm -r )[^`]*)`")
+SPAN = re.compile(r"`((?:C-a: |(?:mux|muxd|muxsim|vtcat|new-token|mux-[a-z-]+|muxd-wait|own|make|sudo|loginctl"
+                  r"|systemctl|tic) |rm -r )[^`]*)`")
 
 
 class Fault(Exception):
@@ -87,7 +90,7 @@ class Text:
         self.spans = []
         if name.endswith(".md"):
             prose = re.sub(r"^    .*$", "", text, flags=re.MULTILINE)
-            spans = [re.sub(r"\s+", " ", span) for span in SPAN.findall(prose)]
+            spans = SPAN.findall(re.sub(r"\s+", " ", prose))
             # Names of a program's ways, and patterns of words, are no command lines.
             self.spans = [span for span in spans
                           if not re.search(r"\[|\.\.|\\|^mux (attach|window|command)$", span)]
@@ -124,6 +127,7 @@ class Terminals:
         os.mkdir(self.home, 0o755)
         os.mkdir(self.far, 0o755)
         os.mkdir(os.path.join(folder, "run"), 0o700)
+        os.mkdir(os.path.join(folder, "tmp"), 0o700)
         self.panes = {}
 
     def tmux(self, *words):
@@ -137,8 +141,9 @@ class Terminals:
         done = os.path.join(self.folder, name + ".done")
         with open(done, "w", encoding="ascii"):
             pass
-        words = ["env", "-i", "HOME=" + self.home, "PATH=%s/bin:%s:/usr/sbin" % (self.folder, os.environ["PATH"]),
-                 "TERM=screen", "LC_ALL=C.UTF-8", "PS1=$ ", "TMPDIR=/tmp", "SHELL=/bin/sh", "PROMPT_DIRTRIM=1",
+        words = ["env", "-i", "MUX_TEXTS=" + self.folder, "HOME=" + self.home,
+                 "PATH=%s/bin:%s:/usr/sbin" % (self.folder, os.environ["PATH"]),
+                 "TERM=screen", "LC_ALL=C.UTF-8", "PS1=$ ", "TMPDIR=%s/tmp" % self.folder, "SHELL=/bin/sh",
                  "XDG_RUNTIME_DIR=" + os.path.join(self.folder, "run"),
                  "PROMPT_COMMAND=echo done >>" + done, "bash", "--norc", "--noprofile"]
         kind = "new-window" if self.panes else "new-session"
@@ -189,8 +194,22 @@ class Terminals:
             self.shows(name, re.escape(text.strip()), 5)
 
     def end(self):
-        """Ends the panes."""
+        """Ends the panes, and all that was started in them, which has the folder in its environment."""
         self.tmux("kill-server")
+        mark = b"MUX_TEXTS=" + self.folder.encode() + b"\0"
+        for sign in (signal.SIGTERM, signal.SIGKILL):
+            left = 0
+            for name in os.listdir("/proc"):
+                try:
+                    with open("/proc/%s/environ" % name, "rb") as file:
+                        if name.isdigit() and mark in file.read():
+                            os.kill(int(name), sign)
+                            left += 1
+                except OSError:
+                    pass
+            if not left:
+                return
+            time.sleep(0.5)
 
 
 class Play:
@@ -394,6 +413,7 @@ def policies(play):
     on = play.on
     text = play.text
     text.leave("mux-shell --title shop sudo -iu lab", "it is played with docs/TEACHING.md")
+    text.leave("mux-shell --title shop podman run --rm -it debian bash", "it needs podman, and fetches an image")
     on.open("own")
     on.run("own", "for name in own sue pia ben kay ann bob jo kim; do new-token --users ~/session/users $name; done")
     on.run("own", "export MUX_SOCKET=~/session/socket")
@@ -492,7 +512,7 @@ def operating(play):
     text = play.text
     system = "it needs systemd, or changes the system; what the unit starts is started here by hand"
     for line in ("new-token ann", "loginctl enable-linger", "systemctl --user enable --now muxd",
-                 "mux-shell --user ann --title shell"):
+                 "setsid -f mux-shell --user ann --title shell"):
         text.leave("$ " + line, system)
     text.leave("# useradd --system --shell /usr/sbin/nologin mux", system)
     on.open("root")
@@ -506,7 +526,8 @@ def operating(play):
     on.run("root", "muxd-wait")
     play.run("root", 'own() { mux-command --user own --token /etc/mux/ops/own.token "$@"; }')
     play.run("root", "own multiuser on")
-    for line in ("useradd --system --create-home --groups dialout,ops mux-console", "install -d -m 700 /etc/mux/console",
+    for line in ("useradd --system --create-home --groups dialout,ops mux-console",
+                 "install -d -m 700 /etc/mux/console",
                  "printf '%s\\n' GROUP=ops 'COMMAND=ssh -e none -tt admin@web1' > /etc/mux/console/web1.conf",
                  "ln -s /etc/mux/ops/console.token /etc/mux/console/web1.token",
                  "systemctl enable --now mux-console@web1"):
@@ -563,7 +584,8 @@ def operating(play):
     on.run("root", play.real("while [ -e /run/mux/ops/socket ]; do sleep 0.1; done; setsid -f muxd --socket"
                              " /run/mux/ops/socket --users /etc/mux/ops/users > /run/mux/log 2>&1; muxd-wait"))
     on.run("root", "own multiuser on; own aclchg wall +r desk; own 'aclchg wall +x select'")
-    on.run("root", play.real("setsid -f mux-shell --user own --token /etc/mux/ops/own.token --title web1 sh -c 'echo new; cat'"))
+    on.run("root", play.real("setsid -f mux-shell --user own --token /etc/mux/ops/own.token --title web1"
+                             " sh -c 'echo new; cat'"))
     on.run("root", "muxd-wait --window web1 --user own --token %s/ops/own.token; own 'aclchg wall +r web1'" % on.far)
     on.shows("wall", "^new")
     before = on.prompts("wall")
@@ -571,6 +593,13 @@ def operating(play):
     on.wait("wall", "end of mux-watch", lambda: on.prompts("wall") > before)
     on.run("wall", "stty -a | grep -c ' echo '", ["1"])
     on.run("root", "own quit")
+
+
+def words_alone(play):
+    """docs/FOR-SCREEN-USERS.md and examples/README.md: no line to be typed as it stands."""
+    for line in {"docs/FOR-SCREEN-USERS.md": ("mux-attach --user NAME", "muxsim --edition 1"),
+                 "examples/README.md": ("make build", "make demo SCRIPT=rights", "make examples")}[play.text.name]:
+        play.text.leave(line, "it is a pattern, or builds")
 
 
 def muxd_page(play):
@@ -656,15 +685,20 @@ def words_agree():
         if not os.path.exists(page):
             raise Fault("contrib/%s has no page man/%s.1" % (name, name))
         done = subprocess.run([path, "--help"], stdout=subprocess.PIPE, check=True)
-        words = set(re.findall(r"^  --([a-z-]+)", done.stdout.decode(), re.MULTILINE))
+        listed = re.findall(r"^  (--[a-z-]+(?: [A-Z]+)?(?:, --[a-z-]+(?: [A-Z]+)?)*)", done.stdout.decode(),
+                            re.MULTILINE)
+        words = set(re.findall(r"--([a-z-]+)", " ".join(listed)))
         with open(page, encoding="utf-8") as file:
-            said = set(re.findall(r"^\.It Fl Fl ([a-z-]+)", file.read(), re.MULTILINE))
+            tagged = re.findall(r"^\.It .*", file.read(), re.MULTILINE)
+        said = set(re.findall(r"Fl Fl ([a-z-]+)", " ".join(tagged)))
         if words != said:
             raise Fault("man/%s.1 and --help differ: %s" % (name, ", ".join(sorted(words ^ said))))
 
 
 PLAYS = {
     "README.md": readme,
+    "docs/FOR-SCREEN-USERS.md": words_alone,
+    "examples/README.md": words_alone,
     "man/muxd.8": muxd_page,
     "man/mux-users.5": mux_users_page,
     "man/muxsim.1": printing_page,
