@@ -17,14 +17,10 @@ demo:
 shell:
 	@examples/shell.sh
 
-# Proves the programs and all that they stand on, and builds them into bin/.
+# Proves the programs and all that they stand on, several crates at a time, and puts the programs into bin/.  What was
+# interrupted goes on where it was.  make build JOBS=2: two crates at a time.
 build:
-	@mkdir -p bin
-	@for program in $(PROGRAMS); do \
-	    (cd crates/$$program && $(RT) run -- --help > /dev/null) || exit 1; \
-	    cp crates/$$program/out/$$program bin/ || exit 1; \
-	    echo "bin/$$program"; \
-	done
+	@RT='$(RT)' tools/build $(if $(JOBS),-j $(JOBS)) $(PROGRAMS)
 
 # Runs all tests, unproved.
 try:
@@ -37,7 +33,7 @@ check:
 
 # The gate: every proof from nothing, the must-fail edits, the tests and the programs.
 test:
-	$(RT) ci
+	@RT='$(RT)' tools/rt ci
 
 # Tries the edits of edits/ in copies of the tree: all, or make edits CRATE=acl.
 edits:
