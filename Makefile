@@ -67,7 +67,7 @@ lint:
 
 # Installs what make build made, with its man pages, scripts, completions, unit, terminal descriptions and documents.
 install:
-	@tools/dist install $(PREFIX) $(DESTDIR)
+	@tools/dist install '$(PREFIX)' '$(DESTDIR)'
 
 # Packs the same files: dist/mux-VERSION-x86_64-linux.tar.gz and dist/mux_VERSION_amd64.deb, if make build proved them.
 dist:
