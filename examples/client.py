@@ -91,6 +91,10 @@ def size_of(terminal, rows=24, cols=80):
     return found if all(found) else (rows, cols)
 
 
+def set_size(terminal, rows, cols):
+    fcntl.ioctl(terminal, termios.TIOCSWINSZ, struct.pack("HHHH", rows, cols, 0, 0))
+
+
 def attach(server, user, token):
     """Keys from this terminal, draws to it, until the server says GONE."""
     if not os.isatty(0):
@@ -154,7 +158,7 @@ def window(server, user, token, words):
                     elif kind == INPUT and terminal is not None:
                         os.write(terminal, payload)
                     elif kind == SIZE and terminal is not None:
-                        fcntl.ioctl(terminal, termios.TIOCSWINSZ, struct.pack("HHHH", *struct.unpack(">HH", payload), 0, 0))
+                        set_size(terminal, *struct.unpack(">HH", payload))
                     elif kind == SAY:
                         print(payload.decode(), file=sys.stderr)
                     elif kind == GONE:
@@ -175,7 +179,7 @@ def start(words, rows, cols):
             os.execvp(words[0], words)
         finally:
             os._exit(127)
-    fcntl.ioctl(terminal, termios.TIOCSWINSZ, struct.pack("HHHH", rows, cols, 0, 0))
+    set_size(terminal, rows, cols)
     return process, terminal
 
 
