@@ -5,7 +5,7 @@ PROGRAMS = muxd mux muxsim vtcat
 TESTS = $(notdir $(patsubst %/,%,$(dir $(wildcard crates/*_tests/src))))
 SCRIPTS = $(addprefix contrib/, mux-shell mux-attach mux-over-ssh mux-command mux-watch muxd-wait new-token)
 
-.PHONY: demo shell build try check test edits examples lint install
+.PHONY: demo try-server shell build try check test edits examples lint install dist
 
 # Plays a script of examples/, without any proof: about a minute.
 SCRIPT ?= first-run
@@ -13,18 +13,18 @@ demo:
 	@cd crates/muxsim && $(RT) try -- --show own < ../../examples/$(SCRIPT).mux
 	@echo "make demo: nothing was proved; make build proves muxsim, make test everything" >&2
 
+# Two users and a shell in a window, over a server that is tried unproved: one to two minutes.  KEEP=1: it stays.
+try-server:
+	@RT='$(RT)' KEEP='$(KEEP)' examples/try-server
+
 # Two users and a shell in a window, with the programs that make build made.
 shell:
 	@examples/shell.sh
 
-# Proves the programs and all that they stand on, and builds them into bin/.
+# Proves the programs and all that they stand on, several crates at a time, and puts the programs into bin/.  What was
+# interrupted goes on where it was.  make build JOBS=2: two crates at a time.
 build:
-	@mkdir -p bin
-	@for program in $(PROGRAMS); do \
-	    (cd crates/$$program && $(RT) run -- --help > /dev/null) || exit 1; \
-	    cp crates/$$program/out/$$program bin/ || exit 1; \
-	    echo "bin/$$program"; \
-	done
+	@RT='$(RT)' tools/build $(if $(JOBS),-j $(JOBS)) $(PROGRAMS)
 
 # Runs all tests, unproved.
 try:
@@ -37,7 +37,7 @@ check:
 
 # The gate: every proof from nothing, the must-fail edits, the tests and the programs.
 test:
-	$(RT) ci
+	@RT='$(RT)' tools/rt ci
 
 # Tries the edits of edits/ in copies of the tree: all, or make edits CRATE=acl.
 edits:
@@ -54,9 +54,14 @@ examples:
 	@tools/pictures docs/TEACHING.md
 	@echo "make examples: $(words $(wildcard examples/*.mux)) scripts and the pictures agree"
 
-# Scripts, terminal descriptions and man pages: Debian's shellcheck, ncurses-bin and mandoc.
+# Scripts, programs in Python, terminal descriptions and man pages: Debian's shellcheck, ncurses-bin and mandoc.
+PYTHON = $(shell grep -s -l -m 1 '^.!.*python3' tools/* examples/* tests/outside/* bench/*)
 lint:
-	shellcheck -s sh $(SCRIPTS) examples/shell.sh $(filter-out %.c %.py, $(wildcard tests/outside/*))
+	shellcheck -s sh $(SCRIPTS) $(shell grep -l -m 1 '^.!/bin/sh' examples/* tests/outside/*)
+	shellcheck -s bash contrib/completions/mux.bash
+	@for file in $(PYTHON); do \
+	    python3 -c 'import sys; compile(open(sys.argv[1]).read(), sys.argv[1], "exec")' $$file || exit 1; \
+	done
 	tic -c contrib/mux.ti
 	cd man && mandoc -T lint *.1 *.5 *.8
 	tools/crates-table README.md
@@ -64,19 +69,10 @@ lint:
 	tools/walk docs/READING.md
 	tools/prose README.md docs/*.md examples/README.md
 
-# Installs what make build made, with its man pages, scripts, the unit and the terminal descriptions.
-BIN = $(DESTDIR)$(PREFIX)/bin
-MAN = $(DESTDIR)$(PREFIX)/share/man
-UNITS = $(DESTDIR)$(PREFIX)/share/systemd/user
+# Installs what make build made, with its man pages, scripts, completions, unit, terminal descriptions and documents.
 install:
-	@for program in $(PROGRAMS); do \
-	    test -x bin/$$program || { echo "make install: make build makes bin/$$program" >&2; exit 2; }; \
-	done
-	install -d $(BIN) $(MAN)/man1 $(MAN)/man5 $(MAN)/man8 $(UNITS) $(DESTDIR)$(PREFIX)/share/mux
-	install -m 755 $(addprefix bin/, $(PROGRAMS)) $(SCRIPTS) $(BIN)
-	install -m 644 man/*.1 $(MAN)/man1
-	install -m 644 man/mux-users.5 $(MAN)/man5
-	install -m 644 man/muxd.8 $(MAN)/man8
-	install -m 644 contrib/mux.ti $(DESTDIR)$(PREFIX)/share/mux
-	sed 's|/usr/local/bin|$(PREFIX)/bin|' contrib/muxd.service > $(UNITS)/muxd.service
-	@echo "tic -x $(PREFIX)/share/mux/mux.ti makes TERM=mux known to programs"
+	@tools/dist install '$(PREFIX)' '$(DESTDIR)'
+
+# Packs the same files: dist/mux-VERSION-x86_64-linux.tar.gz and dist/mux_VERSION_amd64.deb, if make build proved them.
+dist:
+	@RT='$(RT)' tools/dist pack

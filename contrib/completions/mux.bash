@@ -1,0 +1,48 @@
+# Completions of bash for muxd, mux, muxsim, vtcat and the scripts of mux: the words that their --help tells.
+
+# The options, or with the word Commands the subcommands, that a help text on standard input lists.
+_mux_listed() {
+    local line options='^ +(-[A-Za-z], )?(--[a-z-]+)' commands='^  ([a-z]+)  ' part=''
+    while IFS= read -r line; do
+        [[ $line =~ ^[A-Z][a-z]*:$ ]] && part=${line%:}
+        if [[ ${1-} == Commands ]]; then
+            [[ $part == Commands && $line =~ $commands ]] && printf '%s\n' "${BASH_REMATCH[1]}"
+        elif [[ $line =~ $options ]]; then
+            printf '%s\n' "${BASH_REMATCH[2]}"
+        fi
+    done
+}
+
+_mux() {
+    local program=$1 current=$2 previous=$3 words='' verb=''
+    COMPREPLY=()
+    case $previous in
+    --socket | --users | --token)
+        mapfile -t COMPREPLY < <(compgen -f -- "$current")
+        compopt -o filenames 2>/dev/null
+        return
+        ;;
+    --pty) words='socat script' ;;
+    --show) words='own' ;;
+    --loops) words='1 2 3 4 5 6 7 8' ;;
+    --term) words='mux mux-8color vt220' ;;
+    --user | --rows | --cols | --title | --keep | --window) return ;;
+    *)
+        # mux alone has subcommands, each with options of its own
+        if [[ ${program##*/} == mux ]]; then
+            verb=${COMP_WORDS[1]}
+            if ((COMP_CWORD == 1)) || [[ $verb == help && $COMP_CWORD -eq 2 ]]; then
+                words=$("$program" --help 2>/dev/null | _mux_listed Commands)
+                ((COMP_CWORD > 1)) || words="$words --help --version"
+            else
+                words=$("$program" "$verb" --help 2>/dev/null | _mux_listed)
+            fi
+        else
+            words=$("$program" --help 2>/dev/null | _mux_listed)
+        fi
+        ;;
+    esac
+    mapfile -t COMPREPLY < <(compgen -W "$words" -- "$current")
+}
+
+complete -F _mux -o bashdefault -o default muxd mux muxsim vtcat mux-shell mux-attach mux-over-ssh new-token
