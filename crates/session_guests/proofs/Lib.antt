@@ -1,0 +1,6 @@
+pub mod Listing
+pub mod Rows
+pub mod Histories
+pub mod Steps
+pub mod Events
+pub mod Gating

@@ -1,0 +1,16 @@
+//! What a user of a session can't do and can't see, by the definitions of its run alone. Each
+//! function here is a law: its contract says what holds of every step and of every run.
+#![tactic(auto)]
+
+ghost use Rattle.session_guests.specs.Changing.{RightsGate};
+
+/// Rights change by a granted list command alone: each step leaves who is known, who leads whom,
+/// masks, presets and what everyone may do as they are, but on a window that it opens; or it gives
+/// acladd, aclchg, acldel, aclgrp or aclumask in multiuser mode, and its user has x on it.
+pub fn rights_are_gated()
+    ensures { RightsGate }
+{
+    session_laws::steps_keep_promise();
+    session_laws::commands_do_their_rows();
+    session_laws::keys_do_their_rows();
+}
