@@ -4,3 +4,4 @@ pub mod Histories
 pub mod Steps
 pub mod Events
 pub mod Gating
+pub mod Containing

@@ -3,12 +3,24 @@
 #![tactic(auto)]
 
 ghost use Rattle.session_guests.specs.Changing.{RightsGate};
+ghost use Rattle.session_guests.specs.Contained.{GuestsAreContained};
 
 /// Rights change by a granted list command alone: each step leaves who is known, who leads whom,
 /// masks, presets and what everyone may do as they are, but on a window that it opens; or it gives
 /// acladd, aclchg, acldel, aclgrp or aclumask in multiuser mode, and its user has x on it.
 pub fn rights_are_gated()
     ensures { RightsGate }
+{
+    session_laws::steps_keep_promise();
+    session_laws::commands_do_their_rows();
+    session_laws::keys_do_their_rows();
+}
+
+/// Users none of whom has x on a command that changes rights can't change any, whatever they do
+/// and whatever others do beside such commands: at each later moment everyone may do what he might
+/// on all that stood, and they have still no x on these commands.
+pub fn guests_are_contained()
+    ensures { GuestsAreContained }
 {
     session_laws::steps_keep_promise();
     session_laws::commands_do_their_rows();
