@@ -99,6 +99,10 @@ alike edition owner h (a ∷ acts) none =
       rights = λ u bit o not. rest.rights u bit o (opened_later a acts o not) ∙ first.rights u bit o (opened_first a acts o not);
     }
 
+pub same_has : (edition : Edition) (owner : UserId) (h : History) (acts : List Act) → NoListing acts → (u : UserId) (bit : Bit) (o : Object) → opened_by acts o ≡ false
+    → has owner (followed_by h acts) u bit o ≡ has owner h u bit o
+same_has edition owner h acts none = (alike edition owner h acts none).rights
+
 any_same : {A : Type 0} (p q : A → Bool) (xs : List A) → ((x : A) → p x ≡ q x) → list_any p xs ≡ list_any q xs
 any_same p q [] same = refl
 any_same p q (x ∷ xs) same = ap (λ b. b || list_any p xs) (same x) ∙ ap (λ b. q x || b) (any_same p q xs same)
@@ -109,6 +113,10 @@ may_same edition owner h k acts a u bit o not =
     ap (λ b. (same_user owner u || b) || list_any (λ l. has owner k l bit o) (leaders_of edition k u)) (a.rights u bit o not)
     ∙ ap (λ ls. (same_user owner u || has owner h u bit o) || list_any (λ l. has owner k l bit o) ls) (a.leaders u)
     ∙ ap (λ b. (same_user owner u || has owner h u bit o) || b) (any_same (λ l. has owner k l bit o) (λ l. has owner h l bit o) (leaders_of edition h u) (λ l. a.rights l bit o not))
+
+pub same_may : (edition : Edition) (owner : UserId) (h : History) (acts : List Act) → NoListing acts → (u : UserId) (bit : Bit) (o : Object) → opened_by acts o ≡ false
+    → may edition owner (followed_by h acts) u bit o ≡ may edition owner h u bit o
+same_may edition owner h acts none = may_same edition owner h (followed_by h acts) acts (alike edition owner h acts none)
 
 -- tables whose acts are followed by some that are no list acts
 pub same_rights : (t u : Tables) (acts : List Act) → u.owner ≡ t.owner → u.edition ≡ t.edition → u.acts ≡ followed_by t.acts acts → NoListing acts → SameRights t u acts

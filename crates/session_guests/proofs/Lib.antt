@@ -5,3 +5,4 @@ pub mod Steps
 pub mod Events
 pub mod Gating
 pub mod Containing
+pub mod Masking

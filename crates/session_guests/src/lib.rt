@@ -4,6 +4,7 @@
 
 ghost use Rattle.session_guests.specs.Changing.{RightsGate};
 ghost use Rattle.session_guests.specs.Contained.{GuestsAreContained};
+ghost use Rattle.session_guests.specs.Opening.{NewWindowsAreMasked};
 
 /// Rights change by a granted list command alone: each step leaves who is known, who leads whom,
 /// masks, presets and what everyone may do as they are, but on a window that it opens; or it gives
@@ -26,3 +27,9 @@ pub fn guests_are_contained()
     session_laws::commands_do_their_rows();
     session_laws::keys_do_their_rows();
 }
+
+/// Behind an Open that isn't refused a known user has a bit on the new window exactly where he
+/// opened it or the opener's mask for him allows it.
+pub fn new_windows_are_masked()
+    ensures { NewWindowsAreMasked }
+{}
