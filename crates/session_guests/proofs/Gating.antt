@@ -104,11 +104,11 @@ did_listing t e g not d =
 
 -- ---- the first checks of a list command
 
-first_passed : (b : Bool) (o : Option Refusal) (r : Refusal) → (if b then o else Some r) ≡ None → b ≡ true
+pub first_passed : (b : Bool) (o : Option Refusal) (r : Refusal) → (if b then o else Some r) ≡ None → b ≡ true
 first_passed true o r is = refl
 first_passed false o r is = absurd (cc (is))
 
-then_passed : (b : Bool) (o : Option Refusal) (r : Refusal) → (if b then o else Some r) ≡ None → o ≡ None
+pub then_passed : (b : Bool) (o : Option Refusal) (r : Refusal) → (if b then o else Some r) ≡ None → o ≡ None
 then_passed true o r is = is
 then_passed false o r is = absurd (cc (is))
 

@@ -6,3 +6,5 @@ pub mod Events
 pub mod Gating
 pub mod Containing
 pub mod Masking
+pub mod Giving
+pub mod Holding

@@ -1,3 +1,4 @@
 pub mod Changing
 pub mod Contained
 pub mod Opening
+pub mod Locking

@@ -4,6 +4,7 @@
 
 ghost use Rattle.session_guests.specs.Changing.{RightsGate};
 ghost use Rattle.session_guests.specs.Contained.{GuestsAreContained};
+ghost use Rattle.session_guests.specs.Locking.{StepsKeepHolders, RunsHaveHolders, LocksAreTaken};
 ghost use Rattle.session_guests.specs.Opening.{NewWindowsAreMasked};
 
 /// Rights change by a granted list command alone: each step leaves who is known, who leads whom,
@@ -33,3 +34,15 @@ pub fn guests_are_contained()
 pub fn new_windows_are_masked()
     ensures { NewWindowsAreMasked }
 {}
+
+/// Who holds a window's write lock may write there, in each step and in every run; and who becomes
+/// its holder does so in a step of his own, where he had w or which opens the window.
+pub fn locks_are_taken()
+    ensures step { StepsKeepHolders }
+    ensures run { RunsHaveHolders }
+    ensures taken { LocksAreTaken }
+{
+    session_laws::steps_keep_promise();
+    session_laws::commands_do_their_rows();
+    session_laws::keys_do_their_rows();
+}
