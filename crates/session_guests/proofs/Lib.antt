@@ -8,3 +8,4 @@ pub mod Containing
 pub mod Masking
 pub mod Giving
 pub mod Holding
+pub mod Parting

@@ -2,3 +2,4 @@ pub mod Changing
 pub mod Contained
 pub mod Opening
 pub mod Locking
+pub mod Gates

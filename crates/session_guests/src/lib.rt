@@ -4,6 +4,7 @@
 
 ghost use Rattle.session_guests.specs.Changing.{RightsGate};
 ghost use Rattle.session_guests.specs.Contained.{GuestsAreContained};
+ghost use Rattle.session_guests.specs.Gates.{ModeGate, ClientsStay};
 ghost use Rattle.session_guests.specs.Locking.{StepsKeepHolders, RunsHaveHolders, LocksAreTaken};
 ghost use Rattle.session_guests.specs.Opening.{NewWindowsAreMasked};
 
@@ -45,4 +46,16 @@ pub fn locks_are_taken()
     session_laws::steps_keep_promise();
     session_laws::commands_do_their_rows();
     session_laws::keys_do_their_rows();
+}
+
+/// The mode changes by a multiuser whose x is granted alone. A client that is attached stays so,
+/// but by its own Detach or detach, or by acldel, multiuser or quit whose x is granted.
+pub fn others_are_gated()
+    ensures mode { ModeGate }
+    ensures clients { ClientsStay }
+{
+    session_laws::steps_keep_promise();
+    session_laws::commands_do_their_rows();
+    session_laws::keys_do_their_rows();
+    session_laws::tables_stay_fit();
 }
