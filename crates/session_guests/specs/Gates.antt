@@ -46,8 +46,10 @@ IsParted t e client =
     (e.event ≡ Detach client)
     ⊎ SomeOf (λ g. DetachesItself t client g ⊎ IsGranted t parts_others g) (commands_of t e.event)
 
-abbrev pub ClientsStay : Type 0
-ClientsStay =
-    (t : Tables) (e : Entry) → AreFit t → IsStep t e →
+abbrev pub ClientsStayIn : Tables → Entry → Type 0
+ClientsStayIn t e =
     (client : ℕ) → is_some (client_at t client) ≡ true →
     (is_some (client_at (after t e) client) ≡ true) ⊎ IsParted t e client
+
+abbrev pub ClientsStay : Type 0
+ClientsStay = (t : Tables) (e : Entry) → AreFit t → IsStep t e → ClientsStayIn t e

@@ -47,8 +47,10 @@ pub record TakesIt (t : Tables) (e : Entry) (window : ℕ) (user : UserId) : Typ
       ⊎ (may_in t user Write (object.Window window) ≡ true)
 
 -- who holds a lock held it before, or takes it
-abbrev pub LocksAreTaken : Type 0
-LocksAreTaken =
-    (t : Tables) (e : Entry) → IsStep t e → (window : ℕ) (user : UserId) →
-    holder_in (after t e) window ≡ Some user →
+abbrev pub LocksAreTakenBy : Tables → Entry → Type 0
+LocksAreTakenBy t e =
+    (window : ℕ) (user : UserId) → holder_in (after t e) window ≡ Some user →
     (holder_in t window ≡ Some user) ⊎ TakesIt t e window user
+
+abbrev pub LocksAreTaken : Type 0
+LocksAreTaken = (t : Tables) (e : Entry) → IsStep t e → LocksAreTakenBy t e
