@@ -52,21 +52,27 @@ pub record Below : Type 0 where
 abbrev pub Steps : Tables → Entry → Type 0
 Steps t e = Plain t e.event e.acts (after t e) ⊎ Obeys t e
 
-steps_by : Below → (t : Tables) (event : Happening) (reply : Reply) (acts : List Act) (vs : List Verdict) (effects : List Effect)
-    → let e : Entry = record { event = event; reply = reply; acts = acts; verdicts = vs; effects = effects } in IsStep t e → Steps t e
-steps_by laws t (Keys client bytes) reply acts vs effects step =
+obeys_by : Below → (t : Tables) (event : Happening) (reply : Reply) (acts : List Act) (vs : List Verdict) (effects : List Effect)
+    → let e : Entry = record { event = event; reply = reply; acts = acts; verdicts = vs; effects = effects } in IsStep t e → gives_commands event ≡ true → Obeys t e
+obeys_by laws t (Keys client bytes) reply acts vs effects step is =
     let e : Entry = record { event = Keys client bytes; reply = reply; acts = acts; verdicts = vs; effects = effects } in
     let kept : KeepsPromise t e = laws.keep t e step in
-    inr (keys_obeys t reply acts vs effects client bytes kept.refusals step.reply (laws.keyed t e step))
-steps_by laws t (Command user number bytes) reply acts vs effects step =
+    keys_obeys t reply acts vs effects client bytes kept.refusals step.reply (laws.keyed t e step)
+obeys_by laws t (Command user number bytes) reply acts vs effects step is =
     let e : Entry = record { event = Command user number bytes; reply = reply; acts = acts; verdicts = vs; effects = effects } in
     let kept : KeepsPromise t e = laws.keep t e step in
-    inr (command_obeys t reply acts vs effects user number bytes kept.refusals (laws.refused t e step) (laws.done t e step))
-steps_by laws t event reply acts vs effects step =
-    inl (step_plain t (record { event = event; reply = reply; acts = acts; verdicts = vs; effects = effects }) step refl)
+    command_obeys t reply acts vs effects user number bytes kept.refusals (laws.refused t e step) (laws.done t e step)
+obeys_by laws t event reply acts vs effects step is = absurd (cc (is))
+
+-- a step that gives commands does nothing, or what one of them does
+pub obeys_of : Below → (t : Tables) (e : Entry) → IsStep t e → gives_commands e.event ≡ true → Obeys t e
+obeys_of laws t e step is = obeys_by laws t e.event e.reply e.acts e.verdicts e.effects step is
 
 pub steps_of : Below → (t : Tables) (e : Entry) → IsStep t e → Steps t e
-steps_of laws t e step = steps_by laws t e.event e.reply e.acts e.verdicts e.effects step
+steps_of laws t e step = on (gives_commands e.event) refl where
+  on : (b : Bool) → gives_commands e.event ≡ b → Steps t e
+  on true is = inr (obeys_of laws t e step is)
+  on false is = inl (step_plain t e step is)
 
 pub row_did : (t : Tables) (e : Entry) (g : Given) → (d : Did t e g) → IsRow (with_clients t d.clients) g.caller g.order d.deed
 row_did t e g d = on (does (with_clients t d.clients) g.caller g.order) d.does_it (row_of (with_clients t d.clients) g.caller d.by g.order) where

@@ -67,7 +67,7 @@ givers t (Draw client) = tt
 
 -- ---- a lock that is set needs w
 
-write_on : (t : Tables) (user : UserId) (o : Option Window) (w : ℕ) → IsOn o w → first_fault t (window_checks user need.typing (option_map (λ (v : Window). v.serial) o)) ≡ None
+pub write_on : (t : Tables) (user : UserId) (o : Option Window) (w : ℕ) → IsOn o w → first_fault t (window_checks user need.typing (option_map (λ (v : Window). v.serial) o)) ≡ None
     → may_in t user Write (object.Window w) ≡ true
 write_on t user None w on is = absurd on
 write_on t user (Some v) w on is =

@@ -9,3 +9,6 @@ pub mod Masking
 pub mod Giving
 pub mod Holding
 pub mod Parting
+pub mod Harmless
+pub mod Focusing
+pub mod Staying

@@ -6,6 +6,7 @@ ghost use Rattle.session_guests.specs.Changing.{RightsGate};
 ghost use Rattle.session_guests.specs.Contained.{GuestsAreContained};
 ghost use Rattle.session_guests.specs.Gates.{ModeGate, ClientsStay};
 ghost use Rattle.session_guests.specs.Locking.{StepsKeepHolders, RunsHaveHolders, LocksAreTaken};
+ghost use Rattle.session_guests.specs.Locking.{HoldersStay};
 ghost use Rattle.session_guests.specs.Opening.{NewWindowsAreMasked};
 
 /// Rights change by a granted list command alone: each step leaves who is known, who leads whom,
@@ -58,4 +59,14 @@ pub fn others_are_gated()
     session_laws::commands_do_their_rows();
     session_laws::keys_do_their_rows();
     session_laws::tables_stay_fit();
+}
+
+/// In a step of a user who has neither w on a window nor x on a command that changes rights, the
+/// window's holder stays, but for kill, quit and `multiuser off` that are granted.
+pub fn holders_stay()
+    ensures { HoldersStay }
+{
+    session_laws::steps_keep_promise();
+    session_laws::commands_do_their_rows();
+    session_laws::keys_do_their_rows();
 }
