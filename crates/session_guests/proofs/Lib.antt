@@ -12,3 +12,5 @@ pub mod Parting
 pub mod Harmless
 pub mod Focusing
 pub mod Staying
+pub mod Labels
+pub mod Named

@@ -3,3 +3,4 @@ pub mod Contained
 pub mod Opening
 pub mod Locking
 pub mod Gates
+pub mod Naming

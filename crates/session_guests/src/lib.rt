@@ -7,6 +7,7 @@ ghost use Rattle.session_guests.specs.Contained.{GuestsAreContained};
 ghost use Rattle.session_guests.specs.Gates.{ModeGate, ClientsStay};
 ghost use Rattle.session_guests.specs.Locking.{StepsKeepHolders, RunsHaveHolders, LocksAreTaken};
 ghost use Rattle.session_guests.specs.Locking.{HoldersStay};
+ghost use Rattle.session_guests.specs.Naming.{WindowsStay};
 ghost use Rattle.session_guests.specs.Opening.{NewWindowsAreMasked};
 
 /// Rights change by a granted list command alone: each step leaves who is known, who leads whom,
@@ -50,10 +51,14 @@ pub fn locks_are_taken()
 }
 
 /// The mode changes by a multiuser whose x is granted alone. A client that is attached stays so,
-/// but by its own Detach or detach, or by acldel, multiuser or quit whose x is granted.
+/// but by its own Detach or detach, or by acldel, multiuser or quit whose x is granted. A window
+/// stays as it is, open or not, and keeps its number and its title, but where its program ends,
+/// where it is opened by one who has x on screen, by title, number or kill with x on the command
+/// and on that window, or by quit.
 pub fn others_are_gated()
     ensures mode { ModeGate }
     ensures clients { ClientsStay }
+    ensures windows { WindowsStay }
 {
     session_laws::steps_keep_promise();
     session_laws::commands_do_their_rows();
