@@ -11,7 +11,8 @@ use Rattle.session_guests.specs.Changing.{RightsGate}
 use Rattle.session_guests.specs.Contained as contained
 use Rattle.session_guests.specs.Contained.{AreGuests, ChangesAreTheirs, AreContained, GuestsAreContained}
 use Rattle.session_guests.specs.Gates.{ModeGate, ClientsStay}
-use Rattle.session_guests.specs.Locking.{StepsKeepHolders, RunsHaveHolders, LocksAreTaken}
+use Rattle.session_guests.specs.Locking.{StepsKeepHolders, RunsHaveHolders, LocksAreTaken, HoldersStay}
+use Rattle.session_guests.specs.Naming.{WindowsStay}
 use Rattle.session_guests.specs.Opening.{NewWindowsAreMasked}
 use Rattle.session_guest_runs.specs.Guarded.{IsGuarded, AreContainedBy, GuestsAreHeld}
 use Rattle.session_core.specs.Headline.{AllSteps, Keeps, with_steps, Call, SomeRun, IsRunOf, AreSteps}
@@ -27,6 +28,8 @@ pub record Laws : Type 0 where
   pub taken : LocksAreTaken
   pub mode : ModeGate
   pub clients : ClientsStay
+  pub stay : HoldersStay
+  pub names : WindowsStay
   pub fit : RunsAreFit
 
 guarded_step : Laws → (h : Trace) (e : Entry) → IsRun h → IsStep (tables_of h) e → IsGuarded h e
@@ -37,6 +40,8 @@ guarded_step laws h e run step = record {
   locks = laws.taken (tables_of h) e step;
   mode = laws.mode (tables_of h) e step;
   clients = laws.clients (tables_of h) e (laws.fit h) step;
+  stay = laws.stay (tables_of h) e (laws.fit h) (laws.runs_hold h run) step;
+  names = laws.names (tables_of h) e (laws.fit h) step;
 }
 
 guarded : Laws → (h : Trace) (steps : List Entry) → IsRun h → AllSteps Keeps h steps → AllSteps IsGuarded h steps

@@ -7,7 +7,8 @@ use Rattle.session_model.specs.Run.{after, tables_of}
 use Rattle.session_guests.specs.Changing.{RightsAreGated}
 use Rattle.session_guests.specs.Contained.{AreGuests, ChangesAreTheirs, AreContained}
 use Rattle.session_guests.specs.Gates.{ModeIsGated, ClientsStayIn}
-use Rattle.session_guests.specs.Locking.{HoldersMayWrite, LocksAreTakenBy}
+use Rattle.session_guests.specs.Locking.{HoldersMayWrite, LocksAreTakenBy, HoldersStayIn}
+use Rattle.session_guests.specs.Naming.{WindowsStayIn}
 use Rattle.session_guests.specs.Opening.{IsGivenByMasks}
 use Rattle.session_core.specs.Headline.{AllSteps, Keeps, Call, SomeRun, IsRunOf, AreSteps}
 use Rattle.session_core.specs.Headline.{with_steps}
@@ -15,8 +16,9 @@ use Rattle.session_core.specs.Stands.{StandsFor}
 use Rattle.session_core.specs.declared.session.Session.{Session}
 
 -- A step changes rights by a granted list command alone; a new window is given by its opener's
--- masks; who holds a lock may write there, and took it in a step of his own; the mode changes and
--- others' clients part by granted commands alone.
+-- masks; who holds a lock may write there, took it in a step of his own, and keeps it in steps of
+-- users who may neither write there nor change rights; the mode, others' clients, and windows with
+-- their numbers and titles change by granted commands alone.
 pub record IsGuarded (h : Trace) (e : Entry) : Type 0 where
   pub rights : RightsAreGated (tables_of h) e
   pub windows : IsGivenByMasks (tables_of h) e e.event e.reply
@@ -24,6 +26,8 @@ pub record IsGuarded (h : Trace) (e : Entry) : Type 0 where
   pub locks : LocksAreTakenBy (tables_of h) e
   pub mode : ModeIsGated (tables_of h) e
   pub clients : ClientsStayIn (tables_of h) e
+  pub stay : HoldersStayIn (tables_of h) e
+  pub names : WindowsStayIn (tables_of h) e
 
 -- users who may not change rights before the call can't by it, while nobody else does
 abbrev pub AreContainedBy : Trace → List Entry → Type 0

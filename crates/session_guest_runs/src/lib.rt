@@ -5,8 +5,8 @@
 ghost use Rattle.session_guest_runs.specs.Guarded.{CallsAreGuarded, NewRunsAreGuarded};
 
 /// The steps that `Session::run` promises of a call, and those of a new session's run, change
-/// rights, windows' rights, locks, the mode and others' clients by granted commands alone; and
-/// users who may not change rights can't by the call, while nobody else does.
+/// rights, locks, the mode, others' clients and windows as the laws of guests say; and users who
+/// may not change rights can't by the call, while nobody else does.
 pub fn calls_are_guarded()
     ensures call { CallsAreGuarded }
     ensures new { NewRunsAreGuarded }
@@ -15,6 +15,7 @@ pub fn calls_are_guarded()
     session_guests::guests_are_contained();
     session_guests::new_windows_are_masked();
     session_guests::locks_are_taken();
+    session_guests::holders_stay();
     session_guests::others_are_gated();
     session_laws::tables_stay_fit();
 }

@@ -12,6 +12,8 @@ returns-clause-call c =
       taken = c.locks_are_taken.ensures.taken;
       mode = c.others_are_gated.ensures.mode;
       clients = c.others_are_gated.ensures.clients;
+      stay = c.holders_stay.ensures;
+      names = c.others_are_gated.ensures.windows;
       fit = c.tables_stay_fit.ensures.run;
     })
 
@@ -26,5 +28,7 @@ returns-clause-new c =
       taken = c.locks_are_taken.ensures.taken;
       mode = c.others_are_gated.ensures.mode;
       clients = c.others_are_gated.ensures.clients;
+      stay = c.holders_stay.ensures;
+      names = c.others_are_gated.ensures.windows;
       fit = c.tables_stay_fit.ensures.run;
     })
