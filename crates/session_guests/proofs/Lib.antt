@@ -1,0 +1,16 @@
+pub mod Listing
+pub mod Rows
+pub mod Histories
+pub mod Steps
+pub mod Events
+pub mod Gating
+pub mod Containing
+pub mod Masking
+pub mod Giving
+pub mod Holding
+pub mod Parting
+pub mod Harmless
+pub mod Focusing
+pub mod Staying
+pub mod Labels
+pub mod Named

@@ -1,0 +1,6 @@
+pub mod Changing
+pub mod Contained
+pub mod Opening
+pub mod Locking
+pub mod Gates
+pub mod Naming
