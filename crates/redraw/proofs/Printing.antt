@@ -186,7 +186,7 @@ module _ (rows columns : ℕ) (old new : Page) (pen : Pen) (x : Screen) (d : Dra
       let there = ap (λ n. place_by n (record { before = x; func = Print c })) g.columns_are ∙ place in
       subst (Leads old new x (spelling (func_of (Glyph c)))) is
       (one_leads old new x (Glyph c) (utf8 rows columns pen x d) g.given
-      (record { character = c; place = record { line = line; column = column }; prints = (print_maps w c g, there); stands = subst (λ n. StandsAt n new (record { line = line; column = column }) (drawn c)) (sym g.columns_are) (rw g.stays stands) })
+      (record { character = c; place = record { line = line; column = column }; prints = (print_maps w c g, there); stands = subst (λ n. StandsAt n new (record { line = line; column = column }) c) (sym g.columns_are) stands })
       (record {
         character = c;
         place = record { line = line; column = column };

@@ -1,11 +1,12 @@
 //! Frames.
 
-ghost use Rattle.std.specs.Prelude.{◌≡◌, ◌≤◌, OnOk, OnErr, IfOk, IfNone, length, is_some};
+ghost use Rattle.std.specs.Prelude.{◌≡◌, ◌≤◌, ◌↔◌, IsTrue, OnOk, OnErr, IfOk, IfNone, length};
+ghost use Rattle.std.specs.Prelude.{is_some};
 ghost use Rattle.view.specs.View.{HasSize, KeepsSize, place_of};
 ghost use Rattle.view.specs.Drawable.{IsDrawable};
 ghost use Rattle.redraw.specs.Frames.{pen_of, FirstBytes, DrawsNext, IsNeeded, BytesDraw};
 ghost use Rattle.redraw.specs.Frames.{SkipsKnown, FrameDraws};
-ghost use Rattle.redraw.specs.Shadow.{AreAlikeAbove, IsKnown};
+ghost use Rattle.redraw.specs.Shadow.{AreAlikeAbove, IsKnown, NeedsDraw};
 
 use crate::painting::paint;
 use crate::pen::Pen;
@@ -91,6 +92,18 @@ fn draw(alloc: Global, shadow: &Shadow, view: &View) -> Result<Option<Vec<u8>>, 
         }
     }
     Ok(Some(bytes))
+}
+
+/// Whether a view, of the shadow's size, has to be drawn: the shadow knows nothing of the terminal,
+/// or knows that it shows another view.
+pub fn needs_draw(shadow: &Shadow, view: &View) -> bool
+    requires size { HasSize shadow.now.rows shadow.now.columns view.now }
+    ensures { IsTrue result ↔ NeedsDraw shadow.now.known view.now }
+{
+    match &shadow.known {
+        None => true,
+        Some(last) => first_change(last, view).is_some(),
+    }
 }
 
 /// The bytes that lead each terminal that agrees with the shadow to one that shows the view, of the

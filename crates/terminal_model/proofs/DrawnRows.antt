@@ -21,12 +21,12 @@ use Rattle.terminal_model.specs.Rows.{fresh_reads, csi, kanji, wide_page, printe
 
 -- the character is one, and so is its place
 stands : (page : Page) (x : Screen) (u c : ℕ) (p : Position) → mapped x.state.shifts (Code u) ≡ Some c → place_by (columns_of c) (record { before = x; func = Print u }) ≡ Some p
-    → PrintsOf page (record { before = x; func = Print u }) → StandsAt (columns_of c) page p (drawn c)
+    → PrintsOf page (record { before = x; func = Print u }) → StandsAt (columns_of c) page p c
 stands page x u c p maps takes is =
     let same : is.character ≡ c = cc (is.prints.0, maps) in
     let place : place_by (columns_of c) (record { before = x; func = Print u }) ≡ Some is.place = subst (λ d. place_by (columns_of d) (record { before = x; func = Print u }) ≡ Some is.place) same is.prints.1 in
     let there : is.place ≡ p = cc (place, takes) in
-    subst (λ q. StandsAt (columns_of c) page q (drawn c)) there (subst (λ d. StandsAt (columns_of d) page is.place (drawn d)) same is.stands)
+    subst (λ q. StandsAt (columns_of c) page q c) there (subst (λ d. StandsAt (columns_of d) page is.place d) same is.stands)
 
 pub in_place : AllByRecursion (IsDiscreet wide_page) (fresh_reads 2 5 0 (kanji ++ codes "x")).acts
 unfolding unicode_width cut piece mapped character_at supplement fields controls text begun_by function_piece functions_behind plain_sequence private_sequence columns_of drawn acted_from act act_all read_unit read_units read_byte reads

@@ -22,7 +22,7 @@ use Rattle.terminal_model.specs.Screen.{Page, Screen, starting_modes, starting_s
 use Rattle.terminal_model.specs.Screen.{blank_page}
 use Rattle.terminal_model.specs.Functions.{actions_of, rendered, mode_set, private_mode_set, first}
 use Rattle.terminal_model.specs.Functions.{second, last_line}
-use Rattle.terminal_model.specs.Table.{effect, bottom_of, columns_of, drawn}
+use Rattle.terminal_model.specs.Table.{effect, bottom_of, columns_of}
 use Rattle.terminal_model.specs.Reading.{Terminal, ready, Act}
 use Rattle.terminal_model.specs.Shows.{View, seen_at, Shows, IsOfSize}
 
@@ -148,7 +148,7 @@ pub record PrintsOf (page : Page) (a : Act) : Type 0 where
   pub character : ℕ
   pub place : Position
   pub prints : Prints a character place
-  pub stands : StandsAt (columns_of character) page place (drawn character)
+  pub stands : StandsAt (columns_of character) page place character
 
 abbrev pub IsDiscreet : Page → Act → Type 0
 IsDiscreet page a =
