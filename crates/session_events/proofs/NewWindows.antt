@@ -1,8 +1,9 @@
 -- A window that opens.
-use Rattle.std.proofs.Common.{◌≡◌, ℕ, ◌+◌, ◌<◌, true, List, [], ◌∷◌, ◌++◌, length, ap, sym, subst}
+use Rattle.std.proofs.Common.{◌≡◌, ℕ, ◌+◌, ◌<◌, true, List, [], ◌∷◌, ◌++◌, length, ap, sym, subst, refl}
 use Rattle.std.proofs.Common.{Option, Some, None, Ok, Err, ◌∙◌, append-nil, arith, ◌⊎◌, inl, inr}
 use Rattle.std.proofs.Common.{is_some}
 use Rattle.std.specs.Prelude.{nat_lt, ◌&&◌, ◌^◌, unwrap_or}
+use Rattle.std.proofs.lemmas.Bool.{and_from}
 use Rattle.std.proofs.lemmas.Bool.Decides.{nat_tests}
 use Rattle.acl.specs.declared.user_id.UserId.{UserId}
 use Rattle.acl.specs.declared.act.Act.TheVariants as act
@@ -15,8 +16,9 @@ use Rattle.session_model.specs.Tables.{Tables, Window, is_known}
 use Rattle.session_model.specs.Naming.{free_number, is_title}
 use Rattle.session_model.specs.Checks.{first_fault}
 use Rattle.session_model.specs.Events.{is_window_size, has_place, open_checks, new_window, opens}
+use Rattle.session_model.specs.Sound.{AreFit, Rises, window_serials}
 use Rattle.windows.specs.declared.window.Window.{Window as Row}
-use Rattle.windows.specs.Standing.{StandFor, AnsweredIfRoom, opened, new_row, numbered}
+use Rattle.windows.specs.Standing.{StandFor, AnsweredIfRoom, is_above, opened, new_row, numbered}
 use Rattle.session_rows.proofs.Serials.{if_true}
 use Rattle.session_state.specs.declared.made.Made.{Made}
 use Rattle.session_state.specs.declared.state.State.{State}
@@ -59,9 +61,22 @@ may_open t user rows columns keep title is =
       titled = titled.0;
     }
 
+-- the next serial is above those of all windows
+rise_above : (ws : List Window) (next : ℕ) → Rises (window_serials ws) next
+    → is_above next ws ≡ true
+rise_above [] next rises = refl
+rise_above (w ∷ ws) next rises =
+    let below : nat_lt w.serial next ≡ true = grind (arith, nat_tests, rises.0) in
+    and_from (nat_lt w.serial next) (is_above next ws) below (rise_above ws next rises.2)
+
+pub next_above : (t : Tables) (serial : ℕ) → AreFit t → serial ≡ t.next_window
+    → is_above serial t.windows ≡ true
+next_above t serial fit same =
+    ap (λ n. is_above n t.windows) same ∙ rise_above t.windows t.next_window fit.sound.windows_rise
+
 module _ (t : Tables) (user : UserId) (rows columns keep : ℕ) (title : List ℕ)
     (may : MayOpen t user rows columns keep title) (serial : ℕ)
-    (serial_is : serial ≡ t.next_window) where
+    (serial_is : serial ≡ t.next_window) (above : is_above serial t.windows ≡ true) where
   numbered_by : (o : Option ℕ) → is_some o ≡ true
       → numbered t.windows o (λ n. new_row serial n rows columns keep title) title
       ≡ Ok (t.windows ++ new_row serial (unwrap_or o 0) rows columns keep title ∷ [])
@@ -73,7 +88,9 @@ module _ (t : Tables) (user : UserId) (rows columns keep : ℕ) (title : List �
       ≡ Ok (t.windows ++ new_window t rows columns keep title ∷ [])
   opened_is =
       if_true (is_window_size rows columns keep) _ _ may.sized
-      ∙ (numbered_by (free_number t.windows) may.free
+      ∙ (ap (λ o. numbered t.windows o (λ n. new_row serial n rows columns keep title) title)
+      (if_true (is_above serial t.windows) _ _ above)
+      ∙ numbered_by (free_number t.windows) may.free
       ∙ ap (λ k. Ok (t.windows
       ++ new_row k (unwrap_or (free_number t.windows) 0) rows columns keep title ∷ []))
       serial_is)

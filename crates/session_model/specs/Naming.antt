@@ -1,11 +1,10 @@
 -- How windows, users and objects are named.
-use Rattle.std.specs.Prelude.{ℕ, Bool, false, not, ◌==◌, ◌&&◌, ◌||◌, nat_lt, nat_le, nat_eq}
+use Rattle.std.specs.Prelude.{ℕ, zero, suc, Bool, true, false, not, ◌==◌, ◌&&◌, ◌||◌, nat_lt, nat_le, nat_eq}
 use Rattle.std.specs.Prelude.{List, [], ◌∷◌, ◌++◌, Option, Some, None, if◌then◌else◌}
 use Rattle.std.specs.Prelude.{filter, map, find, length, codes}
 use Rattle.std.specs.List.{list_any, list_all, flat_map, range_with_len}
 use Rattle.std.specs.Option.{option_map, option_or, option_and_then}
 use Rattle.std.specs.Str.{chars, bytes_eq}
-use Rattle.cells.specs.Glyph.{glyph_columns}
 use Rattle.unicode_width.specs.Width.{char_width}
 use Rattle.acl.specs.declared.user_id.UserId.{UserId}
 use Rattle.acl.specs.declared.act.Object.{Object}
@@ -74,8 +73,13 @@ abbrev pub free_number : List Window → Option ℕ
 free_number windows = find (λ n. not (list_any (has_number n) windows)) (range_with_len 0 40)
 
 -- a title has 1 to 40 characters, each of width 1 or 2 (UAX #11)
+abbrev pub is_one_or_two : Option ℕ → Bool
+is_one_or_two (Some (suc zero)) = true
+is_one_or_two (Some (suc (suc zero))) = true
+is_one_or_two _ = false
+
 abbrev pub has_columns : ℕ → Bool
-has_columns c = nat_lt 0 (glyph_columns (char_width false c))
+has_columns c = is_one_or_two (char_width false c)
 
 abbrev pub is_title : List ℕ → Bool
 is_title title =

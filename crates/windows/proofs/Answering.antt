@@ -7,7 +7,7 @@ use Rattle.session_model.specs.declared.refusal.Refusal.TheVariants.{NoWindow, N
 use Rattle.session_model.specs.declared.refusal.WindowsFault.TheVariants.{NumberTaken}
 use Rattle.session_model.specs.Tables as model
 use Rattle.session_model.specs.Tables.{row_of, with_row}
-use Rattle.session_model.specs.Naming.{free_number, is_title}
+use Rattle.session_model.specs.Naming.{is_title}
 use Rattle.session_model.specs.Events.{is_window_size}
 use Rattle.terminal_model.specs.Writing.{Output}
 use Rattle.session_rows.proofs.Serials.{if_true, if_false, with_back, serial_is}
@@ -15,7 +15,7 @@ use Rattle.session_rows.proofs.Matching.{none_back, rows_match, with_match, row_
 use Rattle.windows.specs.declared.window.Window.{Window}
 use Rattle.windows.specs.Among.{taken_by_other}
 use Rattle.windows.specs.Asking.{AnswersReports}
-use Rattle.windows.specs.Standing.{WindowStands, StandFor, Answers, AnswersIfRoom, serial, written, written_to, in_place, in_row, changed, without, closed, is_taken, renumbered, numbered, opened, new_row}
+use Rattle.windows.specs.Standing.{WindowStands, StandFor, Answers, AnswersIfRoom, serial, written, written_to, in_place, in_row, changed, without, closed, is_taken, renumbered, numbered, number_for, opened, new_row}
 use Rattle.windows.specs.Writing.{Becomes, HasFed}
 use Rattle.windows.proofs.Nearest.{taken_both}
 
@@ -130,7 +130,7 @@ number_missing A old new s n none = λ rows st. row_missing A old new s _ none r
 -- ---- a window that opens
 
 pub one_opened : {A : Type 0} (a : A) (old new : List Window) (s number rows columns keep : ℕ) (title : List ℕ) (w : Window) → is_window_size rows columns keep ≡ true
-    → ((ms : List model.Window) → StandFor ms old → free_number ms ≡ Some number) → is_title title ≡ true → WindowStands (new_row s number rows columns keep title) w → new ≡ old ++ w ∷ []
+    → ((ms : List model.Window) → StandFor ms old → number_for s ms ≡ Some number) → is_title title ≡ true → WindowStands (new_row s number rows columns keep title) w → new ≡ old ++ w ∷ []
     → AnswersIfRoom (opened s rows columns keep title) old (Ok a) new
 one_opened a old new s number rows columns keep title w good free named stands is = λ ms st.
     let made : model.Window = new_row s number rows columns keep title in (

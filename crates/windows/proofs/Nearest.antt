@@ -1,6 +1,6 @@
 -- The window of the lowest or the highest number.
 use Rattle.std.proofs.Common.{◌≡◌, ℕ, suc, ◌-◌, ◌<◌, ◌≤◌, Bool, true, false, List, [], ◌∷◌, Option, Some, None, length, filter, get_or, drop, refl, ap, sym, subst, ◌∙◌, arith}
-use Rattle.std.specs.Prelude.{if◌then◌else◌, nat_lt, ◌==◌, not, ◌||◌, find, option_copied}
+use Rattle.std.specs.Prelude.{if◌then◌else◌, nat_lt, ◌==◌, not, ◌||◌, ◌&&◌, find, option_copied}
 use Rattle.std.specs.List.{list_any, range_with_len}
 use Rattle.std.specs.Borrow.{Bor}
 use Rattle.std.specs.Option.{option_or, option_map, option_map_or, option_and_then}
@@ -17,9 +17,10 @@ use Rattle.windows.specs.declared.among.Among.{Among}
 use Rattle.windows.specs.declared.among.Among.TheVariants.{All, Above, Below, Titled}
 use Rattle.windows.specs.declared.among.End.{End}
 use Rattle.windows.specs.declared.among.End.TheVariants.{Lowest, Highest}
-use Rattle.windows.specs.Among.{is_among, nearer, nearest, has_number, numbered, taken_by_other, first_free}
+use Rattle.windows.specs.Among.{is_above, is_among, nearer, nearest, has_number, numbered, taken_by_other, first_free}
 use Rattle.windows.specs.Asking.{number}
 use Rattle.windows.specs.Standing.{WindowStands, StandFor, is_taken}
+use Rattle.windows.specs.Standing as standing
 
 -- ---- one window more, from the last one on
 
@@ -185,3 +186,12 @@ free_both rows ws m = find_same (λ n. not (list_any (has_number n) ws)) (λ n. 
 
 pub or_found : {A : Type 0} (a b r : Option (Bor A)) (p q : Option A) → r ≡ option_or a b → option_copied a ≡ p → option_copied b ≡ q → option_copied r ≡ option_or p q
 or_found a b r p q is first second = ap option_copied is ∙ copied_or a b ∙ ap (λ x. option_or x (option_copied b)) first ∙ ap (λ y. option_or p y) second
+
+-- ---- serials
+
+pub above_both : (s : ℕ) (rows : List model.Window) (ws : List Window) → StandFor rows ws → is_above s ws ≡ standing.is_above s rows
+above_both s [] [] m = refl
+above_both s (x ∷ xs) (y ∷ ys) m =
+    ap (λ n. nat_lt n s && is_above s ys) m.0.serial_is ∙ ap (λ b. nat_lt x.serial s && b) (above_both s xs ys m.1)
+above_both s [] (y ∷ ys) m = absurd m
+above_both s (x ∷ xs) [] m = absurd m

@@ -1,7 +1,7 @@
 -- Windows among others.
 use Rattle.std.specs.Prelude.{ℕ, ◌==◌, Bool, true, false, not, nat_lt, List, [], ◌∷◌}
 use Rattle.std.specs.Prelude.{Option, Some, None, if◌then◌else◌, find}
-use Rattle.std.specs.List.{list_any, range_with_len}
+use Rattle.std.specs.List.{list_any, list_all, range_with_len}
 use Rattle.std.specs.Option.{option_map_or}
 use Rattle.std.specs.Str.{bytes_eq}
 use Rattle.std.specs.String.{string_bytes}
@@ -41,6 +41,10 @@ numbered ws n = find (has_number n) ws
 abbrev pub taken_by_other : List Window → ℕ → ℕ → Bool
 taken_by_other ws serial n =
     option_map_or (λ (v : Window). not (v.serial == serial)) (numbered ws n) false
+
+-- whether a serial is above those of all
+abbrev pub is_above : ℕ → List Window → Bool
+is_above serial ws = list_all (λ (w : Window). nat_lt w.serial serial) ws
 
 -- the lowest number from 0 to 39 that none has
 abbrev pub first_free : List Window → Option ℕ

@@ -8,7 +8,7 @@ use Rattle.session_model.specs.Naming.{window_after, window_before, free_number}
 use Rattle.session_model.specs.Terminals.{terminal_of}
 use Rattle.session_rows.specs.Matched.{BothOrNone}
 use Rattle.windows.specs.declared.window.Window.{Window}
-use Rattle.windows.specs.Standing.{WindowStands, StandFor, AnswersIfRoom, at_serial, opened}
+use Rattle.windows.specs.Standing.{WindowStands, StandFor, AnswersIfRoom, at_serial, number_for, opened}
 
 -- the number of a row
 abbrev pub number : model.Window → ℕ
@@ -28,6 +28,10 @@ FindsBefore from ws found = (rows : List model.Window) (w : Option model.Window)
 -- the lowest number that no window has
 abbrev pub IsFree : List Window → ℕ → Type 0
 IsFree ws n = (rows : List model.Window) → StandFor rows ws → free_number rows ≡ Some n
+
+-- the number of a window that opens with this serial
+abbrev pub IsNumberFor : ℕ → List Window → Option ℕ → Type 0
+IsNumberFor s ws n = (rows : List model.Window) → StandFor rows ws → n ≡ number_for s rows
 
 -- a window opens
 abbrev pub Opens : {A : Type 0} →

@@ -1,6 +1,7 @@
 -- The windows that a table stands for.
-use Rattle.std.specs.Prelude.{ℕ, ◌≡◌, ◌⊎◌, ◌==◌, Bool, false, not, List, [], ◌∷◌, ◌++◌}
+use Rattle.std.specs.Prelude.{ℕ, ◌≡◌, ◌⊎◌, ◌==◌, Bool, false, not, nat_lt, List, [], ◌∷◌, ◌++◌}
 use Rattle.std.specs.Prelude.{Option, Some, None, Result, Ok, Err, if◌then◌else◌, filter}
+use Rattle.std.specs.List.{list_all}
 use Rattle.std.specs.Option.{option_map_or}
 use Rattle.std.specs.String.{string_bytes}
 use Rattle.terminal_model.specs.Drawable.{IsDrawableScreen}
@@ -148,11 +149,20 @@ numbered ws None window title = Err (Windows Full)
 numbered ws (Some n) window title =
     if is_title title then Ok (ws ++ window n ∷ []) else Err (Windows BadTitle)
 
--- a window opens, with the lowest number that is free
+-- whether a serial is above those of all windows
+abbrev pub is_above : ℕ → List model.Window → Bool
+is_above s ws = list_all (λ (w : model.Window). nat_lt w.serial s) ws
+
+-- the number of a window that opens: the lowest one that is free; none where its serial isn't above
+-- all others
+abbrev pub number_for : ℕ → List model.Window → Option ℕ
+number_for s ws = if is_above s ws then free_number ws else None
+
+-- a window opens
 abbrev pub opened : ℕ → ℕ → ℕ → ℕ → List ℕ → List model.Window → Answer
 opened s rows columns keep title ws =
     if is_window_size rows columns keep
-    then numbered ws (free_number ws) (λ n. new_row s n rows columns keep title) title
+    then numbered ws (number_for s ws) (λ n. new_row s n rows columns keep title) title
     else Err BadSize
 
 abbrev pub without : List model.Window → ℕ → Option model.Window → Answer

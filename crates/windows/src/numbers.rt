@@ -4,7 +4,7 @@ ghost use Rattle.std.specs.Prelude.{◌≡◌, option_copied};
 ghost use Rattle.std.specs.List.{list_any};
 ghost use Rattle.std.specs.Option.{option_and_then};
 ghost use Rattle.command_lang.specs.Values.{is_digit, number_in};
-ghost use Rattle.windows.specs.Among.{has_number, numbered, taken_by_other, first_free};
+ghost use Rattle.windows.specs.Among.{has_number, is_above, numbered, taken_by_other, first_free};
 
 use crate::window::Window;
 
@@ -60,6 +60,13 @@ pub(crate) fn is_taken(rows: &[Window], serial: u32, number: u8) -> bool
         Some(other) => other.serial != serial,
         None => false,
     }
+}
+
+/// Whether a serial is above those of all windows.
+pub(crate) fn is_above(rows: &[Window], serial: u32) -> bool
+    ensures { result ≡ is_above serial rows.now }
+{
+    rows.iter().all(|window| window.serial < serial)
 }
 
 /// Whether a window has the number.

@@ -5,16 +5,23 @@ ghost use Rattle.std.specs.List.{list_all};
 ghost use Rattle.std.specs.Str.{chars};
 ghost use Rattle.session_model.specs.Naming.{is_title, has_columns};
 
-use cells::glyph_width;
+use unicode_width::UnicodeWidthChar;
 
 /// The most characters of a title.
 const LONGEST_TITLE: usize = 40;
 
-/// Whether each character of a text has a width.
+/// Whether a character has width 1 or 2 (UAX #11).
+fn is_one_or_two(c: char) -> bool
+    ensures { result ≡ has_columns c }
+{
+    matches!(c.width(), Some(1 | 2))
+}
+
+/// Whether each character of a text does.
 fn has_columns(text: &str) -> bool
     ensures { result ≡ list_all has_columns (chars text.now) }
 {
-    text.chars().all(|c| 0 < glyph_width(c))
+    text.chars().all(is_one_or_two)
 }
 
 /// How many characters a text has.

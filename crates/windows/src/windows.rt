@@ -1,11 +1,11 @@
 //! The open windows.
 
 ghost use Rattle.std.specs.Prelude.{◌≡◌, ◌∷◌, ◌++◌, [], List, Some, length, option_copied};
-ghost use Rattle.std.specs.Prelude.{IfOk, OnOk, OnErr};
+ghost use Rattle.std.specs.Prelude.{IfOk, IfSome, OnOk, OnErr};
 ghost use Rattle.terminal_model.specs.Writing.{Clear, Reset, Encoding};
 
 use crate::among::{Among, End, nearest};
-use crate::numbers::{first_free, is_taken, numbered, numbered_by};
+use crate::numbers::{first_free, is_above, is_taken, numbered, numbered_by};
 use crate::titles::is_title;
 use crate::window::{Window, is_window_size};
 use charsets::Coding;
@@ -43,7 +43,7 @@ impl Windows {
     ghost use Rattle.windows.specs.Standing.{written_in, fed_in, resized_in, retitled_in};
     ghost use Rattle.windows.specs.Standing.{renumbered, closed};
     ghost use Rattle.windows.specs.Asking.{FindsAfter, FindsBefore, Opens, IsFree, IsOneMore};
-    ghost use Rattle.windows.specs.Asking.{Reports};
+    ghost use Rattle.windows.specs.Asking.{IsNumberFor, Reports};
 
     /// No window.
     pub fn new(alloc: Global) -> Windows
@@ -124,8 +124,23 @@ impl Windows {
         first_free(self.rows.as_slice())
     }
 
-    /// Opens a window with the lowest free number, and gives that. It is `BadSize` for a size that
-    /// no window has, then `Full` with 40 windows, then `BadTitle`. A refusal leaves all as it was.
+    /// The number of a window that opens with this serial: the lowest one that is free. None where
+    /// there are 40 windows, or where the serial isn't above those of all windows.
+    fn number_for(&self, serial: u32) -> Option<u8>
+        ensures number { IsNumberFor serial self.now result }
+        ensures free { IfSome result (IsFree self.now) }
+    {
+        if is_above(self.rows.as_slice(), serial) {
+            self.free_number()
+        } else {
+            None
+        }
+    }
+
+    /// Opens a window with the lowest free number, and gives that. Its serial has to be above those
+    /// of all windows, so serials rise. It is `BadSize` for a size that no window has, then `Full`
+    /// with 40 windows or where the serial isn't above all, then `BadTitle`. A refusal leaves all
+    /// as it was.
     pub fn open(
         &mut self,
         alloc: Global,
@@ -143,7 +158,7 @@ impl Windows {
         if !is_window_size(rows, cols, keep) {
             return Err(Refusal::BadSize);
         }
-        let Some(number) = self.free_number() else {
+        let Some(number) = self.number_for(serial) else {
             return Err(Refusal::Windows(WindowsFault::Full));
         };
         if !is_title(title) {

@@ -7,7 +7,7 @@ use Rattle.session_model.specs.Naming.{free_number}
 use Rattle.session_events.proofs.Passing.{taken_is, one_left}
 use Rattle.session_events.proofs.Finding.{next_unopened}
 use Rattle.session_events.proofs.Feeding.{pushed}
-use Rattle.session_events.proofs.NewWindows.{may_open, opened_rows, unopened, opened_done}
+use Rattle.session_events.proofs.NewWindows.{may_open, next_above, opened_rows, unopened, opened_done}
 use Rattle.session_events.proofs.opening.open.Goals as goal
 
 pub returns-in_default-clause-answer : goal.returns-in_default-clause-answer
@@ -33,7 +33,8 @@ returns-in_err-number-clause-answer c = λ t st fit passed.
     rw (p.1, p.2)
     (unopened t c.args.user c.args.rows c.args.cols c.args.keep c.args.title.now
     (may_open t c.args.user c.args.rows c.args.cols c.args.keep c.args.title.now passed)
-    c.in-Some.window serial_is c.in_err-number.field-0.0
+    c.in-Some.window serial_is (next_above t c.in-Some.window fit serial_is)
+    c.in_err-number.field-0.0
     (c.in_err-number.ensures.answer t.windows st.windows))
 
 pub returns-clause-answer : goal.returns-clause-answer
@@ -55,12 +56,12 @@ returns-clause-answer c = λ t st fit passed.
       ap (λ (n : ℕ). (n, c.in_ok-number.number)) serial_is
           ∙ ap (λ (n : ℕ). (t.next_window, n)) number_is,
       opened_done t user c.args.rows c.args.cols c.args.keep c.args.title.now may window serial_is
-          s c.window_opened.new.self c.opened.new.self c.open.new.self before
+          (next_above t window fit serial_is) s c.window_opened.new.self c.opened.new.self c.open.new.self before
           (record before { acts = c.push.new.self }) st
           (c.window_opened.ensures t.edition t.owner t.acts st.acl may.known unopened few)
           (c.opened.ensures t.edition t.owner t.acts st.locks unopened few)
           (opened_rows t user c.args.rows c.args.cols c.args.keep c.args.title.now may window serial_is
-          c.in_ok-number.number c.open.new.self
+          (next_above t window fit serial_is) c.in_ok-number.number c.open.new.self
           (c.in_ok-number.ensures.answer t.windows st.windows))
           (pushed c.push.result c.unwrap.result c.push.new.self.items
           (before.acts.items ++ act.Opened user window ∷ []) before.acts.items c.unwrap.ensures
