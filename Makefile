@@ -3,7 +3,7 @@ RT ?= rt
 PREFIX ?= /usr/local
 PROGRAMS = muxd mux muxsim vtcat
 TESTS = $(notdir $(patsubst %/,%,$(dir $(wildcard crates/*_tests/src))))
-SCRIPTS = $(addprefix contrib/, mux-shell mux-attach mux-over-ssh new-token)
+SCRIPTS = $(addprefix contrib/, mux-shell mux-attach mux-over-ssh mux-pty new-token)
 
 .PHONY: demo shell build try check test edits examples lint install
 
@@ -56,7 +56,8 @@ examples:
 
 # Scripts, terminal descriptions and man pages: Debian's shellcheck, ncurses-bin and mandoc.
 lint:
-	shellcheck -s sh $(SCRIPTS) examples/shell.sh $(filter-out %.c %.py, $(wildcard tests/outside/*))
+	perl -c contrib/mux-pty
+	shellcheck -s sh $(filter-out %/mux-pty, $(SCRIPTS)) examples/shell.sh $(filter-out %.c %.py, $(wildcard tests/outside/*))
 	tic -c contrib/mux.ti
 	cd man && mandoc -T lint *.1 *.5 *.8
 
