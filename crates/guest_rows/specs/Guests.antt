@@ -1,9 +1,7 @@
 -- A guest among four users: own, the owner, and ann, bob and eve.
 use Rattle.std.specs.Prelude.{◌≡◌, ℕ, true, false, List, [], ◌∷◌, Some, None, codes}
-use Rattle.acl.specs.declared.user_id.UserId.{UserId}
 use Rattle.acl.specs.declared.edition.Edition.TheVariants.{Second}
-use Rattle.acl.specs.declared.bits.Bit.TheVariants.{Read, Write, Execute}
-use Rattle.acl.specs.declared.command_name.CommandName.{CommandName}
+use Rattle.acl.specs.declared.bits.Bit.TheVariants.{Write, Execute}
 use Rattle.acl.specs.declared.command_name.CommandName.TheVariants as name
 use Rattle.acl.specs.declared.act.LockMode.TheVariants.{On}
 use Rattle.acl.specs.declared.act.Object.TheVariants as object
@@ -14,7 +12,7 @@ use Rattle.session_model.specs.Tables.{Tables, client_at}
 use Rattle.session_model.specs.Rights.{may_in, holder_in}
 use Rattle.session_guests.specs.Contained.{AreGuests}
 use Rattle.session_guests.specs.Locking.{IsPowerless}
-use Rattle.worked_rows.specs.Setup.{own, bob, eve, several, ordered, after, changes, takes, gives}
+use Rattle.worked_rows.specs.Setup.{bob, eve, several, ordered, after, changes, takes, gives}
 use Rattle.worked_rows.specs.Setup.{then_comes}
 
 abbrev pub of_bob : List (List ℕ)

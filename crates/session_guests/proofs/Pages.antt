@@ -10,12 +10,12 @@ use Rattle.regions.specs.declared.shown.Shown.{Shown}
 use Rattle.view.specs.Granted as view
 use Rattle.session_model.specs.declared.message.Message.{Message}
 use Rattle.session_model.specs.declared.message.Message.TheVariants as message
-use Rattle.session_model.specs.Tables.{Window, Client, Tables, row_of, window_at, focused, is_window}
+use Rattle.session_model.specs.Tables.{Window, Client, Tables, row_of, focused, is_window}
 use Rattle.session_model.specs.Rights.{may_in}
 use Rattle.session_model.specs.Keying.{open_line}
 use Rattle.session_model.specs.Granted.{granted_view, part_shown, part_of_window, window_read, message_text, status_text, layout_of}
 use Rattle.session_model.specs.Terminals.{terminal_of}
-use Rattle.session_model.specs.Texts.{windows_text, clients_text, window_item, in_order, by_number, separated, client_item, focus_text, number_text}
+use Rattle.session_model.specs.Texts.{window_item, in_order, by_number, separated, client_item, focus_text, number_text}
 use Rattle.std.specs.Prelude.{codes}
 use Rattle.std.specs.Prelude.{decimal}
 use Rattle.acl.specs.Names.{name_of}
