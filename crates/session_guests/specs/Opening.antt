@@ -1,5 +1,5 @@
 -- Who gets what on a window that is opened.
-use Rattle.std.specs.Prelude.{◌≡◌, ℕ, true, ◌||◌, List}
+use Rattle.std.specs.Prelude.{◌≡◌, true, ◌||◌}
 use Rattle.acl.specs.declared.user_id.UserId.{UserId}
 use Rattle.acl.specs.declared.bits.Bit.{Bit}
 use Rattle.acl.specs.declared.act.Object.TheVariants as object
