@@ -15,14 +15,15 @@ use crate::acts::are_let;
 use crate::commands::fits_line;
 use crate::fault::CheckFault;
 use crate::replies::{carries_failed, is_denied};
-use crate::verdicts::{are_of_client, are_true, failed};
+use crate::verdicts::{are_of, are_of_client, are_true, failed};
 use acl::{Edition, UserId};
 use hub_record::{Filed, KeptRef};
 use hub_replay::Replay;
 use session_model::Verdict;
 use std::alloc::{AllocError, Global};
 
-/// Whether the verdicts of Keys are of their client's user.
+/// Whether the verdicts of a Command or an Open are of its user, and those of Keys of their
+/// client's.
 fn are_of_user(replay: &Replay, event: KeptRef<'_>, verdicts: &[Verdict]) -> bool
     ensures { (edition : Edition) (owner : UserId) (h : History) →
         StandsAfter replay.now edition owner h →
@@ -30,11 +31,9 @@ fn are_of_user(replay: &Replay, event: KeptRef<'_>, verdicts: &[Verdict]) -> boo
 {
     match event {
         KeptRef::Keys { client } => are_of_client(replay, client, verdicts),
-        KeptRef::Attach { .. }
-        | KeptRef::Detach { .. }
-        | KeptRef::Command { .. }
-        | KeptRef::Open { .. }
-        | KeptRef::Closed { .. } => true,
+        KeptRef::Command { user, .. } => are_of(user, verdicts),
+        KeptRef::Open { user, .. } => are_of(user, verdicts),
+        KeptRef::Attach { .. } | KeptRef::Detach { .. } | KeptRef::Closed { .. } => true,
     }
 }
 

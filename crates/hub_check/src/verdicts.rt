@@ -6,7 +6,7 @@ ghost use Rattle.acl.specs.declared.edition.Edition.{Edition};
 ghost use Rattle.acl.specs.declared.user_id.UserId.{UserId};
 ghost use Rattle.acl.specs.History.{History};
 ghost use Rattle.hub_trail.specs.Legal.{passes, failed, user_of, asks_for_command, AsksFirst};
-ghost use Rattle.hub_trail.specs.Legal.{from_command, is_client_of, is_granted};
+ghost use Rattle.hub_trail.specs.Legal.{from_command, is_client_of, is_granted, is_of_user};
 ghost use Rattle.hub_replay.specs.Following.{StandsAfter};
 ghost use Rattle.hub_check.specs.Parts.{AreTrue, AsksFor};
 
@@ -50,6 +50,13 @@ fn user_of(verdict: Verdict) -> UserId
     match verdict {
         Verdict::Right { user, .. } | Verdict::Lock { user, .. } => user,
     }
+}
+
+/// Whether the verdicts are of the user.
+pub fn are_of(user: UserId, verdicts: &[Verdict]) -> bool
+    ensures { result ≡ list_all (is_of_user user) verdicts.now }
+{
+    verdicts.iter().all(|verdict| user_of(*verdict) == user)
 }
 
 /// Whether each verdict is on an object that is there, and tells the truth.

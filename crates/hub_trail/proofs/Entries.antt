@@ -6,6 +6,7 @@ use Rattle.std.proofs.lemmas.Bool.{and_from, or_left, eq-eqb, both_ways}
 use Rattle.acl.specs.declared.user_id.UserId.{UserId}
 use Rattle.acl.specs.declared.act.Object.TheVariants as object
 use Rattle.acl.specs.declared.bits.Bit.TheVariants.{Write, Execute}
+use Rattle.acl.specs.Same.{same_user}
 use Rattle.acl.proofs.StandsForLemmas.{same_user-refl}
 use Rattle.writelock.specs.LockTable.{stops_nobody_but}
 use Rattle.command_lang.specs.command.Command.{Command as Order}
@@ -45,7 +46,7 @@ use Rattle.session_laws.proofs.Outcomes as outcomes
 use Rattle.hub_trail.specs.declared.kept.Kept.{Kept}
 use Rattle.hub_trail.specs.declared.kept.Kept.TheVariants as kept
 use Rattle.hub_trail.specs.Trails.{Entry}
-use Rattle.hub_trail.specs.Legal.{IsLegalEntry, AreOfUser, AsksForCommand, AsksFirst, HasItsActs, is_let, is_granted, from_command, failed, first_names, is_client_of, user_of}
+use Rattle.hub_trail.specs.Legal.{IsLegalEntry, AreOfUser, AsksForCommand, AsksFirst, HasItsActs, is_let, is_granted, from_command, failed, first_names, is_client_of, is_of_user, user_of}
 use Rattle.hub_trail.specs.Filing.{kept_of, ending_of}
 use Rattle.hub_trail.proofs.Verdicts.{AreTrue, true_verdicts, AreOf, own_verdicts, all_pass, Tells, IsPlain, IsCheckOf, tells, plain_refusal, plain_tells, denial_carries, refusal_denies, none_denied, plain_checks, own_checks, own_typing}
 use Rattle.hub_trail.proofs.Sights.{stays_alike, left_none, with_stays, sight_resized, parted_found, closed_found, attached}
@@ -96,6 +97,11 @@ passed_legal t k cs y d plain user first passing has =
     (λ r is. refused_legal t k cs r user first (subst (λ f. Tells f (failed (verdicts t cs))) is (tells t cs plain)))
     (λ is. finished_legal t k cs y d user first (passing is) (subst (λ f. Tells f (failed (verdicts t cs))) is (tells t cs plain)) has)
 
+-- checks of one user give verdicts of his
+own_user : (t : Tables) (user : UserId) (cs : List Check) → AllByRecursion (IsCheckOf user) cs → AllByRecursion (λ v. is_of_user user v ≡ true) (verdicts t cs)
+own_user t user cs own =
+    all_weaken (λ v. user_of v ≡ user) (λ v. is_of_user user v ≡ true) (verdicts t cs) (λ v same. ap (λ u. same_user u user) same ∙ same_user-refl user) (own_verdicts t user cs own)
+
 -- ---- a line that says a command
 
 order_in : Order → Result Order ParseFault → Order
@@ -124,6 +130,9 @@ module _ (t : Tables) (user : UserId) (number : Option ℕ) (bytes : List ℕ) w
 
   -- the command that the line says
   module _ (c : Order) (read : read_line bytes ≡ Ok c) where
+    own : AreOfUser t.acts event (verdicts t (checks t k c))
+    own = own_user t user (checks t k c) (own_checks t k c)
+
     first : AsksForCommand t.owner t.acts event (verdicts t (checks t k c))
     first known d said = asks_own t k c d (one_order c d (read_line bytes) read (relates-reads bytes d said))
 
@@ -134,13 +143,13 @@ module _ (t : Tables) (user : UserId) (number : Option ℕ) (bytes : List ℕ) w
 
     does_legal : (a : Answer) → first_fault t (checks t k c) ≡ None → Tells None (failed (verdicts t (checks t k c))) → Either (Still t) a → Of (HasFirst t c) a
         → Legal t event (answered t (verdicts t (checks t k c)) a)
-    does_legal (Err r) none told plain has = refused_legal t event (checks t k c) r tt first (plain_tells r (failed (verdicts t (checks t k c))) (plain_refusal r plain) told)
+    does_legal (Err r) none told plain has = refused_legal t event (checks t k c) r own first (plain_tells r (failed (verdicts t (checks t k c))) (plain_refusal r plain) told)
     does_legal (Ok d) none told still has =
-        finished_legal t event (checks t k c) (record { taken = 0; made = 0; number = 0; text = d.lists }) d tt first (granted_first t k c none) told (named d has)
+        finished_legal t event (checks t k c) (record { taken = 0; made = 0; number = 0; text = d.lists }) d own first (granted_first t k c none) told (named d has)
 
     ruled_legal : (f : Option Refusal) → first_fault t (checks t k c) ≡ f → Tells f (failed (verdicts t (checks t k c)))
         → Legal t event (answered t (verdicts t (checks t k c)) (elim f as (λ _. Answer) [ Some r ↦ Err r | None ↦ does t k c ]))
-    ruled_legal (Some r) is told = refused_legal t event (checks t k c) r tt first told
+    ruled_legal (Some r) is told = refused_legal t event (checks t k c) r own first told
     ruled_legal None is told = does_legal (does t k c) is told (stills t k c) (has_first t k c)
 
   line_legal : (r : Result Order ParseFault) → read_line bytes ≡ r → Legal t event (commanded t (line_ruling t k r))
@@ -167,7 +176,8 @@ open_legal : (t : Tables) (user : UserId) (rows columns keep : ℕ) (title : Lis
 open_legal t user rows columns keep title =
     let cs : List Check = open_checks t user rows columns keep title in
     let w : Window = new_window t rows columns keep title in
-    passed_legal t (kept.Open user rows columns keep title) cs (record { taken = 0; made = w.serial; number = w.number; text = None }) (opens t user w) (refl, (tt, (refl, (refl, (refl, (refl, tt)))))) tt tt
+    passed_legal t (kept.Open user rows columns keep title) cs (record { taken = 0; made = w.serial; number = w.number; text = None }) (opens t user w) (refl, (tt, (refl, (refl, (refl, (refl, tt))))))
+    (own_user t user cs (tt, (refl, (tt, (tt, (tt, (tt, tt))))))) tt
     (λ none. all_pass t cs none) (or_left _ _ (and_from _ _ (eq-eqb t.next_window t.next_window refl) (same_user-refl user)))
 
 abbrev nothing : Done

@@ -58,10 +58,18 @@ user_of (lock user window held) = user
 abbrev pub is_client_of : History → ℕ → UserId → Bool
 is_client_of h client user = list_any (λ c. (c.0 == client) && same_user c.1 user) (clients_of h)
 
--- those of Keys are of their client's user
+-- whether a verdict is of this user
+abbrev pub is_of_user : UserId → Verdict → Bool
+is_of_user user v = same_user (user_of v) user
+
+-- those of a Command or an Open are of its user, and those of Keys of their client's
 abbrev pub AreOfUser : History → Kept → List Verdict → Type 0
 AreOfUser h (kept.Keys client) verdicts =
     AllByRecursion (λ v. is_client_of h client (user_of v) ≡ true) verdicts
+AreOfUser h (kept.Command user window line) verdicts =
+    AllByRecursion (λ v. is_of_user user v ≡ true) verdicts
+AreOfUser h (kept.Open user rows columns keep title) verdicts =
+    AllByRecursion (λ v. is_of_user user v ≡ true) verdicts
 AreOfUser h event verdicts = Unit {0}
 
 -- ---- a command's first verdict
