@@ -17,12 +17,6 @@ above-preserved-in-above c =
     let end = cut_end c.above.receipts.items c.pop-last.new.self.items c.args.receipts.now.items c.pop-last.result c.args.place c.pop-last.ensures.items c.above.invariant.rise not c.above.invariant.rest in
     record { rise = end.0; rest = end.1 }
 
-pub above-preserved-in-above-2 : goal.above-preserved-in-above-2
-above-preserved-in-above-2 c =
-    let not = not_below c.are_below.result c.as_slice.result.now c.above.receipts.items c.args.place c.are_below.ensures c.above-test.true c.as_slice.ensures.value in
-    let end = cut_end c.above.receipts.items c.pop-last.new.self.items c.args.receipts.now.items c.pop-last.result c.args.place c.pop-last.ensures.items c.above.invariant.rise not c.above.invariant.rest in
-    record { rise = end.0; rest = end.1 }
-
 pub above-smaller : goal.above-smaller
 above-smaller c =
     let not = not_below c.are_below.result c.as_slice.result.now c.above.receipts.items c.args.place c.are_below.ensures c.above-test.true c.as_slice.ensures.value in
