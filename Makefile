@@ -3,7 +3,7 @@ RT ?= rt
 PREFIX ?= /usr/local
 PROGRAMS = muxd mux muxsim vtcat
 TESTS = $(notdir $(patsubst %/,%,$(dir $(wildcard crates/*_tests/src))))
-SCRIPTS = $(addprefix contrib/, mux-shell mux-attach mux-over-ssh mux-command mux-watch muxd-wait new-token)
+SCRIPTS = $(shell grep -s -l -m 1 '^.!/bin/sh' contrib/*)
 
 .PHONY: demo try-server shell build try check test edits examples lint install dist
 
@@ -54,7 +54,7 @@ examples:
 	@tools/pictures docs/TEACHING.md
 	@echo "make examples: $(words $(wildcard examples/*.mux)) scripts and the pictures agree"
 
-# Scripts, programs in Python, terminal descriptions and man pages: Debian's shellcheck, ncurses-bin and mandoc.
+# Scripts, programs in Python and Perl, terminal descriptions and man pages: Debian's shellcheck, ncurses-bin and mandoc.
 PYTHON = $(shell grep -s -l -m 1 '^.!.*python3' tools/* examples/* tests/outside/* bench/*)
 lint:
 	shellcheck -s sh $(SCRIPTS) $(shell grep -l -m 1 '^.!/bin/sh' examples/* tests/outside/*)
@@ -62,6 +62,7 @@ lint:
 	@for file in $(PYTHON); do \
 	    python3 -c 'import sys; compile(open(sys.argv[1]).read(), sys.argv[1], "exec")' $$file || exit 1; \
 	done
+	@for file in $(shell grep -s -l -m 1 '^.!/usr/bin/perl' contrib/*); do perl -c $$file || exit 1; done
 	tic -c contrib/mux.ti
 	cd man && mandoc -T lint *.1 *.5 *.8
 	tools/crates-table README.md

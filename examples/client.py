@@ -123,7 +123,8 @@ def attach(server, user, token):
                         elif kind == SAY:
                             said = payload.decode()
                         elif kind == GONE:
-                            return payload[0] in (0, 4), said or WHY[payload[0]]
+                            # (a SAY in front of 6 says what was refused)
+                            return payload[0] in (0, 4), said if said and payload[0] == 6 else WHY[payload[0]]
     finally:
         termios.tcsetattr(0, termios.TCSADRAIN, saved)
         # arrow keys, keypad, wrapping, the cursor, renditions and the page as a shell wants them

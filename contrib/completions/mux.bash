@@ -45,4 +45,5 @@ _mux() {
     mapfile -t COMPREPLY < <(compgen -W "$words" -- "$current")
 }
 
-complete -F _mux -o bashdefault -o default muxd mux muxsim vtcat mux-shell mux-attach mux-over-ssh new-token
+complete -F _mux -o bashdefault -o default muxd mux muxsim vtcat \
+    mux-attach mux-command mux-over-ssh mux-pty mux-shell mux-watch muxd-wait new-token

@@ -2,24 +2,19 @@
 #![tactic(auto)]
 
 use server_client::client;
-use server_words::given;
-use std::io;
-use std::io::Write;
+use server_words::{given, not_given};
 use std::process::ExitCode;
 
 fn main(rt: HostRuntime) -> ExitCode {
     let words = match given(&rt, "mux") {
         Ok(words) => words,
-        Err(error) => {
-            let _ = writeln!(rt.stderr(), "mux: {error}");
-            return ExitCode::FAILURE;
-        }
+        Err(error) => return ExitCode::from(not_given("mux", &error, &mut rt.stderr())),
     };
     let status = client(
         &rt,
         words.as_slice(),
         rt.stdin(),
-        &mut io::writer(&rt),
+        rt.stdout(),
         &mut rt.stderr(),
     );
     ExitCode::from(status)

@@ -2,18 +2,14 @@
 #![tactic(auto)]
 
 use server::serve;
-use server_words::given;
+use server_words::{given, not_given};
 use std::io;
-use std::io::Write;
 use std::process::ExitCode;
 
 fn main(rt: HostRuntime) -> ExitCode {
     let words = match given(&rt, "muxd") {
         Ok(words) => words,
-        Err(error) => {
-            let _ = writeln!(rt.stderr(), "muxd: {error}");
-            return ExitCode::FAILURE;
-        }
+        Err(error) => return ExitCode::from(not_given("muxd", &error, &mut rt.stderr())),
     };
     let status = serve(
         &rt,

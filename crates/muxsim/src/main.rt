@@ -19,6 +19,10 @@ fn words(rt: &HostRuntime) -> io::Result<Vec<String>> {
 fn main(rt: HostRuntime) -> ExitCode {
     let words = match words(&rt) {
         Ok(words) => words,
+        Err(error) if error.kind() == io::ErrorKind::InvalidData => {
+            let _ = writeln!(rt.stderr(), "muxsim: a word isn't UTF-8");
+            return ExitCode::from(2);
+        }
         Err(error) => {
             let _ = writeln!(rt.stderr(), "muxsim: {error}");
             return ExitCode::FAILURE;

@@ -1,123 +1,86 @@
-//! `mux`: a client, a window or a command, with one thread for each way.
+//! `mux`: a client, a window or a command.
 
 use crate::fault::{ClientFault, Gone};
-use attach_proto::{
-    Bytes, LONGEST, Message, ProtoFault, Reader, Side, Text, Token, Why, write_message,
-};
+use crate::opening::{Opened, Way, number, open};
+use crate::showing::show;
+use crate::standing::{Intake, Outlet, Shared, Standing};
+use attach_proto::{Reader, Side, Why};
 use clap::ArgMatches;
 use server_words::{of_client, tell};
 use std::alloc::{AllocError, Global};
-use std::fs::Files;
-use std::io::{ErrorKind, Read, Write};
+use std::fs::{File, Files};
+use std::io::{Read, Write};
 use std::net::Net;
-use std::os::unix::net::UnixStream;
+use std::os::fd::AsRawFd;
+use std::sync::{Arc, Condvar, Mutex, Wait};
 use std::thread::Threads;
+use std::time::{Clock, Duration};
 use std::{fs, thread};
 
-/// What a peer is to the server.
-#[derive(Clone, Copy, Debug, PartialEq, Eq)]
-enum Way {
-    Attach,
-    Window,
-    Command,
-}
+const NO_SIZE: &str = "lines of --sizes were dropped: each is ROWS COLS, 4 to 200 by 20 to 300";
 
-fn way_of(name: &str) -> Way {
-    match name {
-        "attach" => Way::Attach,
-        "window" => Way::Window,
-        _ => Way::Command,
-    }
-}
+// How long a window's end waits for its standard output, in milliseconds.
+const LAST_WRITING: u64 = 500;
 
-fn word<'a>(matches: &'a ArgMatches, name: &str) -> Result<&'a str, ClientFault> {
-    matches.get_str(name).ok_or(ClientFault::Words)
-}
-
-fn number(matches: &ArgMatches, name: &str) -> Result<u16, ClientFault> {
-    matches.get_one::<u16>(name).ok_or(ClientFault::Words)
-}
-
-fn token_of(file: &[u8]) -> Result<Token, ClientFault> {
-    let digits = file.strip_suffix(b"\n".as_slice()).unwrap_or(file);
-    Token::read(digits).ok_or(ClientFault::NoToken)
-}
-
-// The message that a connection begins with.
-fn first_message<R: Files + AllocGlobal>(
+fn shared_of<R: Net + Files<File = File> + AllocGlobal, I: Drop, O: Drop>(
     rt: &R,
     way: Way,
     matches: &ArgMatches,
-) -> Result<Message, ClientFault> {
+    input: I,
+    output: O,
+) -> Result<Shared<I, O>, ClientFault> {
     let alloc = rt.alloc();
-    let file = fs::read(rt, word(matches, "token")?).map_err(ClientFault::NoFile)?;
-    let token = token_of(&file)?;
-    let name = Text::new(alloc, word(matches, "user")?)?;
-    Ok(match way {
-        Way::Attach => Message::Attach {
-            rows: number(matches, "rows")?,
-            cols: number(matches, "cols")?,
-            token,
-            name,
-        },
-        Way::Window => Message::Window {
-            rows: number(matches, "rows")?,
-            cols: number(matches, "cols")?,
-            keep: number(matches, "keep")?,
-            token,
-            name,
-            title: Text::new(alloc, word(matches, "title")?)?,
-        },
-        Way::Command => Message::Command {
-            window: matches.get_one::<u8>("window"),
-            token,
-            name,
-            line: Bytes::new(alloc, word(matches, "line")?.as_bytes())?,
-        },
+    let (rows, cols) = match way {
+        Way::Command => (0, 0),
+        Way::Attach | Way::Window => (number(matches, "rows")?, number(matches, "cols")?),
+    };
+    let Opened { stream, sizes } = open(rt, way, matches)?;
+    let (asked, told) = match way {
+        Way::Attach => (sizes, None),
+        Way::Window | Way::Command => (None, sizes),
+    };
+    Ok(Shared {
+        way,
+        rows,
+        cols,
+        stream,
+        sending: Mutex::new(()),
+        intake: Mutex::new(Intake {
+            reader: Reader::new(alloc, Side::Peer),
+            input: Some(input),
+            asked,
+            said: None,
+        }),
+        outlet: Mutex::new(Outlet {
+            output,
+            sizes: told,
+        }),
+        standing: Mutex::new(Standing {
+            bytes: Vec::new(alloc),
+            sizes: Vec::new(alloc),
+            is_writing: false,
+            end: None,
+            input: None,
+            has_dropped: false,
+        }),
+        news: Condvar::new(),
     })
 }
 
-fn send(alloc: Global, mut stream: &UnixStream, message: &Message) -> Result<(), ClientFault> {
-    let mut frame = Vec::new(alloc);
-    write_message(alloc, message, &mut frame)?;
-    stream.write_all(&frame)?;
-    Ok(())
-}
-
-// Sends what it reads, and at the end that the peer goes.
-fn send_all<I: Read + Drop>(
-    alloc: Global,
-    mut input: I,
-    stream: &UnixStream,
-    way: Way,
-) -> Result<(), ClientFault> {
-    let mut buffer = vec![in alloc; 0; LONGEST]?;
-    for _ in 0..u64::MAX {
-        let count = input.read(buffer.as_mut_slice())?;
-        if count == 0 {
-            return send(alloc, stream, &Message::Detach);
-        }
-        let bytes = Bytes::new(alloc, &buffer[..count])?;
-        let message = match way {
-            Way::Window => Message::Output(bytes),
-            Way::Attach | Way::Command => Message::Keys(bytes),
-        };
-        send(alloc, stream, &message)?;
-    }
-    Ok(())
-}
-
-// The thread isn't joined: it may wait for its input for good, and the program ends without it.
-fn start_sending<R: Threads + AllocGlobal, I: Read + Send + Drop + 'static>(
-    rt: &R,
-    stream: &UnixStream,
-    input: I,
-    way: Way,
-) -> Result<(), ClientFault> {
-    let alloc = rt.alloc();
-    let theirs = stream.try_clone()?;
+// Starts a thread that reads the socket and writes. Of two, one reads on while the other's writing
+// waits.
+fn start_showing<
+    R: Threads + Wait + AllocGlobal + Copy + Send + 'static,
+    I: Read + Send + Drop + 'static,
+    O: Write + Send + Drop + 'static,
+>(rt: &R, shared: &Arc<Shared<I, O>, Global>) -> Result<(), ClientFault> {
+    let theirs = Arc::try_clone(shared)?;
+    let rt_there = *rt;
     let started = thread::spawn(rt, move || {
-        let _ = send_all(alloc, input, &theirs, way);
+        let rt = rt_there;
+        if let Err(fault) = show(&rt, &theirs) {
+            theirs.end(&rt, Err(fault));
+        }
     });
     match started {
         Ok(_) => Ok(()),
@@ -125,137 +88,99 @@ fn start_sending<R: Threads + AllocGlobal, I: Read + Send + Drop + 'static>(
     }
 }
 
-fn ended(way: Way, why: Why, said: Option<String>) -> Result<(), ClientFault> {
-    match (why, said) {
-        (Why::Detached | Why::Quit, _) => Ok(()),
-        (Why::Killed, _) if way == Way::Window => Ok(()),
-        (Why::Fault, Some(said)) => Err(ClientFault::Said(said)),
-        (why, _) => Err(ClientFault::Gone(Gone::from(why))),
-    }
-}
-
-/// What a peer still has to send, and what the session said last.
+/// How a peer ended.
 #[derive(Drop)]
-struct Peer<I> {
-    way: Way,
-    /// Its input, until it is welcome.
-    input: Option<I>,
-    said: Option<String>,
+struct Ending {
+    end: Result<Why, ClientFault>,
+    has_dropped: bool,
 }
 
-impl<I: Read + Send + Drop + 'static> Peer<I> {
-    // Shows a message that isn't its last one.
-    fn show<R: Threads + AllocGlobal, O: Write>(
-        &mut self,
-        rt: &R,
-        stream: &UnixStream,
-        output: &mut O,
-        message: &Message,
-    ) -> Result<(), ClientFault> {
-        match message {
-            Message::Welcome(_) if self.way != Way::Command => {
-                if let Some(input) = self.input.take() {
-                    start_sending(rt, stream, input, self.way)?;
-                }
-            }
-            Message::Draw(bytes) | Message::Input(bytes) => output.write_all(bytes.as_slice())?,
-            // Once a peer is welcome, its status line says what the session says.
-            Message::Say(text) if self.input.is_some() => {
-                if self.way == Way::Command {
-                    writeln!(output, "{}", text.as_str())?;
-                }
-                self.said = Some(String::from_str(rt.alloc(), text.as_str())?);
-            }
-            _ => {}
-        }
-        Ok(())
+// Waits for the end; for what a window's program is still to read, not for long.
+fn wait_for_end<R: Wait + Clock, I, O>(rt: &R, shared: &Shared<I, O>) -> Ending {
+    let news = &shared.news;
+    let mut standing = news.wait_while(rt, shared.standing.lock(rt), |s| s.end.is_none());
+    if shared.way == Way::Window {
+        standing = news
+            .wait_timeout_while(rt, standing, Duration::from_millis(LAST_WRITING), |s| {
+                s.is_writing || !s.bytes.is_empty()
+            })
+            .0;
     }
-
-    // Shows what comes, until the server lets the peer go.
-    fn show_all<R: Threads + AllocGlobal, O: Write>(
-        &mut self,
-        rt: &R,
-        mut stream: &UnixStream,
-        output: &mut O,
-    ) -> Result<(), ClientFault> {
-        let alloc = rt.alloc();
-        let mut buffer = vec![in alloc; 0; LONGEST]?;
-        let mut reader = Reader::new(alloc, Side::Peer);
-        for _ in 0..u64::MAX {
-            let count = stream.read(buffer.as_mut_slice())?;
-            if count == 0 {
-                return Err(ClientFault::Ended);
-            }
-            let mut messages = Vec::new(alloc);
-            let fed = reader.feed(&buffer[..count], &mut messages);
-            for message in &messages {
-                if let Message::Gone(why) = message {
-                    output.flush()?;
-                    return ended(self.way, *why, self.said.take());
-                }
-                self.show(rt, stream, output, message)?;
-            }
-            output.flush()?;
-            match fed {
-                Ok(()) => {}
-                Err(ProtoFault::NoMemory) => return Err(ClientFault::NoMemory),
-                Err(_) => return Err(ClientFault::NoServerOfOurs),
-            }
-        }
-        Err(ClientFault::Ended)
-    }
-}
-
-fn connect<R: Net + AllocGlobal>(rt: &R, path: &str) -> Result<UnixStream, ClientFault> {
-    match UnixStream::connect(rt, path) {
-        Ok(stream) => Ok(stream),
-        Err(error) => match error.kind() {
-            ErrorKind::NotFound | ErrorKind::ConnectionRefused => Err(ClientFault::NoServer(
-                String::from_str(rt.alloc(), path)?,
-            )),
-            _ => Err(ClientFault::Other(error)),
-        },
-    }
-}
-
-fn run<R: Net + Files + Threads + AllocGlobal, I: Read + Send + Drop + 'static, O: Write>(
-    rt: &R,
-    way: Way,
-    matches: &ArgMatches,
-    input: I,
-    output: &mut O,
-) -> Result<(), ClientFault> {
-    let first = first_message(rt, way, matches)?;
-    let stream = connect(rt, word(matches, "socket")?)?;
-    send(rt.alloc(), &stream, &first)?;
-    let mut peer = Peer {
-        way,
-        input: Some(input),
-        said: None,
+    let end = match (standing.end.take(), standing.input.take()) {
+        (Some(Ok(_)), Some(fault)) => Err(fault),
+        (Some(end), _) => end,
+        (None, _) => Err(ClientFault::Ended),
     };
-    peer.show_all(rt, &stream, output)
+    Ending {
+        end,
+        has_dropped: standing.has_dropped,
+    }
+}
+
+// Standard streams that are closed are /dev/null from now on, so that nothing else becomes one.
+fn fill_closed<R: Files<File = File> + AllocGlobal>(rt: &R) -> Result<Vec<File>, ClientFault> {
+    let mut kept = Vec::new(rt.alloc());
+    for _ in 0..3 {
+        let file = fs::open(rt, "/dev/null")?;
+        if file.as_raw_fd() > 2 {
+            break;
+        }
+        kept.push(file)?;
+    }
+    Ok(kept)
+}
+
+fn run<
+    R: Net + Files<File = File> + Clock + Threads + Wait + AllocGlobal + Copy + Send + 'static,
+    I: Read + Send + Drop + 'static,
+    O: Write + Send + Drop + 'static,
+>(rt: &R, way: Way, matches: &ArgMatches, input: I, output: O) -> Result<Ending, ClientFault> {
+    let _kept = fill_closed(rt)?;
+    let shared = Arc::new(rt.alloc(), shared_of(rt, way, matches, input, output)?)?;
+    start_showing(rt, &shared)?;
+    if way == Way::Window {
+        start_showing(rt, &shared)?;
+    }
+    Ok(wait_for_end(rt, &shared))
 }
 
 /// `mux`: a client of the server. The first word is the program's name. The answer is the status to
 /// exit with: 0; 1 for a fault; 2 where the words aren't understood.
 pub fn client<
-    R: Net + Files + Threads + AllocGlobal,
+    R: Net + Files<File = File> + Clock + Threads + Wait + AllocGlobal + Copy + Send + 'static,
     I: Read + Send + Drop + 'static,
-    O: Write,
+    O: Write + Send + Drop + 'static,
     E: Write,
->(rt: &R, words: &[String], input: I, output: &mut O, errors: &mut E) -> u8 {
+>(rt: &R, words: &[String], input: I, output: O, errors: &mut E) -> u8 {
+    let mut output = output;
     let matches = match of_client(rt.alloc(), words) {
         Ok(matches) => matches,
-        Err(error) => return tell(&error, output, errors),
+        Err(error) => return tell(&error, &mut output, errors),
     };
     let Some((name, matches)) = matches.subcommand() else {
         return 2;
     };
-    match run(rt, way_of(name), matches, input, output) {
-        Ok(()) => 0,
+    let way = Way::of(name);
+    let ending = match run(rt, way, matches, input, output) {
+        Ok(ending) => ending,
+        Err(fault) => Ending {
+            end: Err(fault),
+            has_dropped: false,
+        },
+    };
+    if ending.has_dropped {
+        let _ = writeln!(errors, "mux: {NO_SIZE}");
+    }
+    match ending.end {
+        Ok(why) => {
+            if matches.get_flag("why") {
+                let _ = writeln!(errors, "mux: {}", Gone::from(why));
+            }
+            0
+        }
         Err(fault) => {
             let _ = writeln!(errors, "mux: {fault}");
-            1
+            fault.status()
         }
     }
 }

@@ -12,6 +12,10 @@ pub enum ClientFault {
     Words,
     #[error("the token's file isn't read: {0}: --token names it")]
     NoFile(io::Error),
+    #[error("the sizes' file isn't opened: {0}: --sizes names it")]
+    NoSizes(io::Error),
+    #[error("standard input isn't read: {0}")]
+    Input(io::Error),
     #[error("the token's file hasn't 64 digits of 0 to 9, a to f")]
     NoToken,
     #[error("the words are too long for the server")]
@@ -30,6 +34,16 @@ pub enum ClientFault {
     NoMemory,
     #[error("{0}")]
     Other(io::Error),
+}
+
+impl ClientFault {
+    /// The status to exit with: 2 where the words are at fault.
+    pub fn status(&self) -> u8 {
+        match self {
+            ClientFault::Words | ClientFault::TooLong => 2,
+            _ => 1,
+        }
+    }
 }
 
 /// Why the server let a peer go.

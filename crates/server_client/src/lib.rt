@@ -3,5 +3,9 @@
 
 mod attach;
 mod fault;
+mod opening;
+mod sending;
+mod showing;
+mod standing;
 
 pub use attach::client;

@@ -3,4 +3,4 @@
 
 mod words;
 
-pub use words::{given, of_client, of_server, tell};
+pub use words::{given, not_given, of_client, of_server, tell};

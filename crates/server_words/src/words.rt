@@ -1,7 +1,7 @@
 //! The words of the programs.
 
 use clap::error::ErrorKind;
-use clap::{Arg, ArgMatches, Command, Error};
+use clap::{Arg, ArgAction, ArgMatches, Command, Error};
 use std::alloc::Global;
 use std::env::Env;
 use std::io::Write;
@@ -11,6 +11,10 @@ const VERSION: &str = "0.1.0";
 
 const USERS: &str =
     "A file of lines: a name, a blank and 64 digits of 0 to 9, a to f; the first is the owner";
+
+const SIZES_IN: &str = "A FIFO: each line ROWS COLS there is the terminal's new size";
+
+const SIZES_OUT: &str = "A file: the window's sizes are written there, as lines ROWS COLS";
 
 const SERVER_EXAMPLE: &str = "Example:
   umask 077
@@ -51,6 +55,17 @@ pub fn given<R: Env + AllocGlobal>(rt: &R, name: &str) -> io::Result<Vec<String>
     Ok(words)
 }
 
+/// Writes why a program's words aren't known: one that isn't UTF-8, with status 2, or want of
+/// memory, with status 1.
+pub fn not_given<E: Write>(program: &str, error: &io::Error, errors: &mut E) -> u8 {
+    if error.kind() == io::ErrorKind::InvalidData {
+        let _ = writeln!(errors, "{program}: a word isn't UTF-8");
+        return 2;
+    }
+    let _ = writeln!(errors, "{program}: {error}");
+    1
+}
+
 /// The words of `muxd`, the program's name first.
 pub fn of_server<'a>(alloc: Global, words: &'a [String]) -> Result<ArgMatches<'a>, Error> {
     let loops = Arg::new(alloc, "loops")
@@ -85,7 +100,19 @@ fn way<'a>(alloc: Global, name: &'a str, about: &'a str) -> Result<Command<'a>, 
     )
 }
 
+// Where sizes come from, or go to.
+fn sizes<'a>(alloc: Global, help: &'a str) -> Arg<'a> {
+    Arg::new(alloc, "sizes")
+        .long("sizes")
+        .value_name("PATH")
+        .help(help)
+}
+
 fn attach<'a>(alloc: Global) -> Result<Command<'a>, Error> {
+    let why = Arg::new(alloc, "why")
+        .long("why")
+        .action(ArgAction::SetTrue)
+        .help("Says on standard error why it ends, also where that is no fault");
     Ok(
         way(
             alloc,
@@ -93,7 +120,9 @@ fn attach<'a>(alloc: Global) -> Result<Command<'a>, Error> {
             "Shows the session: keys from standard input, draws to standard output",
         )?
         .arg(size(alloc, "rows", "The terminal's lines, 4 to 200"))?
-        .arg(size(alloc, "cols", "The terminal's columns, 20 to 300"))?,
+        .arg(size(alloc, "cols", "The terminal's columns, 20 to 300"))?
+        .arg(sizes(alloc, SIZES_IN))?
+        .arg(why)?,
     )
 }
 
@@ -118,7 +147,8 @@ fn window<'a>(alloc: Global) -> Result<Command<'a>, Error> {
         .arg(size(alloc, "rows", "The window's lines, 2 to 200"))?
         .arg(size(alloc, "cols", "The window's columns, 2 to 300"))?
         .arg(title)?
-        .arg(keep)?,
+        .arg(keep)?
+        .arg(sizes(alloc, SIZES_OUT))?,
     )
 }
 

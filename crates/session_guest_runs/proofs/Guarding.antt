@@ -1,10 +1,9 @@
 -- The steps of a call are guarded.
-use Rattle.std.proofs.Common.{◌≡◌, ℕ, Bool, List, [], ◌∷◌, refl, ap, sym, ◌∙◌, subst}
+use Rattle.std.proofs.Common.{◌≡◌, Bool, List, [], ◌∷◌, refl, ap, sym, subst}
 use Rattle.acl.specs.declared.user_id.UserId.{UserId}
 use Rattle.acl.specs.declared.edition.Edition.{Edition}
 use Rattle.session_model.specs.Trace.{Entry, Trace, with_step, begun}
-use Rattle.session_model.specs.Tables.{Tables, fresh}
-use Rattle.session_model.specs.Keeps.{KeepsPromise}
+use Rattle.session_model.specs.Tables.{Tables}
 use Rattle.session_model.specs.Run.{IsStep, IsRun, IsRunFrom, after, tables_of, tables_from}
 use Rattle.session_laws.specs.Fit.{RunsAreFit}
 use Rattle.session_guests.specs.Changing.{RightsGate}
@@ -14,7 +13,7 @@ use Rattle.session_guests.specs.Gates.{ModeGate, ClientsStay}
 use Rattle.session_guests.specs.Locking.{StepsKeepHolders, RunsHaveHolders, LocksAreTaken, HoldersStay}
 use Rattle.session_guests.specs.Naming.{WindowsStay}
 use Rattle.session_guests.specs.Opening.{NewWindowsAreMasked}
-use Rattle.session_guest_runs.specs.Guarded.{IsGuarded, AreContainedBy, GuestsAreHeld}
+use Rattle.session_guest_runs.specs.Guarded.{IsGuarded, GuestsAreHeld}
 use Rattle.session_core.specs.Headline.{AllSteps, Keeps, with_steps, Call, SomeRun, IsRunOf, AreSteps}
 use Rattle.session_core.specs.Stands.{StandsFor}
 use Rattle.session_core.specs.declared.session.Session.{Session}

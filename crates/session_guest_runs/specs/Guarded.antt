@@ -1,5 +1,5 @@
 -- What the laws of guests say of a call of a session.
-use Rattle.std.specs.Prelude.{◌≡◌, ℕ, Bool, List}
+use Rattle.std.specs.Prelude.{Bool, List}
 use Rattle.acl.specs.declared.user_id.UserId.{UserId}
 use Rattle.acl.specs.declared.edition.Edition.{Edition}
 use Rattle.session_model.specs.Trace.{Entry, Trace, begun}

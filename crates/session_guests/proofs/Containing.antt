@@ -1,10 +1,9 @@
 -- Guests are contained.
-use Rattle.std.proofs.Common.{◌≡◌, ◌≤◌, ℕ, ◌+◌, Bool, true, false, List, [], ◌∷◌, ◌++◌, refl, ap, sym, ◌∙◌, subst, inl, inr, arith}
-use Rattle.std.specs.Prelude.{◌==◌, ◌||◌, ◌⊎◌, nat_lt}
+use Rattle.std.proofs.Common.{◌≡◌, ◌≤◌, ℕ, Bool, true, false, List, [], ◌∷◌, refl, ap, sym, ◌∙◌, subst, inl, inr, arith}
+use Rattle.std.specs.Prelude.{◌==◌, ◌||◌, nat_lt}
 use Rattle.std.specs.List.{AllByRecursion, list_any}
 use Rattle.std.proofs.lemmas.Bool.Decides.{nat_tests}
 use Rattle.acl.specs.declared.user_id.UserId.{UserId}
-use Rattle.acl.specs.declared.bits.Bit.{Bit}
 use Rattle.acl.specs.declared.act.Act.{Act}
 use Rattle.acl.specs.declared.act.Act.TheVariants as act
 use Rattle.acl.specs.declared.act.Object.{Object}
@@ -20,10 +19,10 @@ use Rattle.session_model.specs.Tables.{Tables}
 use Rattle.session_model.specs.Trace.{Happening, Attach, Detach, Keys, Command, Resize, Open, Output, Closed, Draw, Entry}
 use Rattle.session_laws.proofs.Lists.{contradicts, all_weaken, all_append}
 use Rattle.session_guests.specs.Changing.{changes_rights, opens_window, opened_by, SameLists, SameRights, MayChangeRights, RightsAreGated}
-use Rattle.session_guests.specs.Contained.{AllSteps, AreGuests, ChangesAreTheirs, stood, SameStanding, AreContained}
+use Rattle.session_guests.specs.Contained.{AllSteps, AreGuests, ChangesAreTheirs, stood, AreContained}
 use Rattle.session_guests.proofs.Rows.{IsActOf, IsRow}
-use Rattle.session_guests.proofs.Steps.{Did, Rests, with_clients}
-use Rattle.session_guests.proofs.Events.{Plain, IsActIn, all_left}
+use Rattle.session_guests.proofs.Steps.{Did, with_clients}
+use Rattle.session_guests.proofs.Events.{IsActIn, all_left}
 use Rattle.session_guests.proofs.Gating.{Below, Steps, steps_of, row_did, gated}
 
 -- ---- windows that are opened are new

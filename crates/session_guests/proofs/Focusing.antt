@@ -1,35 +1,30 @@
 -- Commands leave what is in focus of others' clients.
-use Rattle.std.proofs.Common.{◌≡◌, ◌<◌, ℕ, Bool, true, false, not, List, [], ◌∷◌, ◌++◌, Option, Some, None, Ok, Err, refl, ap, sym, ◌∙◌, subst, map, filter, arith, inl, inr}
+use Rattle.std.proofs.Common.{◌≡◌, ℕ, Bool, true, false, not, List, [], ◌∷◌, Option, Some, None, Ok, Err, refl, ap, sym, ◌∙◌, map, filter}
 use Rattle.std.specs.Prelude.{if◌then◌else◌, ◌==◌, ◌||◌, ◌&&◌}
 use Rattle.std.specs.List.{AllByRecursion, list_any}
 use Rattle.std.specs.Option.{option_and_then}
-use Rattle.std.proofs.lemmas.Bool.Decides.{nat_tests}
 use Rattle.acl.specs.declared.user_id.UserId.{UserId}
 use Rattle.acl.specs.declared.act.Act.{Act}
 use Rattle.acl.specs.declared.act.Act.TheVariants as act
 use Rattle.acl.specs.declared.act.Object.{Object}
 use Rattle.acl.specs.declared.faults.AclFault.{AclFault}
 use Rattle.acl.specs.Same.{same_user}
-use Rattle.acl.specs.Commands.{change_fault}
 use Rattle.acl.proofs.StandsForLemmas.{same_user-refl, same_user-true}
 use Rattle.command_lang.specs.command.Command.{Command as Order}
 use Rattle.command_lang.specs.command.Command.TheVariants as command
 use Rattle.command_lang.specs.Names.{name_of}
 use Rattle.regions.specs.Layouts.{Arrangement}
 use Rattle.session_model.specs.declared.event.Reason.TheVariants.{Detached}
-use Rattle.session_model.specs.declared.message.Message.TheVariants.{Text}
 use Rattle.session_model.specs.declared.refusal.Refusal.{Refusal}
 use Rattle.session_model.specs.declared.refusal.Refusal.TheVariants.{Acl, Windows, NoWindow}
 use Rattle.session_model.specs.declared.refusal.WindowsFault.TheVariants.{NoSuchWindow}
-use Rattle.session_model.specs.Tables.{Tables, Window, Client, row_of, with_row, window_at, client_at, with_client, with_layout, focused, known_users, is_window, shows, is_in_focus}
-use Rattle.session_model.specs.Naming.{names_of, window_named, window_after, window_before}
+use Rattle.session_model.specs.Tables.{Tables, Window, Client, row_of, with_row, window_at, client_at, with_client, with_layout, focused, is_window, shows, is_in_focus}
+use Rattle.session_model.specs.Naming.{window_named, window_after, window_before}
 use Rattle.session_model.specs.Lines.{Caller}
 use Rattle.session_model.specs.Deeds as deeds
 use Rattle.session_model.specs.Deeds.{Deed, Answer, given, parts, former_of, hearing}
 use Rattle.session_model.specs.Commands.{does, caller_client, on_client}
 use Rattle.session_model.specs.Events.{left_by, left_acts}
-use Rattle.session_model.specs.Promises.{unread}
-use Rattle.session_model.specs.Sound.{Rises}
 use Rattle.session_laws.proofs.Lists.{equal, itself, row_serial, contradicts, all_append}
 use Rattle.session_laws.proofs.Doing.{Either, by_given, by_unless, by_refused, by_fault, by_shown, is_plain, caller_is}
 use Rattle.session_guests.specs.Changing.{changes_rights}

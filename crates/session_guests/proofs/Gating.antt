@@ -1,5 +1,5 @@
 -- Rights change by a granted list command alone.
-use Rattle.std.proofs.Common.{◌≡◌, ◌≤◌, ℕ, Bool, true, false, not, List, [], ◌∷◌, ◌++◌, Option, Some, None, refl, ap, sym, ◌∙◌, subst, inl, inr, ⊎_elim, arith}
+use Rattle.std.proofs.Common.{◌≡◌, Bool, true, false, not, List, [], ◌∷◌, Option, Some, None, refl, ap, sym, ◌∙◌, subst, inl, inr, ⊎_elim}
 use Rattle.std.specs.Prelude.{if◌then◌else◌, ◌⊎◌, is_some}
 use Rattle.std.specs.List.{AllByRecursion}
 use Rattle.acl.specs.declared.act.Act.{Act}
@@ -11,27 +11,25 @@ use Rattle.command_lang.specs.command.Command.{Command as Order}
 use Rattle.command_lang.specs.command.Command.TheVariants as command
 use Rattle.command_lang.specs.Names.{name_of}
 use Rattle.session_model.specs.declared.event.Effect.{Effect}
-use Rattle.session_model.specs.declared.check.Check.{Check}
 use Rattle.session_model.specs.declared.verdict.Verdict.{Verdict}
 use Rattle.session_model.specs.declared.refusal.Refusal.{Refusal}
-use Rattle.session_model.specs.declared.refusal.Refusal.TheVariants.{NotMultiuser, NoWindow}
-use Rattle.session_model.specs.declared.check.Check.TheVariants.{Must as must}
-use Rattle.session_model.specs.Tables.{Tables, Client}
-use Rattle.session_model.specs.Checks.{passes, first_fault, checks, checks_by, where_needed, window_checks}
+use Rattle.session_model.specs.declared.refusal.Refusal.TheVariants.{NotMultiuser}
+use Rattle.session_model.specs.Tables.{Tables}
+use Rattle.session_model.specs.Checks.{first_fault, checks_by}
 use Rattle.session_model.specs.Commands.{does}
-use Rattle.session_model.specs.Deeds.{Deed, Answer}
-use Rattle.session_model.specs.Events.{outcome, left_acts}
+use Rattle.session_model.specs.Deeds.{Answer}
+use Rattle.session_model.specs.Events.{left_acts}
 use Rattle.session_model.specs.Given.{Given, commands_of}
 use Rattle.session_model.specs.Lines.{Caller}
 use Rattle.session_model.specs.Needs.{needs}
-use Rattle.session_model.specs.Promises.{SomeOf, OnlyRead}
+use Rattle.session_model.specs.Promises.{SomeOf}
 use Rattle.session_model.specs.Keeps.{KeepsPromise}
 use Rattle.session_model.specs.Rights.{may_in}
 use Rattle.session_model.specs.Run.{IsStep, after}
-use Rattle.session_model.specs.Trace.{Happening, Attach, Detach, Keys, Command, Resize, Open, Output, Closed, Draw, Reply, Entry}
+use Rattle.session_model.specs.Trace.{Happening, Keys, Command, Reply, Entry}
 use Rattle.session_laws.specs.Keyed.{KeysDoTheirRows}
 use Rattle.session_laws.specs.Laws.{StepsKeepPromise, CommandsDoTheirRows, CommandsAreRefusedSo}
-use Rattle.session_laws.proofs.Lists.{contradicts, all_weaken, all_append, some_weaken}
+use Rattle.session_laws.proofs.Lists.{contradicts, all_weaken, all_append}
 use Rattle.session_laws.proofs.Doing.{Either}
 use Rattle.session_guests.specs.Changing.{changes_rights, SameRights, MayChangeRights, RightsAreGated}
 use Rattle.session_guests.proofs.Listing.{is_listing}

@@ -1,5 +1,5 @@
 -- Acts give locks to users who may write.
-use Rattle.std.proofs.Common.{◌≡◌, ℕ, Bool, true, false, not, List, [], ◌∷◌, ◌++◌, Option, Some, None, refl, ap, sym, ◌∙◌, subst, inl, inr, ⊎_elim}
+use Rattle.std.proofs.Common.{◌≡◌, ℕ, Bool, true, false, not, List, [], ◌∷◌, Option, Some, None, refl, ap, sym, ◌∙◌, subst, inl, inr, ⊎_elim}
 use Rattle.std.specs.Prelude.{if◌then◌else◌, ◌==◌, ◌||◌, ◌&&◌, ◌⊎◌, is_none}
 use Rattle.std.specs.List.{AllByRecursion, list_any}
 use Rattle.acl.specs.declared.edition.Edition.{Edition}
@@ -7,12 +7,11 @@ use Rattle.acl.specs.declared.user_id.UserId.{UserId}
 use Rattle.acl.specs.declared.bits.Bit.TheVariants.{Write}
 use Rattle.acl.specs.declared.act.Act.{Act}
 use Rattle.acl.specs.declared.act.Act.TheVariants as act
-use Rattle.acl.specs.declared.act.LockMode.{LockMode}
 use Rattle.acl.specs.declared.act.Object.TheVariants as object
 use Rattle.acl.specs.Same.{same_user}
 use Rattle.acl.specs.History.{History, followed_by, may, has, leaders_of, decided}
 use Rattle.writelock.specs.Holding.{holder, given, kept, releases, ends, or_else, is_off, is_auto, is_on, mode_of, default_of}
-use Rattle.session_laws.proofs.Lists.{equal, and_first, and_second, contradicts}
+use Rattle.session_laws.proofs.Lists.{equal, and_first, and_second}
 use Rattle.session_guests.specs.Changing.{opens_window, opened_by}
 
 module _ (edition : Edition) (owner : UserId) (P : UserId → Type 0) (base : History) where

@@ -1,6 +1,6 @@
 -- Acts that leave a window's lock to its holder.
-use Rattle.std.proofs.Common.{◌≡◌, ℕ, Bool, true, false, not, List, [], ◌∷◌, ◌++◌, Option, Some, None, refl, ap, sym, ◌∙◌, subst, filter}
-use Rattle.std.specs.Prelude.{if◌then◌else◌, ◌==◌, ◌||◌, ◌&&◌, is_none}
+use Rattle.std.proofs.Common.{◌≡◌, ℕ, Bool, true, false, not, List, [], ◌∷◌, Some, None, refl, ap, sym, ◌∙◌, filter}
+use Rattle.std.specs.Prelude.{if◌then◌else◌, ◌==◌, ◌||◌, ◌&&◌}
 use Rattle.std.specs.List.{AllByRecursion, list_any}
 use Rattle.acl.specs.declared.edition.Edition.{Edition}
 use Rattle.acl.specs.declared.user_id.UserId.{UserId}
@@ -10,7 +10,7 @@ use Rattle.acl.specs.declared.act.Act.TheVariants as act
 use Rattle.acl.specs.declared.act.Object.TheVariants as object
 use Rattle.acl.specs.Same.{same_user}
 use Rattle.acl.specs.History.{History, followed_by, may, decided}
-use Rattle.writelock.specs.Holding.{holder, given, kept, releases, ends, or_else, is_off, is_auto, is_on, mode_of, default_of, clients_of, has_client, loses_last}
+use Rattle.writelock.specs.Holding.{holder, given, kept, ends, or_else, is_off, is_auto, is_on, mode_of, default_of, clients_of, has_client}
 use Rattle.session_guests.proofs.Histories.{same_may}
 
 -- clients with this serial are none of the user
@@ -32,7 +32,7 @@ any_filter user client (p ∷ ps) all = on (p.0 == client) all.0 (any_filter use
 
   on : (b : Bool) → (b ≡ true → same_user p.1 user ≡ false) → list_any (λ (q : ℕ × UserId). same_user q.1 user) (filter (λ (q : ℕ × UserId). not (q.0 == client)) ps) ≡ list_any (λ (q : ℕ × UserId). same_user q.1 user) ps
       → list_any (λ (q : ℕ × UserId). same_user q.1 user) (if not b then p ∷ filter (λ (q : ℕ × UserId). not (q.0 == client)) ps else filter (λ (q : ℕ × UserId). not (q.0 == client)) ps)
-          ≡ (same_user p.1 user || list_any (λ (q : ℕ × UserId). same_user q.1 user) ps)
+      ≡ (same_user p.1 user || list_any (λ (q : ℕ × UserId). same_user q.1 user) ps)
   on true off same = same ∙ sym (ap (λ b. b || list_any (λ (q : ℕ × UserId). same_user q.1 user) ps) (off refl))
   on false off same = ap (λ b. same_user p.1 user || b) same
 

@@ -1,5 +1,5 @@
 -- Acts that are no list acts leave all rights, but on windows that they open.
-use Rattle.std.proofs.Common.{◌≡◌, ℕ, Bool, true, false, List, [], ◌∷◌, ◌++◌, Option, Some, None, refl, ap, sym, ◌∙◌, subst}
+use Rattle.std.proofs.Common.{◌≡◌, ℕ, Bool, true, false, List, [], ◌∷◌, Option, None, refl, ap, ◌∙◌}
 use Rattle.std.specs.Prelude.{if◌then◌else◌, ◌==◌, ◌||◌, unwrap_or}
 use Rattle.std.specs.List.{AllByRecursion, list_any}
 use Rattle.acl.specs.declared.edition.Edition.{Edition}
@@ -12,10 +12,8 @@ use Rattle.acl.specs.declared.act.Object.TheVariants as object
 use Rattle.acl.specs.declared.act.PresetKind.{PresetKind}
 use Rattle.acl.specs.Same.{same_user}
 use Rattle.acl.specs.History.{History, followed_by, users_of, is_known, leaders_of, mask, preset_of, has, may, opening}
-use Rattle.session_model.specs.Tables.{Tables, known_users}
-use Rattle.session_model.specs.Tables as tables
-use Rattle.session_model.specs.Rights.{may_in, leaders_in}
-use Rattle.session_guests.specs.Changing.{opens_window, opened_by, SameLists, SameRights}
+use Rattle.session_model.specs.Tables.{Tables}
+use Rattle.session_guests.specs.Changing.{opens_window, opened_by, SameRights}
 use Rattle.session_guests.proofs.Listing.{is_listing}
 
 abbrev pub NoListing : List Act → Type 0

@@ -17,9 +17,7 @@ use Rattle.command_lang.specs.command.Command.{Command as Order}
 use Rattle.command_lang.specs.command.Command.TheVariants as command
 use Rattle.command_lang.specs.Names.{name_of}
 use Rattle.session_model.specs.declared.check.Check.{Check}
-use Rattle.session_model.specs.declared.refusal.Refusal.{Refusal}
 use Rattle.session_model.specs.Checks.{first_fault, checks_by, window_checks}
-use Rattle.session_model.specs.Deeds.{Deed}
 use Rattle.session_model.specs.Events.{left_acts}
 use Rattle.session_model.specs.Given.{Given, commands_of, with_order, order_in, ok_of}
 use Rattle.session_model.specs.Keying.{step_items, command_item}
@@ -32,12 +30,11 @@ use Rattle.session_model.specs.Run.{IsStep, IsRunFrom, after, tables_from}
 use Rattle.session_model.specs.Tables.{Tables, Window, Client, client_at, is_known}
 use Rattle.session_model.specs.Trace.{Happening, Attach, Detach, Keys, Command, Resize, Open, Output, Closed, Draw, Entry}
 use Rattle.session_laws.proofs.Lists.{contradicts, all_weaken, all_append}
-use Rattle.session_guests.specs.Changing.{changes_rights, opened_by}
-use Rattle.session_guests.specs.Locking.{user_of, client_user, HoldersMayWrite, TakesIt}
-use Rattle.session_guests.proofs.Listing.{is_listing}
+use Rattle.session_guests.specs.Changing.{changes_rights}
+use Rattle.session_guests.specs.Locking.{user_of, HoldersMayWrite, TakesIt}
 use Rattle.session_guests.proofs.Rows.{IsActOf, IsRow}
-use Rattle.session_guests.proofs.Steps.{Did, Rests, with_clients}
-use Rattle.session_guests.proofs.Events.{Plain, IsActIn, all_left}
+use Rattle.session_guests.proofs.Steps.{Did, with_clients}
+use Rattle.session_guests.proofs.Events.{IsActIn, all_left}
 use Rattle.session_guests.proofs.Gating.{Below, Steps, steps_of, row_did, first_passed, then_passed}
 use Rattle.session_guests.proofs.Giving as giving
 use Rattle.session_guests.proofs.Giving.{gives_lock}

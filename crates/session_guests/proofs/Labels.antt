@@ -1,9 +1,7 @@
 -- Commands leave the numbers and titles of other windows than their own.
-use Rattle.std.proofs.Common.{◌≡◌, ◌<◌, ℕ, ◌-◌, Bool, true, false, not, List, [], ◌∷◌, ◌++◌, Option, Some, None, Ok, Err, refl, ap, sym, ◌∙◌, subst, map, filter, arith, inl, inr}
-use Rattle.std.specs.Prelude.{if◌then◌else◌, ◌==◌, ◌||◌, ◌⊎◌, length}
-use Rattle.std.specs.List.{AllByRecursion}
+use Rattle.std.proofs.Common.{◌≡◌, ℕ, ◌-◌, Bool, true, false, not, List, [], ◌∷◌, ◌++◌, Option, Some, None, Ok, Err, refl, ap, sym, ◌∙◌, subst, filter, inl, inr}
+use Rattle.std.specs.Prelude.{if◌then◌else◌, ◌==◌, ◌⊎◌}
 use Rattle.std.specs.Option.{option_map, option_and_then}
-use Rattle.std.proofs.lemmas.Bool.Decides.{nat_tests}
 use Rattle.acl.specs.declared.act.Act.{Act}
 use Rattle.acl.specs.declared.act.Object.{Object}
 use Rattle.acl.specs.declared.faults.AclFault.{AclFault}
@@ -19,14 +17,14 @@ use Rattle.session_model.specs.declared.event.Reason.TheVariants.{Killed, Detach
 use Rattle.session_model.specs.declared.refusal.Refusal.{Refusal}
 use Rattle.session_model.specs.declared.refusal.Refusal.TheVariants.{Acl, Windows, NoWindow}
 use Rattle.session_model.specs.declared.refusal.WindowsFault.TheVariants.{NoSuchWindow}
-use Rattle.session_model.specs.Tables.{Tables, Window, Client, row_of, with_row, window_at, client_at, with_window, known_users}
+use Rattle.session_model.specs.Tables.{Tables, Window, Client, row_of, with_row, window_at, with_window, known_users}
 use Rattle.session_model.specs.Naming.{names_of, window_named, window_after, window_before}
 use Rattle.session_model.specs.Lines.{Caller}
 use Rattle.session_model.specs.Deeds as deeds
 use Rattle.session_model.specs.Deeds.{Deed, Answer, given, parts, closes, removes, former_of}
 use Rattle.session_model.specs.Commands.{does, caller_client, on_client, is_taken}
 use Rattle.session_model.specs.Promises.{IsOn}
-use Rattle.session_laws.proofs.Lists.{equal, row_serial}
+use Rattle.session_laws.proofs.Lists.{equal}
 use Rattle.session_laws.proofs.Doing.{Either, by_given, by_unless, by_refused, by_fault, by_shown, is_plain}
 use Rattle.session_guests.specs.Naming.{names_its_window}
 

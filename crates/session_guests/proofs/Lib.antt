@@ -14,3 +14,4 @@ pub mod Focusing
 pub mod Staying
 pub mod Labels
 pub mod Named
+pub mod Pages

@@ -1,5 +1,5 @@
 -- A new window is given by its opener's masks.
-use Rattle.std.proofs.Common.{◌≡◌, ℕ, Bool, true, false, List, [], ◌∷◌, ◌++◌, Option, Some, None, Ok, Err, refl, ap, sym, ◌∙◌, subst}
+use Rattle.std.proofs.Common.{◌≡◌, ℕ, Bool, true, false, List, [], ◌∷◌, Some, None, Ok, Err, refl, ap, sym, ◌∙◌}
 use Rattle.std.specs.Prelude.{if◌then◌else◌, ◌==◌, ◌||◌, unwrap_or, is_ok}
 use Rattle.std.specs.List.{AllByRecursion, list_any}
 use Rattle.acl.specs.declared.user_id.UserId.{UserId}
@@ -8,21 +8,20 @@ use Rattle.acl.specs.declared.act.Act.{Act}
 use Rattle.acl.specs.declared.act.Act.TheVariants as act
 use Rattle.acl.specs.declared.act.Object.TheVariants as object
 use Rattle.acl.specs.Same.{same_user}
-use Rattle.acl.specs.History.{History, followed_by, is_known, mask, has, decided, opening}
-use Rattle.session_model.specs.declared.event.Done.{Done}
+use Rattle.acl.specs.History.{followed_by, is_known, mask, has, decided, opening}
 use Rattle.session_model.specs.declared.event.Effect.{Effect}
 use Rattle.session_model.specs.declared.verdict.Verdict.{Verdict}
 use Rattle.session_model.specs.Tables.{Tables, Window, Client}
 use Rattle.session_model.specs.Checks.{first_fault, verdicts}
 use Rattle.session_model.specs.Events.{outcome, Outcome, left_acts, open_checks, opens, new_window, reply_of}
-use Rattle.session_model.specs.Run.{IsStep, after}
+use Rattle.session_model.specs.Run.{IsStep}
 use Rattle.session_model.specs.Trace.{Happening, Attach, Detach, Keys, Command, Resize, Open, Output, Closed, Draw, Reply, Entry}
 use Rattle.session_laws.proofs.Lists.{itself}
 use Rattle.session_laws.proofs.Outcomes as outcomes
 use Rattle.session_guests.specs.Changing.{opens_window}
 use Rattle.session_guests.specs.Opening.{IsGivenByMasks}
 use Rattle.session_guests.proofs.Listing.{is_listing}
-use Rattle.session_guests.proofs.Histories.{NoListing, same_has}
+use Rattle.session_guests.proofs.Histories.{same_has}
 use Rattle.session_guests.proofs.Events.{all_left}
 
 module _ (t : Tables) (opener : UserId) (user : UserId) (bit : Bit) where

@@ -1,8 +1,8 @@
 -- Windows keep their numbers and titles, but for granted commands on them.
-use Rattle.std.proofs.Common.{◌≡◌, ℕ, Bool, true, false, not, List, [], ◌∷◌, ◌++◌, Option, Some, None, Ok, Err, refl, ap, sym, ◌∙◌, subst, inl, inr, filter}
+use Rattle.std.proofs.Common.{◌≡◌, ℕ, Bool, true, false, List, [], ◌∷◌, ◌++◌, Option, Some, None, Ok, Err, refl, ap, ◌∙◌, subst, inl, inr}
 use Rattle.std.specs.Prelude.{if◌then◌else◌, ◌==◌, ◌⊎◌}
 use Rattle.std.specs.List.{AllByRecursion}
-use Rattle.std.specs.Option.{option_map_or, option_and_then}
+use Rattle.std.specs.Option.{option_map_or}
 use Rattle.acl.specs.declared.user_id.UserId.{UserId}
 use Rattle.acl.specs.declared.act.Act.{Act}
 use Rattle.acl.specs.declared.bits.Bit.TheVariants.{Execute}
@@ -34,7 +34,7 @@ use Rattle.session_laws.proofs.Lasting.{differ}
 use Rattle.session_laws.proofs.Outcomes as outcomes
 use Rattle.session_laws.proofs.Settling.{focus_row, line_row}
 use Rattle.session_guests.specs.Naming.{MayName, IsNamed, WindowsStayIn}
-use Rattle.session_guests.proofs.Steps.{Did, Rests, Obeys, with_clients}
+use Rattle.session_guests.proofs.Steps.{Did, Obeys, with_clients}
 use Rattle.session_guests.proofs.Gating.{Below, obeys_of, first_passed, then_passed}
 use Rattle.session_guests.proofs.Labels.{serial, label_in, closed, opened, written_label, labels_kept, Kept}
 use Rattle.session_guests.proofs.Parting.{did_x}

@@ -1,14 +1,11 @@
 -- The mode changes, and others' clients part, by granted commands alone.
-use Rattle.std.proofs.Common.{◌≡◌, ℕ, Bool, true, false, not, List, [], ◌∷◌, ◌++◌, Option, Some, None, refl, ap, sym, ◌∙◌, subst, inl, inr, ⊎_elim, map, filter, reverse, arith}
+use Rattle.std.proofs.Common.{◌≡◌, ℕ, Bool, true, false, not, List, [], ◌∷◌, ◌++◌, Some, refl, ap, sym, ◌∙◌, subst, inl, inr, ⊎_elim, map, filter, reverse}
 use Rattle.std.specs.Prelude.{if◌then◌else◌, ◌==◌, ◌||◌, ◌⊎◌, is_some}
 use Rattle.std.specs.List.{AllByRecursion, list_any}
-use Rattle.std.proofs.lemmas.Bool.Decides.{nat_tests}
 use Rattle.std.proofs.lemmas.List.{reverse-append}
 use Rattle.acl.specs.declared.user_id.UserId.{UserId}
 use Rattle.acl.specs.declared.act.Act.{Act}
 use Rattle.acl.specs.declared.act.Act.TheVariants as act
-use Rattle.acl.specs.declared.command_name.CommandName.{CommandName}
-use Rattle.acl.specs.declared.command_name.CommandName.TheVariants as name
 use Rattle.acl.specs.History.{History, followed_by}
 use Rattle.writelock.specs.Holding.{clients_of}
 use Rattle.command_lang.specs.command.Command.{Command as Order}
@@ -16,19 +13,18 @@ use Rattle.command_lang.specs.command.Command.TheVariants as command
 use Rattle.command_lang.specs.Names.{name_of}
 use Rattle.session_model.specs.Events.{left_acts}
 use Rattle.session_model.specs.Given.{Given, commands_of, has_x}
-use Rattle.session_model.specs.Lines.{Caller}
 use Rattle.session_model.specs.Promises.{SomeOf}
 use Rattle.session_model.specs.Run.{IsStep, after}
 use Rattle.session_model.specs.Sound.{AreFit, ActsAgree}
 use Rattle.session_model.specs.Tables.{Tables, Client, client_at, row_of}
-use Rattle.session_model.specs.Trace.{Happening, Attach, Detach, Keys, Command, Resize, Open, Output, Closed, Draw, Entry}
+use Rattle.session_model.specs.Trace.{Happening, Detach, Entry}
 use Rattle.session_laws.specs.Fit.{TablesStayFit}
 use Rattle.session_laws.proofs.Lists.{equal, all_weaken, all_append}
 use Rattle.session_laws.proofs.Passing.{passed_has_x}
 use Rattle.session_guests.specs.Gates.{IsGranted, sets_mode, ModeIsGated, parts_others, DetachesItself, IsParted}
-use Rattle.session_guests.proofs.Rows.{IsActOf, IsRow, is_mode}
-use Rattle.session_guests.proofs.Steps.{Did, Rests, with_clients}
-use Rattle.session_guests.proofs.Events.{Plain, IsActIn, all_left}
+use Rattle.session_guests.proofs.Rows.{IsActOf, is_mode}
+use Rattle.session_guests.proofs.Steps.{Did}
+use Rattle.session_guests.proofs.Events.{IsActIn, all_left}
 use Rattle.session_guests.proofs.Gating.{Below, Steps, steps_of, row_did}
 use Rattle.session_guests.proofs.Holding.{Kept, kept}
 

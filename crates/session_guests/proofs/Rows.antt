@@ -1,6 +1,6 @@
 -- Which acts each command has, and what it leaves: one row a command.
-use Rattle.std.proofs.Common.{◌≡◌, ℕ, Bool, true, false, not, List, [], ◌∷◌, ◌++◌, Option, Some, None, Ok, Err, refl, ap, sym, ◌∙◌, subst, map, filter, length}
-use Rattle.std.specs.Prelude.{if◌then◌else◌, ◌==◌}
+use Rattle.std.proofs.Common.{◌≡◌, ℕ, Bool, true, false, not, List, [], ◌∷◌, Option, Some, None, Ok, Err, refl, ap, sym, ◌∙◌, subst, map, filter}
+use Rattle.std.specs.Prelude.{◌==◌}
 use Rattle.std.specs.List.{AllByRecursion}
 use Rattle.std.specs.Option.{option_and_then}
 use Rattle.acl.specs.declared.user_id.UserId.{UserId}
@@ -13,12 +13,11 @@ use Rattle.acl.specs.Commands.{change_fault}
 use Rattle.command_lang.specs.command.Command.{Command as Order}
 use Rattle.command_lang.specs.command.Command.TheVariants as command
 use Rattle.regions.specs.Layouts.{Arrangement}
-use Rattle.session_model.specs.declared.event.Reason.{Reason}
-use Rattle.session_model.specs.declared.event.Reason.TheVariants.{Detached, Killed, Removed, SingleUser, Quit}
+use Rattle.session_model.specs.declared.event.Reason.TheVariants.{Detached, Killed}
 use Rattle.session_model.specs.declared.refusal.Refusal.{Refusal}
 use Rattle.session_model.specs.declared.refusal.Refusal.TheVariants.{Acl, Windows, NoWindow}
 use Rattle.session_model.specs.declared.refusal.WindowsFault.TheVariants.{NoSuchWindow}
-use Rattle.session_model.specs.Tables.{Tables, Window, Client, window_at, client_at, with_layout, focused, known_users}
+use Rattle.session_model.specs.Tables.{Tables, Window, Client, window_at, with_layout, focused, known_users}
 use Rattle.session_model.specs.Naming.{names_of, window_named, window_after, window_before}
 use Rattle.session_model.specs.Lines.{Caller}
 use Rattle.session_model.specs.Deeds as deeds

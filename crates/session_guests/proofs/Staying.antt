@@ -1,11 +1,10 @@
 -- Holders stay in steps of users without rights.
-use Rattle.std.proofs.Common.{◌≡◌, ◌<◌, ℕ, Bool, true, false, not, List, [], ◌∷◌, ◌++◌, Option, Some, None, Ok, Err, refl, ap, sym, ◌∙◌, subst, map, filter, reverse, arith, inl, inr, take}
+use Rattle.std.proofs.Common.{◌≡◌, ◌<◌, ℕ, Bool, true, false, not, List, [], ◌∷◌, ◌++◌, Option, Some, None, Ok, Err, refl, ap, sym, ◌∙◌, subst, map, filter, reverse, arith, inl, inr}
 use Rattle.std.specs.Prelude.{if◌then◌else◌, ◌==◌, ◌||◌, ◌&&◌, ◌⊎◌}
 use Rattle.std.specs.List.{AllByRecursion, list_any}
-use Rattle.std.specs.Option.{option_map, option_map_or, option_and_then}
+use Rattle.std.specs.Option.{option_map, option_map_or}
 use Rattle.std.proofs.lemmas.Bool.Decides.{nat_tests}
 use Rattle.std.proofs.lemmas.List.{reverse-append}
-use Rattle.acl.specs.declared.edition.Edition.{Edition}
 use Rattle.acl.specs.declared.user_id.UserId.{UserId}
 use Rattle.acl.specs.declared.bits.Bit.TheVariants.{Write, Execute}
 use Rattle.acl.specs.declared.act.Act.{Act}
@@ -14,9 +13,9 @@ use Rattle.acl.specs.declared.act.LockMode.{LockMode}
 use Rattle.acl.specs.declared.act.LockMode.TheVariants.{Off, Auto, On}
 use Rattle.acl.specs.declared.act.Object.TheVariants as object
 use Rattle.acl.specs.Same.{same_user}
-use Rattle.acl.specs.History.{History, followed_by}
+use Rattle.acl.specs.History.{followed_by}
 use Rattle.acl.proofs.StandsForLemmas.{same_user-true}
-use Rattle.writelock.specs.Holding.{holder, is_off, clients_of}
+use Rattle.writelock.specs.Holding.{holder, clients_of}
 use Rattle.writelock.specs.LockTable.{stops_nobody_but}
 use Rattle.command_lang.specs.command.Command.{Command as Order}
 use Rattle.command_lang.specs.command.Command.TheVariants as command
@@ -39,17 +38,17 @@ use Rattle.session_model.specs.Run.{IsStep, after}
 use Rattle.session_model.specs.Sound.{Rises, AreFit}
 use Rattle.session_model.specs.Tables.{Tables, Window, Client, row_of, client_at, with_client, focused, shows, is_in_focus, is_known}
 use Rattle.session_model.specs.Trace.{Happening, Attach, Detach, Keys, Command, Resize, Open, Output, Closed, Draw, Entry}
-use Rattle.session_laws.proofs.Lists.{contradicts, equal, itself, all_weaken, all_append, all_map, all_of, all_passed, row_serial}
+use Rattle.session_laws.proofs.Lists.{contradicts, equal, all_weaken, all_append, all_map, all_of, all_passed}
 use Rattle.session_laws.proofs.Doing.{Either}
 use Rattle.session_laws.proofs.Outcomes as outcomes
 use Rattle.session_laws.proofs.Unread.{SameClients, row_at}
 use Rattle.session_guests.specs.Changing.{changes_rights}
 use Rattle.session_guests.specs.Contained.{stood}
 use Rattle.session_guests.specs.Locking.{user_of, client_user, HoldersMayWrite, may_free, MayFree, IsPowerless, HoldersStayIn}
-use Rattle.session_guests.proofs.Rows.{IsActOf, IsRow}
+use Rattle.session_guests.proofs.Rows.{IsActOf}
 use Rattle.session_guests.proofs.Steps.{Did, Rests, Obeys, with_clients}
 use Rattle.session_guests.proofs.Events.{gives_commands}
-use Rattle.session_guests.proofs.Gating.{Below, Steps, steps_of, obeys_of, row_did, first_passed, then_passed, had_x}
+use Rattle.session_guests.proofs.Gating.{Below, obeys_of, row_did, first_passed, then_passed, had_x}
 use Rattle.session_guests.proofs.Harmless.{NoneOf, IsHarmless, stays_held}
 use Rattle.session_guests.proofs.Focusing.{IsMine, focus_stays, NotHis, nobody_else}
 use Rattle.session_guests.proofs.Holding.{Kept, kept, by_acts, givers}

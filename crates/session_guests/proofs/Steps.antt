@@ -2,7 +2,6 @@
 use Rattle.std.proofs.Common.{◌≡◌, ℕ, Bool, true, false, List, [], ◌∷◌, ◌++◌, Option, Some, None, Ok, Err, Result, refl, ap, sym, ◌∙◌, subst, map, take, inl, inr}
 use Rattle.std.specs.Prelude.{if◌then◌else◌, ◌==◌, ◌⊎◌, is_ok}
 use Rattle.std.specs.List.{AllByRecursion}
-use Rattle.std.specs.Option.{option_map_or}
 use Rattle.acl.specs.declared.user_id.UserId.{UserId}
 use Rattle.acl.specs.declared.act.Act.{Act}
 use Rattle.acl.specs.History.{followed_by}
@@ -12,7 +11,6 @@ use Rattle.keys.specs.Grammar.{Item, typed, bound, line}
 use Rattle.session_model.specs.declared.event.Done.{Done}
 use Rattle.session_model.specs.declared.event.Effect.{Effect}
 use Rattle.session_model.specs.declared.verdict.Verdict.{Verdict}
-use Rattle.session_model.specs.declared.message.Message.{Message}
 use Rattle.session_model.specs.declared.message.Message.TheVariants.{Text}
 use Rattle.session_model.specs.declared.refusal.Refusal.{Refusal}
 use Rattle.session_model.specs.declared.refusal.Refusal.TheVariants.{NoWindow, UnknownUser, Line}
@@ -21,12 +19,12 @@ use Rattle.session_model.specs.Texts.{text_of}
 use Rattle.session_model.specs.Lines.{Caller, caller_of, line_caller, read_line}
 use Rattle.session_model.specs.Checks.{checks, first_fault}
 use Rattle.session_model.specs.Deeds.{Deed, Answer}
-use Rattle.session_model.specs.Commands.{does, ruling, caller_client}
+use Rattle.session_model.specs.Commands.{does, ruling}
 use Rattle.session_model.specs.Keying.{taken, step_items, typed_bytes, command_item}
 use Rattle.session_model.specs.Events.{outcome, Outcome, reading, refused, keys_outcome, left_acts, told}
 use Rattle.session_model.specs.Given.{Given, commands_of, with_order, order_in, ok_of}
 use Rattle.session_model.specs.Promises.{SomeOf, OnlyRead, unread, ChangesNothing}
-use Rattle.session_model.specs.Run.{IsStep, after}
+use Rattle.session_model.specs.Run.{after}
 use Rattle.session_model.specs.Trace.{Happening, Keys, Command, Reply, Entry}
 use Rattle.session_laws.specs.Keyed.{typing, heard, DidItsRowByKeys, WasRefusedByKeys, WasTypedAlone, IsAnswered, IsNoCommand, KeysAreAnswered, KeysDidTheirRow}
 use Rattle.session_laws.specs.Laws.{DidItsRow, LineDidItsRow, refusal_in, why_refused}
@@ -85,7 +83,7 @@ line_did t e done user number order is did = record {
 
 line_known : (t : Tables) (e : Entry) (done : Done) (user : UserId) (number : Option ℕ) (known : Bool) (r : Result Order ParseFault)
     → let k : Caller = line_caller t user number in
-      None ≡ (if known then elim r as (λ _. Option Refusal) [ Err f ↦ Some (Line f) | Ok order ↦ refusal_in (ruling t k order).answer ] else Some UnknownUser)
+    None ≡ (if known then elim r as (λ _. Option Refusal) [ Err f ↦ Some (Line f) | Ok order ↦ refusal_in (ruling t k order).answer ] else Some UnknownUser)
     → SomeOf (DidItsRow t e done) (if known then with_order k (ok_of r) else []) → SomeOf (Did t e) (if known then with_order k (ok_of r) else [])
 line_known t e done user number false r is some = some
 line_known t e done user number true (Err f) is some = some

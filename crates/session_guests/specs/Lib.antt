@@ -4,3 +4,4 @@ pub mod Opening
 pub mod Locking
 pub mod Gates
 pub mod Naming
+pub mod Seeing

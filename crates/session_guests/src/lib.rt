@@ -9,6 +9,7 @@ ghost use Rattle.session_guests.specs.Locking.{StepsKeepHolders, RunsHaveHolders
 ghost use Rattle.session_guests.specs.Locking.{HoldersStay};
 ghost use Rattle.session_guests.specs.Naming.{WindowsStay};
 ghost use Rattle.session_guests.specs.Opening.{NewWindowsAreMasked};
+ghost use Rattle.session_guests.specs.Seeing.{PagesShowWhatIsRead};
 
 /// Rights change by a granted list command alone: each step leaves who is known, who leads whom,
 /// masks, presets and what everyone may do as they are, but on a window that it opens; or it gives
@@ -75,3 +76,9 @@ pub fn holders_stay()
     session_laws::commands_do_their_rows();
     session_laws::keys_do_their_rows();
 }
+
+/// What a client is granted to see depends on nothing of a window that its user may not read but
+/// the window's number: not on its title, its size or its contents.
+pub fn pages_show_what_is_read()
+    ensures { PagesShowWhatIsRead }
+{}

@@ -1,5 +1,5 @@
 use Rattle.session_guest_runs.proofs.calls_are_guarded.Goals as goal
-use Rattle.session_guest_runs.proofs.Guarding.{Laws, calls, new_runs}
+use Rattle.session_guest_runs.proofs.Guarding.{calls, new_runs}
 
 pub returns-clause-call : goal.returns-clause-call
 returns-clause-call c =

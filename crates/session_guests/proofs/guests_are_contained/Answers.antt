@@ -1,5 +1,5 @@
 use Rattle.session_guests.proofs.guests_are_contained.Goals as goal
-use Rattle.session_guests.proofs.Containing.{remains, Remains}
+use Rattle.session_guests.proofs.Containing.{remains}
 
 pub returns : goal.returns
 returns c start later guests are run theirs =

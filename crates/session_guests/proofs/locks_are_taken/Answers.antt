@@ -1,6 +1,5 @@
 use Rattle.session_model.specs.Tables.{fresh}
 use Rattle.session_guests.proofs.locks_are_taken.Goals as goal
-use Rattle.session_guests.proofs.Gating.{Below}
 use Rattle.session_guests.proofs.Holding.{stay_able, run_able, are_taken}
 
 pub returns-clause-step : goal.returns-clause-step

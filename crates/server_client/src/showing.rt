@@ -1,0 +1,195 @@
+//! What comes from the server: read, and written where it belongs.
+
+use crate::fault::{ClientFault, Gone};
+use crate::opening::Way;
+use crate::sending::{start_sending, start_sizes};
+use crate::standing::{Intake, Shared, Standing};
+use attach_proto::{LONGEST, Message, ProtoFault, Why};
+use std::alloc::Global;
+use std::io::{Read, Write};
+use std::mem;
+use std::sync::{Arc, Wait};
+use std::thread::Threads;
+
+// How much may wait for a window's standard output.
+const MOST_WAITING: usize = 1_048_576;
+
+fn ended(way: Way, why: Why, said: Option<String>) -> Result<Why, ClientFault> {
+    match (why, said) {
+        (Why::Detached | Why::Quit, _) => Ok(why),
+        (Why::Killed, _) if way == Way::Window => Ok(why),
+        (Why::Fault, Some(said)) => Err(ClientFault::Said(said)),
+        (why, _) => Err(ClientFault::Gone(Gone::from(why))),
+    }
+}
+
+impl Standing {
+    fn put(&mut self, way: Way, bytes: &[u8]) -> Result<(), ClientFault> {
+        if way == Way::Window && self.bytes.len().saturating_add(bytes.len()) > MOST_WAITING {
+            return Err(ClientFault::Gone(Gone::TooFarBehind));
+        }
+        self.bytes.extend_from_slice(bytes)?;
+        Ok(())
+    }
+
+    fn put_size(&mut self, rows: u16, cols: u16) -> Result<(), ClientFault> {
+        writeln!(self.sizes, "{rows} {cols}")?;
+        Ok(())
+    }
+}
+
+// The peer is let in: its input is read from now on, and a window's first size is told.
+fn welcome<
+    R: Threads + Wait + AllocGlobal + Copy + Send + 'static,
+    I: Read + Send + Drop + 'static,
+    O: Write + Send + Drop + 'static,
+>(rt: &R, shared: &Arc<Shared<I, O>, Global>, intake: &mut Intake<I>) -> Result<(), ClientFault> {
+    if shared.way == Way::Command {
+        return Ok(());
+    }
+    let Some(input) = intake.input.take() else {
+        return Ok(());
+    };
+    if let Some(asked) = intake.asked.take() {
+        start_sizes(rt, shared, asked)?;
+    }
+    if shared.way == Way::Window {
+        let mut standing = shared.standing.lock(rt);
+        standing.put_size(shared.rows, shared.cols)?;
+    }
+    start_sending(rt, shared, input)
+}
+
+// Puts in order what a message brings. The answer is the end, where it is the last one.
+fn take<
+    R: Threads + Wait + AllocGlobal + Copy + Send + 'static,
+    I: Read + Send + Drop + 'static,
+    O: Write + Send + Drop + 'static,
+>(
+    rt: &R,
+    shared: &Arc<Shared<I, O>, Global>,
+    intake: &mut Intake<I>,
+    message: &Message,
+) -> Result<Option<Why>, ClientFault> {
+    match message {
+        Message::Welcome(_) => welcome(rt, shared, intake)?,
+        Message::Draw(bytes) | Message::Input(bytes) => {
+            let mut standing = shared.standing.lock(rt);
+            standing.put(shared.way, bytes.as_slice())?;
+        }
+        Message::Size { rows, cols } => {
+            let mut standing = shared.standing.lock(rt);
+            standing.put_size(*rows, *cols)?;
+        }
+        // Once a peer is welcome, its status line says what the session says.
+        Message::Say(text) if intake.input.is_some() => {
+            if shared.way == Way::Command {
+                let mut standing = shared.standing.lock(rt);
+                standing.put(shared.way, text.as_str().as_bytes())?;
+                standing.put(shared.way, b"\n")?;
+            }
+            intake.said = Some(String::from_str(rt.alloc(), text.as_str())?);
+        }
+        Message::Gone(why) => return Ok(Some(*why)),
+        _ => {}
+    }
+    Ok(None)
+}
+
+// Reads the socket once. The answer is how the peer ended, where it did.
+fn read_once<
+    R: Threads + Wait + AllocGlobal + Copy + Send + 'static,
+    I: Read + Send + Drop + 'static,
+    O: Write + Send + Drop + 'static,
+>(
+    rt: &R,
+    shared: &Arc<Shared<I, O>, Global>,
+    buffer: &mut [u8],
+) -> Result<Option<Result<Why, ClientFault>>, ClientFault> {
+    let mut guard = shared.intake.lock(rt);
+    let intake = &mut *guard;
+    let mut stream = &shared.stream;
+    let count = stream.read(buffer)?;
+    if count == 0 {
+        return Err(ClientFault::Ended);
+    }
+    let mut messages = Vec::new(rt.alloc());
+    let fed = intake.reader.feed(&buffer[..count], &mut messages);
+    for message in &messages {
+        if let Some(why) = take(rt, shared, intake, message)? {
+            return Ok(Some(ended(shared.way, why, intake.said.take())));
+        }
+    }
+    match fed {
+        Ok(()) => Ok(None),
+        Err(ProtoFault::NoMemory) => Err(ClientFault::NoMemory),
+        Err(_) => Err(ClientFault::NoServerOfOurs),
+    }
+}
+
+// Takes what waits. None where nothing does, or another thread writes.
+fn waiting<R: Wait + AllocGlobal, I, O>(
+    rt: &R,
+    shared: &Shared<I, O>,
+    mine: bool,
+) -> Option<(Vec<u8>, Vec<u8>)> {
+    let mut standing = shared.standing.lock(rt);
+    if standing.is_writing != mine {
+        return None;
+    }
+    if standing.bytes.is_empty() && standing.sizes.is_empty() {
+        standing.is_writing = false;
+        return None;
+    }
+    standing.is_writing = true;
+    let bytes = mem::replace(&mut standing.bytes, Vec::new(rt.alloc()));
+    let sizes = mem::replace(&mut standing.sizes, Vec::new(rt.alloc()));
+    Some((bytes, sizes))
+}
+
+// Writes what waits, unless another thread does.
+fn write_waiting<R: Wait + AllocGlobal, I, O: Write>(
+    rt: &R,
+    shared: &Shared<I, O>,
+) -> Result<(), ClientFault> {
+    let mut mine = false;
+    for _ in rt.forever() {
+        let Some((bytes, sizes)) = waiting(rt, shared, mine) else {
+            break;
+        };
+        mine = true;
+        let mut outlet = shared.outlet.lock(rt);
+        // A size that nobody takes ends nothing.
+        if let Some(file) = &mut outlet.sizes {
+            let _ = file.write_all(&sizes);
+        }
+        outlet.output.write_all(&bytes)?;
+        outlet.output.flush()?;
+    }
+    shared.news.notify_all();
+    Ok(())
+}
+
+/// Reads and writes, in turn with the other threads that do so, until the peer ends.
+pub fn show<
+    R: Threads + Wait + AllocGlobal + Copy + Send + 'static,
+    I: Read + Send + Drop + 'static,
+    O: Write + Send + Drop + 'static,
+>(rt: &R, shared: &Arc<Shared<I, O>, Global>) -> Result<(), ClientFault> {
+    let mut buffer = vec![in rt.alloc(); 0; LONGEST]?;
+    for _ in rt.forever() {
+        let Some(end) = read_once(rt, shared, buffer.as_mut_slice())? else {
+            write_waiting(rt, shared)?;
+            continue;
+        };
+        // Nobody waits for a window's program for long: it may read no more.
+        if shared.way == Way::Window {
+            shared.end(rt, end);
+            return write_waiting(rt, shared);
+        }
+        write_waiting(rt, shared)?;
+        shared.end(rt, end);
+        break;
+    }
+    Ok(())
+}

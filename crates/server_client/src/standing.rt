@@ -1,0 +1,88 @@
+//! What the threads of a peer share.
+
+use crate::fault::ClientFault;
+use crate::opening::Way;
+use attach_proto::{Message, Reader, Why, write_message};
+use std::alloc::Global;
+use std::fs::File;
+use std::io::Write;
+use std::os::unix::net::UnixStream;
+use std::sync::{Condvar, Mutex, Wait};
+
+/// What waits to be written, and how the peer ended.
+#[derive(Drop)]
+pub struct Standing {
+    /// For standard output.
+    pub bytes: Vec<u8>,
+    /// For the sizes' file, a line each.
+    pub sizes: Vec<u8>,
+    /// A thread writes, and takes what waits before it stops.
+    pub is_writing: bool,
+    pub end: Option<Result<Why, ClientFault>>,
+    /// Why the input ended before its end.
+    pub input: Option<ClientFault>,
+    /// A line of the sizes' file said no size.
+    pub has_dropped: bool,
+}
+
+/// What a reader of the socket has.
+#[derive(Drop)]
+pub struct Intake<I> {
+    pub reader: Reader,
+    /// The input and the sizes that are read once the peer is welcome.
+    pub input: Option<I>,
+    pub asked: Option<File>,
+    /// What the session said last before it let the peer in.
+    pub said: Option<String>,
+}
+
+/// Where is written to: one thread at a time.
+#[derive(Drop)]
+pub struct Outlet<O> {
+    pub output: O,
+    pub sizes: Option<File>,
+}
+
+/// A peer, for all of its threads.
+#[derive(Drop)]
+pub struct Shared<I, O> {
+    pub way: Way,
+    pub rows: u16,
+    pub cols: u16,
+    pub stream: UnixStream,
+    /// Is held while a frame is written: a frame goes whole.
+    pub sending: Mutex<()>,
+    /// Is held while the socket is read, and what came is put in order.
+    pub intake: Mutex<Intake<I>>,
+    pub outlet: Mutex<Outlet<O>>,
+    pub standing: Mutex<Standing>,
+    /// The peer ended, or nothing waits to be written.
+    pub news: Condvar,
+}
+
+impl<I, O> Shared<I, O> {
+    /// Sends one frame.
+    pub fn send<R: Wait>(
+        &self,
+        rt: &R,
+        alloc: Global,
+        message: &Message,
+    ) -> Result<(), ClientFault> {
+        let mut frame = Vec::new(alloc);
+        write_message(alloc, message, &mut frame)?;
+        let _turn = self.sending.lock(rt);
+        let mut stream = &self.stream;
+        stream.write_all(&frame)?;
+        Ok(())
+    }
+
+    /// The peer ends: the first cause holds.
+    pub fn end<R: Wait>(&self, rt: &R, end: Result<Why, ClientFault>) {
+        let mut standing = self.standing.lock(rt);
+        if standing.end.is_none() {
+            standing.end = Some(end);
+        }
+        drop(standing);
+        self.news.notify_all();
+    }
+}
