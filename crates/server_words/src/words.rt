@@ -18,15 +18,19 @@ const SIZES_OUT: &str = "A file: the window's sizes are written there, as lines 
 
 const SERVER_EXAMPLE: &str = "Example:
   umask 077
-  printf 'ann %s\\n' \"$(od -An -tx1 -N32 /dev/urandom | tr -d ' \\n')\" > users
-  muxd --socket /tmp/mux --users users";
+  mkdir -p $XDG_RUNTIME_DIR/mux
+  cd $XDG_RUNTIME_DIR/mux
+  od -An -v -tx1 -N32 /dev/urandom | tr -d ' \\n' > ann.token
+  echo \"ann $(cat ann.token)\" > users
+  muxd --socket $XDG_RUNTIME_DIR/mux/socket --users users";
 
-const CLIENT_EXAMPLE: &str = "Example:
-  mux command --socket /tmp/mux --user ann --token ann.token 'multiuser on'
-  mux window --socket /tmp/mux --user ann --token ann.token --rows 24 --cols 80 --title sh
-  stty raw -echo
-  mux attach --socket /tmp/mux --user ann --token ann.token --rows 24 --cols 80
-  stty sane";
+const CLIENT_EXAMPLE: &str = "Example, beside that of muxd:
+  cd $XDG_RUNTIME_DIR/mux
+  (date; sleep 60) | mux window --socket socket --user ann --token ann.token \\
+    --rows 22 --cols 80 --title date > typed &
+  stty raw -echo; mux attach --socket socket --user ann --token ann.token \\
+    --rows 24 --cols 80; stty sane
+  mux command --socket socket --user ann --token ann.token quit";
 
 fn path<'a>(alloc: Global, name: &'a str, help: &'a str) -> Arg<'a> {
     Arg::new(alloc, name)
