@@ -7,8 +7,8 @@ ghost use Rattle.session_state.specs.Doing.{IsAsBefore};
 ghost use Rattle.session_core.specs.Stepping.{Steps};
 
 use acl::UserId;
-use session_events::{attach, open, resize};
 use session_checks::{check_attach, check_open, check_resize};
+use session_events::{attach, open, resize};
 use session_leaving::{Focuses, leave};
 use session_model::{Done, Refusal, Reply, Verdict};
 use session_state::{Made, State};

@@ -7,9 +7,9 @@ ghost use Rattle.session_state.specs.Doing.{IsAsBefore};
 ghost use Rattle.session_core.specs.Taking.{Takes};
 
 use crate::coming::made_so;
-use session_view::draw;
 use session_model::Reply;
 use session_state::{Made, State};
+use session_view::draw;
 
 /// A client is sent what its terminal is to show.
 pub(crate) fn draw_client(state: &mut State, client: u32, made: &mut Made) -> Reply
