@@ -597,7 +597,8 @@ def operating(play):
 
 def words_alone(play):
     """docs/FOR-SCREEN-USERS.md and examples/README.md: no line to be typed as it stands."""
-    for line in {"docs/FOR-SCREEN-USERS.md": ("mux-attach --user NAME", "muxsim --edition 1"),
+    for line in {"docs/FOR-SCREEN-USERS.md": ("mux-attach --user NAME", "mux-attach --rows 24 --cols 80", "mux-shell --detach",
+                                         "muxsim --edition 1"),
                  "examples/README.md": ("make build", "make demo SCRIPT=rights", "make examples")}[play.text.name]:
         play.text.leave(line, "it is a pattern, or builds")
 
@@ -710,6 +711,7 @@ PLAYS = {
     "man/mux-attach.1": session_pages,
     "man/mux-over-ssh.1": session_pages,
     "man/mux-shell.1": session_pages,
+    "man/mux.1": session_pages,
     "docs/OPERATING.md": operating,
     "docs/POLICIES.md": policies,
     "docs/TEACHING.md": teaching,
