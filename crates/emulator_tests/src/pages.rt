@@ -17,7 +17,7 @@ struct Row {
 
 const SMALL: Size = (2, 5, 0);
 
-const ROWS: [Row; 31] = [
+const ROWS: [Row; 32] = [
     Row {
         title: "starts blank",
         size: (3, 3, 0),
@@ -80,6 +80,14 @@ const ROWS: [Row; 31] = [
         bytes: b"a\xE6\xBC\xA2b\x1B[1;3H\x1B[P",
         back: 0,
         page: "a_b__|_____|",
+        cursor: (0, 2),
+    },
+    Row {
+        title: "DCH joins no halves of two characters",
+        size: (2, 6, 0),
+        bytes: b"a\xE6\xBC\xA2\xE5\xAD\x97\x1B[1;3H\x1B[2P",
+        back: 0,
+        page: "a_____|______|",
         cursor: (0, 2),
     },
     Row {

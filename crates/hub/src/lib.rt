@@ -8,11 +8,12 @@
 
 mod checking;
 
-ghost use Rattle.std.specs.Prelude.{◌≡◌, ◌↔◌, ◌<◌, ◌≤◌, length, IfOk, OnErr, None, []};
+ghost use Rattle.std.specs.Prelude.{◌≡◌, ◌↔◌, ◌<◌, ◌≤◌, length, IfOk, IfErr, OnErr, None, []};
 ghost use Rattle.session_model.specs.Trace.{begun, happening};
 ghost use Rattle.hub_trail.specs.Legal.{IsLegal};
 ghost use Rattle.hub_ledger.specs.Closing.{AreThere, IsFirstWrong, receipts_of};
 ghost use Rattle.hub_ledger.specs.Seats.{Answers, StandsFor};
+ghost use Rattle.hub_ledger.specs.declared.answer.HubFault.TheVariants.{NoMemory};
 
 use acl::{Edition, UserId};
 pub use checking::check_trail;
@@ -37,6 +38,7 @@ impl<L: Roll> Drop for Hub<L> {
 
 impl<L: Roll> Hub<L> {
     /// A hub of a session of this edition and owner that has taken no event, and its 1 to 8 seats.
+    /// Where memory is refused, the one refusal, the session is dropped.
     pub fn new(
         alloc: Global,
         blank: Blank,
@@ -51,6 +53,7 @@ impl<L: Roll> Hub<L> {
         requires fresh { StandsFor (begun edition owner) session }
         ensures seats { IfOk result (λ made. (length made.1.items ≡ L.parts)
             × (receipts_of made.1.items ≡ [])) }
+        ensures err { IfErr result (λ fault. fault ≡ NoMemory) }
     {
         let (ledger, seats) = Ledger::new(alloc, blank, edition, owner, session, seats)?;
         Ok((

@@ -1,3 +1,4 @@
+pub mod Editions
 pub mod Faults
 pub mod Seats
 pub mod Closing

@@ -1,7 +1,7 @@
 //! What lies under the hub's lock.
 
 ghost use Rattle.std.specs.Prelude.{◌≡◌, ◌↔◌, ◌<◌, ◌≤◌, length, IfOk, OnErr, Err, IsSome, None};
-ghost use Rattle.std.specs.Prelude.{Some};
+ghost use Rattle.std.specs.Prelude.{Some, IfErr};
 ghost use Rattle.std.specs.Prelude.{[], false, is_some, replicate, slice_get, slice_set, true};
 ghost use Rattle.session_model.specs.Trace.{begun, happening};
 ghost use Rattle.hub_trail.specs.Filing.{kept_of};
@@ -9,7 +9,8 @@ ghost use Rattle.hub_trail.specs.Legal.{IsLegal};
 ghost use Rattle.hub_desk.specs.States.{IsKept, StandsFor, Takes, state_of};
 ghost use Rattle.hub_ledger.specs.Closing.{AreThere, IsFirstWrong, receipts_of};
 ghost use Rattle.hub_ledger.specs.Seats.{AllBelow, Answers, placed};
-ghost use Rattle.hub_ledger.specs.declared.answer.HubFault.TheVariants.{TrailFull, Strange};
+ghost use Rattle.hub_ledger.specs.declared.answer.HubFault.TheVariants.{TrailFull, NoMemory};
+ghost use Rattle.hub_ledger.specs.declared.answer.HubFault.TheVariants.{Strange};
 
 use crate::answer::{Answer, HubFault};
 use crate::closing::{count, first_wrong};
@@ -86,7 +87,7 @@ fn make_seat<L: Roll>(alloc: Global, number: usize, share: Share<L>) -> Seat<L>
 
 impl<L: Roll> Ledger<L> {
     /// A ledger of a session of this edition and owner that has taken no event, and its 1 to 8
-    /// seats.
+    /// seats. Where memory is refused, the one refusal, the session is dropped.
     pub fn new(
         alloc: Global,
         blank: Blank,
@@ -108,6 +109,7 @@ impl<L: Roll> Ledger<L> {
         }) }
         ensures seats { IfOk result (λ made. (length made.1.items ≡ L.parts)
             × (receipts_of made.1.items ≡ [])) }
+        ensures err { IfErr result (λ fault. fault ≡ NoMemory) }
     {
         let (book, mut all) = blank.open::<L>();
         let desk = Desk::new(alloc, edition, owner, session, seats)?;

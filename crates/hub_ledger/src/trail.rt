@@ -3,6 +3,7 @@
 ghost use Rattle.std.specs.Prelude.{◌≡◌, [], length};
 ghost use Rattle.hub_trail.specs.Judging.{AreJudgeable};
 ghost use Rattle.hub_desk.specs.States.{trail_in};
+ghost use Rattle.hub_ledger.specs.Editions.{number_of_edition};
 
 use acl::{Edition, UserId};
 use hub_desk::Entries;
@@ -57,8 +58,18 @@ impl Trail {
         }
     }
 
-    /// The edition of the session's groups.
-    pub fn edition(&self) -> Edition
+    /// The number of the edition of the session's groups, 1 or 2.
+    pub fn edition(&self) -> u8
+        ensures { result ≡ number_of_edition self.now.edition }
+    {
+        match self.edition {
+            Edition::First => 1,
+            Edition::Second => 2,
+        }
+    }
+
+    /// The same, as lists of rights take it.
+    pub fn acl_edition(&self) -> Edition
         ensures { result ≡ self.now.edition }
     {
         self.edition

@@ -1,5 +1,5 @@
 -- Who gets what on a window that is opened.
-use Rattle.std.specs.Prelude.{◌≡◌, true, ◌||◌}
+use Rattle.std.specs.Prelude.{◌≡◌, true, ◌||◌, Ok}
 use Rattle.acl.specs.declared.user_id.UserId.{UserId}
 use Rattle.acl.specs.declared.bits.Bit.{Bit}
 use Rattle.acl.specs.declared.act.Object.TheVariants as object
@@ -9,7 +9,6 @@ use Rattle.session_model.specs.Trace.{Happening, Open, Reply, Entry}
 use Rattle.session_model.specs.Tables.{Tables, is_known}
 use Rattle.session_model.specs.Rights.{has_in}
 use Rattle.session_model.specs.Run.{IsStep, after}
-use Rattle.std.specs.Prelude.{Ok}
 
 -- a known user has a bit on the new window exactly where he opened it or the opener's mask for him
 -- allows it

@@ -24,6 +24,11 @@ fn windows_are_named(rt: HostRuntime) -> Result<(), Fail> {
         windows.open(rt.alloc(), 4, 1, 80, 0, "four"),
         Err(Refusal::BadSize)
     );
+    let too_wide = windows.open(rt.alloc(), 4, 24, 80, 0, "\u{17D8}");
+    assert_eq!(rt; too_wide, Err(Refusal::Windows(WindowsFault::BadTitle)));
+    let given = windows.open(rt.alloc(), 3, 24, 80, 0, "three");
+    assert_eq!(rt; given, Err(Refusal::Windows(WindowsFault::Full)));
+    assert_eq!(rt; windows.len(), 4);
     assert_eq!(rt; number_of(windows.by_name("same")), Some(1));
     assert_eq!(rt; number_of(windows.by_name("1")), Some(1));
     assert_eq!(rt; number_of(windows.by_name("none")), None);

@@ -1,0 +1,8 @@
+-- The numbers of editions.
+use Rattle.std.specs.Prelude.{ℕ}
+use Rattle.acl.specs.declared.edition.Edition.{Edition}
+use Rattle.acl.specs.declared.edition.Edition.TheVariants.{First, Second}
+
+abbrev pub number_of_edition : Edition → ℕ
+number_of_edition First = 1
+number_of_edition Second = 2
