@@ -17,16 +17,16 @@ _mux() {
     local program=$1 current=$2 previous=$3 words='' verb=''
     COMPREPLY=()
     case $previous in
-    --socket | --users | --token)
+    --socket | --users | --token | --sizes)
         mapfile -t COMPREPLY < <(compgen -f -- "$current")
         compopt -o filenames 2>/dev/null
         return
         ;;
-    --pty) words='socat script' ;;
+    --pty) words='perl socat script' ;;
     --show) words='own' ;;
     --loops) words='1 2 3 4 5 6 7 8' ;;
     --term) words='mux mux-8color vt220' ;;
-    --user | --rows | --cols | --title | --keep | --window) return ;;
+    --user | --rows | --cols | --title | --keep | --window | --session | --for) return ;;
     *)
         # mux alone has subcommands, each with options of its own
         if [[ ${program##*/} == mux ]]; then

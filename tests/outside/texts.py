@@ -597,8 +597,10 @@ def operating(play):
 
 def words_alone(play):
     """docs/FOR-SCREEN-USERS.md and examples/README.md: no line to be typed as it stands."""
-    for line in {"docs/FOR-SCREEN-USERS.md": ("mux-attach --user NAME", "muxsim --edition 1"),
-                 "examples/README.md": ("make build", "make demo SCRIPT=rights", "make examples")}[play.text.name]:
+    lines = {"docs/FOR-SCREEN-USERS.md": ("mux-attach --user NAME", "mux-attach --rows 24 --cols 80",
+                                          "mux-shell --detach", "muxsim --edition 1"),
+             "examples/README.md": ("make try-server", "make build", "make demo SCRIPT=rights", "make examples")}
+    for line in lines[play.text.name]:
         play.text.leave(line, "it is a pattern, or builds")
 
 
@@ -679,7 +681,7 @@ def words_agree():
     """The words of each script's --help are those of its page."""
     for name in sorted(os.listdir(os.path.join(TOP, "contrib"))):
         path = os.path.join(TOP, "contrib", name)
-        if not os.access(path, os.X_OK):
+        if os.path.isdir(path) or not os.access(path, os.X_OK):
             continue
         page = os.path.join(TOP, "man", name + ".1")
         if not os.path.exists(page):
@@ -710,6 +712,7 @@ PLAYS = {
     "man/mux-attach.1": session_pages,
     "man/mux-over-ssh.1": session_pages,
     "man/mux-shell.1": session_pages,
+    "man/mux.1": session_pages,
     "docs/OPERATING.md": operating,
     "docs/POLICIES.md": policies,
     "docs/TEACHING.md": teaching,

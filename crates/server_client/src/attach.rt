@@ -2,6 +2,7 @@
 
 use crate::fault::{ClientFault, Gone};
 use crate::opening::{Opened, Way, number, open};
+use crate::refusals::explain;
 use crate::showing::show;
 use crate::standing::{Intake, Outlet, Shared, Standing};
 use attach_proto::{Reader, Side, Why};
@@ -144,6 +145,30 @@ fn run<
     Ok(wait_for_end(rt, &shared))
 }
 
+// Says why a peer ended. The answer is the status to exit with.
+fn tell_end<E: Write>(ending: Ending, way: Way, matches: &ArgMatches, errors: &mut E) -> u8 {
+    if ending.has_dropped {
+        let _ = writeln!(errors, "mux: {NO_SIZE}");
+    }
+    match ending.end {
+        Ok(why) => {
+            if matches.get_flag("why") {
+                let _ = writeln!(errors, "mux: {}", Gone::from(why));
+            }
+            0
+        }
+        Err(fault) => {
+            let _ = write!(errors, "mux: {fault}");
+            if let ClientFault::Said(said) = &fault {
+                let line = matches.get_str("line").unwrap_or("");
+                let _ = explain(said, way, line, errors);
+            }
+            let _ = writeln!(errors);
+            fault.status()
+        }
+    }
+}
+
 /// `mux`: a client of the server. The first word is the program's name. The answer is the status to
 /// exit with: 0; 1 for a fault; 2 where the words aren't understood.
 pub fn client<
@@ -168,19 +193,5 @@ pub fn client<
             has_dropped: false,
         },
     };
-    if ending.has_dropped {
-        let _ = writeln!(errors, "mux: {NO_SIZE}");
-    }
-    match ending.end {
-        Ok(why) => {
-            if matches.get_flag("why") {
-                let _ = writeln!(errors, "mux: {}", Gone::from(why));
-            }
-            0
-        }
-        Err(fault) => {
-            let _ = writeln!(errors, "mux: {fault}");
-            fault.status()
-        }
-    }
+    tell_end(ending, way, matches, errors)
 }

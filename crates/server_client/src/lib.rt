@@ -4,6 +4,7 @@
 mod attach;
 mod fault;
 mod opening;
+mod refusals;
 mod sending;
 mod showing;
 mod standing;

@@ -60,6 +60,22 @@ fn welcome<
     start_sending(rt, shared, input)
 }
 
+// What was said to a command is its list, unless it is the last thing before a fault: that is why.
+fn list<R: Wait, I, O>(
+    rt: &R,
+    shared: &Shared<I, O>,
+    intake: &mut Intake<I>,
+) -> Result<(), ClientFault> {
+    if shared.way == Way::Command
+        && let Some(said) = intake.said.take()
+    {
+        let mut standing = shared.standing.lock(rt);
+        standing.put(shared.way, said.as_bytes())?;
+        standing.put(shared.way, b"\n")?;
+    }
+    Ok(())
+}
+
 // Puts in order what a message brings. The answer is the end, where it is the last one.
 fn take<
     R: Threads + Wait + AllocGlobal + Copy + Send + 'static,
@@ -83,14 +99,15 @@ fn take<
         }
         // Once a peer is welcome, its status line says what the session says.
         Message::Say(text) if intake.input.is_some() => {
-            if shared.way == Way::Command {
-                let mut standing = shared.standing.lock(rt);
-                standing.put(shared.way, text.as_str().as_bytes())?;
-                standing.put(shared.way, b"\n")?;
-            }
+            list(rt, shared, intake)?;
             intake.said = Some(String::from_str(rt.alloc(), text.as_str())?);
         }
-        Message::Gone(why) => return Ok(Some(*why)),
+        Message::Gone(why) => {
+            if *why != Why::Fault {
+                list(rt, shared, intake)?;
+            }
+            return Ok(Some(*why));
+        }
         _ => {}
     }
     Ok(None)
@@ -111,7 +128,8 @@ fn read_once<
     let mut stream = &shared.stream;
     let count = stream.read(buffer)?;
     if count == 0 {
-        return Err(ClientFault::Ended);
+        list(rt, shared, intake)?;
+        return Ok(Some(Err(ClientFault::Ended)));
     }
     let mut messages = Vec::new(rt.alloc());
     let fed = intake.reader.feed(&buffer[..count], &mut messages);
