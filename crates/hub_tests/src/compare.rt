@@ -48,7 +48,7 @@ fn is_same_text(text: &Option<Bytes>, other: &Option<Bytes>) -> bool {
 }
 
 /// Whether two replies are the same.
-fn is_same_reply(reply: &Reply, other: &Reply) -> bool {
+pub(crate) fn is_same_reply(reply: &Reply, other: &Reply) -> bool {
     match (reply, other) {
         (Ok(done), Ok(other)) => {
             done.taken == other.taken

@@ -5,6 +5,8 @@
 #[cfg(test)]
 mod compare;
 #[cfg(test)]
+mod editions;
+#[cfg(test)]
 mod fresh;
 #[cfg(test)]
 mod many;

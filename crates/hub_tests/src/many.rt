@@ -1,9 +1,10 @@
 //! A thousand steps of all kinds over two seats, beside a session that runs the same events: each
-//! seat takes what the session made for its own clients and windows.
+//! seat takes what the session made for its own clients and windows, each answer has the session's
+//! reply, and each step but a Draw marks both seats.
 
 ghost use Rattle.std.specs.Prelude.{◌≡◌, ◌≤◌};
 
-use crate::compare::are_same;
+use crate::compare::{are_same, is_same_reply};
 use acl::{Edition, UserId};
 use hub::{CheckFault, Hub, Seat, Session, Trail, check_trail};
 use session_model::{Effect, Event, Reply};
@@ -138,15 +139,20 @@ fn read_by(reply: &Reply) -> usize {
     }
 }
 
-/// Submits an event, and keys again until all are read. How many entries it wrote.
+/// Submits an event, and keys again until all are read. How many entries it wrote; `None` where the
+/// last answer hasn't this reply.
 fn submit_all<L: Roll, R: Wait>(
     rt: &R,
     hub: &Hub<L>,
     seat: &mut Seat<L>,
     event: Event<'static>,
+    reply: &Reply,
 ) -> Option<usize> {
     let Event::Keys { client, bytes } = event else {
         let answer = hub.submit(rt, seat, event).ok()?;
+        if !is_same_reply(answer.reply(), reply) {
+            return None;
+        }
         return Some(if answer.place().is_some() { 1 } else { 0 });
     };
     let mut rest = bytes;
@@ -158,7 +164,11 @@ fn submit_all<L: Roll, R: Wait>(
         let answer = hub.submit(rt, seat, keys).ok()?;
         let read = read_by(answer.reply());
         if read == 0 || rest.len() <= read {
-            return Some(count);
+            return if is_same_reply(answer.reply(), reply) {
+                Some(count)
+            } else {
+                None
+            };
         }
         rest = &rest[read..];
     }
@@ -177,22 +187,28 @@ fn step<L: Roll, R: Wait>(
     alloc: Global,
 ) -> Option<usize> {
     let (a, b) = seats;
-    let wrote = if second {
-        submit_all(rt, hub, b, event)?
-    } else {
-        submit_all(rt, hub, a, event)?
-    };
     let mut made = Vec::new(alloc);
     let mut replies = Vec::new(alloc);
     let ran = twin.run(&[event], &mut made, &mut replies);
     if ran.stopped {
         return None;
     }
-    let (firsts, _marked) = hub.take(rt, a);
-    let (seconds, _other) = hub.take(rt, b);
+    let reply = replies.as_slice().last()?;
+    let wrote = if second {
+        submit_all(rt, hub, b, event, reply)?
+    } else {
+        submit_all(rt, hub, a, event, reply)?
+    };
+    let marks = !matches!(event, Event::Draw { .. });
+    let (firsts, marked) = hub.take(rt, a);
+    let (seconds, other) = hub.take(rt, b);
     let is_same = took(firsts.as_slice(), made.as_slice(), false)
         && took(seconds.as_slice(), made.as_slice(), true);
-    if is_same { Some(wrote) } else { None }
+    if is_same && marked == marks && other == marks {
+        Some(wrote)
+    } else {
+        None
+    }
 }
 
 fn thousand<L: Roll, R: Wait + Abort>(
