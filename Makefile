@@ -1,7 +1,7 @@
 # The toolchain's command; RT=/path/to/rt where it isn't on the PATH.
 RT ?= rt
 PREFIX ?= /usr/local
-PROGRAMS = muxd mux muxsim vtcat
+PROGRAMS = muxd mux muxsim mux_trail vtcat
 TESTS = $(notdir $(patsubst %/,%,$(dir $(wildcard crates/*_tests/src))))
 SCRIPTS = $(shell grep -s -l -m 1 '^.!/bin/sh' contrib/*)
 
@@ -43,7 +43,8 @@ test:
 edits:
 	@tools/edits $(CRATE)
 
-# Plays the scripts of examples/ with a muxsim that is built, and compares what they print, and the pictures of docs/TEACHING.md.
+# Plays the scripts of examples/ with a muxsim that is built, and those of contrib/policies behind their setups, and
+# compares what they print, and the pictures of docs/TEACHING.md.
 MUXSIM ?= bin/muxsim
 export MUXSIM
 examples:
@@ -51,8 +52,14 @@ examples:
 	@for script in examples/*.mux; do \
 	    $(MUXSIM) --show own < $$script | cmp - $${script%.mux}.out || exit 1; \
 	done
+	@for script in contrib/policies/*.mux; do \
+	    for edition in 1 2; do \
+	        $(MUXSIM) --show --edition $$edition --setup $${script%.mux} own < $$script \
+	            | cmp - $${script%.mux}.out || exit 1; \
+	    done; \
+	done
 	@tools/pictures docs/TEACHING.md
-	@echo "make examples: $(words $(wildcard examples/*.mux)) scripts and the pictures agree"
+	@echo "make examples: $(words $(wildcard examples/*.mux contrib/policies/*.mux)) scripts and the pictures agree"
 
 # Scripts, programs in Python and Perl, terminal descriptions and man pages: Debian's shellcheck, ncurses-bin and mandoc.
 PYTHON = $(shell grep -s -l -m 1 '^.!.*python3' tools/* examples/* tests/outside/* bench/*)

@@ -1,6 +1,11 @@
-"""Prints how fast vtcat is beside libvterm and Rust's vt100, all in one run: MB/s of processor time, and ratios."""
+"""Prints how fast vtcat is beside libvterm and Rust's vt100, all in one run: MB/s of processor time, and ratios.
+
+With --instructions it prints how many instructions vtcat takes a byte, counted by valgrind, so that a busy machine
+doesn't matter.
+"""
 
 import argparse
+import re
 import resource
 import shutil
 import subprocess
@@ -16,6 +21,8 @@ HERE = Path(__file__).resolve().parent
 VTCAT = HERE.parent / "crates" / "vtcat"
 REGISTRY = Path("/usr/share/cargo/registry")
 SIZE = ["24", "80"]
+# of each input as much is counted: what its second half takes, so that start and end don't count
+COUNTED = 1_000_000
 
 
 def run(words, **how):
@@ -67,6 +74,21 @@ def speed(words, file, times):
     return file.stat().st_size / 1e6 / min(seconds(words, file) for _ in range(times))
 
 
+def instructions(words, data):
+    """The instructions that a program takes for some bytes."""
+    counted = run(["valgrind", "--tool=callgrind", "--callgrind-out-file=/dev/null", *words], input=data,
+                  stdout=subprocess.DEVNULL, stderr=subprocess.PIPE)
+    return int(re.search(rb"Collected : (\d+)", counted.stderr).group(1))
+
+
+def instructions_a_byte(words, file):
+    """The instructions that the second half of the first MB takes, a byte."""
+    with open(file, "rb") as it:
+        data = it.read(COUNTED)
+    half = data[:COUNTED // 2]
+    return (instructions(words, data) - instructions(words, half)) / (len(data) - len(half))
+
+
 def line(name, cells):
     print(f"{name:12}" + "".join(f"{cell:>11}" for cell in cells), flush=True)
 
@@ -76,6 +98,7 @@ def main():
     reader.add_argument("--times", type=int, default=5, help="the best of so many runs counts")
     reader.add_argument("--folder", type=Path, help="for inputs and drivers; else a new one, deleted at the end")
     reader.add_argument("--vtcat", type=Path, help="a vtcat that is built already")
+    reader.add_argument("--instructions", action="store_true", help="count vtcat's instructions a byte instead")
     words = reader.parse_args()
     with tempfile.TemporaryDirectory() as temporary:
         folder = words.folder or Path(temporary)
@@ -83,6 +106,11 @@ def main():
         files = inputs.make(folder)
         vtcat = words.vtcat or build_vtcat()
         programs = {"vtcat": [vtcat, "--rows", SIZE[0], "--cols", SIZE[1]]}
+        if words.instructions:
+            line("a byte", files)
+            words_of_vtcat = [*programs["vtcat"], "--keep", "0"]
+            line("vtcat", [f"{instructions_a_byte(words_of_vtcat, file):.1f}" for file in files.values()])
+            return
         others = {"libvterm": build_libvterm(folder), "vt100": build_vt100(folder)}
         for name, program in others.items():
             if program is None:

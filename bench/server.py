@@ -13,15 +13,18 @@ import socket
 import statistics
 import subprocess
 import tempfile
+import threading
 import time
 from pathlib import Path
 
 OWNER, TOKEN = b"own", b"0" * 64
+# A second user, with the same token.
+GUEST = b"bob"
 ROWS, COLS = 24, 80
 LONGEST = 8192
 MB = 1_000_000
-ATTACH, WINDOW, KEYS, OUTPUT = b"A", b"W", b"K", b"O"
-WELCOME, DRAW, INPUT = b"y", b"d", b"i"
+ATTACH, WINDOW, COMMAND, KEYS, OUTPUT = b"A", b"W", b"C", b"K", b"O"
+WELCOME, DRAW, INPUT, GONE = b"y", b"d", b"i", b"g"
 
 
 def two(number):
@@ -32,8 +35,12 @@ def frame(kind, payload):
     return kind + two(len(payload)) + payload
 
 
-def attach():
-    return frame(ATTACH, two(ROWS) + two(COLS) + TOKEN + OWNER)
+def attach(user=OWNER):
+    return frame(ATTACH, two(ROWS) + two(COLS) + TOKEN + user)
+
+
+def command(line):
+    return frame(COMMAND, b"\xff" + TOKEN + bytes([len(OWNER)]) + OWNER + line)
 
 
 def window(keep):
@@ -87,7 +94,8 @@ class Server:
         self.folder = tempfile.TemporaryDirectory()
         self.path = f"{self.folder.name}/socket"
         users = Path(self.folder.name, "users")
-        users.write_bytes(OWNER + b" " + TOKEN + b"\n")
+        users.write_bytes(OWNER + b" " + TOKEN + b"\n" + GUEST + b" " + TOKEN + b"\n")
+        users.chmod(0o600)
         command = [words.muxd, "--socket", self.path, "--users", users, "--loops", str(words.loops)]
         self.program = subprocess.Popen(command, stdout=subprocess.PIPE)
         assert self.program.stdout.readline() == b"muxd: ready\n", "the server isn't ready"
@@ -188,6 +196,67 @@ def megabyte_times(words, clients, rounds=5):
     return wall[1:], busy[1:]
 
 
+class Pour(threading.Thread):
+    """Sends the same data over and over, if there is some, and forgets what comes, until it is stopped."""
+
+    def __init__(self, peer, data):
+        super().__init__(daemon=True)
+        self.peer, self.data, self.over = peer, memoryview(data), False
+        self.start()
+
+    def run(self):
+        self.peer.socket.setblocking(False)
+        place = 0
+        with selectors.DefaultSelector() as ready:
+            ways = selectors.EVENT_READ | (selectors.EVENT_WRITE if self.data else 0)
+            ready.register(self.peer.socket, ways)
+            while not self.over:
+                for _, events in ready.select(1):
+                    if events & selectors.EVENT_READ:
+                        self.peer.socket.recv(1 << 20)
+                    if events & selectors.EVENT_WRITE:
+                        place = (place + self.peer.socket.send(self.data[place:place + 65536])) % len(self.data)
+
+    def stop(self):
+        self.over = True
+        self.join()
+
+
+def times_beside(words, make, rounds=1000):
+    """Microseconds from a client's key to the window's program, beside what `make` pours into a server."""
+    with Server(words, 1) as server:
+        client, shell = server.clients[0], server.window
+        client.until(DRAW)
+        pours = make(server)
+        found = []
+        time.sleep(0.3)
+        for place in range(rounds):
+            letter = b"abcdefghijklmnopqrstuvwxyz"[place % 26:][:1]
+            start = time.perf_counter_ns()
+            client.send(frame(KEYS, letter))
+            shell.until(INPUT, letter)
+            found.append((time.perf_counter_ns() - start) / 1000)
+            time.sleep(0.002)
+        for pour in pours:
+            pour.stop()
+    return found
+
+
+def printing(count):
+    """Windows that print without end."""
+    data = output(lines(MB))
+    return lambda server: [Pour(Peer(server.path, window(0)), data) for _ in range(count)]
+
+
+def typing(server):
+    """Another user's client that types without end, into a window that takes it all."""
+    for line in (b"multiuser on", b"acladd bob"):
+        Peer(server.path, command(line)).until(GONE)
+    shell, client = Peer(server.path, window(0)), Peer(server.path, attach(GUEST))
+    client.send(frame(KEYS, b"\x011"))
+    return [Pour(shell, b""), Pour(client, frame(KEYS, b"x" * 8000) * 8)]
+
+
 def at_rest(words, clients, idle):
     """The memory in MB beside a window that keeps 2,000 lines, and milliseconds used while idle."""
     with Server(words, clients, keep=2000) as server:
@@ -209,6 +278,12 @@ def times(name, found, unit, asked=""):
     row(name, f"{statistics.median(found):.1f}", unit, f"9 of 10 in {worst:.1f}{asked}")
 
 
+def tail(name, found, unit, asked):
+    ordered = sorted(found)
+    worst = ordered[len(ordered) * 99 // 100]
+    row(name, f"{statistics.median(found):.0f}", unit, f"99 of 100 in {worst:.0f}; asked: {asked}")
+
+
 def main():
     reader = argparse.ArgumentParser(description=__doc__)
     reader.add_argument("--muxd", required=True, help="the server's program")
@@ -224,6 +299,9 @@ def main():
     plain, echoed = key_times(words)
     times("a key, to the window's program", plain, "us", "; asked: under 60")
     times("a key, its echo drawn at 24 by 80", echoed, "us", "; asked: under 300")
+    for count, asked in ((1, "200 and 2000"), (8, "500 and 2000")):
+        tail(f"a key, beside {count} windows that print", times_beside(words, printing(count)), "us", asked)
+    tail("a key, beside a client that types", times_beside(words, typing), "us", "500 and 5000")
     costs = {}
     for clients in (1, 8, 64):
         wall, busy = megabyte_times(words, clients)

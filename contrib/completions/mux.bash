@@ -17,7 +17,7 @@ _mux() {
     local program=$1 current=$2 previous=$3 words='' verb=''
     COMPREPLY=()
     case $previous in
-    --socket | --users | --token | --sizes)
+    --socket | --users | --setup | --token | --sizes)
         mapfile -t COMPREPLY < <(compgen -f -- "$current")
         compopt -o filenames 2>/dev/null
         return
@@ -26,7 +26,7 @@ _mux() {
     --show) words='own' ;;
     --loops) words='1 2 3 4 5 6 7 8' ;;
     --term) words='mux mux-8color vt220' ;;
-    --user | --rows | --cols | --title | --keep | --window | --session | --for) return ;;
+    --user | --rows | --cols | --title | --keep | --window | --read | --session | --for) return ;;
     *)
         # mux alone has subcommands, each with options of its own
         if [[ ${program##*/} == mux ]]; then
@@ -46,4 +46,4 @@ _mux() {
 }
 
 complete -F _mux -o bashdefault -o default muxd mux muxsim vtcat \
-    mux-attach mux-command mux-over-ssh mux-pty mux-shell mux-watch muxd-wait new-token
+    mux-attach mux-command mux-guest mux-over-ssh mux-pty mux-shell mux-turn mux-watch muxd-wait new-token

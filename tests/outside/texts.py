@@ -413,10 +413,13 @@ def policies(play):
     on = play.on
     text = play.text
     text.leave("mux-shell --title shop sudo -iu lab", "it is played with docs/TEACHING.md")
+    for line in ("mux-guest --read shop --for 30m sue", "muxd --setup support"):
+        if line in text.spans:
+            text.leave(line, "tests/outside/policies plays it")
     text.leave("mux-shell --title shop podman run --rm -it debian bash", "it needs podman, and fetches an image")
     on.open("own")
     on.run("own", "for name in own sue pia ben kay ann bob jo kim; do new-token --users ~/session/users $name; done")
-    on.run("own", "export MUX_SOCKET=~/session/socket")
+    on.run("own", "export MUX_SOCKET=~/session/socket MUX_USER=own MUX_TOKEN=~/session/own.token")
     play.run("own", 'own() { mux-command --user own --token ~/session/own.token "$@"; }')
     on.run("own", "as() { name=$1; shift; mux-command --user $name --token ~/session/$name.token \"$@\"; }")
 
@@ -481,6 +484,8 @@ def policies(play):
     may_not("pia", "3", "stuff x", "denied: w on window 3: entry pia -w")
     may_not("ben", "2", "stuff x", "denied: w on window 2: entry ben -w")
     may_not("ben", None, "aclchg ben +w board", "denied: x on aclchg: entry ben -x")
+    lines("mux-turn --window board pia", "mux-turn none", "own aclgrp pia")
+    may_not("pia", "2", "stuff x", "denied: w on window 2: entry pia -w")
     lines("own 'aclchg * -w #'", "own 'aclchg pen +w #'", "own 'aclumask pen+w'", "own 'aclgrp pia pen'")
     may("pia", "2", "stuff x")
     lines("own 'aclgrp pia none'")
@@ -503,7 +508,7 @@ def policies(play):
         may_not("jo", window, "stuff x", "denied: w on window %s: entry jo -w" % window)
     may_not("ann", None, "aclchg jo +w hers", "denied: x on aclchg: entry ann -x")
     over()
-    text.leave("$ muxsim --show own < support.mux", "make examples compares what it prints")
+    text.leave("$ muxsim --show --setup support own < support.mux", "make examples compares what it prints")
 
 
 def operating(play):
@@ -511,6 +516,8 @@ def operating(play):
     on = play.on
     text = play.text
     system = "it needs systemd, or changes the system; what the unit starts is started here by hand"
+    for line in ("muxd --setup FILE", "muxsim --setup FILE", "mux-guest --read web1 guest1"):
+        text.leave(line, "tests/outside/policies plays it")
     for line in ("new-token ann", "loginctl enable-linger", "systemctl --user enable --now muxd",
                  "setsid -f mux-shell --user ann --title shell"):
         text.leave("$ " + line, system)
@@ -599,7 +606,9 @@ def words_alone(play):
     """docs/FOR-SCREEN-USERS.md and examples/README.md: no line to be typed as it stands."""
     lines = {"docs/FOR-SCREEN-USERS.md": ("mux-attach --user NAME", "mux-attach --rows 24 --cols 80",
                                           "mux-shell --detach", "muxsim --edition 1"),
-             "examples/README.md": ("make try-server", "make build", "make demo SCRIPT=rights", "make examples")}
+             "examples/README.md": ("make try-server", "make build", "make demo SCRIPT=rights", "make examples",
+                                    "muxsim --show --setup contrib/policies/support own"
+                                    " < contrib/policies/support.mux")}
     for line in lines[play.text.name]:
         play.text.leave(line, "it is a pattern, or builds")
 
@@ -656,15 +665,18 @@ def session_pages(play):
     """Pages of scripts that join a session: their examples, on a server with a window, where all is open."""
     on = play.on
     on.open("ann")
-    on.run("ann", "new-token ann; for name in own bob wall; do new-token $name; done; mkdir $XDG_RUNTIME_DIR/mux")
+    on.run("ann", "new-token ann; for name in own bob wall pia ben; do new-token $name; done;"
+           " mkdir $XDG_RUNTIME_DIR/mux")
     on.run("ann", "export MUX_USER=ann; setsid -f muxd --socket $XDG_RUNTIME_DIR/mux/socket"
            " --users ~/.config/mux/users > log 2>&1")
     on.run("ann", "muxd-wait; for title in shell second board; do setsid -f mux-shell --user ann --title $title cat;"
-           " muxd-wait --window $title; done; mux-command multiuser on; mux-command acladd bob,wall; clear")
+           " muxd-wait --window $title; done; mux-command multiuser on; mux-command acladd bob,wall,pia,ben; clear")
     while play.text.lines:
         line = play.text.lines[0][0][2:]
         if "ssh" in line:
             play.text.leave("$ " + line, "tests/outside/terminals plays it")
+        elif "mux-guest" in line:
+            play.text.leave("$ " + line, "tests/outside/policies plays it, for a shorter time")
         elif "mux-attach" in line or "mux-watch" in line:
             play.attach("ann", line, "^[02] (shell|board)")
             before = on.prompts("ann")
@@ -708,6 +720,8 @@ PLAYS = {
     "man/new-token.1": session_pages,
     "man/muxd-wait.1": session_pages,
     "man/mux-command.1": session_pages,
+    "man/mux-guest.1": session_pages,
+    "man/mux-turn.1": session_pages,
     "man/mux-watch.1": session_pages,
     "man/mux-attach.1": session_pages,
     "man/mux-over-ssh.1": session_pages,

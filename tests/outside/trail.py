@@ -1,9 +1,9 @@
 #!/usr/bin/env python3
-"""Fills a server's trail: a client types into a window until the 4,194,304 entries are there.
+"""Fills a server's trail: 63 users type into a window until the 4,194,304 entries are there.
 
-Each byte that was told as an entry reaches the window, in one INPUT each; the next one finds the trail full: client
-and window get GONE 7, in whichever loop they are, and muxd says so and ends with status 1. It takes some 1.2 GB of
-memory. MUXD names the program (that of bin/, if it isn't set); a word is the number of loops (2, if not given).
+One user alone would take more than an hour: he causes at most 1,000 entries a second in the long run. Each byte that
+was told as an entry reaches the window, in one INPUT each; the next one finds the trail full: clients and window get
+GONE 7, in whichever loop they are, and muxd says so and ends with status 1. It takes some 1.2 GB of memory. MUXD names the program (that of bin/, if it isn't set); a word is the number of loops (2, if not given).
 Prints a line for each check, and ends with status 1 if one failed.
 """
 import os
@@ -17,7 +17,8 @@ import time
 TOP = os.path.dirname(os.path.dirname(os.path.dirname(os.path.realpath(__file__))))
 MUXD = os.environ.get("MUXD", f"{TOP}/bin/muxd")
 ENTRIES, OWNER, TOKEN = 4_194_304, b"own", b"0" * 64
-BATCH = 20_000
+USERS = [OWNER] + [b"u%d" % number for number in range(1, 63)]
+BATCH = 2_000
 
 
 def two(number):
@@ -66,13 +67,24 @@ class Peer:
         self.take()
 
 
-def fill(window, client):
-    """Types a byte an event, until both were let go; how many were sent."""
-    keys, sent, rest = frame(b"K", b"x") * BATCH, 0, b""
+def give(path, line):
+    """Gives a command of the owner, and waits for its end."""
+    with socket.socket(socket.AF_UNIX) as it:
+        it.connect(path)
+        it.sendall(frame(b"C", b"\xff" + TOKEN + bytes([len(OWNER)]) + OWNER + line))
+        while it.recv(4096):
+            pass
+
+
+def fill(window, clients):
+    """Has each type a byte an event, until all were let go; how many were sent."""
+    keys, sent = frame(b"K", b"x") * BATCH, 0
+    rests = {client.socket: b"" for client in clients}
     with selectors.DefaultSelector() as ready:
         ready.register(window.socket, selectors.EVENT_READ, window)
-        ready.register(client.socket, selectors.EVENT_READ | selectors.EVENT_WRITE, client)
-        while not (window.ended and client.ended):
+        for client in clients:
+            ready.register(client.socket, selectors.EVENT_READ | selectors.EVENT_WRITE, client)
+        while not (window.ended and all(client.ended for client in clients)):
             for key, events in ready.select():
                 peer = key.data
                 if events & selectors.EVENT_READ:
@@ -80,12 +92,12 @@ def fill(window, client):
                 if peer.ended:
                     ready.unregister(peer.socket)
                 elif events & selectors.EVENT_WRITE:
-                    rest = rest or keys
+                    rest = rests[peer.socket] or keys
                     try:
                         count = peer.socket.send(rest)
                     except (BlockingIOError, BrokenPipeError):
                         continue
-                    sent, rest = sent + count, rest[count:]
+                    sent, rests[peer.socket] = sent + count, rest[count:]
     return sent // 4
 
 
@@ -103,7 +115,8 @@ def main(words):
 
     with tempfile.TemporaryDirectory() as folder:
         with open(f"{folder}/users", "wb") as users:
-            users.write(OWNER + b" " + TOKEN + b"\n")
+            users.write(b"".join(user + b" " + TOKEN + b"\n" for user in USERS))
+        os.chmod(f"{folder}/users", 0o600)
         how = {"stdout": subprocess.PIPE, "stderr": subprocess.PIPE, "text": True}
         command = [MUXD, "--socket", f"{folder}/socket", "--users", f"{folder}/users", "--loops", loops]
         with subprocess.Popen(command, **how) as server:
@@ -111,14 +124,17 @@ def main(words):
             size = two(4) + two(20)
             title = bytes([len(OWNER)]) + OWNER + b"sh"
             window = Peer(f"{folder}/socket", frame(b"W", size + two(0) + TOKEN + title))
-            client = Peer(f"{folder}/socket", frame(b"A", size + TOKEN + OWNER))
+            give(f"{folder}/socket", b"multiuser on")
+            give(f"{folder}/socket", b"acladd " + b",".join(USERS[1:]))
+            clients = [Peer(f"{folder}/socket", frame(b"A", size + TOKEN + user)) for user in USERS]
             began = time.monotonic()
-            sent = fill(window, client)
+            sent = fill(window, clients)
             took = time.monotonic() - began
-            check("the window's bytes, beside two entries of its own and the client's", window.typed, ENTRIES - 2)
+            check("the window's bytes, beside its own entry, two commands' and the clients'", window.typed,
+                  ENTRIES - 3 - len(USERS))
             check("more was sent than found room", sent > window.typed, True)
             check("the window is let go", window.gone, 7)
-            check("the client is let go", client.gone, 7)
+            check("the clients are let go", {client.gone for client in clients}, {7})
             _, errors = server.communicate(timeout=60)
             check("what the server says", errors, "muxd: the session's trail is full: start another session\n")
             check("its status", server.returncode, 1)

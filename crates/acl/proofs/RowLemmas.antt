@@ -6,9 +6,10 @@ use Rattle.std.specs.Map.{lookup}
 use Rattle.std.proofs.lemmas.Map.Entries.{lookup-filter-keys}
 use borrow.Author.Tests.{eqb-true}
 use Rattle.acl_words.specs.Same.{same_user, same_bit, same_object, index_of_command}
+use Rattle.acl_words.specs.declared.command_name.TheConstants.CommandName.{COUNT}
 use Rattle.acl_words.specs.BitSets.{allows, with_bit, no_bits, all_bits}
-use Rattle.acl_slots.specs.Slots.{slot_of, is_window}
-use Rattle.acl_slots.proofs.SlotLemmas.{slots-new}
+use Rattle.acl_words.specs.Slots.{slot_of, is_window}
+use Rattle.acl_words.proofs.SlotLemmas.{slots-new}
 use Rattle.std.specs.Map.{keys_of}
 use Rattle.acl.specs.Table.{bits_on, same_pair, with_window, with_right, new_row, Table, StandsFor, granted, is_there}
 use Rattle.std.proofs.Common.{◌++◌}
@@ -18,7 +19,7 @@ use Rattle.acl.specs.History.{without_user}
 use Rattle.acl_words.specs.declared.act.PresetKind.{PresetKind}
 use Rattle.acl_words.specs.declared.act.PresetKind.TheVariants as preset
 use Rattle.acl_words.proofs.BitSetLemmas.{allows-with_bit, allows-no_bits, allows-all_bits}
-use Rattle.acl_slots.proofs.SlotLemmas.{found, slot_of-apart}
+use Rattle.acl_words.proofs.SlotLemmas.{found, slot_of-apart}
 use Rattle.acl.proofs.StandsForLemmas.{same_user-true}
 use Rattle.acl_words.specs.declared.edition.Edition.{Edition}
 use Rattle.acl_words.specs.declared.user_id.UserId.{UserId}
@@ -44,39 +45,9 @@ same_bool true false f g = sym (f refl)
 same_bool false true f g = g refl
 same_bool false false f g = refl
 
--- there are 31 commands
-pub index_of_command-lt : (c : CommandName) → index_of_command c < 31
+pub index_of_command-lt : (c : CommandName) → index_of_command c < COUNT
 index_of_command-lt command.Acladd = lit< tt
-index_of_command-lt command.Aclchg = lit< tt
-index_of_command-lt command.Acldel = lit< tt
-index_of_command-lt command.Aclgrp = lit< tt
-index_of_command-lt command.Aclumask = lit< tt
-index_of_command-lt command.Clear = lit< tt
-index_of_command-lt command.Defwritelock = lit< tt
-index_of_command-lt command.Detach = lit< tt
-index_of_command-lt command.Displays = lit< tt
-index_of_command-lt command.Encoding = lit< tt
-index_of_command-lt command.Fit = lit< tt
-index_of_command-lt command.Focus = lit< tt
-index_of_command-lt command.Kill = lit< tt
-index_of_command-lt command.Multiuser = lit< tt
-index_of_command-lt command.Next = lit< tt
-index_of_command-lt command.Number = lit< tt
-index_of_command-lt command.Only = lit< tt
-index_of_command-lt command.Other = lit< tt
-index_of_command-lt command.Prev = lit< tt
-index_of_command-lt command.Quit = lit< tt
-index_of_command-lt command.Remove = lit< tt
-index_of_command-lt command.Reset = lit< tt
-index_of_command-lt command.Screen = lit< tt
-index_of_command-lt command.Scrollview = lit< tt
-index_of_command-lt command.Select = lit< tt
-index_of_command-lt command.Split = lit< tt
-index_of_command-lt command.Stuff = lit< tt
-index_of_command-lt command.Title = lit< tt
-index_of_command-lt command.Wall = lit< tt
-index_of_command-lt command.Windows = lit< tt
-index_of_command-lt command.Writelock = lit< tt
+index_of_command-lt c = lit< tt
 
 set_bit : (bit b : Bit) (value : Bool) (xs : List Bits) (i j : ℕ) → i < length xs
     → allows b (slice_index_or (slice_set xs i (with_bit bit value (slice_index_or xs i no_bits))) j no_bits) ≡ (if same_bit bit b && i == j then value else allows b (slice_index_or xs j no_bits))
@@ -103,7 +74,7 @@ set_bit bit b value xs i j below = by (i == j) refl
 
 module _ (t : Table) (bit : Bit) (value : Bool) (row : Row) where
   -- what a set right says of each place
-  pub allows-with_right : (object : Object) (b : Bit) (place : Object) → length row.commands ≡ 31 → length row.windows ≡ length t.windows → is_there t object ≡ true
+  pub allows-with_right : (object : Object) (b : Bit) (place : Object) → length row.commands ≡ COUNT → length row.windows ≡ length t.windows → is_there t object ≡ true
       → allows b (bits_on t.windows place (with_right t.windows object bit value row)) ≡ (if same_bit bit b && same_object object place then value else allows b (bits_on t.windows place row))
   allows-with_right (Command c) b (Command d) lc lw there = set_bit bit b value row.commands (index_of_command c) (index_of_command d) (omega (arith, lc, index_of_command-lt c))
   allows-with_right (Command c) b (Window w) lc lw there = skipped-and (same_bit bit b) value (allows b (bits_on t.windows (Window w) row))
@@ -179,7 +150,7 @@ leaders-with_right ws (Window w) bit value row = by (slot_of ws w)
 
 -- a new row has the presets
 pub bits_on-new_row : (t : Table) → length t.windows ≡ 40 → (object : Object) → is_there t object ≡ true → bits_on t.windows object (new_row t.command_preset t.window_preset) ≡ (elim object [ Window w ↦ t.window_preset | Command c ↦ t.command_preset ])
-bits_on-new_row t long (Command c) there = get_or-replicate 31 (index_of_command c) t.command_preset no_bits (index_of_command-lt c)
+bits_on-new_row t long (Command c) there = get_or-replicate COUNT (index_of_command c) t.command_preset no_bits (index_of_command-lt c)
 bits_on-new_row t long (Window w) there = by (slot_of t.windows w) refl there
   where
     by : (o : Option ℕ) → slot_of t.windows w ≡ o → is_some o ≡ true → option_map_or (λ slot. slice_index_or (new_row t.command_preset t.window_preset).windows slot no_bits) o no_bits ≡ t.window_preset
@@ -212,7 +183,7 @@ StandsFor-new edition owner es rows keys = record {
     led_now false = refl
 
     command_now : (bit : Bit) (c : CommandName) (b : Bool) → option_map_or (λ (r : Row). allows bit (slice_index_or r.commands (index_of_command c) no_bits)) (if b then Some (new_row no_bits no_bits) else None) false ≡ false
-    command_now bit c true = ap (allows bit) (get_or-replicate 31 (index_of_command c) no_bits no_bits (index_of_command-lt c)) ∙ allows-no_bits bit
+    command_now bit c true = ap (allows bit) (get_or-replicate COUNT (index_of_command c) no_bits no_bits (index_of_command-lt c)) ∙ allows-no_bits bit
     command_now bit c false = refl
 
     rights_now : (q : UserId) (bit : Bit) (object : Object) → is_there (record { edition = edition; owner = owner; rows = es; masks = []; windows = replicate 40 None; window_preset = all_bits; command_preset = all_bits }) object ≡ true

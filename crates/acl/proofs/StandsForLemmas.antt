@@ -5,7 +5,7 @@ use Rattle.std.specs.List.{list_any}
 use Rattle.std.specs.Map.{lookup, keys_of}
 use Rattle.acl_words.specs.Same.{same_user, same_bit, same_object, same_preset}
 use Rattle.acl_words.specs.BitSets.{allows, with_bit, all_bits, no_bits}
-use Rattle.acl_slots.specs.Slots.{slot_of, SlotsStandFor}
+use Rattle.acl_words.specs.Slots.{slot_of, SlotsStandFor}
 use Rattle.acl.specs.History.{History, without_user, open_count, there, decided, is_known, is_open, mask, preset_of, has, leaders_of, leaders_with, greeting, opening, may}
 use Rattle.acl.specs.Table.{Table, StandsFor, row_of, users_in, knows, bits_on, granted, same_pair, preset_bits, is_there, without_leader, opening_bits, mask_bits, with_window, lets}
 pub use Rattle.acl_words.proofs.SameLemmas.{same_user-true, same_user-refl}

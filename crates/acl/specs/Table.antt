@@ -4,10 +4,12 @@ use Rattle.std.specs.Prelude.{slice_index_or, slice_set, replicate, unwrap_or, i
 use Rattle.std.specs.Option.{option_map_or}
 use Rattle.std.specs.List.{list_any}
 use Rattle.std.specs.Map.{lookup, keys_of}
+use Rattle.acl_words.specs.declared.limits.TheConstants.{WINDOWS}
+use Rattle.acl_words.specs.declared.command_name.TheConstants.CommandName.{COUNT}
 use Rattle.acl_words.specs.Same.{same_user, index_of_command}
 use Rattle.acl_words.specs.Leaders.{remaining_leaders}
 use Rattle.acl_words.specs.BitSets.{allows, with_bit, no_bits, all_bits}
-use Rattle.acl_slots.specs.Slots.{slot_of, SlotsStandFor}
+use Rattle.acl_words.specs.Slots.{slot_of, SlotsStandFor}
 use Rattle.acl.specs.History.{History, is_known, users_of, is_open, open_count, mask, preset_of}
 use Rattle.acl.specs.History.{has, leaders_of}
 use Rattle.acl_words.specs.declared.user_id.UserId.{UserId}
@@ -77,8 +79,8 @@ is_there t (Command c) = true
 abbrev pub new_row : Bits → Bits → Row
 new_row command_preset window_preset =
     record {
-      commands = replicate 31 command_preset;
-      windows = replicate 40 window_preset;
+      commands = replicate COUNT command_preset;
+      windows = replicate WINDOWS window_preset;
       leaders = [];
     }
 

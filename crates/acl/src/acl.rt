@@ -1,5 +1,6 @@
 ghost use Rattle.std.specs.Prelude.{◌≡◌, ◌+◌, ◌≤◌, [], is_ok, IfOk, IfErr, OnOk, OnErr, length};
 ghost use Rattle.std.specs.Prelude.{slice_get, true, false, vec_len};
+ghost use Rattle.acl_words.specs.declared.limits.TheConstants.{WINDOWS};
 ghost use Rattle.std.specs.Vec.{vec_capacity};
 
 use crate::carry::conclude;
@@ -258,7 +259,7 @@ impl Acl {
     pub fn window_opened(&mut self, by: UserId, window: u32)
         ensures { (edition : Edition) (owner : UserId) (h : History) →
             StandsFor self.old edition owner h →
-            is_known owner h by ≡ true → is_open h window ≡ false → open_count h < 40 →
+            is_known owner h by ≡ true → is_open h window ≡ false → open_count h < WINDOWS →
             StandsFor self.new edition owner (Opened by window ∷ h) }
     {
         self.lists.open(by, window);

@@ -10,7 +10,7 @@ mod plan;
 mod rows;
 
 pub use acl::Acl;
-pub use acl_slots::Slots;
+pub use acl_words::Slots;
 // With the modules of words, by whose paths definitions name the words.
 pub use acl_words::{
     Leaders, USERS, WINDOWS, act, bits, command_name, edition, entries, faults, names_equal,

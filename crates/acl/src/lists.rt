@@ -4,8 +4,7 @@ use crate::rows::{
     Masks, Row, Rows, bits_on, forget_leader, forget_masks, give_window, mask_bits, regroup,
     set_right,
 };
-use acl_slots::Slots;
-use acl_words::{Act, Bit, Bits, Edition, EntryDenial, Leaders, Object, PresetKind, UserId};
+use acl_words::{Act, Bit, Bits, Edition, EntryDenial, Leaders, Object, PresetKind, Slots, UserId};
 use indexmap::IndexMap;
 use std::alloc::{AllocError, Global};
 
@@ -22,6 +21,7 @@ pub struct Lists {
 }
 
 impl Lists {
+    ghost use Rattle.acl_words.specs.declared.limits.TheConstants.{WINDOWS};
     ghost use Rattle.std.specs.Prelude.{◌≡◌, ◌+◌, ◌≤◌, ◌<◌, ◌∷◌, [], true, false, is_ok, IfOk};
     ghost use Rattle.std.specs.Prelude.{IfErr, length, slice_get, nat_le, Some, if◌then◌else◌};
     ghost use Rattle.std.specs.List.{list_any};
@@ -228,7 +228,7 @@ impl Lists {
     pub(crate) fn open(&mut self, by: UserId, window: u32)
         ensures { (edition : Edition) (owner : UserId) (h : History) →
             StandsFor (table_of self.old) edition owner h →
-            is_known owner h by ≡ true → is_open h window ≡ false → open_count h < 40 →
+            is_known owner h by ≡ true → is_open h window ≡ false → open_count h < WINDOWS →
             StandsFor (table_of self.new) edition owner (Opened by window ∷ h) }
     {
         if let Some(slot) = self.windows.free_slot() {

@@ -5,18 +5,19 @@ ghost use Rattle.acl.specs.History.{leaders_with};
 ghost use Rattle.std.specs.Map.{lookup};
 ghost use Rattle.indexmap.specs.IndexMap.{spare};
 ghost use Rattle.acl_words.specs.Same.{same_user};
+ghost use Rattle.acl_words.specs.declared.command_name.TheConstants.CommandName.{COUNT};
+ghost use Rattle.acl_words.specs.declared.limits.TheConstants.{WINDOWS};
 ghost use Rattle.acl.specs.Table.{mask_bits, opening_bits, with_window, without_leader, bits_on};
 ghost use Rattle.acl.specs.Table.{with_right};
 
-use acl_slots::Slots;
-use acl_words::{Bit, Bits, Edition, Leaders, Object, UserId};
+use acl_words::{Bit, Bits, CommandName, Edition, Leaders, Object, Slots, UserId, WINDOWS};
 use indexmap::IndexMap;
 
 /// What a known user has, and his leaders.
 #[derive(Drop)]
 pub struct Row {
-    pub commands: [Bits; 31],
-    pub windows: [Bits; 40],
+    pub commands: [Bits; CommandName::COUNT],
+    pub windows: [Bits; WINDOWS],
     pub leaders: Leaders,
 }
 
@@ -35,8 +36,8 @@ impl Row {
         ensures { result ≡ new_row command_preset window_preset }
     {
         Row {
-            commands: [command_preset; 31],
-            windows: [window_preset; 40],
+            commands: [command_preset; CommandName::COUNT],
+            windows: [window_preset; WINDOWS],
             leaders: Leaders::none(),
         }
     }
@@ -58,8 +59,8 @@ pub fn bits_on(slots: &Slots, object: Object, row: &Row) -> Bits
 /// Sets the bit on an object that is there.
 pub fn set_right(slots: &Slots, row: &mut Row, object: Object, bit: Bit, value: bool)
     ensures set { row.new ≡ with_right slots.now.serials object bit value row.old }
-    ensures commands { length row.old.commands ≡ 31 }
-    ensures windows { length row.old.windows ≡ 40 }
+    ensures commands { length row.old.commands ≡ COUNT }
+    ensures windows { length row.old.windows ≡ WINDOWS }
 {
     match object {
         Object::Window(window) => if let Some(slot) = slots.slot_of(window) {
@@ -95,12 +96,12 @@ pub fn opening_bits(masks: &Masks, by: UserId, user: UserId) -> Bits
 
 /// Gives each user what he gets on the window that `by` opens in the slot.
 pub fn give_window(rows: &mut Rows, masks: &Masks, by: UserId, slot: usize)
-    requires { slot < 40 }
+    requires { slot < WINDOWS }
     ensures given { rows.new.entries ≡ map
         (λ e. (e.0, with_window slot (opening_bits masks.now.entries by e.0) e.1))
         rows.old.entries }
     ensures wide { (user : UserId) (row : Row) →
-        lookup (same_user user) rows.old.entries ≡ Some row → length row.windows ≡ 40 }
+        lookup (same_user user) rows.old.entries ≡ Some row → length row.windows ≡ WINDOWS }
 {
     for i in 0..rows.len() {
         let (user, row) = rows.pair_mut(i);

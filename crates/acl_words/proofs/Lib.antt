@@ -1,4 +1,6 @@
 pub mod BitSetLemmas
 pub mod LeaderLemmas
 pub mod SameLemmas
+pub mod InPlace
+pub mod SlotLemmas
 pub mod WordLemmas

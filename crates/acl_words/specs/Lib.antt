@@ -3,3 +3,4 @@ pub mod Faults
 pub mod Leaders
 pub mod Names
 pub mod Same
+pub mod Slots

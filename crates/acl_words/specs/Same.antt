@@ -15,7 +15,7 @@ use Rattle.acl_words.specs.declared.command_name.CommandName.TheVariants as comm
 abbrev pub same_user : UserId → UserId → Bool
 same_user u v = pointwise nat_eq u.name v.name
 
--- the place of a command among the 31
+-- the place of a command among all
 abbrev pub index_of_command : CommandName → ℕ
 index_of_command command.Acladd = 0
 index_of_command command.Aclchg = 1

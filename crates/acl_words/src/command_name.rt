@@ -35,8 +35,11 @@ pub enum CommandName {
 }
 
 impl CommandName {
+    /// How many commands there are.
+    pub const COUNT: usize = 31;
+
     /// Each command.
-    pub const ALL: [CommandName; 31] = [
+    pub const ALL: [CommandName; CommandName::COUNT] = [
         CommandName::Acladd,
         CommandName::Aclchg,
         CommandName::Acldel,

@@ -1,4 +1,5 @@
-//! The words of access lists: users, objects, bits, acts, list entries, leaders and faults.
+//! The words of access lists: users, objects, bits, acts, list entries, leaders and faults, and
+//! the slots that open windows stand in.
 #![tactic(auto)]
 
 // Public are the modules that `acl` passes on.
@@ -10,7 +11,8 @@ pub mod entries;
 pub mod faults;
 mod laws;
 mod leaders;
-mod limits;
+pub mod limits;
+mod slots;
 pub mod user_id;
 
 pub use act::{Act, LockMode, Object, PresetKind};
@@ -22,4 +24,5 @@ pub use faults::AclFault;
 pub use laws::names_equal;
 pub use leaders::Leaders;
 pub use limits::{USERS, WINDOWS};
+pub use slots::Slots;
 pub use user_id::UserId;

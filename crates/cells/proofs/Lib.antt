@@ -8,4 +8,5 @@ pub mod Putting
 pub mod Grids
 pub mod Runs
 pub mod Used
+pub mod OverBlanks
 pub mod Looks

@@ -1,8 +1,10 @@
 //! Edits of a line's cells.
 
-ghost use Rattle.std.specs.Prelude.{◌≡◌, ◌+◌, ◌<◌, ◌≤◌, length, replicate, [], ◌∷◌};
+ghost use Rattle.std.specs.Prelude.{◌≡◌, ◌+◌, ◌-◌, ◌<◌, ◌≤◌, length, replicate, [], ◌∷◌, false};
+ghost use Rattle.std.specs.List.{copy_within};
 ghost use Rattle.cells.specs.Line.{cells_from, cells_spliced, IsPaired, cut_of, blank};
 ghost use Rattle.cells.specs.Line.{unprotected_erased, fresh_at, narrow_cell, narrow_cells};
+ghost use Rattle.cells.specs.Line.{IsBlankFrom, plain};
 
 use crate::cell::{Cell, Rendition, Shape};
 
@@ -33,9 +35,23 @@ pub fn splice(cells: &mut [Cell], at: usize, count: usize, rest: usize)
     cut(cells, at);
     cut(cells, rest);
     cut(cells, rest + moved);
-    cells.copy_within(rest..rest + moved, start);
+    copy_to(cells, rest, rest + moved, start);
     cells[at..start].fill(Cell::BLANK);
     cells[start + moved..].fill(Cell::BLANK);
+}
+
+/// Copies the cells from `from` on and below `end` to `to`. Where they stand there already, nothing
+/// is done.
+#[inline(always)]
+fn copy_to(cells: &mut [Cell], from: usize, end: usize, to: usize)
+    requires order { from ≤ end }
+    requires inside { end ≤ length cells.old }
+    requires room { to + (end - from) ≤ length cells.old }
+    ensures { cells.new ≡ copy_within cells.old from end to }
+{
+    if from != to {
+        cells.copy_within(from..end, to);
+    }
 }
 
 /// Puts a cell of width 1 in at `at`, and lets the old cells from `rest` on follow it.
@@ -136,6 +152,57 @@ pub fn put_run(
         let mut cell = space;
         cell.character = character;
         cells[at + column] = cell;
+    }
+}
+
+/// The same as `put_run`, of characters.
+pub fn put_letters(
+    cells: &mut [Cell],
+    at: usize,
+    letters: &[char],
+    rendition: Rendition,
+    is_protected: bool,
+)
+    requires paired { IsPaired cells.old }
+    requires room { at + length letters.now ≤ length cells.old }
+    ensures { cells.new ≡ cells_spliced at
+        (narrow_cells letters.now rendition is_protected) (at + length letters.now) cells.old }
+{
+    if letters.is_empty() {
+        return;
+    }
+    cut(cells, at);
+    cut(cells, at + letters.len());
+    let pattern = space_cell(rendition, is_protected);
+    for column in 0..letters.len() {
+        let mut cell = pattern;
+        cell.character = letters[column];
+        cells[at + column] = cell;
+    }
+}
+
+/// Puts a run of characters of width 1, without rendition or protection, in place of as many blanks
+/// of a line's end: there the characters alone differ. `codes` has their code points. They are put
+/// in eight at a time, so that a turn of the loop costs little beside them.
+pub fn put_run_over_blanks(cells: &mut [Cell], at: usize, codes: &[u8])
+    requires paired { IsPaired cells.old }
+    requires blank { IsBlankFrom at cells.old }
+    requires room { at + length codes.now ≤ length cells.old }
+    ensures { cells.new ≡ cells_spliced at
+        (narrow_cells codes.now plain false) (at + length codes.now) cells.old }
+{
+    if codes.is_empty() {
+        return;
+    }
+    let eights = codes.len() / 8;
+    for eight in 0..eights {
+        for place in 0..8 {
+            let column = 8 * eight + place;
+            cells[at + column].character = codes[column] as char;
+        }
+    }
+    for column in 8 * eights..codes.len() {
+        cells[at + column].character = codes[column] as char;
     }
 }
 

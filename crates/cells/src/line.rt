@@ -3,7 +3,8 @@
 ghost use Rattle.std.specs.Prelude.{◌≡◌, ◌+◌, ◌-◌, ◌<◌, ◌≤◌, min, [], ◌∷◌, length, replicate, IfOk};
 ghost use Rattle.std.specs.Prelude.{slice_set};
 ghost use Rattle.cells.specs.Line.{cells_from, cells_spliced, cell_at, marked, IsPaired};
-ghost use Rattle.cells.specs.Line.{IsBlankFrom, blank, unprotected_erased, narrow_cells};
+ghost use Rattle.cells.specs.Line.{IsBlankFrom, blank, unprotected_erased, narrow_cell};
+ghost use Rattle.cells.specs.Line.{narrow_cells};
 ghost use Rattle.cells.specs.Resizing.{line_resized};
 
 use crate::cell::{Cell, Rendition, Shape};
@@ -27,10 +28,31 @@ fn clear_used(cells: &mut [Cell], used: usize)
     cells[..used].copy_from_slice(&BLANKS[..used]);
 }
 
+/// Puts in a run of characters of width 1, each in a copy of a space. The cells from `used` on are
+/// blank.
+fn put_run_behind(cells: &mut [Cell], used: usize, at: usize, codes: &[u8], space: Cell)
+    requires paired { IsPaired cells.old }
+    requires blank { IsBlankFrom used cells.old }
+    requires room { at + length codes.now ≤ length cells.old }
+    requires space { space ≡ narrow_cell 0x20 space.rendition space.is_protected }
+    ensures { cells.new ≡ cells_spliced at
+        (narrow_cells codes.now space.rendition space.is_protected)
+        (at + length codes.now) cells.old }
+{
+    if codes.len() > 1 && used <= at && space.is_blank() {
+        edits::put_run_over_blanks(cells, at, codes);
+    } else {
+        edits::put_run(cells, at, codes, space.rendition, space.is_protected);
+    }
+}
+
 /// Where the used cells of a line end, once those from `rest` on begin at `start`.
 fn used_after(used: usize, start: usize, rest: usize, width: usize) -> usize
     ensures { result ≡ min (used - rest + start) width }
 {
+    if start == rest {
+        return used.max(start).min(width);
+    }
     used.saturating_sub(rest).saturating_add(start).min(width)
 }
 
@@ -166,14 +188,31 @@ impl Line {
         ensures { self.new ≡ cells_spliced at
             (narrow_cells codes.now rendition is_protected) (at + length codes.now) self.old }
     {
-        edits::put_run(
+        let space = Cell::narrow(' ', rendition, is_protected);
+        put_run_behind(self.cells.as_mut_slice(), self.used, at, codes, space);
+        self.used = self.used.max(at + codes.len());
+    }
+
+    /// The same as `put_run`, of characters.
+    pub fn put_letters(
+        &mut self,
+        at: usize,
+        letters: &[char],
+        rendition: Rendition,
+        is_protected: bool,
+    )
+        requires room { at + length letters.now ≤ length self.old }
+        ensures { self.new ≡ cells_spliced at
+            (narrow_cells letters.now rendition is_protected) (at + length letters.now) self.old }
+    {
+        edits::put_letters(
             self.cells.as_mut_slice(),
             at,
-            codes,
+            letters,
             rendition,
             is_protected,
         );
-        self.used = self.used.max(at + codes.len());
+        self.used = self.used.max(at + letters.len());
     }
 
     /// Erases the cells from `from` on and below `end`, but for protected ones.

@@ -1,7 +1,7 @@
 -- The units of a list of bytes: codes in UTF-8 (Unicode core specification, 3.9), single bytes in
 -- ECMA-35.
-use Rattle.std.specs.Prelude.{◌≡◌, ℕ, ◌≤◌, Bool, ◌&&◌, nat_lt, if◌then◌else◌, List, [], ◌∷◌, ◌++◌}
-use Rattle.std.specs.Prelude.{map}
+use Rattle.std.specs.Prelude.{◌≡◌, ℕ, ◌≤◌, Bool, ◌&&◌, ◌||◌, ◌==◌, not, nat_lt, if◌then◌else◌, List}
+use Rattle.std.specs.Prelude.{[], ◌∷◌, ◌++◌, map}
 use Rattle.std.specs.Char.{IsScalar}
 use Rattle.charsets.specs.declared.unit.Coding.{Coding}
 use Rattle.charsets.specs.declared.unit.Coding.TheVariants.{Utf8, Ecma35}
@@ -57,3 +57,12 @@ units_of_pieces coding rest (piece ∷ pieces) =
 -- 20 to 7E, the same in both codings
 abbrev pub is_plain : ℕ → Bool
 is_plain b = nat_lt 0x1F b && nat_lt b 0x7F
+
+-- 20 to 7E, and the letters behind them, as far as each takes one column (UAX #11): A0 to 2FF, but
+-- for the soft hyphen
+abbrev pub is_letter : ℕ → Bool
+is_letter c = is_plain c || (nat_lt 0x9F c && nat_lt c 0x300 && not (c == 0xAD))
+
+-- what no set and no shift changes
+abbrev pub is_beyond : ℕ → Bool
+is_beyond c = nat_lt 0x9F c

@@ -1,16 +1,22 @@
 //! Characters that stand whole in a list of bytes.
 
-ghost use Rattle.std.specs.Prelude.{◌≡◌, ◌<◌, ◌≤◌, [], ◌∷◌, IfSome, length, take};
+ghost use Rattle.std.specs.Prelude.{◌≡◌, ◌<◌, ◌≤◌, ◌-◌, ◌*◌, [], ◌∷◌, true, IfSome};
+ghost use Rattle.std.specs.Prelude.{length, map, take};
+ghost use Rattle.std.specs.List.{list_all};
 ghost use Rattle.charsets.specs.declared.unit.Coding.TheVariants.{Utf8};
 ghost use Rattle.charsets.specs.declared.unit.Unit.TheVariants.{Code};
-ghost use Rattle.charsets.specs.Units.{units};
+ghost use Rattle.charsets.specs.Units.{is_beyond, is_letter, units};
 
 use crate::utf8::{can_continue, can_follow, char_of_2, char_of_3};
+
+/// A character that takes no column.
+const SOFT_HYPHEN: char = '\u{AD}';
 
 /// The character of two or three bytes, from U+00A0 on, that stands at the front of some bytes in
 /// UTF-8, and how many bytes it has (Unicode core specification, table 3-7). None where something
 /// else stands there.
-pub fn first_character(bytes: &[u8]) -> Option<(char, usize)>
+#[inline(always)]
+fn first_character(bytes: &[u8]) -> Option<(char, usize)>
     ensures reads { IfSome result (λ c. units Utf8 (take c.1 bytes.now) ≡ (Code c.0 ∷ [], [])) }
     ensures graphic { IfSome result (λ c. 0xA0 ≤ c.0) }
     ensures some { IfSome result (λ c. 0 < c.1) }
@@ -30,12 +36,82 @@ pub fn first_character(bytes: &[u8]) -> Option<(char, usize)>
     Some((character_of_3(a, b, bytes[2])?, 3))
 }
 
+/// Reads the letters that stand at the front of some bytes in UTF-8, as many as `letters` has room
+/// for: 20 to 7E, and U+00A0 to U+02FF but for the soft hyphen. It gives how many they are, and how
+/// many bytes they have.
+pub fn first_letters(bytes: &[u8], letters: &mut [char]) -> (usize, usize)
+    ensures reads { units Utf8 (take result.1 bytes.now)
+        ≡ (map (λ letter. Code letter) (take result.0 letters.new), []) }
+    ensures letters { list_all is_letter (take result.0 letters.new) ≡ true }
+    ensures room { result.0 ≤ length letters.new }
+    ensures few { result.1 ≤ length bytes.now }
+{
+    let mut count = 0;
+    let mut read = 0;
+    while count < letters.len() && read < bytes.len() {
+        let Some((letter, size)) = first_letter(&bytes[read..]) else {
+            return (count, read);
+        };
+        letters[count] = letter;
+        count += 1;
+        read += size;
+    }
+    (count, read)
+}
+
+/// Reads the characters of two or three bytes that stand at the front of some bytes in UTF-8, from
+/// U+00A0 on, as many as `characters` has room for. It gives how many they are, and how many bytes
+/// they have.
+pub fn first_characters(bytes: &[u8], characters: &mut [char]) -> (usize, usize)
+    ensures reads { units Utf8 (take result.1 bytes.now)
+        ≡ (map (λ character. Code character) (take result.0 characters.new), []) }
+    ensures beyond { list_all is_beyond (take result.0 characters.new) ≡ true }
+    ensures room { result.0 ≤ length characters.new }
+    ensures few { result.1 ≤ length bytes.now }
+{
+    let mut count = 0;
+    let mut read = 0;
+    while count < characters.len() && read < bytes.len() {
+        let Some((character, size)) = first_character(&bytes[read..]) else {
+            return (count, read);
+        };
+        characters[count] = character;
+        count += 1;
+        read += size;
+    }
+    (count, read)
+}
+
+/// The letter that stands at the front of some bytes, and how many bytes it has.
+#[inline(always)]
+fn first_letter(bytes: &[u8]) -> Option<(char, usize)>
+    requires { 0 < length bytes.now }
+    ensures reads { IfSome result (λ c. units Utf8 (take c.1 bytes.now) ≡ (Code c.0 ∷ [], [])) }
+    ensures letter { IfSome result (λ c. is_letter c.0 ≡ true) }
+    ensures some { IfSome result (λ c. 0 < c.1) }
+    ensures few { IfSome result (λ c. c.1 ≤ length bytes.now) }
+{
+    let a = bytes[0];
+    if 0x1F < a && a < 0x7F {
+        return Some((a as char, 1));
+    }
+    if bytes.len() < 2 || a < 0xC2 || 0xCB < a {
+        return None;
+    }
+    let letter = character_of_2(a, bytes[1])?;
+    if letter == SOFT_HYPHEN {
+        return None;
+    }
+    Some((letter, 2))
+}
+
 /// The character of two bytes, but for a C1 control.
 fn character_of_2(a: u8, b: u8) -> Option<char>
     requires low { 0xC1 < a }
     requires high { a < 0xE0 }
     ensures reads { IfSome result (λ c. units Utf8 (a ∷ b ∷ []) ≡ (Code c ∷ [], [])) }
     ensures graphic { IfSome result (λ c. 0xA0 ≤ c) }
+    ensures below { IfSome result (λ c. c < 64 * (a - 0xBF)) }
 {
     if !can_continue(b) || (a == 0xC2 && b < 0xA0) {
         return None;

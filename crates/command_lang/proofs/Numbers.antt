@@ -44,21 +44,6 @@ split_small false = refl
 
 bare_small : (n : CommandName) → AreSmall (bare n)
 bare_small name.Detach = refl
-bare_small name.Next = refl
-bare_small name.Prev = refl
-bare_small name.Other = refl
-bare_small name.Kill = refl
-bare_small name.Screen = refl
-bare_small name.Split = refl
-bare_small name.Focus = refl
-bare_small name.Remove = refl
-bare_small name.Only = refl
-bare_small name.Fit = refl
-bare_small name.Clear = refl
-bare_small name.Reset = refl
-bare_small name.Windows = refl
-bare_small name.Displays = refl
-bare_small name.Quit = refl
 bare_small n = refl
 
 word_small : (n : CommandName) (text : List ℕ) → AreSmall (with_word n text)

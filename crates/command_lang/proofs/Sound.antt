@@ -1,5 +1,6 @@
 -- What the words of a printed command mean.
 use Rattle.std.proofs.Common.{◌≡◌, ℕ, ◌≤◌, true, false, cond, List, [], ◌∷◌, map, refl, sym, ap, ◌∙◌, subst, arith, Option, Some, None, true≢false}
+use Rattle.std.specs.Prelude.{MatchOption}
 use Rattle.std.specs.Option.{is_some, option_map}
 use Rattle.std.specs.Str.{IsUtf8}
 use Rattle.std.specs.Fmt.{decimal}
@@ -52,24 +53,18 @@ numbered n f limit t c l h g =
 number-read : (limit v : ℕ) → Again limit v → number_in limit (decimal v) ≡ Some v
 number-read limit v a = ap (λ b. cond b (Some (number_after 0 (decimal v))) None) a.fine ∙ ap (λ m. Some m) a.value
 
+-- what is made of no words has this name, and no words
+abbrev IsBare : CommandName → Command → Type 0
+IsBare n c = (name_of c ≡ n) × (words_of c ≡ [])
+
+bare_named : (n : CommandName) → MatchOption (bare n) (Unit {0}) (IsBare n)
+bare_named name.Detach = (refl, refl)
+bare_named n = search
+
 bare_sound : (n : CommandName) → Fits (takes n) [] → (c : Command) → bare n ≡ Some c → Sound n c
-bare_sound name.Detach f c h = at name.Detach command.Detach c h (exact name.Detach command.Detach [] refl refl refl tt tt)
-bare_sound name.Next f c h = at name.Next command.Next c h (exact name.Next command.Next [] refl refl refl tt tt)
-bare_sound name.Prev f c h = at name.Prev command.Prev c h (exact name.Prev command.Prev [] refl refl refl tt tt)
-bare_sound name.Other f c h = at name.Other command.Other c h (exact name.Other command.Other [] refl refl refl tt tt)
-bare_sound name.Kill f c h = at name.Kill command.Kill c h (exact name.Kill command.Kill [] refl refl refl tt tt)
-bare_sound name.Screen f c h = at name.Screen command.Screen c h (exact name.Screen command.Screen [] refl refl refl tt tt)
-bare_sound name.Split f c h = at name.Split (command.Split false) c h (exact name.Split (command.Split false) [] refl refl refl tt tt)
-bare_sound name.Focus f c h = at name.Focus command.Focus c h (exact name.Focus command.Focus [] refl refl refl tt tt)
-bare_sound name.Remove f c h = at name.Remove command.Remove c h (exact name.Remove command.Remove [] refl refl refl tt tt)
-bare_sound name.Only f c h = at name.Only command.Only c h (exact name.Only command.Only [] refl refl refl tt tt)
-bare_sound name.Fit f c h = at name.Fit command.Fit c h (exact name.Fit command.Fit [] refl refl refl tt tt)
-bare_sound name.Clear f c h = at name.Clear command.Clear c h (exact name.Clear command.Clear [] refl refl refl tt tt)
-bare_sound name.Reset f c h = at name.Reset command.Reset c h (exact name.Reset command.Reset [] refl refl refl tt tt)
-bare_sound name.Windows f c h = at name.Windows command.Windows c h (exact name.Windows command.Windows [] refl refl refl tt tt)
-bare_sound name.Displays f c h = at name.Displays command.Displays c h (exact name.Displays command.Displays [] refl refl refl tt tt)
-bare_sound name.Quit f c h = at name.Quit command.Quit c h (exact name.Quit command.Quit [] refl refl refl tt tt)
-bare_sound _ f c h = absurd f
+bare_sound n f c h =
+    let is : IsBare n c = subst (λ o. MatchOption o (Unit {0}) (IsBare n)) h (bare_named n) in
+    exact n c [] is.0 is.1 h f tt
 
 word_sound : (n : CommandName) (t : List ℕ) → Fits (takes n) (t ∷ []) → IsUtf8 t → (c : Command) → with_word n t ≡ Some c → Sound n c
 word_sound name.Acladd t f u c h = at name.Acladd (command.Acladd (users_of t)) c h (exact name.Acladd (command.Acladd (users_of t)) (t ∷ []) refl (ap (λ w. w ∷ []) (users_again t)) refl f (u, tt))

@@ -6,10 +6,12 @@ pub use Rattle.command_lang_table.specs.Values
 pub use Rattle.command_lang_table.specs.MaskFaults
 pub use Rattle.command_lang_table.specs.Names
 pub use Rattle.command_lang_table.specs.Rows
+pub use Rattle.command_lang_table.specs.Needs
 pub use Rattle.command_lang_table.specs.Table
 pub use Rattle.command_lang_table.specs.Meaning
 pub use Rattle.command_lang_table.specs.LineFaults
 pub use Rattle.command_lang_table.specs.FaultNumbers
 pub use Rattle.command_lang_table.specs.declared.command
 pub use Rattle.command_lang_table.specs.declared.fault
+pub use Rattle.command_lang_table.specs.declared.needs
 pub use Rattle.command_lang_printing.specs.Printing

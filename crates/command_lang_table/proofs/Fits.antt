@@ -1,6 +1,6 @@
 -- Words without a fault are those that the table wants, and mean a command.
 use Rattle.std.proofs.Common.{◌≡◌, ℕ, ◌+◌, Bool, true, false, cond, List, [], ◌∷◌, ◌++◌, refl, sym, ap, ◌∙◌, Option, Some, None, option_to_list, true≢false, ◌<◌, arith}
-use Rattle.std.specs.Prelude.{nat_lt}
+use Rattle.std.specs.Prelude.{nat_lt, not, ◌||◌}
 use Rattle.std.proofs.lemmas.Bool.Decides.{nat_tests}
 use Rattle.std.specs.Option.{is_some, option_map}
 use Rattle.acl.specs.declared.command_name.CommandName.{CommandName}
@@ -107,24 +107,27 @@ mapped f (Some x) k h = refl
 numbered : (f : ℕ → Command) (limit : ℕ) (text : List ℕ) → unless (is_number limit text) faults.BadNumber ≡ None → is_some (option_map f (number_in limit text)) ≡ true
 numbered f limit text h = ap (λ b. is_some (option_map f (cond b (Some (number_after 0 text)) None))) (passes (is_number limit text) faults.BadNumber h)
 
+-- a row that can do without words
+abbrev takes_none : Words → Bool
+takes_none Nothing = true
+takes_none (Perhaps a) = true
+takes_none _ = false
+
+none_fit : (r : Words) → Fits r [] → takes_none r ≡ true
+none_fit Nothing h = refl
+none_fit (Perhaps a) h = refl
+none_fit _ h = absurd h
+
+-- such a command is one without words
+bare_row : (n : CommandName) → (not (takes_none (takes n)) || is_some (bare n)) ≡ true
+bare_row name.Detach = refl
+bare_row n = refl
+
 bare_is : (n : CommandName) → Fits (takes n) [] → is_some (bare n) ≡ true
-bare_is name.Detach h = refl
-bare_is name.Next h = refl
-bare_is name.Prev h = refl
-bare_is name.Other h = refl
-bare_is name.Kill h = refl
-bare_is name.Screen h = refl
-bare_is name.Split h = refl
-bare_is name.Focus h = refl
-bare_is name.Remove h = refl
-bare_is name.Only h = refl
-bare_is name.Fit h = refl
-bare_is name.Clear h = refl
-bare_is name.Reset h = refl
-bare_is name.Windows h = refl
-bare_is name.Displays h = refl
-bare_is name.Quit h = refl
-bare_is _ h = absurd h
+bare_is n h = on (takes_none (takes n)) (is_some (bare n)) (none_fit (takes n) h) (bare_row n) where
+  on : (a b : Bool) → a ≡ true → (not a || b) ≡ true → b ≡ true
+  on true b is either = either
+  on false b is either = absurd (true≢false (sym is))
 
 one_is : (n : CommandName) (t : List ℕ) → Fits (takes n) (t ∷ []) → is_some (with_word n t) ≡ true
 one_is name.Acladd t h = refl

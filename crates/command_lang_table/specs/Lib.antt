@@ -2,6 +2,7 @@ pub mod Values
 pub mod MaskFaults
 pub mod Rows
 pub mod Names
+pub mod Needs
 pub mod Table
 pub mod Meaning
 pub mod FirstWord

@@ -1,5 +1,6 @@
 -- The names of the commands, by their table.
-use Rattle.std.specs.Prelude.{ℕ, Bool, false, ◌||◌, List, Option, Some, None, find}
+use Rattle.std.specs.Prelude.{◌≡◌, ℕ, Bool, false, ◌||◌, List, [], ◌∷◌, Option, Some, None}
+use Rattle.std.specs.Prelude.{find, map, codes}
 use Rattle.std.specs.Str.{bytes_eq}
 use Rattle.acl.specs.declared.command_name.CommandName.{CommandName}
 use Rattle.acl.specs.declared.command_name.CommandName.TheVariants as name
@@ -21,6 +22,19 @@ is_called word n = bytes_eq (name_text n) word || is_alias (row n).alias word
 
 abbrev pub all_names : List CommandName
 all_names = ALL
+
+-- their names, in this order, by the GNU Screen manual; scrollview is this project's own
+abbrev pub names_of_manual : List (List ℕ)
+names_of_manual =
+    codes "acladd" ∷ codes "aclchg" ∷ codes "acldel" ∷ codes "aclgrp" ∷ codes "aclumask"
+    ∷ codes "writelock" ∷ codes "defwritelock" ∷ codes "multiuser" ∷ codes "wall" ∷ codes "detach"
+    ∷ codes "select" ∷ codes "next" ∷ codes "prev" ∷ codes "other" ∷ codes "title" ∷ codes "number"
+    ∷ codes "kill" ∷ codes "screen" ∷ codes "split" ∷ codes "focus" ∷ codes "remove" ∷ codes "only"
+    ∷ codes "fit" ∷ codes "scrollview" ∷ codes "clear" ∷ codes "reset" ∷ codes "encoding"
+    ∷ codes "stuff" ∷ codes "windows" ∷ codes "displays" ∷ codes "quit" ∷ []
+
+abbrev pub AreNamed : Type 0
+AreNamed = map name_text all_names ≡ names_of_manual
 
 -- the command that a word names, by its name or alias
 unfoldable pub command_named : List ℕ → Option CommandName

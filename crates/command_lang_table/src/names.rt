@@ -1,7 +1,7 @@
 //! The names of the commands, by their table.
 
 ghost use Rattle.std.specs.Prelude.{◌≡◌};
-ghost use Rattle.command_lang_table.specs.Names.{name_text, is_called, command_named};
+ghost use Rattle.command_lang_table.specs.Names.{name_text, is_called, command_named, AreNamed};
 
 use crate::rows::row;
 use acl::CommandName;
@@ -33,3 +33,9 @@ pub fn command_named(word: &str) -> Option<CommandName>
         .find(|name| is_called(**name, word))
         .copied()
 }
+
+/// The rows stand at the places of their commands: each has the name that the GNU Screen manual
+/// gives it.
+pub fn commands_have_their_names()
+    ensures { AreNamed }
+{}

@@ -1,8 +1,10 @@
-//! The table of commands: a row for each, with its name, its alias and the words that it takes.
+//! The table of commands: a row for each, with its name, its alias, the words that it takes and what
+//! it needs.
 
 ghost use Rattle.std.specs.Prelude.{◌≡◌};
-ghost use Rattle.command_lang_table.specs.Rows.{named, with_alias, row, shown};
+ghost use Rattle.command_lang_table.specs.Rows.{row, shown};
 
+use crate::needs::{CLIENT, MULTIUSER, NOTHING, Needs, PAGE_AND_WINDOW, TYPING, WINDOW};
 use acl::CommandName;
 
 /// What a word has to be.
@@ -34,78 +36,76 @@ pub enum Words {
     Several(Kind),
 }
 
-/// A row of the table: the word that names the command, another word for it, and the words that it
-/// takes.
+/// A row of the table: the word that names the command, another word for it, the words that it takes
+/// and what it needs.
 #[derive(Clone, Copy, Debug)]
 pub struct Entry {
     pub name: &'static str,
     pub alias: Option<&'static str>,
     pub words: Words,
+    pub needs: Needs,
 }
 
-impl Entry {
-    /// A command without another word.
-    fn named(name: &'static str, words: Words) -> Entry
-        ensures { shown result ≡ named name.now words }
-    {
-        Entry {
-            name,
-            alias: None,
-            words,
-        }
-    }
-
-    /// A command with another word.
-    fn with_alias(name: &'static str, alias: &'static str, words: Words) -> Entry
-        ensures { shown result ≡ with_alias name.now alias.now words }
-    {
-        Entry {
-            name,
-            alias: Some(alias),
-            words,
-        }
-    }
-}
+/// The rows, in the order of `CommandName` (GNU Screen manual). `scrollview`, the three words of
+/// writelock and the limits of numbers are this project's own.
+pub const ROWS: [(&str, Option<&str>, Words, Needs); CommandName::COUNT] = [
+    ("acladd", Some("addacl"), Words::One(Kind::Items), MULTIUSER),
+    (
+        "aclchg",
+        Some("chacl"),
+        Words::Three(Kind::Items, Kind::Bits, Kind::Items),
+        MULTIUSER,
+    ),
+    ("acldel", None, Words::One(Kind::Text), MULTIUSER),
+    (
+        "aclgrp",
+        None,
+        Words::OneOrTwo(Kind::Text, Kind::Text),
+        MULTIUSER,
+    ),
+    (
+        "aclumask",
+        Some("umask"),
+        Words::Several(Kind::Mask),
+        MULTIUSER,
+    ),
+    ("writelock", None, Words::One(Kind::LockMode), TYPING),
+    ("defwritelock", None, Words::One(Kind::LockMode), NOTHING),
+    ("multiuser", None, Words::One(Kind::Switch), NOTHING),
+    ("wall", None, Words::One(Kind::Text), NOTHING),
+    ("detach", None, Words::Nothing, CLIENT),
+    ("select", None, Words::One(Kind::Text), CLIENT),
+    ("next", None, Words::Nothing, CLIENT),
+    ("prev", None, Words::Nothing, CLIENT),
+    ("other", None, Words::Nothing, CLIENT),
+    ("title", None, Words::One(Kind::Text), WINDOW),
+    ("number", None, Words::One(Kind::Number(39)), WINDOW),
+    ("kill", None, Words::Nothing, WINDOW),
+    ("screen", None, Words::Nothing, NOTHING),
+    ("split", None, Words::Perhaps(Kind::Vertical), CLIENT),
+    ("focus", None, Words::Nothing, CLIENT),
+    ("remove", None, Words::Nothing, CLIENT),
+    ("only", None, Words::Nothing, CLIENT),
+    ("fit", None, Words::Nothing, PAGE_AND_WINDOW),
+    ("scrollview", None, Words::One(Kind::Number(2000)), CLIENT),
+    ("clear", None, Words::Nothing, WINDOW),
+    ("reset", None, Words::Nothing, WINDOW),
+    ("encoding", None, Words::One(Kind::Coding), WINDOW),
+    ("stuff", None, Words::One(Kind::Text), TYPING),
+    ("windows", None, Words::Nothing, NOTHING),
+    ("displays", None, Words::Nothing, NOTHING),
+    ("quit", None, Words::Nothing, NOTHING),
+];
 
 /// The row of a command.
 pub fn row(name: CommandName) -> Entry
     ensures { shown result ≡ row name }
 {
-    match name {
-        CommandName::Acladd => Entry::with_alias("acladd", "addacl", Words::One(Kind::Items)),
-        CommandName::Aclchg => Entry::with_alias(
-            "aclchg",
-            "chacl",
-            Words::Three(Kind::Items, Kind::Bits, Kind::Items),
-        ),
-        CommandName::Acldel => Entry::named("acldel", Words::One(Kind::Text)),
-        CommandName::Aclgrp => Entry::named("aclgrp", Words::OneOrTwo(Kind::Text, Kind::Text)),
-        CommandName::Aclumask => Entry::with_alias("aclumask", "umask", Words::Several(Kind::Mask)),
-        CommandName::Writelock => Entry::named("writelock", Words::One(Kind::LockMode)),
-        CommandName::Defwritelock => Entry::named("defwritelock", Words::One(Kind::LockMode)),
-        CommandName::Multiuser => Entry::named("multiuser", Words::One(Kind::Switch)),
-        CommandName::Wall => Entry::named("wall", Words::One(Kind::Text)),
-        CommandName::Detach => Entry::named("detach", Words::Nothing),
-        CommandName::Select => Entry::named("select", Words::One(Kind::Text)),
-        CommandName::Next => Entry::named("next", Words::Nothing),
-        CommandName::Prev => Entry::named("prev", Words::Nothing),
-        CommandName::Other => Entry::named("other", Words::Nothing),
-        CommandName::Title => Entry::named("title", Words::One(Kind::Text)),
-        CommandName::Number => Entry::named("number", Words::One(Kind::Number(39))),
-        CommandName::Kill => Entry::named("kill", Words::Nothing),
-        CommandName::Screen => Entry::named("screen", Words::Nothing),
-        CommandName::Split => Entry::named("split", Words::Perhaps(Kind::Vertical)),
-        CommandName::Focus => Entry::named("focus", Words::Nothing),
-        CommandName::Remove => Entry::named("remove", Words::Nothing),
-        CommandName::Only => Entry::named("only", Words::Nothing),
-        CommandName::Fit => Entry::named("fit", Words::Nothing),
-        CommandName::Scrollview => Entry::named("scrollview", Words::One(Kind::Number(2000))),
-        CommandName::Clear => Entry::named("clear", Words::Nothing),
-        CommandName::Reset => Entry::named("reset", Words::Nothing),
-        CommandName::Encoding => Entry::named("encoding", Words::One(Kind::Coding)),
-        CommandName::Stuff => Entry::named("stuff", Words::One(Kind::Text)),
-        CommandName::Windows => Entry::named("windows", Words::Nothing),
-        CommandName::Displays => Entry::named("displays", Words::Nothing),
-        CommandName::Quit => Entry::named("quit", Words::Nothing),
+    let (name, alias, words, needs) = ROWS[name as usize];
+    Entry {
+        name,
+        alias,
+        words,
+        needs,
     }
 }

@@ -9,4 +9,6 @@ mod lines;
 #[cfg(test)]
 mod made_up;
 #[cfg(test)]
+mod manual;
+#[cfg(test)]
 mod refused_memory;

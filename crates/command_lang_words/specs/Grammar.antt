@@ -10,6 +10,19 @@ use Rattle.std.specs.Prelude.{if◌then◌else◌, drop, List, [], ◌∷◌, �
 use Rattle.std.specs.Str.{encode_utf8_all}
 use Rattle.command_lang_words.specs.declared.word.Word.{Word}
 
+-- the characters that mean something
+abbrev pub space : ℕ
+space = 0x20
+
+abbrev pub double_quote : ℕ
+double_quote = 0x22
+
+abbrev pub single_quote : ℕ
+single_quote = 0x27
+
+abbrev pub backslash : ℕ
+backslash = 0x5C
+
 abbrev pub is_octal : ℕ → Bool
 is_octal c = nat_lt 0x2F c && nat_lt c 0x38
 
@@ -31,25 +44,25 @@ pub data Escaped : List ℕ → List ℕ → Option (List ℕ) → Type 0 where
 
 -- A character, where ' and " mean nothing.
 pub data Character : List ℕ → List ℕ → Option (List ℕ) → Type 0 where
-  plain : {c : ℕ} {rest : List ℕ} → c ≢ 0x5C → Character (c ∷ rest) (c ∷ []) (Some rest)
+  plain : {c : ℕ} {rest : List ℕ} → c ≢ backslash → Character (c ∷ rest) (c ∷ []) (Some rest)
   escape : {cs text : List ℕ} {end : Option (List ℕ)} → Escaped cs text end
-      → Character (0x5C ∷ cs) text end
+      → Character (backslash ∷ cs) text end
 
 -- Behind ', up to the next one: each character stands for itself.
 pub data Single : List ℕ → List ℕ → Option (List ℕ) → Type 0 where
-  closed : {rest : List ℕ} → Single (0x27 ∷ rest) [] (Some rest)
-  more : {c : ℕ} {cs text : List ℕ} {end : Option (List ℕ)} → c ≢ 0x27
+  closed : {rest : List ℕ} → Single (single_quote ∷ rest) [] (Some rest)
+  more : {c : ℕ} {cs text : List ℕ} {end : Option (List ℕ)} → c ≢ single_quote
       → Single cs text end
       → Single (c ∷ cs) (c ∷ text) end
   unended : Single [] [] None
 
 -- Behind ", up to the next one: characters.
 pub data Double : List ℕ → List ℕ → Option (List ℕ) → Type 0 where
-  closed : {rest : List ℕ} → Double (0x22 ∷ rest) [] (Some rest)
-  more : {c : ℕ} {cs first behind text : List ℕ} {end : Option (List ℕ)} → c ≢ 0x22
+  closed : {rest : List ℕ} → Double (double_quote ∷ rest) [] (Some rest)
+  more : {c : ℕ} {cs first behind text : List ℕ} {end : Option (List ℕ)} → c ≢ double_quote
       → Character (c ∷ cs) first (Some behind) → Double behind text end
       → Double (c ∷ cs) (first ++ text) end
-  broken : {c : ℕ} {cs text : List ℕ} → c ≢ 0x22
+  broken : {c : ℕ} {cs text : List ℕ} → c ≢ double_quote
       → Character (c ∷ cs) text None
       → Double (c ∷ cs) text None
   unended : Double [] [] None
@@ -57,21 +70,21 @@ pub data Double : List ℕ → List ℕ → Option (List ℕ) → Type 0 where
 -- A part of a word.
 pub data Part : List ℕ → List ℕ → Option (List ℕ) → Type 0 where
   single : {cs text : List ℕ} {end : Option (List ℕ)} → Single cs text end
-      → Part (0x27 ∷ cs) text end
+      → Part (single_quote ∷ cs) text end
   double : {cs text : List ℕ} {end : Option (List ℕ)} → Double cs text end
-      → Part (0x22 ∷ cs) text end
-  character : {c : ℕ} {cs text : List ℕ} {end : Option (List ℕ)} → c ≢ 0x27 → c ≢ 0x22
-      → Character (c ∷ cs) text end
+      → Part (double_quote ∷ cs) text end
+  character : {c : ℕ} {cs text : List ℕ} {end : Option (List ℕ)} → c ≢ single_quote
+      → c ≢ double_quote → Character (c ∷ cs) text end
       → Part (c ∷ cs) text end
 
 -- Parts up to a blank, or to the end of the line.
 pub data Parts : List ℕ → List ℕ → Option (List ℕ) → Type 0 where
   last : Parts [] [] (Some [])
-  blank : {rest : List ℕ} → Parts (0x20 ∷ rest) [] (Some (0x20 ∷ rest))
-  more : {c : ℕ} {cs first behind text : List ℕ} {end : Option (List ℕ)} → c ≢ 0x20
+  blank : {rest : List ℕ} → Parts (space ∷ rest) [] (Some (space ∷ rest))
+  more : {c : ℕ} {cs first behind text : List ℕ} {end : Option (List ℕ)} → c ≢ space
       → Part (c ∷ cs) first (Some behind) → Parts behind text end
       → Parts (c ∷ cs) (first ++ text) end
-  broken : {c : ℕ} {cs text : List ℕ} → c ≢ 0x20
+  broken : {c : ℕ} {cs text : List ℕ} → c ≢ space
       → Part (c ∷ cs) text None
       → Parts (c ∷ cs) text None
 
@@ -88,11 +101,11 @@ word_at place text is_closed =
 -- its first byte. A word has at least one part, which may be empty.
 pub data Line (end : ℕ) : List ℕ → List Word → Type 0 where
   last : Line end [] []
-  blank : {cs : List ℕ} {ws : List Word} → Line end cs ws → Line end (0x20 ∷ cs) ws
-  word : {c : ℕ} {cs text rest : List ℕ} {ws : List Word} → c ≢ 0x20
+  blank : {cs : List ℕ} {ws : List Word} → Line end cs ws → Line end (space ∷ cs) ws
+  word : {c : ℕ} {cs text rest : List ℕ} {ws : List Word} → c ≢ space
       → Parts (c ∷ cs) text (Some rest) → Line end rest ws
       → Line end (c ∷ cs) (word_at (end - size (c ∷ cs)) text true ∷ ws)
-  broken : {c : ℕ} {cs text : List ℕ} → c ≢ 0x20
+  broken : {c : ℕ} {cs text : List ℕ} → c ≢ space
       → Parts (c ∷ cs) text None
       → Line end (c ∷ cs) (word_at (end - size (c ∷ cs)) text false ∷ [])
 

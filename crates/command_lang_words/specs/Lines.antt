@@ -4,6 +4,7 @@
 use Rattle.std.specs.Prelude.{ℕ, zero, suc, ◌-◌, true, false, ◌==◌, List, [], ◌∷◌, ◌++◌, length}
 use Rattle.std.specs.Prelude.{drop, Option, Some, None}
 use Rattle.command_lang_words.specs.declared.word.Word.{Word}
+use Rattle.command_lang_words.specs.Grammar.{space, double_quote, single_quote, backslash}
 use Rattle.command_lang_words.specs.Grammar.{octal_front, size, word_at}
 
 abbrev pub Read : Type 0
@@ -24,11 +25,11 @@ escaped (c ∷ cs) = elim (octal_front (c ∷ cs)) [
 ]
 
 abbrev pub character : ℕ → List ℕ → Read
-character c cs = elim (c == 0x5C) [ true ↦ escaped cs | false ↦ (c ∷ [], Some cs) ]
+character c cs = elim (c == backslash) [ true ↦ escaped cs | false ↦ (c ∷ [], Some cs) ]
 
 unfoldable pub single : List ℕ → Read
 single [] = ([], None)
-single (c ∷ cs) = elim (c == 0x27) [
+single (c ∷ cs) = elim (c == single_quote) [
   | true ↦ ([], Some cs)
   | false ↦ (let later = single cs in (c ∷ later.0, later.1))
 ]
@@ -36,21 +37,21 @@ single (c ∷ cs) = elim (c == 0x27) [
 unfoldable pub double : ℕ → List ℕ → Read
 double zero cs = ([], None)
 double (suc n) [] = ([], None)
-double (suc n) (c ∷ cs) = elim (c == 0x22) [
+double (suc n) (c ∷ cs) = elim (c == double_quote) [
   | true ↦ ([], Some cs)
   | false ↦ and_then (character c cs) (λ rest. double n rest)
 ]
 
 abbrev pub part : ℕ → ℕ → List ℕ → Read
-part n c cs = elim (c == 0x27) [
+part n c cs = elim (c == single_quote) [
   | true ↦ single cs
-  | false ↦ elim (c == 0x22) [ true ↦ double n cs | false ↦ character c cs ]
+  | false ↦ elim (c == double_quote) [ true ↦ double n cs | false ↦ character c cs ]
 ]
 
 unfoldable pub parts : ℕ → List ℕ → Read
 parts zero cs = ([], Some [])
 parts (suc n) [] = ([], Some [])
-parts (suc n) (c ∷ cs) = elim (c == 0x20) [
+parts (suc n) (c ∷ cs) = elim (c == space) [
   | true ↦ ([], Some (c ∷ cs))
   | false ↦ and_then (part n c cs) (λ rest. parts n rest)
 ]
@@ -65,7 +66,7 @@ and_words place r next = elim r.1 [
 unfoldable pub line : ℕ → ℕ → List ℕ → List Word
 line end zero cs = []
 line end (suc n) [] = []
-line end (suc n) (c ∷ cs) = elim (c == 0x20) [
+line end (suc n) (c ∷ cs) = elim (c == space) [
   | true ↦ line end n cs
   | false ↦ and_words (end - size (c ∷ cs)) (parts (suc n) (c ∷ cs)) (λ rest. line end n rest)
 ]

@@ -72,9 +72,7 @@ impl Sequence {
         self.text.clear();
         // The last parameter so far, which is written down where it ends.
         let mut value = 0;
-        let mut at = 0;
-        while at < bytes.len() {
-            let c = bytes[at];
+        for (at, &c) in bytes.iter().enumerate() {
             if b'0' <= c && c <= b'9' {
                 value = longer(value, c - b'0');
             } else if c == b';' && self.text.params.len() < 16 {
@@ -88,7 +86,6 @@ impl Sequence {
             } else {
                 return 0;
             }
-            at += 1;
         }
         0
     }

@@ -2,4 +2,5 @@ pub mod Feeding
 pub mod Writings
 pub mod Backs
 pub mod RunLemmas
+pub mod LetterRuns
 pub mod Wholes

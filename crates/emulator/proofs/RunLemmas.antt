@@ -36,7 +36,7 @@ pub effects-are : (x : Screen) (fs : List Func) → effects x fs ≡ readings.ef
 effects-are x [] = refl
 effects-are x (f ∷ later) = effects-are (effect x f) later
 
-prints-coding : (x : Screen) (bytes : List ℕ) → (readings.effects x (map (λ b. Print b) bytes)).state.coding ≡ x.state.coding
+pub prints-coding : (x : Screen) (bytes : List ℕ) → (readings.effects x (map (λ b. Print b) bytes)).state.coding ≡ x.state.coding
 prints-coding x [] = refl
 prints-coding x (b ∷ bytes) = prints-coding (effect x (Print b)) bytes ∙ effect-coding x (Print b) refl
 

@@ -4,35 +4,25 @@ ghost use Rattle.std.specs.Prelude.{◌≡◌, ◌≤◌, ◌<◌, ◌+◌, ◌*
 ghost use Rattle.std.specs.Prelude.{Err, IfOk, IfErr, OnOk, OnErr, IsOk, IsTrue, length, take};
 ghost use Rattle.std.specs.Prelude.{vec_len, vec_capacity};
 ghost use Rattle.cells.specs.Page.{IsPage, IsGridSize};
-ghost use Rattle.charsets.specs.declared.unit.Coding.TheVariants.{Utf8};
-ghost use Rattle.std.specs.List.{list_all};
-ghost use Rattle.charsets.specs.Units.{is_plain, unit_list};
-ghost use Rattle.control_parser.specs.Spelling.{IsGiven};
-ghost use Rattle.control_parser.specs.declared.func.Func.TheVariants.{Esc};
+ghost use Rattle.charsets.specs.Units.{unit_list};
 ghost use Rattle.terminal_model.specs.Screen.{starting};
 ghost use Rattle.terminal_model.specs.Reading.{Terminal, ready, read_unit, read_units, read_byte};
 ghost use Rattle.terminal_model.specs.Reading.{reads};
 ghost use Rattle.terminal_model.specs.Writing.{Size, Clear, Reset, Encoding, reads_anew};
 ghost use Rattle.vt_screen.specs.Sizes.{IsScreenSize};
-ghost use Rattle.emulator.specs.Standing.{StandsFor, StandsWithin, HasRead, HasTaken, IsBetween};
+ghost use Rattle.emulator.specs.Standing.{StandsFor, StandsWithin, HasRead, HasTaken};
 ghost use Rattle.emulator.specs.Standing.{TakesWriting, in_screen_coding};
 ghost use Rattle.emulator.specs.Pages.{moved_back};
 
 use crate::shown::Shown;
 use cells::GridFault;
-use charsets::{Coding, Decoder, Unit, Units, first_character};
-use control_parser::{Parser, Sequence, plain_run};
+use charsets::{Coding, Decoder, Unit, Units};
+use control_parser::{Parser, Sequence};
 use std::alloc::{AllocError, Global};
 use std::marker::Model;
 use terminal_model::{Modes, REPORT_BYTES, Report};
 use thiserror::Error;
 use vt_screen::Screen;
-
-const CAN: u8 = 0x18;
-
-const SUB: u8 = 0x1A;
-
-const ESC: u8 = 0x1B;
 
 /// Memory was refused behind so many bytes, which were read, and their reports appended.
 #[derive(Clone, Copy, Debug, PartialEq, Eq, Error)]
@@ -43,11 +33,11 @@ pub struct Stopped {
 
 /// A VT220 that reads bytes, however they come.
 pub struct Emulator {
-    decoder: Decoder,
-    parser: Parser,
-    screen: Screen,
+    pub(crate) decoder: Decoder,
+    pub(crate) parser: Parser,
+    pub(crate) screen: Screen,
     /// Where a control sequence is read that comes whole.
-    sequence: Sequence,
+    pub(crate) sequence: Sequence,
 }
 
 impl Drop for Emulator {
@@ -146,129 +136,6 @@ impl Emulator {
         let report = self.feed(bytes[0]);
         append(&report, out);
         Ok(1)
-    }
-
-    /// Where nothing has begun, reads all that stands whole at the front of some bytes and isn't
-    /// answered. It gives how many bytes that are: 0 where something has begun, or nothing of the
-    /// kind stands there.
-    fn take_wholes(&mut self, bytes: &[u8]) -> usize
-        ensures taken { (said : List ℕ) → HasTaken self.old bytes.now result said self.new said }
-        ensures few { result ≤ length bytes.now }
-    {
-        if self.decoder.is_idle() && self.parser.is_idle() {
-            self.take_on(bytes)
-        } else {
-            0
-        }
-    }
-
-    /// The same where nothing has begun.
-    fn take_on(&mut self, bytes: &[u8]) -> usize
-        requires { IsBetween self.old }
-        ensures taken { (said : List ℕ) → HasTaken self.old bytes.now result said self.new said }
-        ensures few { result ≤ length bytes.now }
-    {
-        let mut taken = 0;
-        while taken < bytes.len() {
-            let count = self.take_whole(&bytes[taken..]);
-            if count == 0 {
-                return taken;
-            }
-            taken += count;
-        }
-        taken
-    }
-
-    /// Reads the first that stands whole: a run of bytes 20 to 7E, and in UTF-8 a control, an
-    /// escape sequence without intermediates, a control sequence that isn't answered, a character
-    /// from U+00A0 on.
-    fn take_whole(&mut self, bytes: &[u8]) -> usize
-        requires some { 0 < length bytes.now }
-        requires idle { IsBetween self.old }
-        ensures taken { (said : List ℕ) → HasTaken self.old bytes.now result said self.new said }
-        ensures few { result ≤ length bytes.now }
-        ensures decoding { self.new.decoding ≡ self.old.decoding }
-        ensures parsing { self.new.parsing ≡ self.old.parsing }
-    {
-        let first = bytes[0];
-        if 0x1F < first && first < 0x7F {
-            let run = plain_front(bytes);
-            self.screen.print_run(&bytes[..run]);
-            return run;
-        }
-        if self.decoder.coding() != Coding::Utf8 {
-            return 0;
-        }
-        match first {
-            ESC => self.take_escape(bytes),
-            CAN | SUB => 0,
-            ..0x20 => {
-                self.screen.control(first);
-                1
-            }
-            _ => self.take_character(bytes),
-        }
-    }
-
-    /// The same of what begins with ESC.
-    fn take_escape(&mut self, bytes: &[u8]) -> usize
-        requires begins { take 1 bytes.now ≡ 0x1B ∷ [] }
-        requires idle { IsBetween self.old }
-        requires coding { self.old.decoding.coding ≡ Utf8 }
-        ensures taken { (said : List ℕ) → HasTaken self.old bytes.now result said self.new said }
-        ensures few { result ≤ length bytes.now }
-        ensures decoding { self.new.decoding ≡ self.old.decoding }
-        ensures parsing { self.new.parsing ≡ self.old.parsing }
-    {
-        if bytes.len() < 2 {
-            return 0;
-        }
-        match bytes[1] {
-            b'[' => self.take_sequence(bytes),
-            last if ends_escape(last) => {
-                self.screen.escape(last);
-                2
-            }
-            _ => 0,
-        }
-    }
-
-    /// The same of what begins with CSI.
-    fn take_sequence(&mut self, bytes: &[u8]) -> usize
-        requires begins { take 2 bytes.now ≡ 0x1B ∷ 0x5B ∷ [] }
-        requires idle { IsBetween self.old }
-        requires coding { self.old.decoding.coding ≡ Utf8 }
-        ensures taken { (said : List ℕ) → HasTaken self.old bytes.now result said self.new said }
-        ensures few { result ≤ length bytes.now }
-        ensures decoding { self.new.decoding ≡ self.old.decoding }
-        ensures parsing { self.new.parsing ≡ self.old.parsing }
-    {
-        let count = self.sequence.read(&bytes[2..]);
-        if count == 0 {
-            return 0;
-        }
-        if !self.screen.sequence(&self.sequence) {
-            return 0;
-        }
-        count + 2
-    }
-
-    /// The same of a character from U+00A0 on.
-    fn take_character(&mut self, bytes: &[u8]) -> usize
-        requires idle { IsBetween self.old }
-        requires coding { self.old.decoding.coding ≡ Utf8 }
-        ensures taken { (said : List ℕ) → HasTaken self.old bytes.now result said self.new said }
-        ensures few { result ≤ length bytes.now }
-        ensures decoding { self.new.decoding ≡ self.old.decoding }
-        ensures parsing { self.new.parsing ≡ self.old.parsing }
-    {
-        match first_character(bytes) {
-            Some((character, count)) => {
-                self.screen.print(character);
-                count
-            }
-            None => 0,
-        }
     }
 
     /// Takes the units that a byte completes, and gives what is answered.
@@ -414,28 +281,6 @@ impl Emulator {
             self.feed(*byte);
         }
     }
-}
-
-/// How many bytes 20 to 7E stand at the front; between two sequences that is one mostly, and found
-/// at once.
-#[inline(always)]
-fn plain_front(bytes: &[u8]) -> usize
-    ensures plain { list_all is_plain (take result bytes.now) ≡ true }
-    ensures few { result ≤ length bytes.now }
-{
-    if bytes.len() > 1 && bytes[1] == ESC && 0x1F < bytes[0] && bytes[0] < 0x7F {
-        return 1;
-    }
-    plain_run(bytes)
-}
-
-/// Whether ESC and this byte are a whole function: the byte is a final, and begins no control
-/// sequence and no string.
-fn ends_escape(byte: u8) -> bool
-    ensures { IsTrue result → IsGiven (Esc [] byte) }
-{
-    let begins = matches!(byte, b'[' | b']' | b'P' | b'X' | b'^' | b'_' | b'k');
-    0x2F < byte && byte < 0x7F && !begins
 }
 
 /// Appends a report for which there is room.

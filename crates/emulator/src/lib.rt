@@ -4,6 +4,7 @@
 mod emulator;
 mod laws;
 mod shown;
+mod whole;
 
 pub use emulator::{Emulator, Stopped};
 pub use laws::{

@@ -1,1 +1,3 @@
 pub mod GuestsComputed
+pub mod HidingComputed
+pub mod WatchingComputed

@@ -1,1 +1,3 @@
 pub mod Guests
+pub mod Hiding
+pub mod Watching

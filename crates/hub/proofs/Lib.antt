@@ -1,1 +1,10 @@
+pub mod Places
+pub mod Queues
+pub mod Steps
+pub mod Rising
+pub mod Stripping
+pub mod Counting
+pub mod Tellings
+pub mod Standing
+pub mod Filing
 pub mod Crossing

@@ -1,0 +1,9 @@
+pub mod Peers
+pub mod Routing
+pub mod Slips
+pub mod States
+pub mod Editions
+pub mod Faults
+pub mod Seats
+pub mod Closing
+pub mod Laws

@@ -5,9 +5,9 @@ ghost use Rattle.hub_check.specs.declared.fault.CheckFault.TheVariants.{BadEntry
 ghost use Rattle.hub_trail.specs.Judging.{IsBadAt, IsIllegalAt};
 ghost use Rattle.hub_trail.specs.Legal.{AreLegal};
 
+use crate::trail::Trail;
 use acl::UserId;
 use hub_check::{CheckFault, check_entries};
-use hub_ledger::Trail;
 use std::alloc::Global;
 
 /// Judges a trail by its edition, as one of this owner, from no act on: each entry by the acts of

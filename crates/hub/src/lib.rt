@@ -1,4 +1,5 @@
-//! A session that threads share under one lock.
+//! A session that threads share under one lock: the session, its trail, and what waits for each
+//! seat of clients and windows; the seats, and what they were told.
 //!
 //! A program names the hub's ledger once, where it calls a function that is generic in it:
 //! `serve::<Brand, _>(rt, alloc, Blank::new(seats), ..)` with `fn serve<L: Roll + Send + Sync, R:
@@ -6,24 +7,43 @@
 //! `ghosts-serve g a = record { name = a.blank.name; parts = a.blank.parts }`.
 #![tactic(auto)]
 
+mod answer;
 mod checking;
+mod closing;
+mod entries;
+mod filed_session;
+mod laws;
+mod ledger;
+mod peers;
+mod prepared;
+mod receipt;
+mod seat;
+mod trail;
+mod waiting;
 
 ghost use Rattle.std.specs.Prelude.{◌≡◌, ◌↔◌, ◌<◌, ◌≤◌, length, IfOk, IfErr, OnErr, None, []};
 ghost use Rattle.session_model.specs.Trace.{begun, happening};
 ghost use Rattle.hub_trail.specs.Legal.{IsLegal};
-ghost use Rattle.hub_ledger.specs.Closing.{AreThere, IsFirstWrong, receipts_of};
-ghost use Rattle.hub_ledger.specs.Seats.{Answers, StandsFor};
-ghost use Rattle.hub_ledger.specs.declared.answer.HubFault.TheVariants.{NoMemory};
+ghost use Rattle.hub.specs.Closing.{AreThere, IsFirstWrong, receipts_of};
+ghost use Rattle.hub.specs.Seats.{Answers, StandsFor};
+ghost use Rattle.hub.specs.declared.answer.HubFault.TheVariants.{NoMemory};
 
 use acl::{Edition, UserId};
+pub use answer::{Answer, HubFault};
 pub use checking::check_trail;
 pub use hub_check::CheckFault;
-use hub_ledger::Ledger;
-pub use hub_ledger::{Answer, Filed, HubFault, KeptEvent, Receipt, Seat, Session, Trail};
+pub use hub_record::{Filed, KeptEvent};
+pub use laws::kept_trails_are_legal;
+pub use ledger::FULL;
+use ledger::Ledger;
+pub use receipt::Receipt;
+pub use seat::Seat;
+pub use session_core::Session;
 use session_model::{Effect, Event};
 use std::alloc::Global;
 use std::sync::ledger::{Blank, Ledger as Roll};
 use std::sync::{Mutex, Wait};
+pub use trail::Trail;
 
 /// A session that threads share.
 pub struct Hub<L: Roll> {

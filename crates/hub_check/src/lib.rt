@@ -5,6 +5,7 @@ mod acts;
 mod check;
 mod commands;
 mod fault;
+pub mod judge;
 mod laws;
 mod names;
 mod replies;
@@ -12,4 +13,5 @@ mod verdicts;
 
 pub use check::check_entries;
 pub use fault::CheckFault;
+pub use judge::Judge;
 pub use laws::{good_is_legal, judged_is_legal};

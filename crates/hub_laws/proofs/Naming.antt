@@ -1,6 +1,6 @@
 -- What is named is there: windows, the objects of lists, and what clients show.
-use Rattle.std.proofs.Common.{◌≡◌, ◌∙◌, ℕ, Bool, true, false, List, [], ◌∷◌, ◌++◌, Option, Some, None, map, filter, refl, ap, sym, subst, inl, inr, ⊎_elim}
-use Rattle.std.specs.Prelude.{◌==◌, if◌then◌else◌, IfSome, MatchOption, is_some, slice_get, unwrap_or, nat_eq}
+use Rattle.std.proofs.Common.{◌≡◌, ◌∙◌, ℕ, Bool, true, false, List, [], ◌∷◌, ◌++◌, Option, Some, None, map, filter, refl, sym, subst, inl, inr, ⊎_elim}
+use Rattle.std.specs.Prelude.{if◌then◌else◌, IfSome, MatchOption, is_some, slice_get, unwrap_or, nat_eq}
 use Rattle.std.specs.List.{AllByRecursion, list_any}
 use Rattle.std.specs.Option.{option_map, option_or, option_and_then}
 use Rattle.std.specs.Str.{bytes_eq}
@@ -13,12 +13,13 @@ use Rattle.command_lang.specs.Values.{number_in}
 use Rattle.regions.specs.declared.shown.Shown.{Shown}
 use Rattle.regions.specs.Layouts.{empty}
 use Rattle.session_model.specs.Sound.{IsOpen, ShowsOpen, AreFit}
-use Rattle.session_model.specs.Tables.{Tables, Window, Client, row_of, with_row, window_at, client_at, with_client, focused}
+use Rattle.session_model.specs.Tables.{Tables, Window, Client, window_at, focused}
 use Rattle.session_model.specs.Naming.{with_number, lowest, window_named, is_wide, wide_objects, item_objects, objects_of, every_window, every_command}
 use Rattle.session_model.specs.Promises.{unread}
 use Rattle.session_laws.proofs.Agreeing.{has, has_row}
-use Rattle.session_laws.proofs.Fitting.{IsThere, lowest_there, number_there, has_there, get_all, ShowsIn, PageIn, Holds, page_of}
-use Rattle.session_laws.proofs.Lists.{all_append, all_map, all_of, all_weaken, itself, members}
+use Rattle.session_laws.proofs.Showing.{IsThere, lowest_there, number_there, get_all}
+use Rattle.session_laws.proofs.Fitting.{has_there, ShowsIn, PageIn, Holds}
+use Rattle.session_laws.proofs.Lists.{all_append, all_map, all_of, all_weaken, members}
 use Rattle.session_laws.proofs.Moving.{serials}
 use Rattle.session_laws.proofs.Unread.{SameClients}
 
@@ -112,24 +113,6 @@ module _ (t : Tables) (agree : OpenIs t) where
 -- the objects of a list
 pub list_there : (t : Tables) (agree : OpenIs t) (items : List (List ℕ)) (objects : List Object) → objects_of t items ≡ Some objects → AreThere t objects
 list_there t agree items objects is = subst (λ o. IfSome o (AreThere t)) is (items_there t agree items)
-
--- ---- rows
-
-new_row : {A : Type 0} (f : A → ℕ) (rows : List A) (n : ℕ) (old new : A) → f new ≡ n → row_of f rows n ≡ Some old → row_of f (with_row f rows n new) n ≡ Some new
-new_row f [] n old new same is = absurd (cc (is))
-new_row f (r ∷ rows) n old new same is = on (f r == n) refl is (new_row f rows n old new same) where
-  here : (b : Bool) → b ≡ true → (if b then Some new else row_of f rows n) ≡ Some new
-  here true e = refl
-  here false e = absurd (cc (e))
-
-  on : (b : Bool) → (f r == n) ≡ b → (if b then Some r else row_of f rows n) ≡ Some old → (row_of f rows n ≡ Some old → row_of f (with_row f rows n new) n ≡ Some new)
-      → row_of f (if b then new ∷ rows else r ∷ with_row f rows n new) n ≡ Some new
-  on true e is more = here (f new == n) (ap (λ m. m == n) same ∙ itself n)
-  on false e is more = ap (λ (b : Bool). if b then Some r else row_of f (with_row f rows n new) n) e ∙ more is
-
--- a client in place of one that was there shows what the tables have
-pub new_page : (t : Tables) (old new : Client) → client_at t new.serial ≡ Some old → Holds (with_client t new) → PageIn (serials t) new
-new_page t old new is h = page_of (with_client t new) new.serial new (new_row (λ (c : Client). c.serial) t.clients new.serial old new refl is) h
 
 -- ---- fit tables
 

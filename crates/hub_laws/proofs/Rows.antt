@@ -1,6 +1,6 @@
--- The acts of commands follow those of the tables: one row a command.
-use Rattle.std.proofs.Common.{◌≡◌, ◌∙◌, ℕ, Bool, true, false, ◌||◌, List, [], ◌∷◌, ◌++◌, Option, Some, None, Ok, Err, map, refl, ap, subst}
-use Rattle.std.specs.Prelude.{◌==◌, if◌then◌else◌, MatchOption}
+-- The acts of commands follow those of the tables.
+use Rattle.std.proofs.Common.{◌≡◌, ◌∙◌, ℕ, Bool, true, false, ◌||◌, List, [], ◌∷◌, Option, Some, None, map, refl, ap, subst}
+use Rattle.std.specs.Prelude.{if◌then◌else◌, MatchOption}
 use Rattle.std.specs.List.{AllByRecursion}
 use Rattle.std.specs.Option.{option_map, option_and_then}
 use Rattle.std.proofs.lemmas.Bool.{and_from}
@@ -8,56 +8,46 @@ use Rattle.acl.specs.declared.act.Act.{Act}
 use Rattle.acl.specs.declared.act.Act.TheVariants as act
 use Rattle.acl.specs.declared.act.LockMode.{LockMode}
 use Rattle.acl.specs.declared.act.LockMode.TheVariants.{Off, Auto, On}
-use Rattle.acl.specs.declared.act.Object.{Object}
 use Rattle.acl.specs.declared.act.Object.TheVariants as object
 use Rattle.acl.specs.declared.bits.Bit.TheVariants.{Write, Execute}
-use Rattle.acl.specs.declared.faults.AclFault.{AclFault}
 use Rattle.acl.specs.declared.user_id.UserId.{UserId}
 use Rattle.acl.specs.declared.edition.Edition.{Edition}
 use Rattle.acl.specs.History.{History, followed_by, is_open}
 use Rattle.acl.specs.Names.{named_by}
-use Rattle.acl.specs.Commands.{change_fault, known_name_fault, mask_fault, group_acts, mask_acts}
+use Rattle.acl.specs.Commands.{known_name_fault}
 use Rattle.writelock.specs.Holding.{is_off}
 use Rattle.command_lang.specs.command.Command.{Command}
 use Rattle.command_lang.specs.command.Command.TheVariants as command
 use Rattle.command_lang.specs.Names.{name_of}
-use Rattle.regions.specs.Layouts.{Arrangement, next_focus, remove_focused}
+use Rattle.regions.specs.Layouts.{Arrangement}
 use Rattle.session_model.specs.declared.check.Check.{Check}
 use Rattle.session_model.specs.declared.check.Check.TheVariants.{Right as right}
-use Rattle.session_model.specs.declared.event.Reason.TheVariants.{Detached, Killed, Removed, Quit}
-use Rattle.session_model.specs.declared.refusal.Refusal.{Refusal}
-use Rattle.session_model.specs.declared.refusal.Refusal.TheVariants.{Acl, Windows, NoWindow}
-use Rattle.session_model.specs.declared.refusal.WindowsFault.TheVariants.{NoSuchWindow}
-use Rattle.session_model.specs.Tables.{Tables, Window, Client, window_at, client_at, with_layout, focused, known_users}
-use Rattle.session_model.specs.Rights.{may_in, group_fault_in}
-use Rattle.session_model.specs.Naming.{names_of, new_leader_of, window_named, window_after, window_before, every_window, every_command}
+use Rattle.session_model.specs.declared.event.Reason.TheVariants.{Removed, Quit}
+use Rattle.session_model.specs.Tables.{Tables, Window, Client, client_at, with_layout, focused, known_users}
+use Rattle.session_model.specs.Rights.{may_in}
+use Rattle.session_model.specs.Naming.{names_of, new_leader_of}
 use Rattle.session_model.specs.Lines.{Caller}
-use Rattle.session_model.specs.Needs.{typing}
+use Rattle.command_lang.specs.Needs.{typing}
 use Rattle.session_model.specs.Checks.{passes, refusal_of, first_fault, checks, window_checks}
-use Rattle.session_model.specs.Deeds.{Deed, Answer, acting, given, unless, parts, removes, is_of, closes, entering, enters, showing, selects, former_of}
-use Rattle.session_model.specs.Commands.{does, caller_client, on_client, known_fault, mask_entries}
-use Rattle.session_laws.proofs.Doing.{Either, is_plain, by_given, by_unless, by_refused, by_shown}
-use Rattle.session_laws.proofs.Fitting.{IsThere, Holds, holds}
+use Rattle.session_model.specs.Deeds.{Deed, parts, removes, is_of, closes, entering, enters}
+use Rattle.session_model.specs.Commands.{does, caller_client, mask_entries}
+use Rattle.session_laws.proofs.Doing.{Either}
+use Rattle.session_laws.proofs.Agreeing.{has}
+use Rattle.session_laws.proofs.Moving.{serials}
+use Rattle.session_laws.proofs.Showing.{IsThere, ShowsNoOther}
+use Rattle.session_laws.proofs.Shapes as shapes
+use Rattle.session_laws.proofs.Shapes.{Acted, Shape, by_shape}
+use Rattle.session_laws.proofs.Fitting.{Holds, page_of, has_there}
 use Rattle.session_laws.proofs.Lists.{all_append}
-use Rattle.session_laws.proofs.Small.{is_small}
 use Rattle.session_laws.proofs.Unread.{row_at}
 use Rattle.hub_trail.specs.Judging.{CanFollow}
 use Rattle.hub_laws.proofs.Following.{is_free, AllFree, free_follow, users_stay, follow_append, change_leads, add_leads, mask_leads, here_follow, removal_follows, group_follows}
-use Rattle.hub_laws.proofs.Naming.{OpenIs, AreThere, there_open, every_there, list_there, focus_open, new_page}
+use Rattle.hub_laws.proofs.Naming.{OpenIs, AreThere, there_open, every_there, list_there, focus_open}
 
 abbrev pub Follows : Tables → List Act → Type 0
 Follows t acts = CanFollow t.edition t.owner t.acts acts
 
--- ---- facts of answers
-
-by_clear : {F : Type 0} (P : Deed → Type 0) (of : F → Refusal) (o : Option F) (d : Deed) → ((f : F) → is_plain (of f) ≡ true) → (o ≡ None → P d) → Either P (unless of o d)
-unfolding unless
-by_clear P of None d is p = p refl
-by_clear P of (Some f) d is p = is f
-
-by_both : (P Q : Deed → Type 0) (a : Answer) → Either (λ d. P d → Q d) a → Either P a → Either Q a
-by_both P Q (Ok d) on p = on p
-by_both P Q (Err r) on p = p
+-- ---- checks
 
 -- where there is no fault, each check passes
 pub each_passes : (t : Tables) (cs : List Check) → first_fault t cs ≡ None → AllByRecursion (λ c. passes t c ≡ true) cs
@@ -100,12 +90,6 @@ own_row t (Some n) c is = row_at t n c is
 
 -- ---- list commands
 
-fault_follows : (t : Tables) (f : Option AclFault) (objects : Option (List Object)) (acts : List Object → List Act)
-    → (f ≡ None → (all : List Object) → objects ≡ Some all → Follows t (acts all))
-    → Either (λ d. Follows t d.acts) (elim f [ Some f ↦ Err (Acl f) | None ↦ given objects (Windows NoSuchWindow) (λ all. Ok (acting t (acts all))) ])
-fault_follows t (Some f) objects acts on = refl
-fault_follows t None objects acts on = by_given (λ d. Follows t d.acts) objects (Windows NoSuchWindow) (λ all. Ok (acting t (acts all))) refl (on refl)
-
 removed_follow : (t : Tables) (o : Option UserId) → known_name_fault t.owner (known_users t) o ≡ None → Follows t (removes o t).acts
 removed_follow t None none = tt
 removed_follow t (Some u) none =
@@ -131,68 +115,48 @@ off_or_may t k Off w is none = refl
 off_or_may t k Auto w is none = may_write t k (command.Writelock Auto) w is none
 off_or_may t k On w is none = may_write t k (command.Writelock On) w is none
 
--- ---- the rows
+-- ---- the kinds
 
 module _ (t : Tables) (agree : OpenIs t) (k : Caller) (h : Holds t) (row : (w : Window) → k.window ≡ Some w → IsThere t.windows w) where
   abbrev pub Is : Deed → Type 0
   Is d = Follows t d.acts
 
   -- a client that shows another window, or another region, shows what the tables have
-  abbrev ShowsThen : Deed → Type 0
-  ShowsThen d = Holds d.tables → Is d
-
-  enters_follow : (c : Client) (l : Arrangement) → caller_client t k ≡ Some c → ShowsThen (enters t c l)
-  enters_follow c l is held =
+  page_follows : (c : Client) (l : Arrangement) → caller_client t k ≡ Some c → ShowsNoOther t c l → Is (enters t c l)
+  page_follows c l at shows =
       let d : Client = with_layout l c in
-      entering_follows t.edition t.owner t.acts d.user (focused d) (focus_open t agree d (new_page t c d (own_row t k.client c is) held))
+      entering_follows t.edition t.owner t.acts d.user (focused d)
+      (focus_open t agree d (shows (has (serials t)) (has_there t.windows) (page_of t c.serial c (own_row t k.client c at) h)))
 
-  shown_follow : (o : Client → Option Window) (r : Refusal) → is_plain r ≡ true → Either ShowsThen (on_client t k (λ c. given (o c) r (λ w. Ok (selects t c w))))
-  shown_follow o r plain = by_shown ShowsThen t k o r plain (λ c w at found. enters_follow c (showing c (record { window = Some w.serial; back = 0 })) at)
+  acted_follow : (c : Command) (acts : List Act) → first_fault t (checks t k c) ≡ None → Acted t k c acts → Follows t acts
+  acted_follow c acts none (shapes.added names all is clear every) =
+      here_follow t.edition t.owner t.acts _ _ (add_leads t.edition t.owner t.acts (known_users t) (names_of t names) all clear (subst (AreThere t) every (every_there t agree)))
+  acted_follow c acts none (shapes.changed names bits list all is clear objects) =
+      here_follow t.edition t.owner t.acts _ _ (change_leads t.edition t.owner t.acts (known_users t) (names_of t names) bits all clear (list_there t agree list all objects))
+  acted_follow c acts none (shapes.grouped word leader is clear) = group_follows t.edition t.owner t.acts (named_by word) (new_leader_of leader) clear
+  acted_follow c acts none (shapes.masked masks is clear) =
+      here_follow t.edition t.owner t.acts _ _ (mask_leads t.edition t.owner t.acts (known_users t) k.user (mask_entries t masks) clear)
+  acted_follow c acts none (shapes.locked w mode is at) =
+      (and_from _ _ (there_open t agree w (row w at)) (off_or_may t k mode w at (subst (λ (x : Command). first_fault t (checks t k x) ≡ None) is none)), tt)
+  acted_follow c acts none (shapes.preset mode is) = (refl, tt)
 
-  by_holding : (c : Command) → is_small c ≡ true → Either ShowsThen (does t k c) → Either Is (does t k c)
-  by_holding c small on = by_both (λ d. Holds d.tables) Is (does t k c) on (holds t k h row c small)
+  deed_follows : (c : Command) (d : Deed) → first_fault t (checks t k c) ≡ None → Shape t k c d → Is d
+  deed_follows c d none (shapes.lists bytes still tells) = tt
+  deed_follows c d none (shapes.acts all still acted) = acted_follow c all none acted
+  deed_follows c d none (shapes.enters_page x l of at shows) = page_follows x l at shows
+  deed_follows c d none (shapes.keeps_page x l of at shows same) = tt
+  deed_follows c d none (shapes.writes_to w what one at) = tt
+  deed_follows c d none (shapes.opened is) = tt
+  deed_follows c d none (shapes.shut is) = parted_follow t _
+  deed_follows c d none (shapes.told bytes is) = tt
+  deed_follows c d none (shapes.removed word is clear) = removed_follow t (named_by word) clear
+  deed_follows c d none (shapes.fitted w rows columns is at) = tt
+  deed_follows c d none (shapes.titled w bytes is at) = tt
+  deed_follows c d none (shapes.numbered w n is at free) = tt
+  deed_follows c d none (shapes.typed w bytes is at) = tt
+  deed_follows c d none (shapes.detached x is at) = parted_follow t _
+  deed_follows c d none (shapes.killed w is at) = closed_follow t _
+  deed_follows c d none (shapes.quits is) = free_follows t _ (all_append (λ a. is_free a ≡ true) (closes (λ w. true) Quit t).acts _ (free_closed _) (free_parted _))
 
   pub follows : (c : Command) → first_fault t (checks t k c) ≡ None → Either Is (does t k c)
-  follows (command.Acladd names) none = fault_follows t (change_fault t.owner (known_users t) (names_of t names)) _ _ (λ clear all is.
-      here_follow t.edition t.owner t.acts _ _ (add_leads t.edition t.owner t.acts (known_users t) (names_of t names) all clear
-      (let same : every_window t ++ every_command ≡ all = cc (is) in subst (AreThere t) same (every_there t agree))))
-  follows (command.Aclchg names bits list) none = fault_follows t (change_fault t.owner (known_users t) (names_of t names)) _ _ (λ clear all is.
-      here_follow t.edition t.owner t.acts _ _ (change_leads t.edition t.owner t.acts (known_users t) (names_of t names) bits all clear (list_there t agree list all is)))
-  follows (command.Acldel word) none = by_clear Is Acl (known_fault t word) (removes (named_by word) t) (λ f. refl) (λ clear. removed_follow t (named_by word) clear)
-  follows (command.Aclgrp word None) none = by_unless Is _ _ _ (λ f. refl) tt
-  follows (command.Aclgrp word (Some leader)) none =
-      by_clear Is Acl (group_fault_in t (named_by word) (new_leader_of leader)) (acting t (group_acts (named_by word) (new_leader_of leader))) (λ f. refl)
-      (λ clear. group_follows t.edition t.owner t.acts (named_by word) (new_leader_of leader) clear)
-  follows (command.Aclumask masks) none =
-      by_clear Is Acl (mask_fault t.owner (known_users t) (mask_entries t masks)) (acting t (mask_acts k.user (mask_entries t masks))) (λ f. refl)
-      (λ clear. here_follow t.edition t.owner t.acts _ _ (mask_leads t.edition t.owner t.acts (known_users t) k.user (mask_entries t masks) clear))
-  follows (command.Multiuser true) none = tt
-  follows (command.Multiuser false) none = parted_follow t _
-  follows (command.Writelock mode) none = by_given Is k.window NoWindow (λ (w : Window). Ok (acting t (act.Mode k.user w.serial mode ∷ []))) refl (λ w is.
-      (and_from _ _ (there_open t agree w (row w is)) (off_or_may t k mode w is none), tt))
-  follows (command.Defwritelock mode) none = (refl, tt)
-  follows (command.Wall bytes) none = tt
-  follows command.Screen none = tt
-  follows command.Windows none = tt
-  follows command.Displays none = tt
-  follows (command.Select word) none = by_holding (command.Select word) refl (shown_follow (λ c. window_named t.windows word) (Windows NoSuchWindow) refl)
-  follows command.Next none = by_holding command.Next refl (shown_follow (λ c. window_after t.windows k.window) NoWindow refl)
-  follows command.Prev none = by_holding command.Prev refl (shown_follow (λ c. window_before t.windows k.window) NoWindow refl)
-  follows command.Other none = by_holding command.Other refl (shown_follow (λ c. option_and_then (window_at t) (former_of c)) NoWindow refl)
-  follows (command.Split vertical) none = by_given Is _ _ _ refl (λ c is. by_unless Is _ _ _ (λ f. refl) tt)
-  follows command.Focus none = by_holding command.Focus refl (by_given ShowsThen (caller_client t k) _ _ refl (λ c is. enters_follow c (record c.layout { focus = next_focus c.layout }) is))
-  follows command.Remove none = by_holding command.Remove refl (by_given ShowsThen (caller_client t k) _ _ refl (λ c is.
-      by_refused ShowsThen _ _ _ refl (λ other. enters_follow c (remove_focused c.layout) is)))
-  follows command.Only none = by_given Is _ _ _ refl (λ c is. tt)
-  follows (command.Scrollview n) none = by_given Is _ _ _ refl (λ c is. tt)
-  follows command.Fit none =
-      by_given Is _ _ _ refl (λ c is. by_given Is _ _ _ refl (λ w at. by_given Is _ _ _ refl (λ box there. by_refused Is _ _ _ refl (λ other. tt))))
-  follows (command.Title bytes) none = by_given Is _ _ _ refl (λ w is. by_refused Is _ _ _ refl (λ other. tt))
-  follows (command.Number n) none = by_given Is _ _ _ refl (λ w is. by_refused Is _ _ _ refl (λ other. tt))
-  follows command.Clear none = by_given Is _ _ _ refl (λ w is. tt)
-  follows command.Reset none = by_given Is _ _ _ refl (λ w is. tt)
-  follows (command.Encoding coding) none = by_given Is _ _ _ refl (λ w is. tt)
-  follows (command.Stuff bytes) none = by_given Is _ _ _ refl (λ w is. tt)
-  follows command.Detach none = by_given Is (caller_client t k) NoWindow (λ c. Ok (parts (λ (d : Client). d.serial == c.serial) Detached t)) refl (λ c is. parted_follow t _)
-  follows command.Kill none = by_given Is k.window NoWindow (λ (w : Window). Ok (closes (λ (v : Window). v.serial == w.serial) Killed t)) refl (λ w is. closed_follow t _)
-  follows command.Quit none = free_follows t _ (all_append (λ a. is_free a ≡ true) (closes (λ w. true) Quit t).acts _ (free_closed _) (free_parted _))
+  follows c none = by_shape Is t k c (λ d is. deed_follows c d none is)

@@ -9,14 +9,14 @@ use Rattle.acl.specs.declared.act.Object.TheVariants as object
 use Rattle.command_lang.specs.command.Command.{Command}
 use Rattle.session_model.specs.declared.check.Check.{Check}
 use Rattle.session_model.specs.declared.check.Check.TheVariants.{Right as right, Unlocked as unlocked}
-use Rattle.session_model.specs.declared.needs.Needs.{Needs}
+use Rattle.command_lang.specs.needs.Needs.{Needs}
 use Rattle.session_model.specs.declared.verdict.Verdict.{Verdict}
 use Rattle.session_model.specs.Tables.{Tables, Window, Client, focused, focused_window}
 use Rattle.session_model.specs.Lines.{Caller}
-use Rattle.session_model.specs.Needs.{needs}
+use Rattle.command_lang.specs.Needs.{needs}
 use Rattle.session_model.specs.Checks.{passes, verdict, verdicts, checks, typing_checks, where_needed, window_checks}
 use Rattle.session_model.specs.Events.{typing_verdicts}
-use Rattle.session_laws.proofs.Fitting.{IsThere, at_there}
+use Rattle.session_laws.proofs.Showing.{IsThere, at_there}
 use Rattle.session_laws.proofs.Lists.{all_append}
 use Rattle.hub_trail.specs.Judging.{is_on_there}
 use Rattle.hub_laws.proofs.Naming.{OpenIs, there_open}

@@ -23,7 +23,7 @@ use Rattle.session_model.specs.declared.message.Message.{Message}
 use Rattle.session_model.specs.declared.refusal.Refusal.{Refusal}
 use Rattle.session_model.specs.declared.refusal.Refusal.TheVariants.{UnknownUser, NoWindow, BadSize}
 use Rattle.session_model.specs.declared.verdict.Verdict.{Verdict}
-use Rattle.session_model.specs.Trace.{Happening, Attach, Detach, Keys, Command, Resize, Open, Output, Closed, Draw, Reply}
+use Rattle.session_model.specs.Trace.{EventValue, Attach, Detach, Keys, Command, Resize, Open, Output, Closed, Draw, Reply}
 use Rattle.session_model.specs.Trace as trace
 use Rattle.session_model.specs.Sound.{Rises, AreFit, client_serials}
 use Rattle.session_model.specs.Tables.{Tables, Window, Client, fresh, window_at, client_at, with_client, focused, is_in_focus, is_known}
@@ -37,7 +37,8 @@ use Rattle.session_model.specs.Events.{Outcome, outcome, finished, refused, wher
 use Rattle.session_model.specs.Run.{IsStep, IsRun, IsRunFrom, tables_from}
 use Rattle.session_laws.proofs.Agreeing.{has, has_row}
 use Rattle.session_laws.proofs.Doing.{Either}
-use Rattle.session_laws.proofs.Fitting.{Holds, at_there, number_there, lowest_there}
+use Rattle.session_laws.proofs.Showing.{at_there, number_there, lowest_there}
+use Rattle.session_laws.proofs.Fitting.{Holds}
 use Rattle.session_laws.proofs.Lists.{all_append, and_first}
 use Rattle.session_laws.proofs.Moving.{serials}
 use Rattle.session_laws.proofs.Staying.{run_fit, fresh_fit}
@@ -220,7 +221,7 @@ open_judged t user rows columns keep title f =
 
 -- ---- steps
 
-pub judged_step : (t : Tables) (event : Happening) → AreFit t → CanJudge t (outcome t event)
+pub judged_step : (t : Tables) (event : EventValue) → AreFit t → CanJudge t (outcome t event)
 judged_step t (Attach user rows columns) f = attach_judged t user rows columns f
 judged_step t (Detach client) f =
     outcomes.found (CanJudge t) t (λ c. finished t [] done (parts (λ d. d.serial == client) reason.Detached t)) (client_at t client) (refused_judged t [] NoWindow tt)

@@ -12,7 +12,7 @@ use Rattle.session_model.specs.declared.event.Effect.TheVariants.{Input, Deliver
 use Rattle.session_model.specs.declared.event.Reason.{Reason}
 use Rattle.session_model.specs.declared.event.Reason.TheVariants as reason
 use Rattle.session_model.specs.declared.refusal.Refusal.TheVariants.{NoWindow}
-use Rattle.session_model.specs.Trace.{Happening, Attach, Detach, Keys, Command, Resize, Open, Output, Closed, Draw, Entry}
+use Rattle.session_model.specs.Trace.{EventValue, Detach, Keys, Command, Output, Closed, Draw, Entry}
 use Rattle.session_model.specs.Sound.{Rises, AreSound}
 use Rattle.session_model.specs.Tables.{Tables, Window, Client, row_of, client_at, window_at, focused, is_known}
 use Rattle.session_model.specs.Lines.{Caller, caller_of, line_caller}
@@ -185,10 +185,7 @@ module _ (t : Tables) (s : AreSound t) where
   draw_comes n c is (GoneClient to why) of = absurd of
 
   -- where nobody is there, there is no effect
-  come : (event : Happening) (effects : List Effect) → HasEffects t event effects → AllByRecursion (IsEffectOf t event) effects → AllByRecursion (HasCome t) effects
-  come (Attach user rows columns) effects has all = all_weaken (IsEffectOf t (Attach user rows columns)) (HasCome t) effects (λ f of. absurd of) all
-  come (Resize client rows columns) effects has all = all_weaken (IsEffectOf t (Resize client rows columns)) (HasCome t) effects (λ f of. absurd of) all
-  come (Open user rows columns keep title) effects has all = all_weaken (IsEffectOf t (Open user rows columns keep title)) (HasCome t) effects (λ f of. absurd of) all
+  come : (event : EventValue) (effects : List Effect) → HasEffects t event effects → AllByRecursion (IsEffectOf t event) effects → AllByRecursion (HasCome t) effects
   come (Command user number bytes) effects has all = all_weaken (IsEffectOf t (Command user number bytes)) (HasCome t) effects (line_comes user number bytes) all
   come (Detach client) effects has all = on (client_at t client) refl has where
     on : (o : Option Client) → client_at t client ≡ o → effects ≡ (elim o as (λ _. events.Outcome) [ None ↦ events.refused t [] NoWindow | Some c ↦ events.finished t [] events.done (deeds.parts (λ d. d.serial == client) reason.Detached t) ]).effects
@@ -214,6 +211,7 @@ module _ (t : Tables) (s : AreSound t) where
     on : (o : Option Client) → client_at t client ≡ o → MatchOption o (effects ≡ []) (IsDraw t effects) → AllByRecursion (HasCome t) effects
     on None is none = subst (AllByRecursion (HasCome t)) (sym none) tt
     on (Some c) is some = all_weaken (IsEffectOf t (Draw client)) (HasCome t) effects (draw_comes client c is) all
+  come event effects has all = all_weaken (IsEffectOf t event) (HasCome t) effects (λ f of. absurd of) all
 
 pub peers_came : (t : Tables) (e : Entry) → AreSound t → IsStep t e → AllByRecursion (HasCome t) e.effects
 peers_came t e s step = come t s e.event e.effects step.effects (no_other t e step)

@@ -25,7 +25,7 @@ use Rattle.session_model.specs.declared.refusal.Refusal.{Refusal}
 use Rattle.session_model.specs.declared.refusal.Refusal.TheVariants.{UnknownUser, NoWindow, BadSize, Line}
 use Rattle.session_model.specs.declared.verdict.Verdict.{Verdict}
 use Rattle.session_model.specs.declared.verdict.Verdict.TheVariants as verdict
-use Rattle.session_model.specs.Trace.{Happening, Attach, Detach, Keys, Command, Resize, Open, Output, Closed, Draw}
+use Rattle.session_model.specs.Trace.{EventValue, Attach, Detach, Keys, Command, Resize, Open, Output, Closed, Draw}
 use Rattle.session_model.specs.Sound.{ActsAgree}
 use Rattle.session_model.specs.Tables.{Window, Client, Tables, window_at, client_at, with_client, focused_window, is_known}
 use Rattle.session_model.specs.Rights.{may_in, holder_in}
@@ -320,7 +320,7 @@ abbrev pub IsLegalStep : Tables → Option Kept → Outcome → Type 0
 IsLegalStep t None o = o.acts ≡ []
 IsLegalStep t (Some k) o = Legal t k o
 
-pub legal_step : (t : Tables) (event : Happening) → ActsAgree t → IsLegalStep t (kept_of event) (outcome t event)
+pub legal_step : (t : Tables) (event : EventValue) → ActsAgree t → IsLegalStep t (kept_of event) (outcome t event)
 legal_step t (Attach user rows columns) agree = attach_legal t user rows columns
 legal_step t (Detach client) agree = detach_legal t client
 legal_step t (Keys client bytes) agree =

@@ -7,7 +7,7 @@ use Rattle.writelock.specs.Holding.{holder}
 use Rattle.session_model.specs.declared.verdict.Verdict.{Verdict}
 use Rattle.session_model.specs.declared.verdict.Verdict.TheVariants.{Right as right, Lock as lock}
 use Rattle.session_model.specs.declared.event.Effect.{Effect}
-use Rattle.session_model.specs.Trace.{Happening, Attach, Detach, Keys, Command, Resize, Open, Output, Closed, Draw, Reply}
+use Rattle.session_model.specs.Trace.{EventValue, Attach, Detach, Keys, Command, Resize, Open, Output, Closed, Draw, Reply}
 use Rattle.session_model.specs.Trace as trace
 use Rattle.session_model.specs.Sound.{ActsAgree}
 use Rattle.session_model.specs.Tables.{Tables, fresh}
@@ -60,7 +60,7 @@ Named = UserId × Edition
 abbrev pub names : Tables → Named
 names t = (t.owner, t.edition)
 
-names_after : (t : Tables) (event : Happening) (effects : List Effect) → names (drawn event effects (outcome t event).tables) ≡ names t
+names_after : (t : Tables) (event : EventValue) (effects : List Effect) → names (drawn event effects (outcome t event).tables) ≡ names t
 names_after t event effects = ap (λ (x : Rules). (x.0, x.1)) (rules_after t event effects)
 
 -- ---- steps

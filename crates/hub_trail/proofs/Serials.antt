@@ -8,7 +8,7 @@ use Rattle.session_model.specs.declared.check.Check.TheVariants.{Must as must}
 use Rattle.session_model.specs.declared.event.Effect.{Effect}
 use Rattle.session_model.specs.declared.event.Reason.TheVariants as reason
 use Rattle.session_model.specs.declared.refusal.Refusal.TheVariants.{BadSize}
-use Rattle.session_model.specs.Trace.{Happening, Attach, Detach, Keys, Command, Resize, Open, Output, Closed, Draw, Reply, Entry}
+use Rattle.session_model.specs.Trace.{EventValue, Attach, Detach, Keys, Command, Resize, Open, Output, Closed, Draw, Reply, Entry}
 use Rattle.session_model.specs.Tables.{Tables, Window, Client, client_at, window_at, with_client, is_known}
 use Rattle.session_model.specs.Lines.{Caller, line_caller}
 use Rattle.session_model.specs.Checks.{verdicts, first_fault}
@@ -25,16 +25,16 @@ use Rattle.hub_trail.proofs.Rules.{Rules, rules, Still, stills}
 use Rattle.hub_trail.proofs.Entries.{keys_ordered}
 
 -- the serials of those that come are given
-abbrev pub grown : Tables → Happening → Reply → Rules
+abbrev pub grown : Tables → EventValue → Reply → Rules
 grown t event reply = (t.owner, t.edition, one_more (peers.opens event reply) t.next_window, one_more (peers.attaches event reply) t.next_client)
 
-abbrev pub Grows : Tables → Happening → Outcome → Type 0
+abbrev pub Grows : Tables → EventValue → Outcome → Type 0
 Grows t event o = (rules o.tables ≡ grown t event o.reply) × MakesNext t event o.reply
 
 deed_still : (t : Tables) (k : Caller) (c : Order) (d : Deed) → does t k c ≡ Ok d → rules d.tables ≡ rules t
 deed_still t k c d is = subst (Either (Still t)) is (stills t k c)
 
-pub grows : (t : Tables) (event : Happening) → Grows t event (outcome t event)
+pub grows : (t : Tables) (event : EventValue) → Grows t event (outcome t event)
 grows t (Attach user rows columns) =
     outcomes.passed (Grows t (Attach user rows columns)) t (verdicts t (attach_checks t user rows columns)) (first_fault t (attach_checks t user rows columns)) (reply_of 0 t.next_client 0 None) (attaches t (new_client t user rows columns))
     (λ r is. (refl, tt)) (λ is. (refl, refl))
@@ -61,7 +61,7 @@ drawn_rules : (o : Option Client) (effects : List Effect) (t : Tables) → rules
 drawn_rules None effects t = refl
 drawn_rules (Some c) effects t = refl
 
-pub rules_after : (t : Tables) (event : Happening) (effects : List Effect) → rules (drawn event effects (outcome t event).tables) ≡ grown t event (outcome t event).reply
+pub rules_after : (t : Tables) (event : EventValue) (effects : List Effect) → rules (drawn event effects (outcome t event).tables) ≡ grown t event (outcome t event).reply
 rules_after t (Draw client) effects =
     let u : Tables = (outcome t (Draw client)).tables in drawn_rules (client_at u client) effects u ∙ (grows t (Draw client)).0
 rules_after t event effects = (grows t event).0

@@ -15,7 +15,7 @@ use Rattle.writelock.specs.LockTable.{stops_nobody_but}
 use Rattle.command_lang.specs.command.Command.{Command}
 use Rattle.session_model.specs.declared.check.Check.{Check}
 use Rattle.session_model.specs.declared.check.Check.TheVariants.{Right as right, Unlocked as unlocked, Must as must}
-use Rattle.session_model.specs.declared.needs.Needs.{Needs}
+use Rattle.command_lang.specs.needs.Needs.{Needs}
 use Rattle.session_model.specs.declared.refusal.Refusal.{Refusal}
 use Rattle.session_model.specs.declared.refusal.Refusal.TheVariants.{EntryDenied, LockDenied, NoWindow}
 use Rattle.session_model.specs.declared.verdict.Verdict.{Verdict}
@@ -24,7 +24,7 @@ use Rattle.session_model.specs.Tables.{Tables, Window}
 use Rattle.session_model.specs.Rights.{may_in, holder_in}
 use Rattle.session_model.specs.Denials.{entry_denial, lock_denial, denied_on}
 use Rattle.session_model.specs.Lines.{Caller}
-use Rattle.session_model.specs.Needs.{needs}
+use Rattle.command_lang.specs.Needs.{needs}
 use Rattle.session_model.specs.Checks.{verdicts, first_fault, checks, typing_checks, where_needed, window_checks}
 use Rattle.session_laws.proofs.Doing.{is_plain}
 use Rattle.session_laws.proofs.Lists.{all_append}

@@ -2,7 +2,7 @@
 -- Where memory was refused there was no step.
 use Rattle.std.specs.Prelude.{Bool, true, false, List, [], ◌∷◌, ◌++◌, Option, Some, None, Ok, Err}
 use Rattle.session_model.specs.declared.event.Done.{Done}
-use Rattle.session_model.specs.Trace.{Happening, Attach, Detach, Keys, Command, Resize}
+use Rattle.session_model.specs.Trace.{EventValue, Attach, Detach, Keys, Command, Resize}
 use Rattle.session_model.specs.Trace.{Open, Output, Closed, Draw, Reply, Trace}
 use Rattle.session_model.specs.Trace as trace
 use Rattle.hub_trail.specs.declared.kept.Kept.{Kept}
@@ -11,7 +11,7 @@ use Rattle.hub_trail.specs.declared.kept.Finished.{Finished}
 use Rattle.hub_trail.specs.Trails.{Ending, Entry, Trail}
 
 -- what is kept of an event, if it writes an entry
-abbrev pub kept_of : Happening → Option Kept
+abbrev pub kept_of : EventValue → Option Kept
 kept_of (Attach user rows columns) = Some (kept.Attach user rows columns)
 kept_of (Detach client) = Some (kept.Detach client)
 kept_of (Keys client bytes) = Some (kept.Keys client)
@@ -23,7 +23,7 @@ kept_of (Closed window) = Some (kept.Closed window)
 kept_of (Draw client) = None
 
 -- whether bytes of it are kept, which takes memory
-abbrev pub copies : Happening → Bool
+abbrev pub copies : EventValue → Bool
 copies (Command user window line) = true
 copies (Open user rows columns keep title) = true
 copies event = false

@@ -5,7 +5,7 @@ use Rattle.std.specs.List.{AllByRecursion}
 use Rattle.session_model.specs.declared.event.Effect.{Effect}
 use Rattle.session_model.specs.declared.event.Effect.TheVariants.{Input, Deliver, Say, Size}
 use Rattle.session_model.specs.declared.event.Effect.TheVariants.{GoneWindow, GoneClient}
-use Rattle.session_model.specs.Trace.{Happening, Attach, Open, Reply, Entry}
+use Rattle.session_model.specs.Trace.{EventValue, Attach, Open, Reply, Entry}
 use Rattle.session_model.specs.Sound.{AreSound}
 use Rattle.session_model.specs.Tables.{Tables}
 use Rattle.session_model.specs.Run.{IsStep, after}
@@ -13,16 +13,16 @@ use Rattle.session_model.specs.Run.{IsStep, after}
 -- ---- serials
 
 -- whether a client comes, and whether a window does
-abbrev pub attaches : Happening → Reply → Bool
+abbrev pub attaches : EventValue → Reply → Bool
 attaches (Attach user rows columns) reply = is_ok reply
 attaches event reply = false
 
-abbrev pub opens : Happening → Reply → Bool
+abbrev pub opens : EventValue → Reply → Bool
 opens (Open user rows columns keep title) reply = is_ok reply
 opens event reply = false
 
 -- it has the serial that comes next
-abbrev pub MakesNext : Tables → Happening → Reply → Type 0
+abbrev pub MakesNext : Tables → EventValue → Reply → Type 0
 MakesNext t (Attach user rows columns) (Ok done) = done.made ≡ t.next_client
 MakesNext t (Open user rows columns keep title) (Ok done) = done.made ≡ t.next_window
 MakesNext t event reply = Unit {0}

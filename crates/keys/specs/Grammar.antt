@@ -3,7 +3,7 @@
 -- ECMA-48's DEL and BS, and its length of 1,024 bytes.
 use Rattle.std.specs.Prelude.{◌≡◌, ◌≢◌, ℕ, Bool, true, false, not, ◌&&◌, ◌||◌, nat_lt, ◌==◌}
 use Rattle.std.specs.Prelude.{if◌then◌else◌, List, [], ◌∷◌, ◌++◌, length, map, find, Option, Some}
-use Rattle.std.specs.Prelude.{None}
+use Rattle.std.specs.Prelude.{None, codes, get_or}
 use Rattle.std.specs.Option.{option_map}
 use Rattle.std.specs.List.{list_all}
 use Rattle.command_lang.specs.command.Command.{Command}
@@ -29,14 +29,50 @@ open_line nothing = None
 open_line command_key = None
 open_line (prompt bytes) = Some bytes
 
+-- the byte of a key with a sign
+abbrev pub key : List ℕ → ℕ
+key sign = get_or sign 0 0
+
+-- and those of other keys: C-a is the command key, and a prompt is closed by ESC, C-c and C-g
+abbrev pub control_a : ℕ
+control_a = 0x01
+
+abbrev pub control_c : ℕ
+control_c = 0x03
+
+abbrev pub control_g : ℕ
+control_g = 0x07
+
+abbrev pub backspace : ℕ
+backspace = 0x08
+
+abbrev pub tab : ℕ
+tab = 0x09
+
+abbrev pub line_feed : ℕ
+line_feed = 0x0A
+
+abbrev pub carriage_return : ℕ
+carriage_return = 0x0D
+
+abbrev pub escape : ℕ
+escape = 0x1B
+
+abbrev pub delete : ℕ
+delete = 0x7F
+
+abbrev pub colon : ℕ
+colon = key (codes ":")
+
 -- The keys that are bound behind the command key. A digit selects the window of that name.
 abbrev pub bindings : List (ℕ × Command)
 bindings =
-    (0x6E, Next) ∷ (0x20, Next) ∷ (0x70, Prev) ∷ (0x64, Detach) ∷ (0x6B, Kill) ∷ (0x53, Split false)
-    ∷ (0x7C, Split true) ∷ (0x09, Focus)
-    ∷ (0x58, Remove) ∷ (0x51, Only) ∷ (0x77, Windows) ∷ (0x2A, Displays) ∷ (0x01, Other)
-    ∷ map (λ k. (k, Select (k ∷ [])))
-    (0x30 ∷ 0x31 ∷ 0x32 ∷ 0x33 ∷ 0x34 ∷ 0x35 ∷ 0x36 ∷ 0x37 ∷ 0x38 ∷ 0x39 ∷ [])
+    (key (codes "n"), Next) ∷ (key (codes " "), Next) ∷ (key (codes "p"), Prev)
+    ∷ (key (codes "d"), Detach) ∷ (key (codes "k"), Kill) ∷ (key (codes "S"), Split false)
+    ∷ (key (codes "|"), Split true) ∷ (tab, Focus) ∷ (key (codes "X"), Remove)
+    ∷ (key (codes "Q"), Only) ∷ (key (codes "w"), Windows) ∷ (key (codes "*"), Displays)
+    ∷ (control_a, Other)
+    ∷ map (λ k. (k, Select (k ∷ []))) (codes "0123456789")
 
 -- what the key does there
 abbrev pub binding : ℕ → Option Command
@@ -48,7 +84,7 @@ bound_items (Some b) = bound b ∷ []
 
 -- what the key gives behind the command key, other than the prompt
 abbrev pub key_items : ℕ → List Item
-key_items k = if k == 0x61 then typed 1 ∷ [] else bound_items (binding k)
+key_items k = if k == key (codes "a") then typed 1 ∷ [] else bound_items (binding k)
 
 -- A line as the keys of a prompt edit it.
 -- a trailing byte of a character
@@ -62,8 +98,8 @@ shortened (b ∷ bytes) = if list_all continues bytes then [] else b ∷ shorten
 
 abbrev pub line_after_key : List ℕ → ℕ → List ℕ
 line_after_key bytes k =
-    if k == 0x08 || k == 0x7F then shortened bytes
-    else if nat_lt k 0x20 then bytes
+    if k == backspace || k == delete then shortened bytes
+    else if nat_lt k (key (codes " ")) then bytes
     else if nat_lt (length bytes) 1024 then bytes ++ k ∷ []
     else bytes
 
@@ -73,10 +109,10 @@ line_of bytes (k ∷ keys) = line_of (line_after_key bytes k) keys
 
 -- the keys that end a prompt's line, and those that close it
 abbrev pub ends_line : ℕ → Bool
-ends_line k = k == 0x0D || k == 0x0A
+ends_line k = k == carriage_return || k == line_feed
 
 abbrev pub closes : ℕ → Bool
-closes k = k == 0x1B || (k == 0x03 || k == 0x07)
+closes k = k == escape || (k == control_c || k == control_g)
 
 abbrev pub stays : ℕ → Bool
 stays k = not (ends_line k || closes k)
@@ -90,22 +126,23 @@ line_items bytes k = if ends_line k then line bytes ∷ [] else []
 -- one that ends or closes it.
 pub data Keys : List ℕ → List Item → Rest → Type 0 where
   none : Keys [] [] nothing
-  plain : {k : ℕ} {keys : List ℕ} {given : List Item} {rest : Rest} → k ≢ 0x01
+  plain : {k : ℕ} {keys : List ℕ} {given : List Item} {rest : Rest} → k ≢ control_a
       → Keys keys given rest → Keys (k ∷ keys) (typed k ∷ given) rest
-  waits : Keys (0x01 ∷ []) [] command_key
-  behind : {k : ℕ} {keys : List ℕ} {given : List Item} {rest : Rest} → k ≢ 0x3A
-      → Keys keys given rest → Keys (0x01 ∷ k ∷ keys) (key_items k ++ given) rest
+  waits : Keys (control_a ∷ []) [] command_key
+  behind : {k : ℕ} {keys : List ℕ} {given : List Item} {rest : Rest} → k ≢ colon
+      → Keys keys given rest → Keys (control_a ∷ k ∷ keys) (key_items k ++ given) rest
   opens : (edits : List ℕ) → list_all stays edits ≡ true
-      → Keys (0x01 ∷ 0x3A ∷ edits) [] (prompt (line_of [] edits))
+      → Keys (control_a ∷ colon ∷ edits) [] (prompt (line_of [] edits))
   ends : (edits : List ℕ) (k : ℕ) (keys : List ℕ) {given : List Item} {rest : Rest}
       → list_all stays edits ≡ true → stays k ≡ false → Keys keys given rest
-      → Keys (0x01 ∷ 0x3A ∷ (edits ++ k ∷ keys)) (line_items (line_of [] edits) k ++ given) rest
+      → Keys (control_a ∷ colon ∷ (edits ++ k ∷ keys)) (line_items (line_of [] edits) k ++ given)
+      rest
 
 -- The same, computed key by key: what a key completes behind what is unended, and what is unended
 -- then.
 abbrev pub rest_step : Rest → ℕ → List Item × Rest
-rest_step nothing k = if k == 0x01 then ([], command_key) else (typed k ∷ [], nothing)
-rest_step command_key k = if k == 0x3A then ([], prompt []) else (key_items k, nothing)
+rest_step nothing k = if k == control_a then ([], command_key) else (typed k ∷ [], nothing)
+rest_step command_key k = if k == colon then ([], prompt []) else (key_items k, nothing)
 rest_step (prompt bytes) k =
     if stays k then ([], prompt (line_after_key bytes k)) else (line_items bytes k, nothing)
 

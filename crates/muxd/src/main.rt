@@ -11,11 +11,6 @@ fn main(rt: HostRuntime) -> ExitCode {
         Ok(words) => words,
         Err(error) => return ExitCode::from(not_given("muxd", &error, &mut rt.stderr())),
     };
-    let status = serve(
-        &rt,
-        words.as_slice(),
-        &mut io::writer(&rt),
-        &mut rt.stderr(),
-    );
+    let status = serve(&rt, rt, words.as_slice(), &mut io::writer(&rt));
     ExitCode::from(status)
 }

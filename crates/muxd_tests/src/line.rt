@@ -5,8 +5,10 @@ use cells::Cell;
 use emulator::Emulator;
 use std::alloc::Global;
 use std::collections::VecDeque;
+use std::fs::{Files, OpenOptions};
 use std::io::{ErrorKind, Read, Write};
 use std::net::Net;
+use std::os::unix::fs::OpenOptionsExt;
 use std::os::unix::net::UnixStream;
 use std::time::{Clock, Duration};
 use std::{io, thread};
@@ -44,6 +46,17 @@ fn connect<R: Net + Clock>(rt: &R, path: &str) -> io::Result<UnixStream> {
         thread::sleep(rt, Duration::from_millis(10));
     }
     Err(fault())
+}
+
+/// Makes a file that its owner alone reads and writes.
+pub fn write_private<R: Files>(rt: &R, path: &str, bytes: &[u8]) -> io::Result<()> {
+    let mut file = OpenOptions::new()
+        .write(true)
+        .create(true)
+        .truncate(true)
+        .mode(0o600)
+        .open(rt, path)?;
+    file.write_all(bytes)
 }
 
 pub fn token(digits: &str) -> io::Result<Token> {

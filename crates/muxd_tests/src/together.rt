@@ -1,10 +1,10 @@
 //! A server of two loops, an owner, a second user and a window.
 
-use crate::line::{COLS, Line, ROWS, command, token};
+use crate::line::{COLS, Line, ROWS, command, token, write_private};
 use attach_proto::{Message, Text, Why};
-use server::serve;
+use server::{Host, Open, serve_through};
 use std::alloc::Global;
-use std::fs::Files;
+use std::fs::{File, Files};
 use std::net::Net;
 use std::sync::Wait;
 use std::test::Fail;
@@ -17,6 +17,8 @@ const OWN: &str = "0000000000000000000000000000000000000000000000000000000000000
 const BOB: &str = "000000000000000000000000000000000000000000000000000000000000000b";
 
 const SOCKET: &str = "muxd_tests.socket";
+
+const LOCK: &str = "muxd_tests.socket.lock";
 
 const USERS: &str = "muxd_tests.users";
 
@@ -158,13 +160,18 @@ fn run_peers<R: Net + Clock>(rt: &R, alloc: Global) -> Option<Seen> {
     seen
 }
 
-fn run_server<R: Clock + Net + Files + AllocGlobal + Threads + Wait + Sync>(
+fn run_server<R: Clock + Net + Files<File = File> + AllocGlobal + Threads + Wait + Sync>(
     rt: &R,
+    runtime: HostRuntime,
     words: &[String],
 ) -> u8 {
     let mut output: Vec<u8> = Vec::new(rt.alloc());
     let mut errors: Vec<u8> = Vec::new(rt.alloc());
-    serve(rt, words, &mut output, &mut errors)
+    let host = Host {
+        runtime,
+        gate: Open,
+    };
+    serve_through(rt, host, words, &mut output, &mut errors)
 }
 
 #[test]
@@ -174,7 +181,7 @@ fn a_server_and_its_peers(rt: HostRuntime) -> Result<(), Fail> {
     for text in ["own ", OWN, "\nbob ", BOB, "\n"] {
         file.extend_from_slice(text.as_bytes())?;
     }
-    fs::write(&rt, USERS, &file)?;
+    write_private(&rt, USERS, &file)?;
     let mut words = Vec::new(alloc);
     for word in ["muxd", "--socket", SOCKET, "--users", USERS, "--loops", "2"] {
         words.push(String::from_str(alloc, word)?)?;
@@ -183,10 +190,11 @@ fn a_server_and_its_peers(rt: HostRuntime) -> Result<(), Fail> {
     let shared = &rt;
     let (status, seen) = thread::join(
         shared,
-        || run_server(shared, words),
+        || run_server(shared, rt, words),
         || run_peers(shared, alloc),
     );
     fs::remove_file(&rt, USERS)?;
+    fs::remove_file(&rt, LOCK)?;
     assert_eq!(rt; seen, Some(ALL));
     assert_eq!(rt; status, 0);
     Ok(())

@@ -1,6 +1,6 @@
 //! Plays a script.
 
-use session::simulate;
+use session::{Asked, simulate};
 use std::alloc::{AllocError, Global};
 
 /// What a run of the simulator left.
@@ -26,7 +26,11 @@ pub fn play(alloc: Global, words: &[&str], script: &[u8]) -> Result<Played, Allo
     let owned = arguments(alloc, words)?;
     let mut output = Vec::new(alloc);
     let mut errors = Vec::new(alloc);
-    let status = simulate(alloc, owned.as_slice(), script, &mut output, &mut errors);
+    let asked = Asked {
+        words: &owned,
+        setup: b"",
+    };
+    let status = simulate(alloc, asked, script, &mut output, &mut errors);
     Ok(Played {
         output,
         errors,

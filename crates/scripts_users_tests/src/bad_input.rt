@@ -1,7 +1,7 @@
 //! Scripts and words that aren't understood, and readers and writers that fail.
 
 use scripts::{arguments, play};
-use session::simulate;
+use session::{Asked, simulate};
 use std::io::{Read, Write};
 use std::test::Fail;
 use std::{io, str};
@@ -152,7 +152,11 @@ fn failing_reads_are_told(rt: HostRuntime) -> Result<(), Fail> {
     let mut output = Vec::new(rt.alloc());
     let mut errors = Vec::new(rt.alloc());
     let torn = Torn { bytes: SCRIPT };
-    let status = simulate(rt.alloc(), &words, torn, &mut output, &mut errors);
+    let asked = Asked {
+        words: &words,
+        setup: b"",
+    };
+    let status = simulate(rt.alloc(), asked, torn, &mut output, &mut errors);
     assert_eq!(rt; status, 1);
     assert_eq!(rt; output.as_slice(), b"opened 0 0\n".as_slice());
     assert!(rt; errors.starts_with(b"muxsim: "));
@@ -163,8 +167,50 @@ fn failing_reads_are_told(rt: HostRuntime) -> Result<(), Fail> {
 fn failing_writes_are_told(rt: HostRuntime) -> Result<(), Fail> {
     let words = arguments(rt.alloc(), &["own"])?;
     let mut errors = Vec::new(rt.alloc());
-    let status = simulate(rt.alloc(), &words, SCRIPT, &mut Full, &mut errors);
+    let asked = Asked {
+        words: &words,
+        setup: b"",
+    };
+    let status = simulate(rt.alloc(), asked, SCRIPT, &mut Full, &mut errors);
     assert_eq!(rt; status, 1);
     assert!(rt; errors.starts_with(b"muxsim: "));
+    Ok(())
+}
+
+// A setup, and what is told of it: the first line that is refused, and why.
+const REFUSED: [(&[u8], &str); 4] = [
+    (
+        b"multiuser on\n\naclchg bob +q shop\nquit now\n",
+        "muxsim: setup there: line 3: aclchg bob +q shop: line: 5 at 11 (no bits: +q)\n",
+    ),
+    (
+        b"# shop comes later\nmultiuser on\naclchg bob +r shop",
+        "muxsim: setup there: line 3: aclchg bob +r shop: windows: 2 (no such window)\n",
+    ),
+    (
+        b"acladd bob\n",
+        "muxsim: setup there: line 1: acladd bob: not in multiuser mode\n",
+    ),
+    (
+        b"quit now\nwall \xFF\n",
+        "muxsim: setup there: line 2: not UTF-8\n",
+    ),
+];
+
+#[test]
+fn refused_setups_are_told(rt: HostRuntime) -> Result<(), Fail> {
+    let words = arguments(rt.alloc(), &["--setup", "there", "own"])?;
+    for (setup, told) in REFUSED {
+        let mut output = Vec::new(rt.alloc());
+        let mut errors = Vec::new(rt.alloc());
+        let asked = Asked {
+            words: &words,
+            setup,
+        };
+        let status = simulate(rt.alloc(), asked, SCRIPT, &mut output, &mut errors);
+        assert_eq!(rt; status, 1);
+        assert!(rt; output.is_empty());
+        assert_eq!(rt; str::from_utf8(&errors).unwrap_or(""), told);
+    }
     Ok(())
 }

@@ -1,6 +1,6 @@
 //! What can be wrong, and what to do then.
 
-use server_loop::{End, HouseFault};
+use server_loop::End;
 use server_turn::UsersFault;
 use std::alloc::{AllocError, AllocFailed};
 use std::io;
@@ -11,8 +11,12 @@ use thiserror::Error;
 pub enum ServeFault {
     #[error("the users' file isn't read: {0}: --users names it")]
     NoFile(io::Error),
+    #[error("others may write the users' file: chmod go-w {0}")]
+    Writable(String),
     #[error("the users' file, {0}")]
     Users(UsersFault),
+    #[error("setup {0}")]
+    Setup(String),
     #[error("a server listens there: end it with the command quit, or name another socket")]
     Taken,
     #[error("the socket's path is a file, and no socket: name another")]
@@ -40,15 +44,6 @@ impl From<io::Error> for ServeFault {
 impl From<UsersFault> for ServeFault {
     fn from(fault: UsersFault) -> ServeFault {
         ServeFault::Users(fault)
-    }
-}
-
-impl From<HouseFault> for ServeFault {
-    fn from(fault: HouseFault) -> ServeFault {
-        match fault {
-            HouseFault::NoMemory => ServeFault::NoMemory,
-            HouseFault::Untold(error) => ServeFault::Other(error),
-        }
     }
 }
 

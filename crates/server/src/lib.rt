@@ -1,11 +1,19 @@
 //! What `muxd` does: loops over one listener that share a session.
 #![tactic(auto)]
 
-mod door;
+mod acceptor;
 mod fault;
+mod log;
+mod loop_handle;
 mod pace;
 mod serving;
+mod setup_file;
 mod socket;
 mod turns;
+mod users_file;
+mod winding;
+mod wired;
 
-pub use serving::serve;
+pub use server_loop::{Gate, Loop, Open};
+pub use server_turn::{AuthFault, Turn, Users, UsersFault, authenticate};
+pub use serving::{Host, serve, serve_through};

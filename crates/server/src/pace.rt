@@ -1,17 +1,21 @@
 //! When draws wait.
 
-use crate::door::Shared;
-use std::sync::Wait;
-use std::time::{Clock, Duration};
+use crate::loop_handle::Shared;
+use std::sync::atomic::Ordering;
+use std::time::Duration;
 
 // While more may come at once, draws wait for so many milliseconds at most: each client is shown
 // the last.
 const MOST: u64 = 20;
 
+/// Where much came, and no more for so many milliseconds, it is over.
+pub const LULL: u64 = 1;
+
 /// What a loop knows of whether draws are to wait.
 #[derive(Clone, Copy, Debug)]
 pub struct Pace {
-    is_busy: bool,
+    // When much came last, if that isn't over.
+    much: Option<Duration>,
     awaits_echo: bool,
     // When the draws that wait began to.
     since: Option<Duration>,
@@ -20,7 +24,7 @@ pub struct Pace {
 impl Pace {
     pub fn new() -> Pace {
         Pace {
-            is_busy: false,
+            much: None,
             awaits_echo: false,
             since: None,
         }
@@ -31,33 +35,45 @@ impl Pace {
         self.since.is_some()
     }
 
+    /// Whether much comes to this loop.
+    pub fn is_busy(&self) -> bool {
+        self.much.is_some()
+    }
+
     /// Whether more may come at once.
     pub fn expects_more(&self) -> bool {
-        self.is_busy || self.awaits_echo
+        self.is_busy() || self.awaits_echo
     }
 
     /// Tells the other loops whether much comes to this one. The answer is whether that is new.
-    pub fn note(&mut self, rt: &impl Wait, shared: &Shared, is_busy: bool) -> bool {
-        if is_busy == self.is_busy {
+    /// Without a clock it is over at once.
+    pub fn note(&mut self, shared: &Shared, now: Option<Duration>, is_much: bool) -> bool {
+        let was_busy = self.is_busy();
+        self.much = match (self.much, now) {
+            _ if is_much => Some(now.unwrap_or(Duration::ZERO)),
+            (Some(last), Some(now)) if now.saturating_sub(last) < Duration::from_millis(LULL) => {
+                Some(last)
+            }
+            _ => None,
+        };
+        if self.is_busy() == was_busy {
             return false;
         }
-        self.is_busy = is_busy;
-        let mut count = shared.busy.lock(rt);
-        *count = if is_busy {
-            count.saturating_add(1)
+        if was_busy {
+            shared.busy.fetch_sub(1, Ordering::SeqCst);
         } else {
-            count.saturating_sub(1)
-        };
+            shared.busy.fetch_add(1, Ordering::SeqCst);
+        }
         true
     }
 
     /// Whether the draws of this turn are to wait, as they do where keys were typed in it, whose
     /// echo may come at once. Without a clock they don't.
-    pub fn holds<R: Clock + Wait>(&mut self, rt: &R, shared: &Shared, awaits_echo: bool) -> bool {
+    pub fn holds(&mut self, shared: &Shared, now: Option<Duration>, awaits_echo: bool) -> bool {
         self.awaits_echo = awaits_echo;
-        let is_much = awaits_echo || 0 < *shared.busy.lock(rt);
-        self.since = match rt.monotonic() {
-            Ok(now) if is_much => match self.since {
+        let is_much = awaits_echo || 0 < shared.busy.load(Ordering::SeqCst);
+        self.since = match now {
+            Some(now) if is_much => match self.since {
                 None => Some(now),
                 Some(since) if now.saturating_sub(since) < Duration::from_millis(MOST) => Some(
                     since,

@@ -1,30 +1,47 @@
 //! `muxd`: the session, its listener and its loops.
 
-use crate::door::{Door, Porter, Post, Shared};
+use crate::acceptor::Acceptor;
 use crate::fault::{ServeFault, outcome};
-use crate::socket;
-use crate::turns::{LISTEN, WAKE};
+use crate::log::Log;
+use crate::loop_handle::{LoopHandle, LoopStart, Shared};
+use crate::setup_file::Setup;
+use crate::socket::Place;
+use crate::turns::{LISTEN, Server, WAKE};
+use crate::users_file::{Stamp, Told, UsersFile, UsersSource};
 use mio::net::UnixListener;
 use mio::{Interest, Poll, Waker};
-use server_loop::keep;
+use server_loop::{Gate, LoopsFault, Open, keep};
 use server_turn::Users;
 use server_words::{of_server, tell};
 use std::alloc::Global;
 use std::collections::VecDeque;
-use std::fs::Files;
+use std::fs::{File, Files};
+use std::io;
 use std::io::Write;
 use std::net::Net;
-use std::sync::{Mutex, OnceLock, Wait};
+use std::rt::HostRuntime;
+use std::sync::atomic::AtomicU64;
+use std::sync::{OnceLock, Wait};
 use std::thread::Threads;
 use std::time::Clock;
-use std::{fs, io};
+
+/// What a server stands on beside its handles.
+#[derive(Clone, Copy)]
+pub struct Host<G> {
+    /// Where the users' file is read, and on whose standard error is told who comes and goes.
+    pub runtime: HostRuntime,
+    /// Is told of each call that a loop submits.
+    pub gate: G,
+}
 
 /// What the words of `muxd` ask for.
 #[derive(Clone, Copy, Debug)]
 struct Asked<'a> {
     socket: &'a str,
     users: &'a str,
+    setup: Option<&'a str>,
     loops: usize,
+    tells: bool,
 }
 
 // A place for each loop, of which the first has the listener, and how others reach them.
@@ -32,11 +49,12 @@ fn places<R: Net>(
     rt: &R,
     alloc: Global,
     loops: usize,
+    seen: Stamp,
     mut listener: UnixListener,
-) -> Result<(Vec<Post>, Vec<Door>), ServeFault> {
-    let mut posts = Vec::new(alloc);
-    let mut doors = Vec::new(alloc);
-    let mut porter = None;
+) -> Result<(Vec<LoopStart>, Vec<LoopHandle>), ServeFault> {
+    let mut starts = Vec::new(alloc);
+    let mut loop_handles = Vec::new(alloc);
+    let mut acceptor = None;
     let mut polls = Vec::new(alloc);
     for _ in 0..loops {
         polls.push(Poll::new(rt)?)?;
@@ -44,67 +62,143 @@ fn places<R: Net>(
     if let Some(poll) = polls.first() {
         poll.registry()
             .register(&mut listener, LISTEN, Interest::READABLE)?;
-        porter = Some(Porter::new(listener));
+        acceptor = Some(Acceptor::new(alloc, listener, poll.registry().try_clone()?)?);
     }
     for poll in polls {
         let waker = Waker::new(poll.registry(), WAKE)?;
-        let handed = Mutex::new(VecDeque::new(alloc));
-        doors.push(Door { waker, handed })?;
-        let me = posts.len();
-        posts.push(Post {
+        loop_handles.push(LoopHandle::new(waker, VecDeque::new(alloc)))?;
+        let me = starts.len();
+        starts.push(LoopStart {
             me,
             poll,
-            porter: porter.take(),
+            acceptor: acceptor.take(),
+            seen,
         })?;
     }
-    Ok((posts, doors))
+    Ok((starts, loop_handles))
 }
 
 // Serves a new session on a listener, until it ends.
-fn serve_on<R: Clock + Net + Threads + Wait + Sync, O: Write>(
+fn serve_on<R, G, U, O>(
     rt: &R,
     alloc: Global,
     users: Users,
-    listener: UnixListener,
-    loops: usize,
+    starts: Vec<LoopStart>,
+    server: &Server<G, U>,
     output: &mut O,
-) -> Result<(), ServeFault> {
-    let (posts, doors) = places(rt, alloc, loops, listener)?;
-    let shared = Shared {
-        doors,
-        over: OnceLock::new(),
-        busy: Mutex::new(0),
-    };
-    let agrees = keep(rt, alloc, users, posts, &shared, || {
+) -> Result<(), ServeFault>
+where
+    R: Clock + Threads + Wait + Sync,
+    G: Gate + Copy + Sync + Drop,
+    U: UsersSource + Sync + Drop,
+    O: Write,
+{
+    let kept = keep(rt, alloc, users, starts, server, || {
         writeln!(output, "muxd: ready")?;
         output.flush()
-    })?;
-    outcome(shared.over.get().copied(), agrees)
+    });
+    match kept {
+        Ok(agrees) => outcome(server.shared.over.get().copied(), agrees),
+        Err(LoopsFault::NoMemory) => Err(ServeFault::NoMemory),
+        Err(LoopsFault::Untold(error)) => Err(ServeFault::Other(error)),
+        Err(LoopsFault::Setup(fault)) => Err(server.setup.wrong(alloc, fault)),
+        Err(LoopsFault::Refused(number, said)) => Err(server.setup.refused(alloc, number, &said)),
+    }
 }
 
-fn run<R: Clock + Net + Files + AllocGlobal + Threads + Wait + Sync, O: Write>(
+// What the loops share, and their starts.
+fn shared<R: Net + AllocGlobal>(
     rt: &R,
     asked: Asked,
-    output: &mut O,
-) -> Result<(), ServeFault> {
+    seen: Stamp,
+    listener: UnixListener,
+) -> Result<(Shared, Vec<LoopStart>), ServeFault> {
     let alloc = rt.alloc();
-    let file = fs::read(rt, asked.users).map_err(ServeFault::NoFile)?;
-    let users = Users::read(alloc, &file)?;
-    let listener = socket::listen(rt, asked.socket)?;
     let loops = asked.loops.clamp(1, 8);
-    let served = serve_on(rt, alloc, users, listener, loops, output);
-    socket::remove(rt, asked.socket);
+    let (starts, loop_handles) = places(rt, alloc, loops, seen, listener)?;
+    let shared = Shared {
+        loop_handles,
+        over: OnceLock::new(),
+        busy: AtomicU64::new(0),
+        told: Told::new(seen),
+        log: Log::new(alloc, loops),
+        tells: asked.tells,
+    };
+    Ok((shared, starts))
+}
+
+fn run<R, G, O, E>(
+    rt: &R,
+    asked: Asked,
+    host: Host<G>,
+    output: &mut O,
+    errors: &mut E,
+) -> Result<(), ServeFault>
+where
+    R: Clock + Net + Files<File = File> + AllocGlobal + Threads + Wait + Sync,
+    G: Gate + Copy + Sync + Drop,
+    O: Write,
+    E: Write,
+{
+    let alloc = rt.alloc();
+    let users = UsersFile {
+        files: host.runtime,
+        alloc,
+        path: asked.users,
+    };
+    let found = users.read()?;
+    if found.1.is_open() {
+        let path = asked.users;
+        let _ = writeln!(
+            errors,
+            "muxd: others may read the users' file: chmod go-r {path}"
+        );
+    }
+    let setup = Setup::read(rt, asked.setup)?;
+    let (place, listener) = Place::listen(rt, alloc, asked.socket)?;
+    let served = match shared(rt, asked, found.1, listener) {
+        Ok((shared, starts)) => {
+            let server = Server {
+                shared,
+                users,
+                setup,
+                gate: host.gate,
+                log: host.runtime.stderr(),
+            };
+            serve_on(rt, alloc, found.0, starts, &server, output)
+        }
+        Err(fault) => Err(fault),
+    };
+    place.leave(rt);
     served
 }
 
 /// `muxd`: serves a session until `quit`. The first word is the program's name. The answer is the
 /// status to exit with: 0; 1 for a fault; 2 where the words aren't understood.
-pub fn serve<R: Clock + Net + Files + AllocGlobal + Threads + Wait + Sync, O: Write, E: Write>(
+pub fn serve<R, O>(rt: &R, runtime: HostRuntime, words: &[String], output: &mut O) -> u8
+where
+    R: Clock + Net + Files<File = File> + AllocGlobal + Threads + Wait + Sync,
+    O: Write,
+{
+    let gate = Open;
+    let mut errors = runtime.stderr();
+    serve_through(rt, Host { runtime, gate }, words, output, &mut errors)
+}
+
+/// The same, where a gate is told of each call that a loop submits.
+pub fn serve_through<R, G, O, E>(
     rt: &R,
+    host: Host<G>,
     words: &[String],
     output: &mut O,
     errors: &mut E,
-) -> u8 {
+) -> u8
+where
+    R: Clock + Net + Files<File = File> + AllocGlobal + Threads + Wait + Sync,
+    G: Gate + Copy + Sync + Drop,
+    O: Write,
+    E: Write,
+{
     let matches = match of_server(rt.alloc(), words) {
         Ok(matches) => matches,
         Err(error) => return tell(&error, output, errors),
@@ -119,9 +213,11 @@ pub fn serve<R: Clock + Net + Files + AllocGlobal + Threads + Wait + Sync, O: Wr
     let asked = Asked {
         socket,
         users,
+        setup: matches.get_str("setup"),
         loops: usize::from(loops),
+        tells: matches.get_flag("log"),
     };
-    match run(rt, asked, output) {
+    match run(rt, asked, host, output, errors) {
         Ok(()) => 0,
         Err(fault) => {
             let _ = writeln!(errors, "muxd: {fault}");

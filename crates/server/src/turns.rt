@@ -1,13 +1,19 @@
 //! The turns of one loop.
 
-use crate::door::{Porter, Post, Shared};
-use crate::pace::Pace;
-use mio::net::UnixStream;
-use mio::{Events, Interest, Poll, Token};
-use server_loop::{End, House, Keeper, Loop, Open, Seat};
+use crate::acceptor::Acceptor;
+use crate::log::NewsLine;
+use crate::loop_handle::{LoopHandle, LoopStart, Shared};
+use crate::pace::{LULL, Pace};
+use crate::setup_file::Setup;
+use crate::users_file::{Stamp, UsersSource};
+use crate::winding::wind_up;
+use crate::wired::Wired;
+use mio::{Events, Poll, Registry, Token};
+use server_loop::{End, Gate, Loop, LoopBody, Seat, SharedSession};
 use std::alloc::Global;
 use std::io;
 use std::io::ErrorKind;
+use std::rt::Stderr;
 use std::sync::Wait;
 use std::sync::ledger::Ledger as Roll;
 use std::time::{Clock, Duration};
@@ -21,94 +27,113 @@ const FIRST: usize = 2;
 
 // What was refused for want of memory is tried again after so many milliseconds.
 const PAUSE: u64 = 20;
-// Where much came, and nothing more for so many milliseconds, it is over.
-const LULL: u64 = 1;
 
-// So many pauses without an event, and the server ends though bytes wait.
-const PAUSES: usize = 100;
+// Connections that are waited for are looked at after so many milliseconds.
+const LOOK: u64 = 1_000;
 
-const ROUNDS: usize = 10_000;
-
-// Takes in the connections that were handed to the loop. One that can't be taken in is closed.
-fn admit<L: Roll>(
-    rt: &impl Wait,
-    shared: &Shared,
-    poll: &Poll,
-    me: usize,
-    own: &mut Loop<UnixStream, Open, L>,
-) {
-    let Some(door) = shared.doors.get(me) else {
-        return;
-    };
-    for _ in 0..u64::MAX {
-        let Some(mut stream) = door.handed.lock(rt).pop_front() else {
-            return;
-        };
-        let token = Token(own.peers.next_key().saturating_add(FIRST));
-        let is_known = poll
-            .registry()
-            .register(&mut stream, token, Interest::READABLE | Interest::WRITABLE)
-            .is_ok();
-        if is_known {
-            let _ = own.peers.admit(stream);
-        }
-    }
-}
-
-// Waits for events, at most so long. An interrupted wait has none.
-fn wait(poll: &mut Poll, events: &mut Events, timeout: Option<Duration>) -> io::Result<bool> {
-    match poll.poll(events, timeout) {
-        Ok(()) => Ok(!events.is_empty()),
-        Err(error) if error.kind() == ErrorKind::Interrupted => {
-            events.clear();
-            Ok(false)
-        }
-        Err(error) => Err(error),
-    }
-}
+// So many connections at most wait for their first message, by all loops together.
+const MOST_NEW: usize = 256;
 
 // What a loop minds beside its connections.
 #[derive(Drop)]
 struct Watch<'a> {
     shared: &'a Shared,
+    loop_handle: &'a LoopHandle,
+    registry: &'a Registry,
     me: usize,
-    porter: Option<Porter>,
+    acceptor: Option<Acceptor>,
     pace: Pace,
 }
 
 impl Watch<'_> {
-    // Connections wait that couldn't be taken in.
-    fn is_behind(&self) -> bool {
-        match &self.porter {
-            Some(porter) => porter.is_behind,
-            None => false,
-        }
+    // Whether connections wait, to be taken in at once.
+    fn has_more(&self) -> bool {
+        self.acceptor
+            .as_ref()
+            .is_some_and(|acceptor| acceptor.has_more)
     }
 
-    // How long to wait for events.
-    fn timeout(&self, has_more: bool, has_waiting: bool) -> Option<Duration> {
-        if has_more {
-            Some(Duration::ZERO)
-        } else if self.pace.expects_more() {
-            Some(Duration::from_millis(LULL))
-        } else if has_waiting || self.is_behind() || self.pace.is_holding() {
-            Some(Duration::from_millis(PAUSE))
-        } else {
-            None
+    // Whether connections wait that couldn't be taken in.
+    fn is_stuck(&self) -> bool {
+        self.acceptor
+            .as_ref()
+            .is_some_and(|acceptor| acceptor.is_stuck)
+    }
+}
+
+// Takes in the connections that were handed to the loop. One that can't be taken in is closed.
+fn admit<'a, L: Roll, G: Gate + Drop>(
+    rt: &impl Wait,
+    watch: &Watch<'a>,
+    own: &mut Loop<Wired<'a>, G, L>,
+) {
+    let share = MOST_NEW / watch.shared.loop_handles.len().clamp(1, MOST_NEW);
+    for _ in 0..u64::MAX {
+        let Some(handed) = watch.loop_handle.handed.lock(rt).pop_front() else {
+            return;
+        };
+        let most = if handed.is_extra { 1 } else { share };
+        own.peers.let_oldest_go(most);
+        let token = Token(own.peers.next_key().saturating_add(FIRST));
+        if let Ok(wired) = Wired::new(watch.registry, token, handed.stream) {
+            let _ = own.peers.admit(wired, handed.is_extra);
         }
     }
 }
 
+/// Waits for events, at most so long. An interrupted wait has none.
+pub fn wait(poll: &mut Poll, events: &mut Events, timeout: Option<Duration>) -> io::Result<()> {
+    match poll.poll(events, timeout) {
+        Err(error) if error.kind() == ErrorKind::Interrupted => {
+            events.clear();
+            Ok(())
+        }
+        waited => waited,
+    }
+}
+
+// How long to wait for events.
+fn timeout<L: Roll, G: Gate + Drop>(watch: &Watch, own: &Loop<Wired, G, L>) -> Option<Duration> {
+    if own.peers.is_due() || watch.has_more() {
+        Some(Duration::ZERO)
+    } else if watch.pace.expects_more() {
+        Some(Duration::from_millis(LULL))
+    } else if own.peers.has_waiting() || watch.is_stuck() || watch.pace.is_holding() {
+        Some(Duration::from_millis(PAUSE))
+    } else if own.peers.is_awaiting() {
+        Some(Duration::from_millis(LOOK))
+    } else {
+        None
+    }
+}
+
+// Waits until the loop has something to do. It is woken by news only while it sleeps.
+fn sleep<L: Roll, G: Gate + Drop>(
+    poll: &mut Poll,
+    events: &mut Events,
+    watch: &Watch,
+    own: &Loop<Wired, G, L>,
+) -> io::Result<()> {
+    let mut longest = timeout(watch, own);
+    if longest != Some(Duration::ZERO) && !watch.loop_handle.may_sleep() {
+        longest = Some(Duration::ZERO);
+    }
+    let waited = wait(poll, events, longest);
+    watch.loop_handle.is_awake();
+    waited
+}
+
 // Marks the connections that have something to read. Whether somebody may wait to be taken in.
-fn sort<L: Roll>(events: &Events, own: &mut Loop<UnixStream, Open, L>) -> bool {
+fn sort<L: Roll, G: Gate + Drop>(events: &Events, own: &mut Loop<Wired, G, L>) -> bool {
     let mut is_asked = false;
     for event in events {
         match event.token() {
             WAKE => {}
             LISTEN => is_asked = true,
             Token(token) => {
-                if event.is_readable() {
-                    own.peers.is_ready(token.saturating_sub(FIRST));
+                let has_hung_up = event.is_read_closed() || event.is_error();
+                if event.is_readable() || has_hung_up {
+                    own.peers.is_ready(token.saturating_sub(FIRST), has_hung_up);
                 }
             }
         }
@@ -116,118 +141,208 @@ fn sort<L: Roll>(events: &Events, own: &mut Loop<UnixStream, Open, L>) -> bool {
     is_asked
 }
 
-// One turn: what came is read and done, and what comes of it is written.
-fn turn<L: Roll, R: Clock + Wait>(
-    rt: &R,
-    house: &House<L>,
-    poll: &Poll,
-    events: &Events,
-    watch: &mut Watch,
-    own: &mut Loop<UnixStream, Open, L>,
+// Takes in connections. Where the system grants no more, the one that waits for its first message
+// longest makes room.
+fn take_in<'a, L: Roll, G: Gate + Drop>(
+    rt: &impl Wait,
+    watch: &mut Watch<'a>,
+    own: &mut Loop<Wired<'a>, G, L>,
+    is_asked: bool,
 ) -> io::Result<()> {
-    let shared = watch.shared;
-    let is_asked = sort(events, own) || watch.is_behind();
-    if let Some(porter) = &mut watch.porter {
+    let is_asked = is_asked || watch.has_more() || watch.is_stuck();
+    if let Some(acceptor) = &mut watch.acceptor {
         if is_asked {
-            porter.accept(rt, shared)?;
+            acceptor.accept(rt, watch.shared.loop_handles.as_slice())?;
         }
     }
-    own.read_all(rt, house);
-    admit(rt, shared, poll, watch.me, own);
-    let is_news = watch.pace.note(rt, shared, own.has_read_much());
-    if own.peers.has_submitted() || is_news {
-        shared.wake_others(watch.me)?;
+    watch.loop_handle.take_news();
+    if watch.is_stuck() {
+        own.peers.let_oldest_go(1);
     }
-    // A loop that is alone has handed the keys out before it asks for a draw.
-    let awaits_echo = own.has_typed() && 1 < shared.doors.len();
-    let holds_draws = watch.pace.holds(rt, shared, awaits_echo);
-    own.peers.settle(rt, house, holds_draws);
-    if own.peers.has_submitted() {
-        shared.wake_others(watch.me)?;
-    }
-    if let Some(end) = own.peers.end() {
-        shared.end(end)?;
+    admit(rt, watch, own);
+    Ok(())
+}
+
+// Wakes the other loops where they may have something to do. While much comes to this one, draws
+// wait, and so does the news that there is output to draw.
+fn tell_others<L: Roll, G: Gate + Drop>(
+    watch: &Watch,
+    own: &mut Loop<Wired, G, L>,
+    is_news: bool,
+) -> io::Result<()> {
+    let has_acted = own.peers.has_acted();
+    let has_submitted = own.peers.has_submitted();
+    if is_news || has_acted || (has_submitted && !watch.pace.is_busy()) {
+        watch.shared.wake_others(watch.me)?;
     }
     Ok(())
 }
 
-// The peers are told of the end, and get some time to read it.
-fn wind_up<L: Roll, R: Wait>(
+// Who may connect is looked at anew, where a first message may be there.
+fn look_at_users<L: Roll, G: Gate + Drop, U: UsersSource, R: Clock + Wait>(
     rt: &R,
-    house: &House<L>,
-    mut poll: Poll,
-    mut events: Events,
-    own: &mut Loop<UnixStream, Open, L>,
-    end: End,
+    session: &SharedSession<L>,
+    server: &Server<G, U>,
+    seen: &mut Option<Stamp>,
+    own: &mut Loop<Wired, G, L>,
+) {
+    if own.peers.has_newcomer() {
+        if let Some(found) = server.users.look(seen) {
+            let shared = &server.shared;
+            let owner = session.users.owner();
+            if let Some(users) = shared.told.take(rt, &shared.log, seen, owner, found) {
+                own.users = Some(users);
+            }
+        }
+    }
+}
+
+// Tells what happened.
+fn tell_news<L: Roll, G: Gate + Drop, R: Clock + Wait>(
+    rt: &R,
+    shared: &Shared,
+    own: &mut Loop<Wired, G, L>,
+) {
+    if shared.tells {
+        for news in own.peers.take_news() {
+            shared.log.put(rt, &NewsLine(news));
+        }
+    }
+}
+
+// A turn begins: who has something to say, and who is new.
+fn begin_turn<'a, L: Roll, G: Gate + Drop, R: Clock + Wait>(
+    rt: &R,
+    events: &Events,
+    watch: &mut Watch<'a>,
+    own: &mut Loop<Wired<'a>, G, L>,
 ) -> io::Result<()> {
-    own.peers.finish(rt, house, end);
-    let mut pauses = PAUSES;
-    for _ in 0..ROUNDS {
-        if own.peers.is_empty() || pauses == 0 {
-            return Ok(());
-        }
-        if !wait(&mut poll, &mut events, Some(Duration::from_millis(PAUSE)))? {
-            pauses = pauses.saturating_sub(1);
-        }
-        own.peers.finish(rt, house, end);
+    if let Ok(now) = rt.monotonic() {
+        own.now = now;
+    }
+    let is_asked = sort(events, own);
+    take_in(rt, watch, own, is_asked)
+}
+
+// One turn: what came is read and done, and what comes of it is written.
+fn turn<L: Roll, G: Gate + Drop, R: Clock + Wait>(
+    rt: &R,
+    session: &SharedSession<L>,
+    watch: &mut Watch,
+    own: &mut Loop<Wired, G, L>,
+) -> io::Result<()> {
+    let now = rt.monotonic().ok();
+    own.read_all(rt, session);
+    let is_news = watch.pace.note(watch.shared, now, own.has_read_much());
+    tell_others(watch, own, is_news)?;
+    let holds_draws = watch.pace.holds(watch.shared, now, own.has_typed());
+    own.expire();
+    own.peers.settle(rt, session, holds_draws);
+    tell_others(watch, own, false)?;
+    tell_news(rt, watch.shared, own);
+    if let Some(end) = own.peers.end() {
+        watch.shared.end(end)?;
     }
     Ok(())
 }
 
 // One loop, until the server ends: its seat.
-fn run_loop<L: Roll, R: Clock + Wait>(
+fn run_loop<L: Roll, G: Gate + Copy + Drop, U: UsersSource, R: Clock + Wait>(
     rt: &R,
     alloc: Global,
-    shared: &Shared,
-    house: &House<L>,
+    server: &Server<G, U>,
+    session: &SharedSession<L>,
     seat: Seat<L>,
-    post: Post,
+    start: LoopStart,
 ) -> io::Result<Seat<L>> {
-    let Post {
+    let LoopStart {
         me,
         mut poll,
-        porter,
-    } = post;
+        acceptor,
+        seen,
+    } = start;
+    let shared = &server.shared;
+    let Some(loop_handle) = shared.loop_handles.get(me) else {
+        return Ok(seat);
+    };
+    let mut gate = server.gate;
+    gate.stand_at(me);
+    let registry = poll.registry().try_clone()?;
     let mut watch = Watch {
         shared,
+        loop_handle,
+        registry: &registry,
         me,
-        porter,
+        acceptor,
         pace: Pace::new(),
     };
+    let mut seen = Some(seen);
     let mut events = Events::with_capacity(alloc, 64)?;
-    let mut own: Loop<UnixStream, Open, L> = Loop::new(alloc, seat, Open)?;
+    let loops = shared.loop_handles.len();
+    let mut own: Loop<Wired, G, L> = Loop::new(alloc, seat, gate, loops)?;
+    own.peers.tells = shared.tells;
     for _ in rt.forever() {
-        let timeout = watch.timeout(own.peers.has_more(), own.peers.has_waiting());
-        wait(&mut poll, &mut events, timeout)?;
-        turn(rt, house, &poll, &events, &mut watch, &mut own)?;
+        sleep(&mut poll, &mut events, &watch, &own)?;
+        begin_turn(rt, &events, &mut watch, &mut own)?;
+        look_at_users(rt, session, server, &mut seen, &mut own);
+        turn(rt, session, &mut watch, &mut own)?;
         if let Some(end) = shared.over.get() {
-            let end = *end;
-            wind_up(rt, house, poll, events, &mut own, end)?;
+            watch.acceptor = None;
+            wind_up(rt, session, &mut poll, &mut events, &mut own, *end)?;
+            tell_news(rt, shared, &mut own);
             break;
         }
     }
     Ok(own.into_seat())
 }
 
-impl Keeper<Post> for Shared {
-    fn run<L: Roll, R: Clock + Wait>(
+/// The loops of a server.
+#[derive(Drop)]
+pub struct Server<'a, G, U> {
+    pub shared: Shared,
+    /// Who may connect.
+    pub users: U,
+    /// What the owner commands before anybody connects.
+    pub setup: Setup<'a>,
+    /// Is told of each call that a loop submits.
+    pub gate: G,
+    /// Is told who comes and goes.
+    pub log: Stderr,
+}
+
+impl<R, G, U> LoopBody<LoopStart, R> for Server<'_, G, U>
+where
+    R: Clock + Wait,
+    G: Gate + Copy + Sync + Drop,
+    U: UsersSource + Sync + Drop,
+{
+    fn run<L: Roll>(
         &self,
         rt: &R,
         alloc: Global,
-        house: &House<L>,
+        session: &SharedSession<L>,
         seat: Seat<L>,
-        post: Post,
+        start: LoopStart,
     ) -> Option<Seat<L>> {
-        match run_loop(rt, alloc, self, house, seat, post) {
-            Ok(seat) => Some(seat),
-            Err(_) => {
-                self.fail();
-                None
-            }
+        let seat = run_loop(rt, alloc, self, session, seat, start).ok();
+        if seat.is_none() {
+            let _ = self.shared.end(End::Fault);
         }
+        self.shared.log.leave(rt);
+        seat
     }
 
-    fn fail(&self) {
-        let _ = self.end(End::Fault);
+    fn setup(&self) -> &[u8] {
+        &self.setup.file
+    }
+
+    fn fail(&self, rt: &R) {
+        let _ = self.shared.end(End::Fault);
+        self.shared.log.leave(rt);
+    }
+
+    fn stand_by(&self, rt: &R) {
+        let mut errors = self.log;
+        self.shared.log.write_all(rt, &mut errors);
     }
 }

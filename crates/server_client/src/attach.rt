@@ -51,6 +51,7 @@ fn shared_of<R: Net + Files<File = File> + AllocGlobal, I: Drop, O: Drop>(
             input: Some(input),
             asked,
             said: None,
+            is_over: false,
         }),
         outlet: Mutex::new(Outlet {
             output,

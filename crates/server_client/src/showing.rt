@@ -113,33 +113,44 @@ fn take<
     Ok(None)
 }
 
-// Reads the socket once. The answer is how the peer ended, where it did.
+// What a read of the socket came to.
+#[derive(Drop)]
+enum Came {
+    Some,
+    /// The peer ended so.
+    End(Result<Why, ClientFault>),
+    /// Another thread read how it ended.
+    Nothing,
+}
+
+// Reads the socket once.
 fn read_once<
     R: Threads + Wait + AllocGlobal + Copy + Send + 'static,
     I: Read + Send + Drop + 'static,
     O: Write + Send + Drop + 'static,
->(
-    rt: &R,
-    shared: &Arc<Shared<I, O>, Global>,
-    buffer: &mut [u8],
-) -> Result<Option<Result<Why, ClientFault>>, ClientFault> {
+>(rt: &R, shared: &Arc<Shared<I, O>, Global>, buffer: &mut [u8]) -> Result<Came, ClientFault> {
     let mut guard = shared.intake.lock(rt);
     let intake = &mut *guard;
+    if intake.is_over {
+        return Ok(Came::Nothing);
+    }
     let mut stream = &shared.stream;
     let count = stream.read(buffer)?;
     if count == 0 {
+        intake.is_over = true;
         list(rt, shared, intake)?;
-        return Ok(Some(Err(ClientFault::Ended)));
+        return Ok(Came::End(Err(ClientFault::Ended)));
     }
     let mut messages = Vec::new(rt.alloc());
     let fed = intake.reader.feed(&buffer[..count], &mut messages);
     for message in &messages {
         if let Some(why) = take(rt, shared, intake, message)? {
-            return Ok(Some(ended(shared.way, why, intake.said.take())));
+            intake.is_over = true;
+            return Ok(Came::End(ended(shared.way, why, intake.said.take())));
         }
     }
     match fed {
-        Ok(()) => Ok(None),
+        Ok(()) => Ok(Came::Some),
         Err(ProtoFault::NoMemory) => Err(ClientFault::NoMemory),
         Err(_) => Err(ClientFault::NoServerOfOurs),
     }
@@ -196,9 +207,13 @@ pub fn show<
 >(rt: &R, shared: &Arc<Shared<I, O>, Global>) -> Result<(), ClientFault> {
     let mut buffer = vec![in rt.alloc(); 0; LONGEST]?;
     for _ in rt.forever() {
-        let Some(end) = read_once(rt, shared, buffer.as_mut_slice())? else {
-            write_waiting(rt, shared)?;
-            continue;
+        let end = match read_once(rt, shared, buffer.as_mut_slice())? {
+            Came::Some => {
+                write_waiting(rt, shared)?;
+                continue;
+            }
+            Came::End(end) => end,
+            Came::Nothing => break,
         };
         // Nobody waits for a window's program for long: it may read no more.
         if shared.way == Way::Window {

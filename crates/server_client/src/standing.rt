@@ -34,6 +34,8 @@ pub struct Intake<I> {
     pub asked: Option<File>,
     /// What the session said last before it let the peer in.
     pub said: Option<String>,
+    /// The peer's end was read: nothing behind it counts.
+    pub is_over: bool,
 }
 
 /// Where is written to: one thread at a time.

@@ -1,10 +1,12 @@
 //! One loop of the server: what it reads of its connections, and what their frames ask for.
 #![tactic(auto)]
 
+mod ration;
 mod requests;
 mod turn;
 
 pub use server_peers::{
-    End, Gate, House, HouseFault, Hub, Keeper, Open, Peers, Seat, Session, keep,
+    End, Gate, Guest, Hub, LoopBody, LoopsFault, News, Open, Peers, Seat, Session, SharedSession,
+    keep,
 };
 pub use turn::Loop;

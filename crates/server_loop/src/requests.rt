@@ -1,10 +1,10 @@
 //! What peers ask for.
 
-use crate::turn::Loop;
+use crate::turn::{Loop, PIECE, Went};
 use acl::UserId;
 use attach_proto::{Message, Text, Token, Why};
 use command_lang::{Command, FaultKind, parse};
-use server_peers::{Gate, House, Role, Sending, Unanswered};
+use server_peers::{Asked, Gate, Guest, News, Role, Sending, SharedSession, Unanswered};
 use server_turn::authenticate;
 use session_model::{Event, Refusal};
 use std::alloc::{AllocError, Global};
@@ -13,6 +13,8 @@ use std::sync::Wait;
 use std::sync::ledger::Ledger as Roll;
 
 const UNKNOWN: &str = "unknown user or wrong token";
+
+const NO_ROOM: &str = "the server has no room for more connections";
 
 fn is_quit(alloc: Global, line: &[u8]) -> Result<bool, AllocError> {
     match parse(alloc, line) {
@@ -23,93 +25,121 @@ fn is_quit(alloc: Global, line: &[u8]) -> Result<bool, AllocError> {
 }
 
 impl<S: Read + Write + Drop, G: Gate + Drop, L: Roll> Loop<S, G, L> {
-    /// Does what a message of a connection asks for. One that isn't read any more asks for nothing.
-    pub(crate) fn obey(&mut self, rt: &impl Wait, house: &House<L>, key: usize, message: &Message) {
-        if !self.peers.is_open(key) {
-            return;
-        }
-        match (self.peers.role_of(key), message) {
-            (Role::Stranger, _) => self.begin(rt, house, key, message),
-            (Role::Client(client), Message::Keys(bytes)) => self.keys(
-                rt,
-                house,
-                key,
-                client,
-                bytes.as_slice(),
-            ),
+    /// Does a message of a connection, or a step of it. One that isn't read any more asks for
+    /// nothing.
+    pub(crate) fn obey(
+        &mut self,
+        rt: &impl Wait,
+        shared: &SharedSession<L>,
+        key: usize,
+        asked: &mut Asked,
+    ) -> Went {
+        match (self.peers.role_of(key), &asked.message) {
+            (Role::Stranger, _) => return self.begin(rt, shared, key, &asked.message),
+            (Role::Client(client), Message::Keys(_)) => {
+                return self.keys(rt, shared, key, client, asked);
+            }
+            (Role::Window(window), Message::Output(_)) => {
+                return self.output(rt, shared, key, window, asked);
+            }
             (Role::Client(client), Message::Resize { rows, cols }) => {
                 let event = Event::Resize {
                     client,
                     rows: *rows,
                     cols: *cols,
                 };
-                self.change(rt, house, key, event)
-            }
-            (Role::Window(window), Message::Output(bytes)) => {
-                let event = Event::Output {
-                    window,
-                    bytes: bytes.as_slice(),
-                };
-                self.change(rt, house, key, event)
+                self.change(rt, shared, key, event)
             }
             (Role::Client(_) | Role::Window(_), Message::Detach) => self
                 .peers
-                .detach(rt, house, key),
-            _ => self.peers.fault(rt, house, key),
+                .detach(rt, shared, key),
+            _ => self.peers.fault(rt, shared, key),
         }
+        Went::Done
     }
 
     // What is refused for another cause than memory is passed over.
-    fn change(&mut self, rt: &impl Wait, house: &House<L>, key: usize, event: Event) {
-        if let Err(Unanswered::NoMemory) = self.peers.submit(rt, house, event) {
-            self.peers.fault(rt, house, key);
+    fn change(&mut self, rt: &impl Wait, shared: &SharedSession<L>, key: usize, event: Event) {
+        if let Err(Unanswered::NoMemory) = self.peers.submit(rt, shared, event) {
+            self.peers.fault(rt, shared, key);
         }
+    }
+
+    // Whether a user may cause one more entry. Where there is no memory to count them he may.
+    fn may_enter(&mut self, user: UserId) -> bool {
+        self.rations.takes(user, self.now).unwrap_or(true)
     }
 
     // A step reads up to the first command; the rest is the next step's.
-    fn keys(&mut self, rt: &impl Wait, house: &House<L>, key: usize, client: u32, bytes: &[u8]) {
-        let mut rest = bytes;
-        self.has_typed = true;
-        for _ in 0..bytes.len() {
-            let event = Event::Keys {
-                client,
-                bytes: rest,
-            };
-            let taken = match self.peers.submit(rt, house, event) {
-                Ok(answer) => match answer.reply() {
-                    Ok(done) => done.taken,
-                    Err(_) => return,
-                },
-                Err(Unanswered::NoMemory) => {
-                    self.peers.fault(rt, house, key);
-                    return;
-                }
-                Err(Unanswered::Over) => return,
-            };
-            match rest.get(taken..) {
-                Some(more) if !more.is_empty() => rest = more,
-                _ => return,
+    fn keys(
+        &mut self,
+        rt: &impl Wait,
+        shared: &SharedSession<L>,
+        key: usize,
+        client: u32,
+        asked: &mut Asked,
+    ) -> Went {
+        if let Some(user) = self.peers.user_of(key) {
+            if !self.may_enter(user) {
+                return Went::Held;
             }
+        }
+        self.has_typed = true;
+        let bytes = asked.rest();
+        let taken = match self.peers.submit(rt, shared, Event::Keys { client, bytes }) {
+            Ok(answer) => match answer.reply() {
+                Ok(done) => done.taken,
+                Err(_) => 0,
+            },
+            Err(Unanswered::NoMemory) => {
+                self.peers.fault(rt, shared, key);
+                0
+            }
+            Err(Unanswered::Over) => 0,
+        };
+        asked.done = asked.done.saturating_add(taken);
+        if taken == 0 || asked.rest().is_empty() {
+            Went::Done
+        } else {
+            Went::Part
         }
     }
 
-    fn user_of(
+    // A step takes a piece of a window's output; the rest is the next turn's.
+    fn output(
         &mut self,
         rt: &impl Wait,
-        house: &House<L>,
+        shared: &SharedSession<L>,
         key: usize,
-        name: &Text,
-        token: &Token,
-    ) -> Option<UserId> {
-        match authenticate(&house.users, name.as_str().as_bytes(), token.as_slice()) {
-            Ok(user) => Some(user),
-            Err(_) => {
-                self.peers
-                    .send(rt, house, key, Sending::Say(UNKNOWN.as_bytes()));
-                self.peers.dismiss(key, Why::Fault);
-                None
-            }
+        window: u32,
+        asked: &mut Asked,
+    ) -> Went {
+        let rest = asked.rest();
+        let bytes = rest.get(..PIECE).unwrap_or(rest);
+        let taken = bytes.len();
+        self.change(rt, shared, key, Event::Output { window, bytes });
+        self.output_left = self.output_left.saturating_sub(taken);
+        asked.done = asked.done.saturating_add(taken);
+        if asked.rest().is_empty() {
+            Went::Done
+        } else {
+            Went::Part
         }
+    }
+
+    fn user_of(&self, shared: &SharedSession<L>, name: &Text, token: &Token) -> Option<UserId> {
+        let users = match &self.users {
+            Some(users) => users,
+            None => &shared.users,
+        };
+        authenticate(users, name.as_str().as_bytes(), token.as_slice()).ok()
+    }
+
+    // A connection is told why it can't begin, and goes.
+    fn turn_away(&mut self, rt: &impl Wait, shared: &SharedSession<L>, key: usize, text: &str) {
+        self.peers
+            .send(rt, shared, key, Sending::Say(text.as_bytes()));
+        self.peers.dismiss(key, Why::Fault);
     }
 
     fn why_unanswered(&self, unanswered: Unanswered) -> Why {
@@ -120,17 +150,46 @@ impl<S: Read + Write + Drop, G: Gate + Drop, L: Roll> Loop<S, G, L> {
     }
 
     // The first message of a connection.
-    fn begin(&mut self, rt: &impl Wait, house: &House<L>, key: usize, message: &Message) {
+    fn begin(
+        &mut self,
+        rt: &impl Wait,
+        shared: &SharedSession<L>,
+        key: usize,
+        message: &Message,
+    ) -> Went {
         let (Message::Attach { token, name, .. }
         | Message::Window { token, name, .. }
         | Message::Command { token, name, .. }) = message
         else {
-            self.peers.fault(rt, house, key);
-            return;
+            self.peers.fault(rt, shared, key);
+            return Went::Done;
         };
-        let Some(user) = self.user_of(rt, house, key, name, token) else {
-            return;
+        let Some(user) = self.user_of(shared, name, token) else {
+            self.wrong_tokens = self.wrong_tokens.saturating_add(1);
+            self.peers.tell(News::WrongToken(self.wrong_tokens));
+            self.turn_away(rt, shared, key, UNKNOWN);
+            return Went::Done;
         };
+        if self.peers.is_extra(key) && !matches!(message, Message::Command { .. }) {
+            self.turn_away(rt, shared, key, NO_ROOM);
+            return Went::Done;
+        }
+        if !self.may_enter(user) {
+            return Went::Held;
+        }
+        self.peers.set_user(key, user);
+        self.begin_as(rt, shared, key, user, message);
+        Went::Done
+    }
+
+    fn begin_as(
+        &mut self,
+        rt: &impl Wait,
+        shared: &SharedSession<L>,
+        key: usize,
+        user: UserId,
+        message: &Message,
+    ) {
         match message {
             Message::Attach { rows, cols, .. } => {
                 let event = Event::Attach {
@@ -138,7 +197,7 @@ impl<S: Read + Write + Drop, G: Gate + Drop, L: Roll> Loop<S, G, L> {
                     rows: *rows,
                     cols: *cols,
                 };
-                self.join(rt, house, key, event)
+                self.join(rt, shared, key, user, event)
             }
             Message::Window {
                 rows,
@@ -154,18 +213,25 @@ impl<S: Read + Write + Drop, G: Gate + Drop, L: Roll> Loop<S, G, L> {
                     keep: *keep,
                     title: title.as_str(),
                 };
-                self.join(rt, house, key, event)
+                self.join(rt, shared, key, user, event)
             }
             Message::Command { window, line, .. } => {
-                self.command(rt, house, key, user, *window, line.as_slice())
+                self.command(rt, shared, key, user, *window, line.as_slice())
             }
             _ => {}
         }
     }
 
     // A connection becomes a client or a window.
-    fn join(&mut self, rt: &impl Wait, house: &House<L>, key: usize, event: Event) {
-        let answer = match self.peers.submit(rt, house, event) {
+    fn join(
+        &mut self,
+        rt: &impl Wait,
+        shared: &SharedSession<L>,
+        key: usize,
+        user: UserId,
+        event: Event,
+    ) {
+        let answer = match self.peers.submit(rt, shared, event) {
             Ok(answer) => answer,
             Err(unanswered) => {
                 let why = self.why_unanswered(unanswered);
@@ -175,16 +241,18 @@ impl<S: Read + Write + Drop, G: Gate + Drop, L: Roll> Loop<S, G, L> {
         };
         match answer.reply() {
             Ok(done) => {
-                let role = match event {
-                    Event::Open { .. } => Role::Window(done.made),
-                    _ => Role::Client(done.made),
+                let (role, guest) = match event {
+                    Event::Open { .. } => {
+                        (Role::Window(done.made), Guest::Window(user, done.number))
+                    }
+                    _ => (Role::Client(done.made), Guest::Client(user, done.made)),
                 };
-                self.peers.set_role(key, role);
+                self.peers.let_in(key, role, guest);
                 self.peers
-                    .send(rt, house, key, Sending::Welcome(done.number));
+                    .send(rt, shared, key, Sending::Welcome(done.number));
             }
             Err(refusal) => {
-                self.say_refusal(rt, house, key, refusal);
+                self.say_refusal(rt, shared, key, refusal);
                 self.peers.dismiss(key, Why::Fault);
             }
         }
@@ -195,7 +263,7 @@ impl<S: Read + Write + Drop, G: Gate + Drop, L: Roll> Loop<S, G, L> {
     fn command(
         &mut self,
         rt: &impl Wait,
-        house: &House<L>,
+        shared: &SharedSession<L>,
         key: usize,
         user: UserId,
         window: Option<u8>,
@@ -206,7 +274,7 @@ impl<S: Read + Write + Drop, G: Gate + Drop, L: Roll> Loop<S, G, L> {
             self.peers.dismiss(key, Why::Fault);
             return;
         };
-        let answer = match self.peers.submit(rt, house, event) {
+        let answer = match self.peers.submit(rt, shared, event) {
             Ok(answer) => answer,
             Err(unanswered) => {
                 let why = self.why_unanswered(unanswered);
@@ -214,12 +282,13 @@ impl<S: Read + Write + Drop, G: Gate + Drop, L: Roll> Loop<S, G, L> {
                 return;
             }
         };
-        self.peers.send(rt, house, key, Sending::Welcome(0));
+        self.peers.send(rt, shared, key, Sending::Welcome(0));
         match answer.reply() {
             Ok(done) => {
+                self.peers.tell(News::Done(user));
                 if let Some(text) = &done.text {
                     self.peers
-                        .send(rt, house, key, Sending::Say(text.as_slice()));
+                        .send(rt, shared, key, Sending::Say(text.as_slice()));
                 }
                 self.peers.dismiss(key, Why::Detached);
                 if is_quit {
@@ -227,16 +296,23 @@ impl<S: Read + Write + Drop, G: Gate + Drop, L: Roll> Loop<S, G, L> {
                 }
             }
             Err(refusal) => {
-                self.say_refusal(rt, house, key, refusal);
+                self.peers.tell(News::Refused(user));
+                self.say_refusal(rt, shared, key, refusal);
                 self.peers.dismiss(key, Why::Fault);
             }
         }
     }
 
-    fn say_refusal(&mut self, rt: &impl Wait, house: &House<L>, key: usize, refusal: &Refusal) {
+    fn say_refusal(
+        &mut self,
+        rt: &impl Wait,
+        shared: &SharedSession<L>,
+        key: usize,
+        refusal: &Refusal,
+    ) {
         let mut text = Vec::new(self.alloc);
         if refusal.text(&mut text).is_ok() {
-            self.peers.send(rt, house, key, Sending::Say(&text));
+            self.peers.send(rt, shared, key, Sending::Say(&text));
         }
     }
 }

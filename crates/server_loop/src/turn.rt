@@ -1,35 +1,95 @@
 //! One loop: what it reads.
 
-use server_peers::{Came, Gate, House, Peers, Seat};
+use crate::ration::Rations;
+use server_peers::{Came, Gate, Peers, Role, Seat, SharedSession};
+use server_turn::Users;
 use std::alloc::{AllocError, Global};
 use std::io::{Read, Write};
 use std::sync::Wait;
 use std::sync::ledger::Ledger as Roll;
+use std::time::Duration;
 
-// A peer that sends on and on lets the others have their turn after so many reads.
+// A connection whose reads are short is read so often at most before the others have their turn.
 const READS: usize = 16;
 
-const READ_SIZE: usize = 8192;
+// A frame is a little longer than half of it.
+const READ_SIZE: usize = 16_384;
+
+// So many messages, or steps of one, are done before the others have their turn.
+const STEPS: usize = 8;
+
+/// So many bytes of windows' output are done in a turn, and by one step at most.
+pub(crate) const PIECE: usize = 4_096;
+
+/// What became of a message.
+#[derive(Clone, Copy, Debug, PartialEq, Eq)]
+pub(crate) enum Went {
+    Done,
+    /// A rest of it is to be done.
+    Part,
+    /// It waits until its user may cause more entries.
+    Held,
+}
 
 /// One loop and its connections. It is told of each turn's reads and writes, and never waits for a
 /// peer.
-#[derive(Drop)]
 pub struct Loop<S, G, L: Roll> {
     pub(crate) alloc: Global,
     pub peers: Peers<S, G, L>,
+    /// Who may connect, where that isn't who might at first.
+    pub users: Option<Users>,
+    pub(crate) rations: Rations,
+    /// The time of this turn.
+    pub now: Duration,
     buffer: Vec<u8>,
     pub(crate) has_typed: bool,
     has_read_much: bool,
+    // How many bytes of output may be done in this turn.
+    pub(crate) output_left: usize,
+    // The window that has its turn first.
+    next: usize,
+    // How many had a wrong token.
+    pub(crate) wrong_tokens: u64,
+}
+
+impl<S: Drop, G: Drop, L: Roll> Drop for Loop<S, G, L> {
+    fn drop(self) {
+        let Loop {
+            alloc: _,
+            peers: _,
+            users: _,
+            rations: _,
+            now: _,
+            buffer: _,
+            has_typed: _,
+            has_read_much: _,
+            output_left: _,
+            next: _,
+            wrong_tokens: _,
+        } = self;
+    }
 }
 
 impl<S: Read + Write + Drop, G: Gate + Drop, L: Roll> Loop<S, G, L> {
-    pub fn new(alloc: Global, seat: Seat<L>, gate: G) -> Result<Loop<S, G, L>, AllocError> {
+    /// One of so many loops.
+    pub fn new(
+        alloc: Global,
+        seat: Seat<L>,
+        gate: G,
+        loops: usize,
+    ) -> Result<Loop<S, G, L>, AllocError> {
         Ok(Loop {
             alloc,
             peers: Peers::new(alloc, seat, gate),
+            users: None,
+            rations: Rations::new(alloc, loops),
+            now: Duration::ZERO,
             buffer: vec![in alloc; 0; READ_SIZE]?,
             has_typed: false,
             has_read_much: false,
+            output_left: PIECE,
+            next: 0,
+            wrong_tokens: 0,
         })
     }
 
@@ -38,49 +98,109 @@ impl<S: Read + Write + Drop, G: Gate + Drop, L: Roll> Loop<S, G, L> {
         std::mem::replace(&mut self.has_typed, false)
     }
 
-    /// Whether a connection had more for a turn than one read takes, since the last call.
+    /// Whether a connection had more than one read takes, since the last call.
     pub fn has_read_much(&mut self) -> bool {
         std::mem::replace(&mut self.has_read_much, false)
     }
 
     /// The seat, once the loop is over.
     pub fn into_seat(self) -> Seat<L> {
-        self.peers.into_seat()
+        let Loop {
+            alloc: _,
+            peers,
+            users: _,
+            rations: _,
+            now: _,
+            buffer: _,
+            has_typed: _,
+            has_read_much: _,
+            output_left: _,
+            next: _,
+            wrong_tokens: _,
+        } = self;
+        peers.into_seat()
     }
 
-    // Reads what a connection sent, until it has no more for now, or others are to have their turn.
-    fn read_from(&mut self, rt: &impl Wait, house: &House<L>, key: usize) {
-        for count in 0..READS {
-            let mut messages = Vec::new(self.alloc);
-            let came = self
-                .peers
-                .read(key, self.buffer.as_mut_slice(), &mut messages);
-            for message in &messages {
-                self.obey(rt, house, key, message);
+    fn is_window(&self, key: usize) -> bool {
+        matches!(self.peers.role_of(key), Role::Window(_))
+    }
+
+    // Does some of what a connection asked for. Whether all of it is done.
+    fn obey_some(&mut self, rt: &impl Wait, shared: &SharedSession<L>, key: usize) -> bool {
+        for _ in 0..STEPS {
+            if self.output_left == 0 && self.is_window(key) {
+                break;
+            }
+            let Some(mut asked) = self.peers.next_asked(key) else {
+                break;
+            };
+            match self.obey(rt, shared, key, &mut asked) {
+                Went::Done => {}
+                Went::Part => self.peers.put_back(key, asked, false),
+                Went::Held => {
+                    self.peers.put_back(key, asked, true);
+                    break;
+                }
+            }
+        }
+        if self.peers.is_faulty(key) {
+            self.peers.fault(rt, shared, key);
+        }
+        !self.peers.has_asked(key)
+    }
+
+    // Reads what a connection sent, where all that it asked for before is done, and does some of
+    // it.
+    fn serve(&mut self, rt: &impl Wait, shared: &SharedSession<L>, key: usize) {
+        for _ in 0..READS {
+            let mut came = Came::Some;
+            if !self.peers.has_asked(key) {
+                came = self.peers.read(key, self.buffer.as_mut_slice());
             }
             match came {
-                Came::Some => self.has_read_much |= 0 < count,
+                Came::Some => {}
+                Came::Much => self.has_read_much = true,
                 Came::Nothing => return,
-                Came::Fault => {
-                    self.peers.fault(rt, house, key);
-                    return;
-                }
                 Came::End => {
-                    self.peers.lose(rt, house, key);
+                    self.peers.lose(rt, shared, key);
                     return;
                 }
             }
+            if !self.obey_some(rt, shared, key) || came == Came::Much {
+                return;
+            }
         }
-        self.peers.is_ready(key);
     }
 
-    /// Reads what is there to be read, at most so much of each connection that others have their
-    /// turn.
-    pub fn read_all(&mut self, rt: &impl Wait, house: &House<L>) {
-        for key in 0..self.peers.capacity() {
-            if self.peers.may_have_more(key) {
-                self.read_from(rt, house, key);
+    // Windows have their turn one after the other, as far as output may be done in this turn.
+    fn serve_windows(&mut self, rt: &impl Wait, shared: &SharedSession<L>) {
+        self.output_left = PIECE;
+        let count = self.peers.capacity();
+        let first = self.next;
+        for key in (first..count).chain(0..first.min(count)) {
+            if self.output_left == 0 {
+                return;
+            }
+            if self.is_window(key) && self.peers.is_due_at(key) {
+                self.next = key.saturating_add(1);
+                self.serve(rt, shared, key);
             }
         }
+    }
+
+    /// Those that were waited for long enough go.
+    pub fn expire(&mut self) {
+        self.peers.expire(self.now);
+    }
+
+    /// Reads what is there to be read and does it, at most so much of each connection that others
+    /// have their turn, and keys before output.
+    pub fn read_all(&mut self, rt: &impl Wait, shared: &SharedSession<L>) {
+        for key in 0..self.peers.capacity() {
+            if !self.is_window(key) && self.peers.is_due_at(key) {
+                self.serve(rt, shared, key);
+            }
+        }
+        self.serve_windows(rt, shared);
     }
 }

@@ -2,20 +2,22 @@
 
 use crate::end::End;
 use crate::gate::Gate;
+use crate::news::News;
+use crate::peer::{Role, Stage};
 use crate::peers::{Peers, Unanswered};
+use crate::shared_session::SharedSession;
 use attach_proto::Why;
-use server_house::House;
-use server_peer::{Role, Stage};
 use std::io::{Read, Write};
 use std::sync::Wait;
 use std::sync::ledger::Ledger as Roll;
+use std::time::Duration;
 
 impl<S: Read + Write + Drop, G: Gate + Drop, L: Roll> Peers<S, G, L> {
     // Tells the session that the connection left it. Without memory it is told in a later turn.
     pub(crate) fn tell_leaving(
         &mut self,
         rt: &impl Wait,
-        house: &House<L>,
+        shared: &SharedSession<L>,
         key: usize,
     ) -> Result<(), Unanswered> {
         let Some(peer) = self.peers.get(key) else {
@@ -24,7 +26,7 @@ impl<S: Read + Write + Drop, G: Gate + Drop, L: Roll> Peers<S, G, L> {
         let Some(event) = peer.leaves.parting() else {
             return Ok(());
         };
-        match self.submit(rt, house, event) {
+        match self.submit(rt, shared, event) {
             Err(Unanswered::NoMemory) => {
                 self.has_waiting = true;
                 return Err(Unanswered::NoMemory);
@@ -38,12 +40,18 @@ impl<S: Read + Write + Drop, G: Gate + Drop, L: Roll> Peers<S, G, L> {
     }
 
     // The connection is told to go, behind all that was put into it.
-    pub(crate) fn expel(&mut self, rt: &impl Wait, house: &House<L>, key: usize, why: Why) {
+    pub(crate) fn expel(
+        &mut self,
+        rt: &impl Wait,
+        shared: &SharedSession<L>,
+        key: usize,
+        why: Why,
+    ) {
         if let Some(peer) = self.peers.get_mut(key) {
             peer.end(why);
             peer.leave();
         }
-        let _ = self.tell_leaving(rt, house, key);
+        let _ = self.tell_leaving(rt, shared, key);
     }
 
     /// A connection that is nobody's is told to go, unless it was.
@@ -57,34 +65,86 @@ impl<S: Read + Write + Drop, G: Gate + Drop, L: Roll> Peers<S, G, L> {
 
     /// The connection sent what it mustn't: it is told to go, behind all that came of what it sent
     /// before.
-    pub fn fault(&mut self, rt: &impl Wait, house: &House<L>, key: usize) {
-        self.hand_out(rt, house);
+    pub fn fault(&mut self, rt: &impl Wait, shared: &SharedSession<L>, key: usize) {
+        self.hand_out(rt, shared);
         if self.is_open(key) {
-            self.expel(rt, house, key, Why::Fault);
+            if self.role_of(key) == Role::Stranger {
+                self.tell(News::Misfit);
+            }
+            self.expel(rt, shared, key, Why::Fault);
         }
     }
 
     /// The connection asked to go: its GONE comes from the session.
-    pub fn detach(&mut self, rt: &impl Wait, house: &House<L>, key: usize) {
+    pub fn detach(&mut self, rt: &impl Wait, shared: &SharedSession<L>, key: usize) {
         if let Some(peer) = self.peers.get_mut(key) {
             peer.stage = Stage::Leaving;
             peer.leaves = peer.role;
         }
-        if self.tell_leaving(rt, house, key).is_err() {
-            self.expel(rt, house, key, Why::Fault);
+        if self.tell_leaving(rt, shared, key).is_err() {
+            self.expel(rt, shared, key, Why::Fault);
         }
     }
 
     /// The connection ended or failed: what it wasn't sent is given up.
-    pub fn lose(&mut self, rt: &impl Wait, house: &House<L>, key: usize) {
+    pub fn lose(&mut self, rt: &impl Wait, shared: &SharedSession<L>, key: usize) {
         if let Some(peer) = self.peers.get_mut(key) {
             peer.close();
         }
-        let _ = self.tell_leaving(rt, house, key);
+        let _ = self.tell_leaving(rt, shared, key);
+    }
+
+    /// Of the connections whose first message isn't done, the one that came first is told to go, if
+    /// there are so many or more.
+    pub fn let_oldest_go(&mut self, most: usize) {
+        let mut count = 0usize;
+        let mut oldest: Option<(u64, usize)> = None;
+        for (key, peer) in self.peers.iter() {
+            if peer.is_new() {
+                count = count.saturating_add(1);
+                if oldest.is_none_or(|(number, _)| peer.number < number) {
+                    oldest = Some((peer.number, key));
+                }
+            }
+        }
+        if let Some((_, key)) = oldest {
+            if count >= most {
+                self.dismiss(key, Why::Fault);
+                self.close_at_once(key);
+            }
+        }
+    }
+
+    // Writes what the connection takes, and closes it.
+    fn close_at_once(&mut self, key: usize) {
+        if let Some(peer) = self.peers.get_mut(key) {
+            peer.write();
+            peer.close();
+        }
+        self.sweep();
+    }
+
+    /// Those whose first message didn't come in time are told to go, and those that were told so
+    /// and didn't read it are closed.
+    pub fn expire(&mut self, now: Duration) {
+        for key in 0..self.peers.capacity() {
+            let Some(peer) = self.peers.get_mut(key) else {
+                continue;
+            };
+            if peer.is_overdue(now) {
+                match peer.stage {
+                    Stage::Ending => peer.close(),
+                    _ => peer.end(Why::Fault),
+                }
+            }
+        }
     }
 
     pub(crate) fn sweep(&mut self) {
         for key in 0..self.peers.capacity() {
+            if let Some(news) = self.peers.get_mut(key).and_then(|peer| peer.farewell()) {
+                self.tell(news);
+            }
             if self.peers.get(key).is_some_and(|peer| peer.is_done()) {
                 let _ = self.peers.try_remove(key);
             }
@@ -92,8 +152,8 @@ impl<S: Read + Write + Drop, G: Gate + Drop, L: Roll> Peers<S, G, L> {
     }
 
     /// The server ends: all peers are told so, and those that were nobody's are closed.
-    pub fn finish(&mut self, rt: &impl Wait, house: &House<L>, end: End) {
-        self.hand_out(rt, house);
+    pub fn finish(&mut self, rt: &impl Wait, shared: &SharedSession<L>, end: End) {
+        self.hand_out(rt, shared);
         for key in 0..self.peers.capacity() {
             if let Some(peer) = self.peers.get_mut(key) {
                 match peer.role {

@@ -2,15 +2,26 @@
 
 use crate::end::End;
 use crate::gate::Gate;
-use attach_proto::Message;
-use server_house::{Answer, House, HubFault, Seat};
-use server_peer::{Came, Peer, Role, Stage};
+use crate::inbox::Asked;
+use crate::news::{Guest, News};
+use crate::peer::{Peer, Role, Stage};
+use crate::shared_session::SharedSession;
+use crate::stream::Came;
+use acl::UserId;
+use hub::{Answer, FULL, HubFault, Seat};
 use session_model::Event;
 use slab::Slab;
 use std::alloc::{AllocError, Global};
 use std::io::{Read, Write};
 use std::sync::Wait;
 use std::sync::ledger::Ledger as Roll;
+use std::time::Duration;
+
+// So much news waits at most until it is taken.
+const MOST_NEWS: usize = 1_024;
+
+// At so many hundredths of the trail's most entries there is news.
+const MARKS: [u8; 4] = [50, 75, 90, 99];
 
 /// Why a submitted event has no answer.
 #[derive(Clone, Copy, Debug, PartialEq, Eq)]
@@ -27,10 +38,21 @@ pub struct Peers<S, G, L: Roll> {
     pub(crate) seat: Seat<L>,
     gate: G,
     pub(crate) peers: Slab<Peer<S>>,
+    // How many connections were taken in.
+    number: u64,
     has_submitted: bool,
+    // Of what was submitted something may have an effect beside a draw.
+    has_acted: bool,
+    // A step was made since what waits was last taken.
+    pub(crate) is_behind: bool,
     // Something was refused for want of memory, and is tried again in the next turn.
     pub(crate) has_waiting: bool,
+    // The first connection that wasn't looked at yet, while draws are asked for.
+    pub(crate) draws_from: Option<usize>,
     pub(crate) end: Option<End>,
+    /// Whether news is told.
+    pub tells: bool,
+    news: Vec<News>,
 }
 
 impl<S: Read + Write + Drop, G: Gate + Drop, L: Roll> Peers<S, G, L> {
@@ -40,9 +62,15 @@ impl<S: Read + Write + Drop, G: Gate + Drop, L: Roll> Peers<S, G, L> {
             seat,
             gate,
             peers: Slab::new(alloc),
+            number: 0,
             has_submitted: false,
+            has_acted: false,
+            is_behind: false,
             has_waiting: false,
+            draws_from: None,
             end: None,
+            tells: false,
+            news: Vec::new(alloc),
         }
     }
 
@@ -51,9 +79,13 @@ impl<S: Read + Write + Drop, G: Gate + Drop, L: Roll> Peers<S, G, L> {
         self.peers.vacant_key()
     }
 
-    /// Takes a connection in, under `next_key`. Without memory it is closed.
-    pub fn admit(&mut self, stream: S) -> Result<(), AllocError> {
-        self.peers.insert(Peer::new(self.alloc, stream)?)?;
+    /// Takes a connection in, under `next_key`. Without memory it is closed. One that is taken in
+    /// though no more are to stay is extra.
+    pub fn admit(&mut self, stream: S, is_extra: bool) -> Result<(), AllocError> {
+        let number = self.number;
+        self.peers
+            .insert(Peer::new(self.alloc, stream, number, is_extra)?)?;
+        self.number = number.saturating_add(1);
         Ok(())
     }
 
@@ -71,21 +103,38 @@ impl<S: Read + Write + Drop, G: Gate + Drop, L: Roll> Peers<S, G, L> {
         self.peers.capacity()
     }
 
-    /// Whether a connection has more to read, though no event will tell of it.
-    pub fn has_more(&self) -> bool {
-        self.peers
-            .iter()
-            .any(|(_, peer)| peer.has_more && peer.stage == Stage::Open)
+    /// Whether something is to be done at once, though no event will tell of it.
+    pub fn is_due(&self) -> bool {
+        self.is_behind
+            || self.draws_from.is_some()
+            || self.peers.iter().any(|(_, peer)| peer.is_due())
     }
 
-    /// Whether something is to be tried again, though no event will tell of it.
+    /// Whether something is to be tried again soon, though no event will tell of it.
     pub fn has_waiting(&self) -> bool {
-        self.has_waiting
+        self.has_waiting || self.peers.iter().any(|(_, peer)| peer.is_held)
+    }
+
+    /// Whether a first message may be there.
+    pub fn has_newcomer(&self) -> bool {
+        self.peers
+            .iter()
+            .any(|(_, peer)| peer.is_new() && peer.is_due())
+    }
+
+    /// Whether a connection is waited for, which has a time for it.
+    pub fn is_awaiting(&self) -> bool {
+        self.peers.iter().any(|(_, peer)| peer.is_awaited())
     }
 
     /// Whether a step other than a draw was submitted since the last call.
     pub fn has_submitted(&mut self) -> bool {
         std::mem::replace(&mut self.has_submitted, false)
+    }
+
+    /// Whether a step was submitted since the last call that may have an effect beside a draw.
+    pub fn has_acted(&mut self) -> bool {
+        std::mem::replace(&mut self.has_acted, false)
     }
 
     /// Why the server is to end, if it is.
@@ -103,21 +152,54 @@ impl<S: Read + Write + Drop, G: Gate + Drop, L: Roll> Peers<S, G, L> {
         self.seat
     }
 
+    /// Tells what happened. Without memory, and where nobody takes it, it is left out.
+    pub fn tell(&mut self, news: News) {
+        if self.tells && self.news.len() < MOST_NEWS {
+            let _ = self.news.push(news);
+        }
+    }
+
+    /// Takes what happened since the last call.
+    pub fn take_news(&mut self) -> Vec<News> {
+        let none = Vec::new(self.alloc);
+        std::mem::replace(&mut self.news, none)
+    }
+
+    // An entry has this place.
+    fn tell_filled(&mut self, place: usize) {
+        for mark in MARKS {
+            if place == FULL * usize::from(mark) / 100 {
+                self.tell(News::Filled(mark));
+            }
+        }
+    }
+
     /// Submits an event to the session that the loops share.
     pub fn submit<'a>(
         &mut self,
         rt: &impl Wait,
-        house: &House<L>,
+        shared: &SharedSession<L>,
         event: Event<'a>,
     ) -> Result<Answer<'a>, Unanswered> {
         self.gate.before();
-        let answer = house.hub.submit(rt, &mut self.seat, event);
+        let answer = shared.hub.submit(rt, &mut self.seat, event);
         self.gate.after();
-        if !matches!(event, Event::Draw { .. }) {
-            self.has_submitted = true;
+        self.is_behind = true;
+        match event {
+            Event::Draw { .. } => {}
+            Event::Output { .. } => self.has_submitted = true,
+            _ => {
+                self.has_submitted = true;
+                self.has_acted = true;
+            }
         }
         match answer {
-            Ok(answer) => Ok(answer),
+            Ok(answer) => {
+                if let Some(place) = answer.place() {
+                    self.tell_filled(place);
+                }
+                Ok(answer)
+            }
             Err(HubFault::NoMemory) => Err(Unanswered::NoMemory),
             Err(HubFault::TrailFull) => {
                 self.end = Some(End::TrailFull);
@@ -130,27 +212,79 @@ impl<S: Read + Write + Drop, G: Gate + Drop, L: Roll> Peers<S, G, L> {
         }
     }
 
-    /// A connection has something to read.
-    pub fn is_ready(&mut self, key: usize) {
+    /// A connection has something to read, and perhaps its other end was closed.
+    pub fn is_ready(&mut self, key: usize, has_hung_up: bool) {
         if let Some(peer) = self.peers.get_mut(key) {
             peer.has_more = true;
+            peer.has_hung_up |= has_hung_up;
         }
     }
 
-    /// Whether a connection may have something to read.
-    pub fn may_have_more(&self, key: usize) -> bool {
-        self.peers.get(key).is_some_and(|peer| peer.has_more)
+    /// Whether a connection has something to do, which is tried again where it was held.
+    pub fn is_due_at(&mut self, key: usize) -> bool {
+        match self.peers.get_mut(key) {
+            Some(peer) => {
+                peer.is_held = false;
+                peer.is_due()
+            }
+            None => false,
+        }
     }
 
-    /// Reads once from a connection that is open, and adds the messages that are whole with it.
-    pub fn read(&mut self, key: usize, buffer: &mut [u8], messages: &mut Vec<Message>) -> Came {
+    /// Reads once from a connection that is open, and all of whose messages are done.
+    pub fn read(&mut self, key: usize, buffer: &mut [u8]) -> Came {
         match self.peers.get_mut(key) {
-            Some(peer) if peer.stage == Stage::Open => {
-                peer.has_more = false;
-                peer.read(buffer, messages)
-            }
+            Some(peer) if peer.stage == Stage::Open && peer.has_more => peer.read(buffer),
             _ => Came::Nothing,
         }
+    }
+
+    /// Whether messages of a connection aren't done yet.
+    pub fn has_asked(&self, key: usize) -> bool {
+        self.peers
+            .get(key)
+            .is_some_and(|peer| !peer.inbox.is_empty())
+    }
+
+    /// Takes out what a connection asks for next, if it is open.
+    pub fn next_asked(&mut self, key: usize) -> Option<Asked> {
+        match self.peers.get_mut(key) {
+            Some(peer) if peer.stage == Stage::Open => peer.inbox.next(),
+            _ => None,
+        }
+    }
+
+    /// Whether what a connection sent, behind all that was done, is no frame.
+    pub fn is_faulty(&self, key: usize) -> bool {
+        self.peers
+            .get(key)
+            .is_some_and(|peer| peer.stage == Stage::Open && peer.inbox.is_faulty())
+    }
+
+    /// Puts back what was taken out, to be done later; perhaps until its user may.
+    pub fn put_back(&mut self, key: usize, asked: Asked, is_held: bool) {
+        if let Some(peer) = self.peers.get_mut(key) {
+            peer.inbox.put_back(asked);
+            peer.is_held = is_held;
+        }
+    }
+
+    pub fn user_of(&self, key: usize) -> Option<UserId> {
+        match self.peers.get(key) {
+            Some(peer) => peer.user,
+            None => None,
+        }
+    }
+
+    pub fn set_user(&mut self, key: usize, user: UserId) {
+        if let Some(peer) = self.peers.get_mut(key) {
+            peer.user = Some(user);
+        }
+    }
+
+    /// Whether a connection was taken in though no more are to stay.
+    pub fn is_extra(&self, key: usize) -> bool {
+        self.peers.get(key).is_some_and(|peer| peer.is_extra)
     }
 
     pub fn role_of(&self, key: usize) -> Role {
@@ -160,10 +294,13 @@ impl<S: Read + Write + Drop, G: Gate + Drop, L: Roll> Peers<S, G, L> {
         }
     }
 
-    pub fn set_role(&mut self, key: usize, role: Role) {
+    /// A connection brings a guest, who is this to the session.
+    pub fn let_in(&mut self, key: usize, role: Role, guest: Guest) {
         if let Some(peer) = self.peers.get_mut(key) {
             peer.role = role;
+            peer.guest = Some(guest);
         }
+        self.tell(News::Came(guest));
     }
 
     pub fn is_open(&self, key: usize) -> bool {

@@ -1,17 +1,21 @@
 //! What connections are sent, and when they are drawn.
 
 use crate::end::End;
+use crate::frames::{Sending, put, why_of};
 use crate::gate::Gate;
+use crate::peer::{Role, Stage};
 use crate::peers::{Peers, Unanswered};
+use crate::shared_session::SharedSession;
 use attach_proto::Why;
-use server_house::House;
-use server_peer::{Role, Sending, Stage, put, why_of};
 use session_model::{Effect, Event, Reason};
 use std::io::{Read, Write};
 use std::sync::Wait;
 use std::sync::ledger::Ledger as Roll;
 
 const MOST_UNSENT: usize = 1_048_576;
+
+// So many draws are asked for in a turn; the others in the next ones, between which keys are read.
+const DRAWS: usize = 4;
 
 impl<S: Read + Write + Drop, G: Gate + Drop, L: Roll> Peers<S, G, L> {
     fn key_of(&self, role: Role) -> Option<usize> {
@@ -23,13 +27,19 @@ impl<S: Read + Write + Drop, G: Gate + Drop, L: Roll> Peers<S, G, L> {
 
     /// Puts something behind what waits for a connection. Where it can't be had, the connection
     /// goes.
-    pub fn send(&mut self, rt: &impl Wait, house: &House<L>, key: usize, sending: Sending) {
+    pub fn send(
+        &mut self,
+        rt: &impl Wait,
+        shared: &SharedSession<L>,
+        key: usize,
+        sending: Sending,
+    ) {
         let alloc = self.alloc;
         let Some(peer) = self.peers.get_mut(key) else {
             return;
         };
         if peer.listens() && put(alloc, &mut peer.turn, sending).is_err() {
-            self.expel(rt, house, key, Why::Fault);
+            self.expel(rt, shared, key, Why::Fault);
         }
     }
 
@@ -47,38 +57,39 @@ impl<S: Read + Write + Drop, G: Gate + Drop, L: Roll> Peers<S, G, L> {
         }
     }
 
-    fn hand(&mut self, rt: &impl Wait, house: &House<L>, role: Role, sending: Sending) {
+    fn hand(&mut self, rt: &impl Wait, shared: &SharedSession<L>, role: Role, sending: Sending) {
         if let Some(key) = self.key_of(role) {
-            self.send(rt, house, key, sending);
+            self.send(rt, shared, key, sending);
         }
     }
 
     /// Takes what waits for the loop's peers, and puts it into their connections.
-    pub(crate) fn hand_out(&mut self, rt: &impl Wait, house: &House<L>) {
-        let (effects, is_told) = house.hub.take(rt, &mut self.seat);
+    pub(crate) fn hand_out(&mut self, rt: &impl Wait, shared: &SharedSession<L>) {
+        self.is_behind = false;
+        let (effects, is_told) = shared.hub.take(rt, &mut self.seat);
         for effect in &effects {
             match effect {
                 Effect::Input(window, bytes) => self.hand(
                     rt,
-                    house,
+                    shared,
                     Role::Window(*window),
                     Sending::Input(bytes.as_slice()),
                 ),
                 Effect::Deliver(client, bytes) => self.hand(
                     rt,
-                    house,
+                    shared,
                     Role::Client(*client),
                     Sending::Draw(bytes.as_slice()),
                 ),
                 Effect::Say(client, text) => self.hand(
                     rt,
-                    house,
+                    shared,
                     Role::Client(*client),
                     Sending::Say(text.as_slice()),
                 ),
                 Effect::Size(window, rows, cols) => self.hand(
                     rt,
-                    house,
+                    shared,
                     Role::Window(*window),
                     Sending::Size(*rows, *cols),
                 ),
@@ -96,18 +107,18 @@ impl<S: Read + Write + Drop, G: Gate + Drop, L: Roll> Peers<S, G, L> {
     }
 
     /// Writes what waits for a connection, until it takes no more for now.
-    pub fn write_to(&mut self, rt: &impl Wait, house: &House<L>, key: usize) {
+    pub fn write_to(&mut self, rt: &impl Wait, shared: &SharedSession<L>, key: usize) {
         if let Some(peer) = self.peers.get_mut(key) {
             peer.write();
             if peer.stage == Stage::Closed {
-                let _ = self.tell_leaving(rt, house, key);
+                let _ = self.tell_leaving(rt, shared, key);
             }
         }
     }
 
-    fn write_all(&mut self, rt: &impl Wait, house: &House<L>) {
+    fn write_all(&mut self, rt: &impl Wait, shared: &SharedSession<L>) {
         for key in 0..self.peers.capacity() {
-            self.write_to(rt, house, key);
+            self.write_to(rt, shared, key);
         }
     }
 
@@ -122,56 +133,87 @@ impl<S: Read + Write + Drop, G: Gate + Drop, L: Roll> Peers<S, G, L> {
         }
     }
 
-    // Asks for a draw of each client that waits for one. Those that are refused for want of memory
-    // are asked in the next turn.
-    fn draw(&mut self, rt: &impl Wait, house: &House<L>) {
-        for key in 0..self.peers.capacity() {
+    // Asks for a client's draw. One that is refused for want of memory is asked in a later turn.
+    fn draw(&mut self, rt: &impl Wait, shared: &SharedSession<L>, key: usize, client: u32) {
+        match self.submit(rt, shared, Event::Draw { client }) {
+            Ok(_) => {
+                if let Some(peer) = self.peers.get_mut(key) {
+                    peer.turn.drawn();
+                }
+            }
+            Err(Unanswered::NoMemory) => self.has_waiting = true,
+            Err(Unanswered::Over) => {}
+        }
+    }
+
+    // Asks for draws of the clients that wait for one, from a key on: the key from which it is to
+    // go on in the next turn, if some are left.
+    fn draw_some(
+        &mut self,
+        rt: &impl Wait,
+        shared: &SharedSession<L>,
+        from: usize,
+    ) -> Option<usize> {
+        let mut left = DRAWS;
+        for key in from..self.peers.capacity() {
             let Some(client) = self.wants_draw(key) else {
                 continue;
             };
-            match self.submit(rt, house, Event::Draw { client }) {
-                Ok(_) => {
-                    if let Some(peer) = self.peers.get_mut(key) {
-                        peer.turn.drawn();
-                    }
-                }
-                Err(Unanswered::NoMemory) => self.has_waiting = true,
-                Err(Unanswered::Over) => {}
+            if left == 0 {
+                return Some(key);
             }
+            left -= 1;
+            self.draw(rt, shared, key, client);
+        }
+        None
+    }
+
+    // Asks for draws, or goes on with it, and hands them out.
+    fn draw_all(&mut self, rt: &impl Wait, shared: &SharedSession<L>, holds_draws: bool) {
+        let from = match self.draws_from {
+            Some(from) => from,
+            None if holds_draws => return,
+            None => 0,
+        };
+        self.draws_from = match self.draw_some(rt, shared, from) {
+            Some(next) => Some(next),
+            // Clients before that key may wait again.
+            None if 0 < from && !holds_draws => Some(0),
+            None => None,
+        };
+        if self.is_behind {
+            self.hand_out(rt, shared);
+            self.write_all(rt, shared);
         }
     }
 
     // Those for whom too much waits are told so, and closed once they take no more.
-    fn cut(&mut self, rt: &impl Wait, house: &House<L>) {
+    fn cut(&mut self, rt: &impl Wait, shared: &SharedSession<L>) {
         for key in 0..self.peers.capacity() {
             let Some(peer) = self.peers.get_mut(key) else {
                 continue;
             };
             if peer.listens() && peer.turn.unsent() > MOST_UNSENT {
-                self.expel(rt, house, key, Why::TooFarBehind);
+                self.expel(rt, shared, key, Why::TooFarBehind);
                 if let Some(peer) = self.peers.get_mut(key) {
                     peer.stage = Stage::Cut;
                 }
-                self.write_to(rt, house, key);
+                self.write_to(rt, shared, key);
             }
         }
     }
 
     /// Ends a turn: hands out what came of it, writes, asks for draws unless they are held, and
-    /// lets go what is closed.
-    pub fn settle(&mut self, rt: &impl Wait, house: &House<L>, holds_draws: bool) {
+    /// lets go what is closed. Where draws of a crowd were begun, it goes on with them.
+    pub fn settle(&mut self, rt: &impl Wait, shared: &SharedSession<L>, holds_draws: bool) {
         self.has_waiting = false;
         for key in 0..self.peers.capacity() {
-            let _ = self.tell_leaving(rt, house, key);
+            let _ = self.tell_leaving(rt, shared, key);
         }
-        self.hand_out(rt, house);
-        self.write_all(rt, house);
-        if !holds_draws {
-            self.draw(rt, house);
-            self.hand_out(rt, house);
-            self.write_all(rt, house);
-        }
-        self.cut(rt, house);
+        self.hand_out(rt, shared);
+        self.write_all(rt, shared);
+        self.draw_all(rt, shared, holds_draws);
+        self.cut(rt, shared);
         self.sweep();
     }
 }

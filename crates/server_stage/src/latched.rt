@@ -1,8 +1,10 @@
-//! Two loops in one house, of which one's call is held until the other's was answered.
+//! Two loops of one session, of which one's call is held until the other's was answered.
 
+use crate::frames::WALL;
 use crate::stage::users;
-use server_loop::{Gate, House, HouseFault, Keeper, Loop, Seat, keep};
-use server_streams::{Habit, Near, Stop, WALL, ends};
+use crate::stop::Stop;
+use crate::streams::{Habit, Near, ends};
+use server_loop::{Gate, Loop, LoopBody, LoopsFault, Seat, SharedSession, keep};
 use std::alloc::{AllocError, Global};
 use std::sync::Wait;
 use std::sync::atomic::{AtomicU64, Ordering};
@@ -47,18 +49,18 @@ impl Gate for Latch<'_> {
 fn command<L: Roll, R: Wait>(
     rt: &R,
     alloc: Global,
-    house: &House<L>,
+    shared: &SharedSession<L>,
     seat: Seat<L>,
     latch: Latch,
 ) -> Result<Option<Seat<L>>, AllocError> {
-    let mut own: Loop<Near, Latch, L> = Loop::new(alloc, seat, latch)?;
+    let mut own: Loop<Near, Latch, L> = Loop::new(alloc, seat, latch, 2)?;
     let (near, far) = ends(alloc, Habit::Whole)?;
     far.send(WALL)?;
-    own.peers.admit(near)?;
+    own.peers.admit(near, false)?;
     for _ in 0..4 {
-        own.peers.is_ready(0);
-        own.read_all(rt, house);
-        own.peers.settle(rt, house, false);
+        own.peers.is_ready(0, true);
+        own.read_all(rt, shared);
+        own.peers.settle(rt, shared, false);
     }
     let is_told = far.taken(alloc)?.as_slice() == b"y\0\x01\0g\0\x01\0".as_slice();
     Ok(is_told.then_some(own.into_seat()))
@@ -75,12 +77,12 @@ struct Pair {
     told: AtomicU64,
 }
 
-impl Keeper<bool> for Pair {
-    fn run<L: Roll, R: Clock + Wait>(
+impl<R: Clock + Wait> LoopBody<bool, R> for Pair {
+    fn run<L: Roll>(
         &self,
         rt: &R,
         alloc: Global,
-        house: &House<L>,
+        shared: &SharedSession<L>,
         seat: Seat<L>,
         is_first: bool,
     ) -> Option<Seat<L>> {
@@ -95,12 +97,12 @@ impl Keeper<bool> for Pair {
             theirs,
             missed: &self.missed,
         };
-        let seat = command(rt, alloc, house, seat, latch).ok().flatten()?;
+        let seat = command(rt, alloc, shared, seat, latch).ok().flatten()?;
         self.told.fetch_add(1, Ordering::SeqCst);
         Some(seat)
     }
 
-    fn fail(&self) {}
+    fn fail(&self, _rt: &R) {}
 }
 
 /// Whether two loops that run at once each have a command answered, while the call that came first
@@ -121,8 +123,8 @@ pub fn both_are_answered<R: Clock + Threads + Wait + Sync>(
     };
     let agrees = match keep(rt, alloc, users(alloc)?, places, &pair, || Ok(())) {
         Ok(agrees) => agrees,
-        Err(HouseFault::NoMemory) => return Err(Stop::Memory),
-        Err(HouseFault::Untold(_)) => return Err(Stop::Other("begun")),
+        Err(LoopsFault::NoMemory) => return Err(Stop::Memory),
+        Err(_) => return Err(Stop::Other("begun")),
     };
     let is_missed = pair.missed.load(Ordering::SeqCst) != 0;
     Ok(agrees && !is_missed && pair.told.load(Ordering::SeqCst) == 2)

@@ -2,15 +2,18 @@
 
 ghost use Rattle.std.specs.Prelude.{◌≡◌, ◌<◌};
 
+use crate::frames::{TOKEN, USERS};
+use crate::stop::Stop;
+use crate::streams::{Far, Habit, Near, ends};
 use acl::Edition;
 use hub_record::{Filed, KeptRef};
-use server_loop::{House, Hub, Loop, Open, Seat, Session};
-use server_streams::{Far, Habit, Near, Stop, TOKEN, USERS, ends};
+use server_loop::{Hub, Loop, Open, Seat, Session, SharedSession};
 use server_turn::{Users, UsersFault};
 use std::alloc::Global;
 use std::marker::Brand;
 use std::sync::Wait;
 use std::sync::ledger::{Blank, Ledger as Roll};
+use std::time::Duration;
 
 /// The users own and bob.
 pub(crate) fn users(alloc: Global) -> Result<Users, Stop> {
@@ -21,8 +24,11 @@ pub(crate) fn users(alloc: Global) -> Result<Users, Stop> {
     }
 }
 
-// A house of a new session of these users, and its seat.
-fn new_house<L: Roll>(alloc: Global, blank: Blank) -> Result<(House<L>, Vec<Seat<L>>), Stop>
+// A shared of a new session of these users, and its seat.
+fn new_session<L: Roll>(
+    alloc: Global,
+    blank: Blank,
+) -> Result<(SharedSession<L>, Vec<Seat<L>>), Stop>
     requires { (blank.name ≡ L.name) × (blank.parts ≡ L.parts) × (blank.parts ≡ 1) }
 {
     let users = users(alloc)?;
@@ -33,15 +39,17 @@ fn new_house<L: Roll>(alloc: Global, blank: Blank) -> Result<(House<L>, Vec<Seat
     let Ok((hub, seats)) = Hub::<L>::new(alloc, blank, Edition::Second, owner, session, 1) else {
         return Err(Stop::Memory);
     };
-    Ok((House { hub, users }, seats))
+    Ok((SharedSession { hub, users }, seats))
 }
 
 /// One loop over a new session.
 #[derive(Drop)]
 pub struct Stage<L: Roll> {
     pub alloc: Global,
-    pub house: House<L>,
+    pub shared: SharedSession<L>,
     pub own: Loop<Near, Open, L>,
+    /// So much time passes before each turn.
+    pub tick: Duration,
 }
 
 // How many connections a stage has at most.
@@ -62,14 +70,15 @@ impl<L: Roll> Stage<L> {
     fn new(alloc: Global, blank: Blank) -> Result<Stage<L>, Stop>
         requires { (blank.name ≡ L.name) × (blank.parts ≡ L.parts) × (blank.parts ≡ 1) }
     {
-        let (house, mut seats) = new_house::<L>(alloc, blank)?;
+        let (shared, mut seats) = new_session::<L>(alloc, blank)?;
         let Some(seat) = seats.pop() else {
             return Err(Stop::Other("no seat"));
         };
         Ok(Stage {
             alloc,
-            house,
-            own: Loop::new(alloc, seat, Open)?,
+            shared,
+            own: Loop::new(alloc, seat, Open, 1)?,
+            tick: Duration::from_millis(20),
         })
     }
 
@@ -77,7 +86,15 @@ impl<L: Roll> Stage<L> {
     pub fn connect(&mut self, habit: Habit, bytes: &[u8]) -> Result<Far, Stop> {
         let (near, far) = ends(self.alloc, habit)?;
         far.send(bytes)?;
-        let _ = self.own.peers.admit(near);
+        let _ = self.own.peers.admit(near, false);
+        Ok(far)
+    }
+
+    /// A connection that is taken in though no more are to stay.
+    pub fn connect_extra(&mut self, bytes: &[u8]) -> Result<Far, Stop> {
+        let (near, far) = ends(self.alloc, Habit::Whole)?;
+        far.send(bytes)?;
+        let _ = self.own.peers.admit(near, true);
         Ok(far)
     }
 
@@ -85,11 +102,17 @@ impl<L: Roll> Stage<L> {
     pub fn turns<R: Wait>(&mut self, rt: &R, count: usize) {
         for _ in 0..count {
             for key in 0..KEYS {
-                self.own.peers.is_ready(key);
+                self.own.peers.is_ready(key, true);
             }
-            self.own.read_all(rt, &self.house);
-            self.own.peers.settle(rt, &self.house, false);
+            self.quiet_turn(rt);
         }
+    }
+
+    /// A turn in which nothing comes.
+    pub fn quiet_turn<R: Wait>(&mut self, rt: &R) {
+        self.own.now = self.own.now.saturating_add(self.tick);
+        self.own.read_all(rt, &self.shared);
+        self.own.peers.settle(rt, &self.shared, false);
     }
 
     /// A connection that gives a command of the owner: what it is sent.
@@ -108,10 +131,15 @@ impl<L: Roll> Stage<L> {
 
     // The entries of the trail, a letter for each, once the loop is over.
     fn entries(self) -> Result<Vec<u8>, Stop> {
-        let Stage { alloc, house, own } = self;
+        let Stage {
+            alloc,
+            shared,
+            own,
+            ..
+        } = self;
         let mut seats = Vec::new(alloc);
         seats.push(own.into_seat())?;
-        let House { hub, .. } = house;
+        let SharedSession { hub, .. } = shared;
         let (trail, wrong) = hub.close(seats);
         if wrong.is_some() {
             return Err(Stop::Other("an answer isn't in the trail"));

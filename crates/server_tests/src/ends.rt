@@ -39,7 +39,7 @@ impl Play for Ending {
         stage.turns(rt, 3);
         let end = stage.own.peers.end();
         if let Some(end) = end.or(self.forced) {
-            stage.own.peers.finish(rt, &stage.house, end);
+            stage.own.peers.finish(rt, &stage.shared, end);
         }
         Ok(Ended {
             end,
@@ -148,5 +148,60 @@ fn too_far_behind(rt: HostRuntime) -> Result<(), Fail> {
     assert_eq!(rt; received.input(alloc)?.len(), 128 * 8192, "it is sent all");
     assert_eq!(rt; received.gone(), Some(Why::TooFarBehind));
     assert!(rt; entries.ends_with(b"KX"), "its window is closed");
+    Ok(())
+}
+
+/// A client types into a window whose program reads no more, until the window is given up.
+#[derive(Drop)]
+struct Stuck;
+
+/// What is seen of it.
+#[derive(Clone, Copy, Debug, PartialEq, Eq)]
+struct Behind {
+    /// Whether the loop has something to do, though nothing comes: before the window is given up,
+    /// behind the turn in which it is, and behind the next one.
+    is_due: [bool; 3],
+    /// Whether the client is drawn in that next turn.
+    is_drawn: bool,
+}
+
+impl Play for Stuck {
+    type Left = Behind;
+
+    fn play<L: Roll, R: Wait>(&mut self, rt: &R, stage: &mut Stage<L>) -> Result<Behind, Stop> {
+        let alloc = stage.alloc;
+        let _window = stage.connect(Habit::Takes(4), WINDOW)?;
+        stage.turns(rt, 2);
+        let client = stage.connect(Habit::Whole, ATTACH)?;
+        stage.turns(rt, 2);
+        let typed = vec![in alloc; b'x'; 8192]?;
+        let mut is_due = [true; 3];
+        for count in 0..128 {
+            if count == 127 {
+                is_due[0] = stage.own.peers.is_due();
+            }
+            client.send(b"K\x20\0")?;
+            client.send(&typed)?;
+            stage.turns(rt, 1);
+        }
+        is_due[1] = stage.own.peers.is_due();
+        let before = client.taken(alloc)?.len();
+        stage.quiet_turn(rt);
+        is_due[2] = stage.own.peers.is_due();
+        let is_drawn = before < client.taken(alloc)?.len();
+        Ok(Behind { is_due, is_drawn })
+    }
+}
+
+// The window is closed when all else of the turn is done, so nobody would tell the loop of it.
+#[test]
+fn a_loop_sees_its_own_last_steps(rt: HostRuntime) -> Result<(), Fail> {
+    let (behind, entries) = perform(&rt, rt.alloc(), &mut Stuck)?;
+    assert!(rt; entries.ends_with(b"KX"), "its window is closed");
+    let wanted = Behind {
+        is_due: [false, true, false],
+        is_drawn: true,
+    };
+    assert_eq!(rt; behind, wanted);
     Ok(())
 }

@@ -1,5 +1,5 @@
 //! Tests of a server's loops: how they end, what refused memory does, an attachment after a broken
-//! one, and two of them side by side.
+//! one, two of them side by side, and who has his turn when.
 #![tactic(auto)]
 
 #[cfg(test)]
@@ -10,3 +10,5 @@ mod ends;
 mod gates;
 #[cfg(test)]
 mod refusals;
+#[cfg(test)]
+mod turns;

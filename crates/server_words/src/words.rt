@@ -78,13 +78,23 @@ pub fn of_server<'a>(alloc: Global, words: &'a [String]) -> Result<ArgMatches<'a
         .value_parser(clap::value_parser!(u8).range(1..=8))
         .default_value("2")
         .help("How many loops serve, 1 to 8");
+    let setup = Arg::new(alloc, "setup")
+        .long("setup")
+        .value_name("PATH")
+        .help("A file of the owner's first commands, one a line");
+    let log = Arg::new(alloc, "log")
+        .long("log")
+        .action(ArgAction::SetTrue)
+        .help("Tells on standard error who comes and goes");
     Command::new(alloc, "muxd")
         .version(VERSION)
         .about("Serves a session that users share")
         .after_help(SERVER_EXAMPLE)
         .arg(path(alloc, "socket", "The socket to listen on"))?
         .arg(path(alloc, "users", USERS))?
+        .arg(setup)?
         .arg(loops)?
+        .arg(log)?
         .try_get_matches_from(words)
 }
 

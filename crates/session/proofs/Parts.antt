@@ -11,7 +11,7 @@ use Rattle.std.specs.declared.io.buffered.BufReader.{BufReader}
 use Rattle.session_model.specs.declared.event.Effect.{Effect}
 use Rattle.session_model.specs.declared.event.Ran.{Ran}
 use Rattle.session_core.specs.declared.session.Session.{Session}
-use Rattle.session_model.specs.Trace.{Happening, Reply, Trace}
+use Rattle.session_model.specs.Trace.{EventValue, Reply, Trace, begun}
 use Rattle.session_core.specs.Stands.{StandsFor}
 use Rattle.session_core.specs.Headline.{with_steps, AllSteps, Keeps as KeepsPromise, Serves, SomeRun, left_by, without_part, effects_of, replies_of}
 use Rattle.session_lines.specs.Printed.{effect_line, reply_line}
@@ -20,17 +20,21 @@ use Rattle.session.specs.declared.fault.Fault.TheVariants.{NotUnderstood, Io, No
 use Rattle.session.specs.Lines.{lines_of}
 use Rattle.session_model.specs.Tables.{Tables}
 use Rattle.session_model.specs.Run.{tables_of}
-use Rattle.session.specs.Played.{printed, views, views_if, IfNotUnderstood, IsBad, PlaysAll, PlaysUntil, Runs, Played, PlayedPart}
+use Rattle.session.specs.Played.{printed, views, views_if, IfNotUnderstood, IsBad, OfScript, PlaysAll, PlaysUntil, Runs, Played, PlayedPart}
+use Rattle.acl.specs.declared.edition.Edition.{Edition}
+use Rattle.acl.specs.declared.user_id.UserId.{UserId}
+use Rattle.setup_lines.specs.Lines.{Line}
+use Rattle.session_setup.specs.Setup.{Behind, SetsUp}
 use Rattle.session.proofs.Lines.{first_line}
 use Rattle.session.proofs.Playing.{keeps_on, appends_on, played_on}
 use Rattle.session.proofs.Texts.{one_event}
 
 -- ---- one event
 
-pub left_none : (ran : Ran) (event : Happening) → ran.taken ≡ 1 → left_by ran (event ∷ []) ≡ []
+pub left_none : (ran : Ran) (event : EventValue) → ran.taken ≡ 1 → left_by ran (event ∷ []) ≡ []
 left_none ran event all = ap (λ n. without_part ran.part (drop n (event ∷ []))) all
 
-pub event_ran : (h : Trace) (old new : Session) (event : Happening) (no_effects effects : List Effect) (no_replies replies : List Reply) (left : List Happening) (a b : Option (List ℕ)) (text : List ℕ)
+pub event_ran : (h : Trace) (old new : Session) (event : EventValue) (no_effects effects : List Effect) (no_replies replies : List Reply) (left : List EventValue) (a b : Option (List ℕ)) (text : List ℕ)
     → no_effects ≡ [] → no_replies ≡ []
     → SomeRun old (record { events = event ∷ []; effects = no_effects; more_effects = effects; replies = no_replies; more_replies = replies; left = left }) new (AllSteps KeepsPromise)
     → left ≡ [] → text ≡ flat_map effect_line effects ++ flat_map (reply_line event) replies → Appends a b text → StandsFor h old → Runs h event new a b
@@ -137,6 +141,17 @@ stopped_at h script count number left behind s line a b c p piece is bad kept =
 pub if_known : (o : Option (List ℕ)) (P : List ℕ → Type 0) → ((script : List ℕ) → o ≡ Some script → P script) → IfSome o P
 if_known None P each = tt
 if_known (Some script) P each = each script refl
+
+-- what is played over a session that began with these lines is played behind them
+pub plays_behind : (groups : Edition) (name : UserId) (lines commands : List Line) (shows : Bool) (read : Option (List ℕ)) (s : Session) (a b : Option (List ℕ))
+    → lines ≡ commands → Behind (λ h. StandsFor h s) (begun groups name) name lines → OfScript read s (λ h script. PlaysAll h shows script a b)
+    → IfSome read (λ script. Behind (λ h. PlaysAll h shows script a b) (begun groups name) name commands)
+plays_behind groups name lines commands shows read s a b is (steps, up, st) plays =
+    if_known read (λ script. Behind (λ h. PlaysAll h shows script a b) (begun groups name) name commands) (λ script known. (
+      steps,
+      subst (λ ls. SetsUp (begun groups name) name ls steps) is up,
+      plays script known (with_steps (begun groups name) steps) st,
+    ))
 
 views_false : (shows : Bool) (t : Tables) → shows ≡ false → views_if shows t ≡ []
 views_false shows t quiet = ap (λ b. views_if b t) quiet

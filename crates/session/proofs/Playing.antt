@@ -3,7 +3,7 @@ use Rattle.std.proofs.Common.{ℕ, ◌<◌, ◌≡◌, refl, sym, ◌∙◌, ap,
 use Rattle.std.proofs.lemmas.Grind.{flat_map-append}
 use Rattle.std.proofs.lemmas.List.{append-nil, map-append}
 use Rattle.std.specs.Io.KnownBytes.{Appends, Keeps}
-use Rattle.session_model.specs.Trace.{Happening, Entry, Trace, with_step}
+use Rattle.session_model.specs.Trace.{EventValue, Entry, Trace, with_step}
 use Rattle.session_core.specs.Stands.{StandsFor}
 use Rattle.session_core.specs.Headline.{with_steps, AllSteps, Keeps as KeepsPromise}
 use Rattle.session.proofs.Steps.{with_steps-append, serves_before, serves_on}
@@ -75,7 +75,7 @@ empty_played h s line known empty st = record {
 }
 
 -- a line that is an event
-pub one_played : (h : Trace) (line : List ℕ) (event : Happening) (s : Session) (a b : Option (List ℕ)) → 0 < length line → event_of line ≡ Some event → Runs h event s a b
+pub one_played : (h : Trace) (line : List ℕ) (event : EventValue) (s : Session) (a b : Option (List ℕ)) → 0 < length line → event_of line ≡ Some event → Runs h event s a b
     → Played h (line ∷ []) s a b
 one_played h line event s a b some is runs = record {
   steps = runs.steps;

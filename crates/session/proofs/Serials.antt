@@ -6,7 +6,7 @@ use Rattle.acl.specs.declared.user_id.UserId.{UserId}
 use Rattle.session_model.specs.declared.check.Check.TheVariants.{Must as must}
 use Rattle.session_model.specs.declared.event.Effect.{Effect}
 use Rattle.session_model.specs.declared.refusal.Refusal.TheVariants.{NotMultiuser, UnknownUser, TooManyClients, BadSize}
-use Rattle.session_model.specs.Trace.{Happening, Attach, Detach, Keys, Command, Resize, Open, Output, Closed, Draw, Entry, Trace}
+use Rattle.session_model.specs.Trace.{EventValue, Attach, Detach, Keys, Command, Resize, Open, Output, Closed, Draw, Entry, Trace}
 use Rattle.session_model.specs.Tables.{Tables, Window, Client, client_at, is_known, fresh}
 use Rattle.session_model.specs.Checks.{first_fault, verdicts}
 use Rattle.session_model.specs.Events.{outcome, attach_checks, attaches, new_client, open_checks, opens, new_window, is_client_size, is_let_in, reply_of}
@@ -32,7 +32,7 @@ attached t user rows columns passes =
 same : (a b : ℕ) → a ≡ b → b ≤ 2 ^ 32 → a ≤ 2 ^ 32
 same a b is le = subst (λ n. n ≤ 2 ^ 32) (sym is) le
 
-stays : (t : Tables) (event : Happening) → AreSound t → IsInRange t → IsInRange (outcome t event).tables
+stays : (t : Tables) (event : EventValue) → AreSound t → IsInRange t → IsInRange (outcome t event).tables
 stays t (Attach user rows columns) s le =
     outcomes.passed (λ o. IsInRange o.tables) t (verdicts t (attach_checks t user rows columns)) (first_fault t (attach_checks t user rows columns)) (reply_of 0 t.next_client 0 None) (attaches t (new_client t user rows columns)) (λ r is. le) (λ is. attached t user rows columns is)
 stays t (Open user rows columns keep title) s le =
@@ -50,7 +50,7 @@ drawn_next : (o : Option Client) (effects : List Effect) (t : Tables) → (drawn
 drawn_next None effects t = refl
 drawn_next (Some c) effects t = refl
 
-after_stays : (t : Tables) (event : Happening) (effects : List Effect) → AreSound t → IsInRange t → IsInRange (drawn event effects (outcome t event).tables)
+after_stays : (t : Tables) (event : EventValue) (effects : List Effect) → AreSound t → IsInRange t → IsInRange (drawn event effects (outcome t event).tables)
 after_stays t (Draw client) effects s le =
     let u : Tables = (outcome t (Draw client)).tables in
     same _ _ (drawn_next (client_at u client) effects u) (stays t (Draw client) s le)

@@ -4,15 +4,15 @@ use Rattle.std.specs.Prelude.{nat_lt, if◌then◌else◌}
 use Rattle.std.specs.List.{flat_map}
 use Rattle.std.proofs.lemmas.Grind.{flat_map-append}
 use Rattle.std.proofs.lemmas.List.{append-nil}
-use Rattle.session_model.specs.Trace.{Happening, Attach, Detach, Keys, Command, Resize, Open, Output, Closed, Draw, Reply, Entry}
+use Rattle.session_model.specs.Trace.{EventValue, Attach, Detach, Keys, Command, Resize, Open, Output, Closed, Draw, Reply, Entry}
 use Rattle.session_core.specs.Headline.{Serves, left_of, last_reply, replies_of, effects_of}
 use Rattle.session_lines.specs.Printed.{effect_line, reply_line}
 use Rattle.session.specs.Played.{printed}
 
 -- nothing is left of an event, or an event with the same lines for replies
-data IsLeft (event : Happening) : List Happening → Type 0 where
+data IsLeft (event : EventValue) : List EventValue → Type 0 where
   none : IsLeft event []
-  next : (more : Happening) → ((reply : Reply) → reply_line more reply ≡ reply_line event reply) → IsLeft event (more ∷ [])
+  next : (more : EventValue) → ((reply : Reply) → reply_line more reply ≡ reply_line event reply) → IsLeft event (more ∷ [])
 
 same_keys : (client : ℕ) (xs ys : List ℕ) (reply : Reply) → reply_line (Keys client xs) reply ≡ reply_line (Keys client ys) reply
 same_keys client xs ys (Ok done) = refl
@@ -22,7 +22,7 @@ keys_left : (client taken : ℕ) (bytes : List ℕ) (b : Bool) → IsLeft (Keys 
 keys_left client taken bytes true = next (Keys client (drop taken bytes)) (λ reply. same_keys client (drop taken bytes) bytes reply)
 keys_left client taken bytes false = none
 
-is_left : (event : Happening) (reply : Reply) → IsLeft event (left_of event reply)
+is_left : (event : EventValue) (reply : Reply) → IsLeft event (left_of event reply)
 is_left (Keys client bytes) (Ok done) = keys_left client done.taken bytes (nat_lt done.taken (length bytes))
 is_left (Keys client bytes) (Err refusal) = none
 is_left (Attach user rows columns) reply = none
@@ -34,7 +34,7 @@ is_left (Output window bytes) reply = none
 is_left (Closed window) reply = none
 is_left (Draw client) reply = none
 
-same_replies : (more event : Happening) (replies : List Reply) → ((reply : Reply) → reply_line more reply ≡ reply_line event reply) → flat_map (reply_line more) replies ≡ flat_map (reply_line event) replies
+same_replies : (more event : EventValue) (replies : List Reply) → ((reply : Reply) → reply_line more reply ≡ reply_line event reply) → flat_map (reply_line more) replies ≡ flat_map (reply_line event) replies
 same_replies more event [] same = refl
 same_replies more event (reply ∷ replies) same = ap (λ xs. xs ++ flat_map (reply_line more) replies) (same reply) ∙ ap (λ xs. reply_line event reply ++ xs) (same_replies more event replies same)
 
@@ -42,14 +42,14 @@ no_steps : (steps : List Entry) → Serves [] steps [] → steps ≡ []
 no_steps [] serves = refl
 no_steps (e ∷ steps) serves = absurd serves
 
-abbrev pub text_of_steps : Happening → List Entry → List ℕ
+abbrev pub text_of_steps : EventValue → List Entry → List ℕ
 text_of_steps event steps = flat_map effect_line (effects_of steps) ++ flat_map (reply_line event) (replies_of steps)
 
 abbrev effects_text : List Entry → List ℕ
 effects_text steps = flat_map effect_line (effects_of steps)
 
-first_step : (event : Happening) (e : Entry) (steps : List Entry) (left : List Happening) → IsLeft e.event left → e.event ≡ event → Serves (left ++ []) steps []
-    → ((more : Happening) → Serves (more ∷ []) steps [] → printed steps ≡ text_of_steps more steps)
+first_step : (event : EventValue) (e : Entry) (steps : List Entry) (left : List EventValue) → IsLeft e.event left → e.event ≡ event → Serves (left ++ []) steps []
+    → ((more : EventValue) → Serves (more ∷ []) steps [] → printed steps ≡ text_of_steps more steps)
     → (flat_map effect_line e.effects ++ flat_map (reply_line e.event) (last_reply left e.reply)) ++ printed steps
     ≡ flat_map effect_line (e.effects ++ effects_of steps) ++ flat_map (reply_line event) (last_reply left e.reply ++ replies_of steps)
 first_step event e [] _ none is serves more_steps =
@@ -64,6 +64,6 @@ first_step event e steps _ (next more same) is serves more_steps =
     ∙ ap (λ xs. flat_map effect_line (e.effects ++ effects_of steps) ++ xs) (same_replies more e.event (replies_of steps) same ∙ ap (λ v. flat_map (reply_line v) (replies_of steps)) is))))
 
 -- the steps' effects stand together, and the last step's reply ends them
-pub one_event : (event : Happening) (steps : List Entry) → Serves (event ∷ []) steps [] → printed steps ≡ text_of_steps event steps
+pub one_event : (event : EventValue) (steps : List Entry) → Serves (event ∷ []) steps [] → printed steps ≡ text_of_steps event steps
 one_event event [] serves = cc
 one_event event (e ∷ steps) serves = first_step event e steps (left_of e.event e.reply) (is_left e.event e.reply) serves.0 serves.1 (λ more s. one_event more steps s)

@@ -3,7 +3,7 @@ use Rattle.std.specs.Prelude.{ℕ, ◌+◌, Bool, List, [], ◌∷◌, ◌++◌,
 use Rattle.std.specs.Prelude.{Option, Some, None, map, length}
 use Rattle.std.specs.List.{flat_map}
 use Rattle.std.specs.Io.KnownBytes.{Appends}
-use Rattle.session_model.specs.Trace.{Happening, Entry, Trace}
+use Rattle.session_model.specs.Trace.{EventValue, Entry, Trace}
 use Rattle.session_model.specs.Tables.{Client, Tables}
 use Rattle.session_model.specs.Granted.{granted_view}
 use Rattle.session_model.specs.Run.{tables_of}
@@ -25,12 +25,12 @@ filled ([] ∷ lines) = filled lines
 filled ((byte ∷ bytes) ∷ lines) = (byte ∷ bytes) ∷ filled lines
 
 -- each line is an event, but the empty ones, which are skipped
-abbrev pub AreEventsOf : List (List ℕ) → List Happening → Type 0
+abbrev pub AreEventsOf : List (List ℕ) → List EventValue → Type 0
 AreEventsOf lines events = map event_of (filled lines) ≡ map Some events
 
 -- the lines give the steps of a session, each of which keeps its promise, from a trace on
 pub record Plays (h : Trace) (lines : List (List ℕ)) (steps : List Entry) : Type 0 where
-  pub events : List Happening
+  pub events : List EventValue
   pub understood : AreEventsOf lines events
   pub serves : Serves events steps []
   pub run : AllSteps Keeps h steps
@@ -99,7 +99,7 @@ OfScript read old P =
 -- ---- on the way
 
 -- an event was run and printed, and the session stands for the trace with its steps
-pub record Runs (h : Trace) (event : Happening) (new : Session)
+pub record Runs (h : Trace) (event : EventValue) (new : Session)
     (before after : Option (List ℕ)) : Type 0 where
   pub steps : List Entry
   pub serves : Serves (event ∷ []) steps []

@@ -1,5 +1,5 @@
 -- What the words of the command line ask for.
-use Rattle.std.specs.Prelude.{◌≡◌, ◌⊎◌, ℕ, pos, Bool, true, false, List, [], ◌∷◌, Option, Some}
+use Rattle.std.specs.Prelude.{◌≡◌, ◌⊎◌, ℕ, pos, Bool, true, false, List, [], ◌∷◌, Option, Some, None}
 use Rattle.std.specs.Prelude.{IfSome, option_and_then, codes}
 use Rattle.acl.specs.declared.edition.Edition.{Edition}
 use Rattle.acl.specs.declared.edition.Edition.TheVariants.{First, Second}
@@ -10,9 +10,11 @@ use Rattle.clap.specs.Words.{first_of, one_of}
 use Rattle.clap.specs.declared.builder.ArgAction.TheVariants.{SetTrue}
 use Rattle.clap.specs.declared.builder.value_parser.ValueParser.TheVariants.{Signed}
 use Rattle.session_model.specs.Trace.{begun}
+use Rattle.setup_lines.specs.Lines.{commands_in, first_fault}
 use Rattle.session.specs.Played.{PlaysAll}
+use Rattle.session_setup.specs.Setup.{Behind}
 
--- ---- muxsim [--edition N] [--show] OWNER
+-- ---- muxsim [--edition N] [--setup FILE] [--show] OWNER
 
 -- a number of 1 or 2, and 2 where none is given
 abbrev pub edition : Rule
@@ -23,6 +25,9 @@ edition = record (new_rule (codes "edition")) {
   parser = Some (Signed (pos 1) (pos 2));
 }
 
+abbrev pub setup : Rule
+setup = record (new_rule (codes "setup")) { long = Some (codes "setup"); value_names = 1 }
+
 abbrev pub show : Rule
 show = record (new_rule (codes "show")) { long = Some (codes "show"); action = Some SetTrue }
 
@@ -30,7 +35,12 @@ abbrev pub owner : Rule
 owner = record (new_rule (codes "owner")) { value_names = 1; required = true }
 
 abbrev pub muxsim : App
-muxsim = with_rule (with_rule (with_rule (new_app (codes "muxsim")) edition) show) owner
+muxsim =
+    with_rule (with_rule (with_rule (with_rule (new_app (codes "muxsim")) edition) setup) show) owner
+
+-- the file that these words name behind `--setup`
+abbrev pub setup_in : List Text → Option Text
+setup_in words = first_of (codes "setup") (matches_of muxsim words)
 
 -- ---- what is asked for
 
@@ -50,9 +60,15 @@ pub record Asks (words : List Text) (groups : Edition) (name : UserId) (shows : 
       option_and_then named_by (first_of (codes "owner") (matches_of muxsim words)) ≡ Some name
   pub shows_is : one_of (codes "show") (matches_of muxsim words) ≡ Some (flag_text shows)
 
--- status 0, and the whole script was played; or status 1
-abbrev pub Simulates : Edition → UserId → Bool → Option (List ℕ) → ℕ
+-- behind the commands of this setup the whole script was played
+pub record PlaysBehind (groups : Edition) (name : UserId) (shows : Bool) (setup : List ℕ)
+    (script before after : Option (List ℕ)) : Type 0 where
+  pub commands : first_fault (commands_in setup) ≡ None
+  pub plays : IfSome script (λ bytes. Behind (λ h. PlaysAll h shows bytes before after)
+      (begun groups name) name (commands_in setup))
+
+-- status 0, and all was played; or status 1
+abbrev pub Simulates : Edition → UserId → Bool → List ℕ → Option (List ℕ) → ℕ
     → Option (List ℕ) → Option (List ℕ) → Type 0
-Simulates groups name shows script status before after =
-    ((status ≡ 0) × IfSome script (λ bytes. PlaysAll (begun groups name) shows bytes before after))
-    ⊎ (status ≡ 1)
+Simulates groups name shows setup script status before after =
+    ((status ≡ 0) × PlaysBehind groups name shows setup script before after) ⊎ (status ≡ 1)

@@ -12,4 +12,4 @@ pub use session_core::{
     Bytes, Denied, Done, Effect, EntryDenied, Event, LockDenied, Notes, Ran, Reason, Refusal,
     Reply, Session, Verdict, WindowsFault,
 };
-pub use simulator::simulate;
+pub use simulator::{Asked, setup_path, simulate};

@@ -2,11 +2,11 @@
 //! read.
 
 ghost use Rattle.std.specs.Prelude.{◌≡◌, ◌++◌, ◌∷◌, [], List, Some};
-ghost use Rattle.std.specs.Prelude.{IfSome, IfOk, IfErr, OnOk};
+ghost use Rattle.std.specs.Prelude.{IfOk, IfErr, OnOk};
 ghost use Rattle.std.specs.List.{flat_map};
 ghost use Rattle.std.specs.String.{string_bytes};
 ghost use Rattle.std.specs.Io.KnownBytes.{Appends, Keeps};
-ghost use Rattle.session_model.specs.Trace.{Trace, happening, begun};
+ghost use Rattle.session_model.specs.Trace.{Trace, happening};
 ghost use Rattle.session_model.specs.Run.{tables_of};
 ghost use Rattle.session_lines.specs.Printed.{effect_line, reply_line};
 ghost use Rattle.session_core.specs.Stands.{StandsFor};
@@ -15,51 +15,36 @@ ghost use Rattle.session.specs.Played.{PlaysAll, PlaysUntil, Played, Runs, IsBad
 ghost use Rattle.session.specs.Played.{IfNotUnderstood, views};
 
 use crate::fault::Fault;
-use acl::{Edition, UserId};
-use session_core::{Effect, Event, Refusal, Reply, Session};
+use session_core::{Effect, Event, Reply, Session};
 use session_lines::{print_effect, print_reply, print_view, read_event};
 use std::alloc::{AllocError, Global};
 use std::io;
 use std::io::{BufRead, BufReader, Read, Write};
 
-/// Plays the script on the reader over a new session of this edition and owner, and writes what its
-/// effects and answers print, and behind the last one, if `shows`, what each client is to see.
+/// Plays the script on the reader over a session, and writes what its effects and answers print,
+/// and behind the last one, if `shows`, what each client is to see.
 pub fn play<R: Read + Drop, W: Write>(
     alloc: Global,
-    edition: Edition,
-    owner: UserId,
+    mut session: Session,
     shows: bool,
     reader: R,
     writer: &mut W,
 ) -> Result<(), Fault>
     // The lines were the events of a run of the session, each step of which keeps the promise, and
     // what was written is what that run prints.
-    ensures whole { OnOk result (IfSome (R.remaining reader)
-        (λ script. PlaysAll (begun edition owner) shows script
-        (W.contents writer.old) (W.contents writer.new))) }
+    ensures whole { OnOk result (OfScript (R.remaining reader) session
+        (λ h script. PlaysAll h shows script (W.contents writer.old) (W.contents writer.new))) }
     // So were the lines before the first one that isn't understood, whose number the fault names.
     ensures until { IfErr result (λ fault. IfNotUnderstood fault
-        (λ number. IfSome (R.remaining reader)
-        (λ script. PlaysUntil number (begun edition owner) script
+        (λ number. OfScript (R.remaining reader) session (λ h script. PlaysUntil number h script
         (W.contents writer.old) (W.contents writer.new)))) }
 {
-    let mut session = new_session(alloc, edition, owner)?;
     play_lines(alloc, &mut session, reader, writer)?;
     if !shows {
         return Ok(());
     }
     show(alloc, &session, writer)?;
     Ok(())
-}
-
-/// A new session of an edition.
-fn new_session(alloc: Global, edition: Edition, owner: UserId) -> Result<Session, Refusal>
-    ensures { IfOk result (λ session. StandsFor (begun edition owner) session) }
-{
-    match edition {
-        Edition::First => Session::first_edition(alloc, owner),
-        Edition::Second => Session::new(alloc, owner),
-    }
 }
 
 /// Plays all lines of a reader.

@@ -10,11 +10,11 @@ use Rattle.command_lang.specs.command.Command.{Command}
 use Rattle.command_lang.specs.Names.{name_of}
 use Rattle.session_model.specs.declared.check.Check.{Check}
 use Rattle.session_model.specs.declared.check.Check.TheVariants.{Right, Must}
-use Rattle.session_model.specs.declared.needs.Needs.{Needs}
+use Rattle.command_lang.specs.needs.Needs.{Needs}
 use Rattle.session_model.specs.declared.refusal.Refusal.TheVariants.{NotMultiuser, NoWindow}
 use Rattle.session_model.specs.Tables.{Window, Tables, window_at}
 use Rattle.session_model.specs.Checks.{where_needed, window_checks, checks, typing_checks}
-use Rattle.session_model.specs.Needs.{needs}
+use Rattle.command_lang.specs.Needs.{needs}
 use Rattle.session_rows.proofs.Serials.{serial_is}
 use Rattle.session_state.specs.declared.caller.Caller.{Caller}
 use Rattle.session_model.specs.Sound.{AreFit}

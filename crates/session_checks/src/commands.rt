@@ -10,9 +10,8 @@ ghost use Rattle.session_checks.specs.Checked.{Checked, row_of_caller, access, w
 ghost use Rattle.session_checks.specs.Checked.{only_if};
 
 use crate::checks::check_all;
-use crate::needs::needs_of;
 use acl::{Bit, Object, UserId};
-use command_lang::Command;
+use command_lang::{Command, needs_of};
 use session_model::{Check, Refusal, Verdict};
 use session_state::{Caller, State};
 

@@ -14,18 +14,10 @@ ghost use Rattle.session_checks.specs.Checked.{Checked, writing, has_seat};
 
 use crate::checks::check_all;
 use crate::commands::{lock_on, open_window};
-use acl::{Bit, CommandName, Object, UserId};
-use session_model::{Check, Refusal, Verdict, WindowsFault};
+use acl::{Bit, CommandName, Object, UserId, WINDOWS};
+use session_model::{CLIENTS, Check, Refusal, SERIALS, Verdict, WindowsFault};
 use session_state::{Caller, State, is_client_size};
 use windows::{is_title, is_window_size};
-
-/// The most clients that are attached at once, and the most windows that are open at once.
-const MOST_CLIENTS: usize = 64;
-
-const MOST_WINDOWS: usize = 40;
-
-/// How many serials there are.
-const SERIALS: u64 = 1 << 32;
 
 /// Whether a user is known.
 pub fn is_known(state: &State, user: UserId) -> bool
@@ -45,14 +37,14 @@ fn is_let_in(state: &State, user: UserId) -> bool
 fn has_place(state: &State) -> bool
     ensures { (t : Tables) → Stands t state.now → result ≡ has_place t.windows }
 {
-    state.windows.len() < MOST_WINDOWS && state.windows.free_number().is_some()
+    state.windows.len() < WINDOWS && state.windows.free_number().is_some()
 }
 
 /// Whether one client more has a place, and a serial.
 fn has_seat(state: &State) -> bool
     ensures { (t : Tables) → Stands t state.now → result ≡ has_seat t }
 {
-    state.clients.len() < MOST_CLIENTS && state.next_client < SERIALS
+    state.clients.len() < CLIENTS && state.next_client < SERIALS
 }
 
 /// Makes the checks of typed bytes: a window, w on it, and its lock.

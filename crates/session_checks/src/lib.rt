@@ -5,8 +5,6 @@ mod checks;
 mod commands;
 mod denials;
 mod events;
-mod needs;
 
 pub use commands::check_command;
 pub use events::{check_attach, check_open, check_resize, check_typing, is_known};
-pub use needs::needs_of;

@@ -13,7 +13,7 @@ use Rattle.session_model.specs.declared.refusal.WindowsFault.TheVariants.{Number
 use Rattle.session_model.specs.Tables.{Tables, Window, with_window, with_row}
 use Rattle.session_model.specs.Naming.{is_title}
 use Rattle.session_model.specs.Lines as model
-use Rattle.session_model.specs.Needs.{needs}
+use Rattle.command_lang.specs.Needs.{needs}
 use Rattle.session_model.specs.Checks.{checks, first_fault}
 use Rattle.session_model.specs.Deeds.{Answer, changing, refused_if}
 use Rattle.session_model.specs.Commands.{does, coding_of, is_taken}
@@ -22,7 +22,7 @@ use Rattle.windows.specs.Standing.{StandFor, Change, Answered, changed, serial}
 use Rattle.windows.specs.Standing.{written, written_to, retitled, with_new_number}
 use Rattle.windows.proofs.Callers.{row_done, row_refused_as}
 use Rattle.session_state.specs.declared.caller.Caller.{Caller}
-use Rattle.session_state.specs.declared.made.Made.{Made}
+use Rattle.session_state.specs.declared.step_output.StepOutput.{StepOutput}
 use Rattle.session_state.specs.declared.state.State.{State}
 use Rattle.session_state.specs.Stands.{Stands}
 use Rattle.session_state.specs.Doing.{Answers, caller_in}
@@ -57,7 +57,7 @@ pub record IsChange (t : Tables) (c : Command) (change : Change) : Type 0 where
 module _ (t : Tables) (s : State) (k : Caller) (w : ℕ) (c : Command) (change : Change)
     (is : IsChange t c change) (at : k.window ≡ Some w) (st : Stands t s)
     (passed : first_fault t (checks t (caller_in t k) c) ≡ None) where
-  pub change_done : {A : Type 0} (a : A) (ws : List Row) (made : Made)
+  pub change_done : {A : Type 0} (a : A) (ws : List Row) (made : StepOutput)
       → Answered (changed w change t.windows) (Ok a) ws
       → Answers t (does t (caller_in t k) c) (Ok None) (record s { windows = ws }) made made
   change_done a ws made by =
@@ -78,7 +78,7 @@ module _ (t : Tables) (s : State) (k : Caller) (w : ℕ) (c : Command) (change :
         },
       )
 
-  pub change_refused : (r : Refusal) (new : State) (before after : Made)
+  pub change_refused : (r : Refusal) (new : State) (before after : StepOutput)
       → (r ≡ NoMemory) ⊎ (changed w change t.windows ≡ Err r)
       → Answers t (does t (caller_in t k) c) (Err r) new before after
   change_refused r new before after (inl full) = inl full

@@ -9,7 +9,7 @@ use Rattle.writelock.specs.declared.locks.Locks.{Locks}
 use Rattle.writelock.specs.Holding.{is_off}
 use Rattle.writelock.specs.LockTable.{LocksStandFor}
 use Rattle.session_model.specs.Tables.{Tables}
-use Rattle.session_model.specs.Needs.{of_lock}
+use Rattle.command_lang.specs.Needs.{of_lock}
 use Rattle.session_state.specs.declared.state.State.{State}
 use Rattle.session_state.specs.Stands.{Stands}
 

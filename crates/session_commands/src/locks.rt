@@ -6,7 +6,7 @@ ghost use Rattle.session_state.specs.Doing.{Does, IsAsBefore, HasRoom};
 
 use acl::{Act, LockMode};
 use session_model::{Bytes, Refusal};
-use session_state::{Caller, Made, State};
+use session_state::{Caller, State, StepOutput};
 
 /// `writelock`: sets the mode of the caller's window. The lock is then the caller's, or in mode off
 /// nobody's.
@@ -14,7 +14,7 @@ pub fn writelock(
     state: &mut State,
     caller: Caller,
     mode: LockMode,
-    made: &mut Made,
+    made: &mut StepOutput,
 ) -> Result<Option<Bytes>, Refusal>
     requires { HasRoom 256 made.old }
     ensures answer { Does caller (command.Writelock mode) state.old result state.new
@@ -37,7 +37,7 @@ pub fn defwritelock(
     state: &mut State,
     caller: Caller,
     mode: LockMode,
-    made: &mut Made,
+    made: &mut StepOutput,
 ) -> Result<Option<Bytes>, Refusal>
     requires { HasRoom 256 made.old }
     ensures answer { Does caller (command.Defwritelock mode) state.old result state.new

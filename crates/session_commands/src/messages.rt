@@ -8,7 +8,7 @@ ghost use Rattle.session_state.specs.Doing.{Does, IsAsBefore, HasRoom};
 use acl::UserId;
 use session_clients::messages_of;
 use session_model::{Bytes, Refusal};
-use session_state::{Caller, Made, State};
+use session_state::{Caller, State, StepOutput};
 use std::alloc::{AllocError, Global};
 
 /// What a user says to all: `USER: TEXT`.
@@ -27,7 +27,7 @@ pub fn wall(
     state: &mut State,
     caller: Caller,
     text: &[u8],
-    made: &mut Made,
+    made: &mut StepOutput,
 ) -> Result<Option<Bytes>, Refusal>
     requires { HasRoom 256 made.old }
     ensures answer { Does caller (command.Wall text.now) state.old result state.new

@@ -7,14 +7,14 @@ ghost use Rattle.session_state.specs.Doing.{Does, IsAsBefore, HasRoom};
 
 use command_lang::Coding;
 use session_model::{Bytes, Effect, Refusal};
-use session_state::{Caller, Made, State};
+use session_state::{Caller, State, StepOutput};
 
 /// `title`: gives the caller's window another title.
 pub fn title(
     state: &mut State,
     caller: Caller,
     text: &str,
-    made: &mut Made,
+    made: &mut StepOutput,
 ) -> Result<Option<Bytes>, Refusal>
     requires { HasRoom 256 made.old }
     ensures answer { Does caller (command.Title text.now) state.old result state.new
@@ -35,7 +35,7 @@ pub fn number(
     state: &mut State,
     caller: Caller,
     n: u8,
-    made: &mut Made,
+    made: &mut StepOutput,
 ) -> Result<Option<Bytes>, Refusal>
     requires { HasRoom 256 made.old }
     ensures answer { Does caller (command.Number n) state.old result state.new made.old made.new }
@@ -51,7 +51,11 @@ pub fn number(
 }
 
 /// `clear`: erases the page of the caller's window, and goes home there.
-pub fn clear(state: &mut State, caller: Caller, made: &mut Made) -> Result<Option<Bytes>, Refusal>
+pub fn clear(
+    state: &mut State,
+    caller: Caller,
+    made: &mut StepOutput,
+) -> Result<Option<Bytes>, Refusal>
     requires { HasRoom 256 made.old }
     ensures answer { Does caller command.Clear state.old result state.new made.old made.new }
     ensures silent { IfOk result (λ lists. lists ≡ None) }
@@ -66,7 +70,11 @@ pub fn clear(state: &mut State, caller: Caller, made: &mut Made) -> Result<Optio
 }
 
 /// `reset`: gives the terminal of the caller's window all starting values.
-pub fn reset(state: &mut State, caller: Caller, made: &mut Made) -> Result<Option<Bytes>, Refusal>
+pub fn reset(
+    state: &mut State,
+    caller: Caller,
+    made: &mut StepOutput,
+) -> Result<Option<Bytes>, Refusal>
     requires { HasRoom 256 made.old }
     ensures answer { Does caller command.Reset state.old result state.new made.old made.new }
     ensures silent { IfOk result (λ lists. lists ≡ None) }
@@ -95,7 +103,7 @@ pub fn encoding(
     state: &mut State,
     caller: Caller,
     coding: Coding,
-    made: &mut Made,
+    made: &mut StepOutput,
 ) -> Result<Option<Bytes>, Refusal>
     requires { HasRoom 256 made.old }
     ensures answer { Does caller (command.Encoding coding) state.old result state.new
@@ -116,7 +124,7 @@ pub fn stuff(
     state: &mut State,
     caller: Caller,
     bytes: &[u8],
-    made: &mut Made,
+    made: &mut StepOutput,
 ) -> Result<Option<Bytes>, Refusal>
     requires { HasRoom 256 made.old }
     ensures answer { Does caller (command.Stuff bytes.now) state.old result state.new

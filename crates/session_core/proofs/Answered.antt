@@ -22,7 +22,7 @@ use Rattle.session_model.specs.Deeds.{Deed, Answer, given}
 use Rattle.session_model.specs.Events.{Outcome, outcome, finished, refused, done, reply_of}
 use Rattle.session_model.specs.Events.{answered, commanded, line_ruling, keys_outcome}
 use Rattle.session_rows.proofs.Serials.{if_true, if_false}
-use Rattle.session_state.specs.declared.made.Made.{Made}
+use Rattle.session_state.specs.declared.step_output.StepOutput.{StepOutput}
 use Rattle.session_state.specs.declared.state.State.{State}
 use Rattle.session_state.specs.Stands.{Stands}
 use Rattle.session_state.specs.Doing.{HasDone, IsAsBefore, did}
@@ -55,14 +55,14 @@ module _ {X : Type 0} (t : Tables) (f : X → Deed) where
   row_refused (Some x) r is = absurd (cc (is))
 
   pub was_settled : (o : Option X) (d : Deed) (said : Reply) (middle new : State)
-      (before second after : Made) (past : List Verdict)
+      (before second after : StepOutput) (past : List Verdict)
       → given o NoWindow (λ x. Ok (f x)) ≡ Ok d → done ≡ said → HasDone t d middle before second
       → HasLeft t d new second after → HasHappened (of_row t f o) said new before after past past
   was_settled o d said middle new before second after past is same did left =
       was_done t [] d (of_row t f o) done said middle new before before second after past past
       (row_done o d is) same refl refl did left (sym (append-nil past))
 
-  pub was_unsettled : (o : Option X) (r : Refusal) (old new : State) (before after : Made)
+  pub was_unsettled : (o : Option X) (r : Refusal) (old new : State) (before after : StepOutput)
       (past : List Verdict) → (r ≡ NoMemory) ⊎ (given o NoWindow (λ x. Ok (f x)) ≡ Err r)
       → Stands t old → IsAsBefore old new before after
       → Stepped (of_row t f o) (Err r) new before after past past
@@ -93,7 +93,7 @@ module _ (t : Tables) (user : UserId) (number : Option ℕ) (line : List ℕ) wh
   abbrev outcome_here : Outcome
   outcome_here = outcome t (Given user number line)
 
-  pub user_unknown : (s : State) (m : Made) (past : List Verdict) → is_known t user ≡ false
+  pub user_unknown : (s : State) (m : StepOutput) (past : List Verdict) → is_known t user ≡ false
       → Stands t s → HasHappened outcome_here (Err UnknownUser) s m m past past
   user_unknown s m past other st =
       was_refused t [] UnknownUser outcome_here s s m m past past
@@ -107,7 +107,7 @@ module _ (t : Tables) (user : UserId) (number : Option ℕ) (line : List ℕ) wh
         ∙ ap (λ (a : Result Command ParseFault). commanded t (line_ruling t who a)) is
 
     -- a line has a fault
-    pub line_faulty : (r : Refusal) (s : State) (m : Made) (past : List Verdict)
+    pub line_faulty : (r : Refusal) (s : State) (m : StepOutput) (past : List Verdict)
         → Parses line (Err r) → Stands t s → Stepped outcome_here (Err r) s m m past past
     line_faulty r s m past (inl full) st = inl full
     line_faulty r s m past (inr why) st =
@@ -120,7 +120,7 @@ module _ (t : Tables) (user : UserId) (number : Option ℕ) (line : List ℕ) wh
       by_table = ruling t who order
 
       -- a command is refused
-      pub was_ruled_out : (r : Refusal) (old new : State) (before after : Made)
+      pub was_ruled_out : (r : Refusal) (old new : State) (before after : StepOutput)
           (past noted : List Verdict) → Ruled t by_table (Err r) new before after past noted
           → Stands t old → IsAsBefore old new before after
           → Stepped outcome_here (Err r) new before after past noted
@@ -132,7 +132,7 @@ module _ (t : Tables) (user : UserId) (number : Option ℕ) (line : List ℕ) wh
 
       -- a command is obeyed
       pub was_obeyed : (lists : Option (List ℕ)) (said : Reply) (middle new : State)
-          (before second after : Made) (past noted : List Verdict)
+          (before second after : StepOutput) (past noted : List Verdict)
           → Ruled t by_table (Ok lists) middle before second past noted
           → reply_of 0 0 0 lists ≡ said
           → ((d : Deed) → Stands (did t d) middle → HasLeft t d new second after)
@@ -155,7 +155,7 @@ of_keys t bytes o = elim o [
 ]
 
 pub was_read : (t : Tables) (o : Option Client) (bytes : List ℕ) (count : ℕ) (said : Reply)
-    (new : State) (before after : Made) (past noted : List Verdict)
+    (new : State) (before after : StepOutput) (past noted : List Verdict)
     → ReadFor t o bytes (Ok count) new before after past noted → reply_of count 0 0 None ≡ said
     → HasHappened (of_keys t bytes o) said new before after past noted
 was_read t None bytes count said new before after past noted read same = absurd read
@@ -168,7 +168,7 @@ was_read t (Some c) bytes count said new before after past noted read same = rec
 }
 
 pub was_unread : (t : Tables) (o : Option Client) (bytes : List ℕ) (r : Refusal)
-    (old new : State) (before after : Made) (past noted : List Verdict)
+    (old new : State) (before after : StepOutput) (past noted : List Verdict)
     → ReadFor t o bytes (Err r) new before after past noted → Stands t old
     → IsAsBefore old new before after
     → Stepped (of_keys t bytes o) (Err r) new before after past noted

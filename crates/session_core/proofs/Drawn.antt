@@ -13,7 +13,7 @@ use Rattle.session_model.specs.Tables.{Client, Tables, client_at}
 use Rattle.session_model.specs.Deeds.{changing}
 use Rattle.session_model.specs.Events.{Outcome, outcome, finished, refused, done, left_acts}
 use Rattle.session_model.specs.Run.{IsDraw, drawn_on}
-use Rattle.session_state.specs.declared.made.Made.{Made}
+use Rattle.session_state.specs.declared.step_output.StepOutput.{StepOutput}
 use Rattle.session_state.specs.declared.state.State.{State}
 use Rattle.session_state.specs.Stands.{Stands}
 use Rattle.session_state.specs.Doing.{IsAsBefore}
@@ -40,7 +40,7 @@ module _ (t : Tables) (client : ℕ) where
   left : left_acts t.clients t.clients ≡ []
   left = none_left t.clients t.clients (λ user w is. is)
 
-  pub drawn_taken : (c : Client) (reply : Reply) (new : State) (before after : Made)
+  pub drawn_taken : (c : Client) (reply : Reply) (new : State) (before after : StepOutput)
       (past : List Verdict) → client_at t client ≡ Some c → done ≡ reply
       → HasDrawn t c new before after → TakenAs (Draw client) reply t new before after past past
   drawn_taken c reply new before after past at same drawn =
@@ -69,7 +69,7 @@ module _ (t : Tables) (client : ℕ) where
       )
 
   -- no client has the serial
-  pub undrawn_taken : (r : Refusal) (old new : State) (before after : Made) (past : List Verdict)
+  pub undrawn_taken : (r : Refusal) (old new : State) (before after : StepOutput) (past : List Verdict)
       → client_at t client ≡ None → r ≡ NoWindow → Stands t old → IsAsBefore old new before after
       → TakenAs (Draw client) (Err r) t new before after past past
   undrawn_taken r old new before after past at why st same =
@@ -97,7 +97,7 @@ module _ (t : Tables) (client : ℕ) where
         },
       )
 
-  pub undrawn_or : (r : Refusal) (old new : State) (before after : Made) (past : List Verdict)
+  pub undrawn_or : (r : Refusal) (old new : State) (before after : StepOutput) (past : List Verdict)
       → (r ≡ NoMemory) ⊎ ((r ≡ NoWindow) × (client_at t client ≡ None)) → Stands t old
       → IsAsBefore old new before after → wants_memory (Err r) ≡ false
       → TakenAs (Draw client) (Err r) t new before after past past

@@ -4,33 +4,33 @@ use Rattle.std.specs.Prelude.{OnErr}
 use Rattle.session_model.specs.declared.event.Effect.{Effect}
 use Rattle.session_model.specs.declared.refusal.Refusal.{Refusal}
 use Rattle.session_model.specs.declared.verdict.Verdict.{Verdict}
-use Rattle.session_model.specs.Trace.{Happening, Draw, Reply}
+use Rattle.session_model.specs.Trace.{EventValue, Draw, Reply}
 use Rattle.session_model.specs.Tables.{Tables}
 use Rattle.session_model.specs.Events.{Outcome, outcome}
 use Rattle.session_model.specs.Run.{HasEffects, drawn}
-use Rattle.session_state.specs.declared.made.Made.{Made}
+use Rattle.session_state.specs.declared.step_output.StepOutput.{StepOutput}
 use Rattle.session_state.specs.declared.state.State.{State}
 use Rattle.session_state.specs.Stands.{Stands}
 use Rattle.session_core.specs.Stepping.{HasHappened, Stepped, Steps}
 use Rattle.session_core.specs.Taking.{TakenAs, Takes, wants_memory}
 
 -- whether it is a draw
-abbrev pub is_draw : Happening → Bool
+abbrev pub is_draw : EventValue → Bool
 is_draw (Draw client) = true
 is_draw _ = false
 
-has_effects : (t : Tables) (event : Happening) → is_draw event ≡ false
+has_effects : (t : Tables) (event : EventValue) → is_draw event ≡ false
     → HasEffects t event (outcome t event).effects
 has_effects t (Draw client) plain = absurd (cc (plain))
 has_effects t event plain = refl
 
-not_drawn : (event : Happening) (effects : List Effect) (t : Tables) → is_draw event ≡ false
+not_drawn : (event : EventValue) (effects : List Effect) (t : Tables) → is_draw event ≡ false
     → drawn event effects t ≡ t
 not_drawn (Draw client) effects t plain = absurd (cc (plain))
 not_drawn event effects t plain = refl
 
-happened_taken : (t : Tables) (event : Happening) (reply : Reply) (new : State)
-    (before after : Made) (past noted : List Verdict) → is_draw event ≡ false
+happened_taken : (t : Tables) (event : EventValue) (reply : Reply) (new : State)
+    (before after : StepOutput) (past noted : List Verdict) → is_draw event ≡ false
     → HasHappened (outcome t event) reply new before after past noted
     → TakenAs event reply t new before after past noted
 happened_taken t event reply new before after past noted plain h =
@@ -59,7 +59,7 @@ happened_taken t event reply new before after past noted plain h =
       },
     )
 
-unless_memory : (o : Outcome) (reply : Reply) (new : State) (before after : Made)
+unless_memory : (o : Outcome) (reply : Reply) (new : State) (before after : StepOutput)
     (past noted : List Verdict) → wants_memory reply ≡ false
     → Stepped o reply new before after past noted
     → HasHappened o reply new before after past noted
@@ -70,12 +70,12 @@ unless_memory o (Err r) new before after past noted other (inl full) =
     absurd (cc (want, other))
 
 -- an event that is no draw
-pub taken : (event told : Happening) (old new : State) (reply : Reply) (before after : Made)
+pub taken : (event told : EventValue) (old new : State) (reply : Reply) (before after : StepOutput)
     (past noted : List Verdict) → event ≡ told → is_draw told ≡ false
     → Steps told old reply new before after past noted
     → Takes event old reply new before after past noted
 taken event told old new reply before after past noted is plain steps =
-    subst (λ (e : Happening). Takes e old reply new before after past noted) (sym is)
+    subst (λ (e : EventValue). Takes e old reply new before after past noted) (sym is)
     (λ t st fit other. happened_taken t told reply new before after past noted plain
     (unless_memory (outcome t told) reply new before after past noted other (steps t st fit)))
 

@@ -18,7 +18,7 @@ use Rattle.session_model.specs.Deeds.{Deed, changing}
 use Rattle.session_model.specs.Events.{input_in, says_why}
 use Rattle.session_model.specs.Texts.{text_of}
 use Rattle.session_rows.proofs.Serials.{serial_is}
-use Rattle.session_state.specs.declared.made.Made.{Made}
+use Rattle.session_state.specs.declared.step_output.StepOutput.{StepOutput}
 use Rattle.session_checks.specs.Checked.{Passed, Failed}
 use Rattle.session_core.specs.Said.{wants_memory}
 use Rattle.session_core.specs.Typing.{Typed, input_to}
@@ -39,7 +39,7 @@ input_there t (Some n) w typed at =
     ∙ ap (λ (o : Option Window). input_in o typed) (sym at)
 
 -- the bytes go to it
-pub typed_through : (t : Tables) (c : Client) (typed : List ℕ) (before after : Made)
+pub typed_through : (t : Tables) (c : Client) (typed : List ℕ) (before after : StepOutput)
     (old noted : List Verdict) → (length typed == 0) ≡ false
     → Passed t (typing_checks c.user (focused_window t c)) old noted
     → after.effects.items ≡ before.effects.items ++ input_to (focused c) typed
@@ -65,7 +65,7 @@ typed_through t c (b ∷ bytes) before after old noted some passed put =
 
 -- or the client is told why not
 pub typed_refused : (t : Tables) (c : Client) (n : ℕ) (typed : List ℕ) (r : Refusal)
-    (before after : Made) (old noted : List Verdict) → (length typed == 0) ≡ false → c.serial ≡ n
+    (before after : StepOutput) (old noted : List Verdict) → (length typed == 0) ≡ false → c.serial ≡ n
     → Failed t (typing_checks c.user (focused_window t c)) r old noted
     → after.effects.items ≡ before.effects.items ++ Say n (text_of r) ∷ []
     → Typed t c typed (Text (text_of r)) before after old noted
@@ -88,7 +88,7 @@ typed_refused t c n (b ∷ bytes) r before after old noted some same failed put 
     }
 
 pub typed_refused_or : (t : Tables) (c : Client) (n : ℕ) (typed : List ℕ) (r : Refusal)
-    (before after : Made) (old noted : List Verdict) → (length typed == 0) ≡ false
+    (before after : StepOutput) (old noted : List Verdict) → (length typed == 0) ≡ false
     → client_at t n ≡ Some c → wants_memory r ≡ false
     → (r ≡ NoMemory) ⊎ Failed t (typing_checks c.user (focused_window t c)) r old noted
     → after.effects.items ≡ before.effects.items ++ Say n (text_of r) ∷ []

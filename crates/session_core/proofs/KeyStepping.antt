@@ -33,7 +33,7 @@ use Rattle.session_rows.proofs.Serials.{serial_is, with_same, with_twice}
 use Rattle.session_clients.specs.declared.client.Client.{Client as Row}
 use Rattle.session_clients.specs.Stands.{ClientStands}
 use Rattle.session_state.specs.declared.caller.Caller.{Caller}
-use Rattle.session_state.specs.declared.made.Made.{Made}
+use Rattle.session_state.specs.declared.step_output.StepOutput.{StepOutput}
 use Rattle.session_state.specs.declared.state.State.{State}
 use Rattle.session_state.specs.Stands.{Stands}
 use Rattle.session_state.specs.Doing.{did}
@@ -183,7 +183,7 @@ typed_now t n c keys typed before middle at typed_is put =
 
 -- what was typed and what was obeyed are the keys' deed
 pub keys_given : (t : Tables) (n : ℕ) (c : Client) (keys typed : List ℕ) (message : Message)
-    (start end : ℕ) (orders : Option (Result Command ParseFault)) (new : State) (before middle later after : Made)
+    (start end : ℕ) (orders : Option (Result Command ParseFault)) (new : State) (before middle later after : StepOutput)
     (past noted noted_then : List Verdict) → client_at t n ≡ Some c
     → typed ≡ typed_bytes (items_behind c.keys keys)
     → orders ≡ given (command_item (items_behind c.keys keys))
@@ -248,7 +248,7 @@ keys_given t n c keys typed message start end orders new before middle later aft
 
 -- users left windows
 pub keys_ended : (t : Tables) (c : Client) (keys : List ℕ) (middle new : State)
-    (before second after : Made) (past noted : List Verdict)
+    (before second after : StepOutput) (past noted : List Verdict)
     → AreGiven t c keys middle before second past noted
     → HasLeft t (keys_deed t c keys) new second after
     → HaveEnded t c keys new before after past noted
@@ -267,7 +267,7 @@ keys_ended t c keys middle new before second after past noted given left =
 
 -- the keys give no command: they are typed, and nobody leaves a window
 pub keys_typed : (t : Tables) (n : ℕ) (c : Client) (keys typed : List ℕ) (reader : Keeping)
-    (message : Message) (new : State) (before after : Made) (past noted : List Verdict)
+    (message : Message) (new : State) (before after : StepOutput) (past noted : List Verdict)
     → client_at t n ≡ Some c → AreRead c keys reader typed None
     → Typed t c typed message before after past noted
     → after.acts.items ≡ before.acts.items

@@ -17,7 +17,7 @@ use Rattle.session_clients.specs.Stands.{ClientStands}
 use Rattle.session_rows.proofs.Matching.{rows_match, both_there, both_back}
 use Rattle.session_clients.proofs.Changing.{serials}
 use Rattle.session_clients.specs.declared.client.Client.{Client as Row}
-use Rattle.session_state.specs.declared.made.Made.{Made}
+use Rattle.session_state.specs.declared.step_output.StepOutput.{StepOutput}
 use Rattle.session_state.specs.declared.state.State.{State}
 use Rattle.session_state.specs.Stands.{Stands}
 use Rattle.session_state.specs.Doing.{HasDone, caller_in, did}
@@ -34,7 +34,7 @@ called t c n same = ap (λ (k : ℕ). caller_in t (caller_by k c)) (sym same)
 
 -- nothing is listed
 pub obeyed_silently : (t : Tables) (c : Client) (n : ℕ) (k : Command) (d : Deed)
-    (new : State) (before after : Made) (old noted : List Verdict) → c.serial ≡ n
+    (new : State) (before after : StepOutput) (old noted : List Verdict) → c.serial ≡ n
     → (ruling t (caller_in t (caller_by n c)) k).answer ≡ Ok d → None ≡ d.lists
     → HasDone t d new before after
     → noted ≡ old ++ (ruling t (caller_in t (caller_by n c)) k).verdicts
@@ -52,7 +52,7 @@ obeyed_silently t c n k d new before after old noted same answer none done told 
 
 -- a refusal is said
 pub obeyed_refused : (t : Tables) (c : Client) (n : ℕ) (k : Command) (r : Refusal)
-    (new : State) (before after : Made) (old noted : List Verdict) → c.serial ≡ n
+    (new : State) (before after : StepOutput) (old noted : List Verdict) → c.serial ≡ n
     → (ruling t (caller_in t (caller_by n c)) k).answer ≡ Err r
     → noted ≡ old ++ (ruling t (caller_in t (caller_by n c)) k).verdicts
     → HasDone t (says t n (Text (text_of r)) (text_of r)) new before after
@@ -83,7 +83,7 @@ still_there t u s n c st other at =
 
 -- what a command lists is said
 pub obeyed_listing : (t : Tables) (c d' : Client) (n : ℕ) (k : Command) (d : Deed) (text : List ℕ)
-    (s new : State) (before middle after : Made) (old noted : List Verdict) → c.serial ≡ n
+    (s new : State) (before middle after : StepOutput) (old noted : List Verdict) → c.serial ≡ n
     → Stands t s → client_at t n ≡ Some d'
     → (ruling t (caller_in t (caller_by n c)) k).answer ≡ Ok d → Some text ≡ d.lists
     → HasDone t d s before middle
@@ -118,7 +118,7 @@ obeyed_listing t c d' n k d text s new before middle after old noted same st at 
     }
 
 -- what was done behind these acts and effects was done behind the same
-pub kept_on : (t : Tables) (d : Deed) (new : State) (before middle after : Made)
+pub kept_on : (t : Tables) (d : Deed) (new : State) (before middle after : StepOutput)
     → HasDone t d new before after → before.acts.items ≡ middle.acts.items
     → before.effects.items ≡ middle.effects.items → HasDone t d new middle after
 kept_on t d new before middle after done acts effects = record {
@@ -128,7 +128,7 @@ kept_on t d new before middle after done acts effects = record {
 }
 
 pub obeyed_refused_or : (t : Tables) (c : Client) (n : ℕ) (k : Command) (r : Refusal)
-    (s new : State) (before middle after : Made) (old noted : List Verdict) → c.serial ≡ n
+    (s new : State) (before middle after : StepOutput) (old noted : List Verdict) → c.serial ≡ n
     → wants_memory r ≡ false
     → Ruled t (ruling t (caller_in t (caller_by n c)) k) (Err r) s before middle old noted
     → middle.acts.items ≡ before.acts.items → middle.effects.items ≡ before.effects.items

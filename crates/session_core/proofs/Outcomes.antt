@@ -11,7 +11,7 @@ use Rattle.session_model.specs.Tables.{Tables}
 use Rattle.session_model.specs.Checks.{verdicts, first_fault}
 use Rattle.session_model.specs.Deeds.{Deed}
 use Rattle.session_model.specs.Events.{Outcome, finished, refused, where_passed, left_acts}
-use Rattle.session_state.specs.declared.made.Made.{Made}
+use Rattle.session_state.specs.declared.step_output.StepOutput.{StepOutput}
 use Rattle.session_state.specs.declared.state.State.{State}
 use Rattle.session_state.specs.Stands.{Stands}
 use Rattle.session_state.specs.Doing.{HasDone, IsAsBefore}
@@ -19,12 +19,12 @@ use Rattle.session_checks.specs.Checked.{Failed}
 use Rattle.session_leaving.specs.Leaving.{HasLeft}
 use Rattle.session_core.specs.Stepping.{HasHappened, Stepped}
 
-pub nothing_done : (s : State) (m : Made) → IsAsBefore s s m m
+pub nothing_done : (s : State) (m : StepOutput) → IsAsBefore s s m m
 nothing_done s m = record { state = refl; acts = refl; effects = refl }
 
 -- it was refused, and nothing was done
 pub was_refused : (t : Tables) (vs : List Verdict) (r : Refusal) (o : Outcome) (old new : State)
-    (before after : Made) (past noted : List Verdict) → o ≡ refused t vs r → Stands t old
+    (before after : StepOutput) (past noted : List Verdict) → o ≡ refused t vs r → Stands t old
     → IsAsBefore old new before after → noted ≡ past ++ vs
     → HasHappened o (Err r) new before after past noted
 was_refused t vs r o old new before after past noted is st same told =
@@ -38,7 +38,7 @@ was_refused t vs r o old new before after past noted is st same told =
 
 -- a deed was done, and then users left windows
 pub was_done : (t : Tables) (vs : List Verdict) (d : Deed) (o : Outcome) (reply said : Reply)
-    (middle new : State) (before first second after : Made) (past noted : List Verdict)
+    (middle new : State) (before first second after : StepOutput) (past noted : List Verdict)
     → o ≡ finished t vs reply d → reply ≡ said → first.acts.items ≡ before.acts.items
     → first.effects.items ≡ before.effects.items → HasDone t d middle first second
     → HasLeft t d new second after → noted ≡ past ++ vs
@@ -85,7 +85,7 @@ failed_is t cs reply d r fault =
 
 -- a check failed, or there was no memory to note it
 pub was_checked : (t : Tables) (cs : List Check) (d : Deed) (o : Outcome) (reply : Reply)
-    (r : Refusal) (s : State) (m : Made) (past noted : List Verdict)
+    (r : Refusal) (s : State) (m : StepOutput) (past noted : List Verdict)
     → o ≡ where_passed t cs reply d → Stands t s → (r ≡ NoMemory) ⊎ Failed t cs r past noted
     → Stepped o (Err r) s m m past noted
 was_checked t cs d o reply r s m past noted is st (inl full) = inl full
@@ -95,7 +95,7 @@ was_checked t cs d o reply r s m past noted is st (inr failed) =
 
 -- the checks passed, and the deed was done
 pub was_passed : (t : Tables) (cs : List Check) (d : Deed) (o : Outcome) (reply said : Reply)
-    (middle new : State) (before first second after : Made) (past noted : List Verdict)
+    (middle new : State) (before first second after : StepOutput) (past noted : List Verdict)
     → o ≡ where_passed t cs reply d → first_fault t cs ≡ None → reply ≡ said
     → first.acts.items ≡ before.acts.items → first.effects.items ≡ before.effects.items
     → HasDone t d middle first second → HasLeft t d new second after

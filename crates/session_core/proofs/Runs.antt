@@ -7,14 +7,14 @@ use Rattle.session_model.specs.declared.event.Effect.{Effect}
 use Rattle.session_model.specs.declared.event.Event.{Event}
 use Rattle.session_model.specs.declared.event.Event.TheVariants as told
 use Rattle.session_model.specs.declared.verdict.Verdict.{Verdict}
-use Rattle.session_model.specs.Trace.{Happening, Attach, Detach, Keys, Command, Resize, Open, Output, Closed, Draw}
+use Rattle.session_model.specs.Trace.{EventValue, Attach, Detach, Keys, Command, Resize, Open, Output, Closed, Draw}
 use Rattle.session_model.specs.Trace.{happening, Reply, Entry, Trace, with_step}
 use Rattle.session_model.specs.Tables.{Tables}
 use Rattle.session_model.specs.Events.{outcome}
 use Rattle.session_model.specs.Run as run
 use Rattle.session_model.specs.Run.{IsRun, IsStep, tables_of}
 use Rattle.session_laws.proofs.Promising.{step_keeps}
-use Rattle.session_state.specs.declared.made.Made.{Made}
+use Rattle.session_state.specs.declared.step_output.StepOutput.{StepOutput}
 use Rattle.session_state.specs.declared.state.State.{State}
 use Rattle.session_state.specs.Stands.{Stands}
 use Rattle.session_core.specs.Taking.{TakenAs}
@@ -38,13 +38,13 @@ replies_of-append [] ys = refl
 replies_of-append (x ∷ xs) ys = ap (λ es. last_reply (left_of x.event x.reply) x.reply ++ es) (replies_of-append xs ys) ∙ sym (append_assoc _ (replies_of xs) (replies_of ys))
 
 -- events that come behind are left
-serves_before : (events : List Happening) (steps : List Entry) (left more : List Happening) → Serves events steps left → Serves (events ++ more) steps (left ++ more)
+serves_before : (events : List EventValue) (steps : List Entry) (left more : List EventValue) → Serves events steps left → Serves (events ++ more) steps (left ++ more)
 serves_before events [] left more s = ap (λ es. es ++ more) s
 serves_before [] (e ∷ steps) left more s = absurd s
 serves_before (event ∷ events) (e ∷ steps) left more s =
     (s.0, subst (λ es. Serves es steps (left ++ more)) (append_assoc (left_of e.event e.reply) events more) (serves_before (left_of e.event e.reply ++ events) steps left more s.1))
 
-serves_on : (events : List Happening) (xs ys : List Entry) (mid left : List Happening) → Serves events xs mid → Serves mid ys left → Serves events (xs ++ ys) left
+serves_on : (events : List EventValue) (xs ys : List Entry) (mid left : List EventValue) → Serves events xs mid → Serves mid ys left → Serves events (xs ++ ys) left
 serves_on events [] ys mid left s t = subst (λ es. Serves es ys left) s t
 serves_on [] (x ∷ xs) ys mid left s t = absurd s
 serves_on (event ∷ events) (x ∷ xs) ys mid left s t = (s.0, serves_on (left_of x.event x.reply ++ events) xs ys mid left s.1 t)
@@ -70,7 +70,7 @@ promised some = λ h st. let r = some h st in (r.0, r.1, r.2, all_keep h r.0 (ru
 
 -- ---- a step
 
-same_entry : (e : Entry) (event : Happening) (reply : Reply) (acts : List Act) (verdicts : List Verdict) → e.event ≡ event → e.reply ≡ reply → e.acts ≡ acts → e.verdicts ≡ verdicts
+same_entry : (e : Entry) (event : EventValue) (reply : Reply) (acts : List Act) (verdicts : List Verdict) → e.event ≡ event → e.reply ≡ reply → e.acts ≡ acts → e.verdicts ≡ verdicts
     → e ≡ entry_of event reply (record { acts = acts; verdicts = verdicts }) e.effects
 same_entry e event reply acts verdicts event_is reply_is acts_are verdicts_are =
     ap (λ x. let d : Entry = record e { event = x } in d) event_is
@@ -79,7 +79,7 @@ same_entry e event reply acts verdicts event_is reply_is acts_are verdicts_are =
     ∙ ap (λ x. let d : Entry = record e { event = event; reply = reply; acts = acts; verdicts = x } in d) verdicts_are
 
 -- what was made from nothing is the entry's
-taken_as : (event : Happening) (reply : Reply) (t : Tables) (new : State) (before after : Made) (old noted : List Verdict) → before.acts.items ≡ [] → old ≡ [] → TakenAs event reply t new before after old noted
+taken_as : (event : EventValue) (reply : Reply) (t : Tables) (new : State) (before after : StepOutput) (old noted : List Verdict) → before.acts.items ≡ [] → old ≡ [] → TakenAs event reply t new before after old noted
     → (made : List Effect) × (after.effects.items ≡ before.effects.items ++ made)
     × IsStep t (entry_of event reply (record { acts = after.acts.items; verdicts = noted }) made)
     × Stands (run.after t (entry_of event reply (record { acts = after.acts.items; verdicts = noted }) made)) new
@@ -90,7 +90,7 @@ taken_as event reply t new before after old noted no_acts none (e, event_is, rep
     (e.effects, taken.effects, subst (λ x. IsStep t x) same taken.step, subst (λ x. Stands (run.after t x) new) same taken.stands)
 
 -- what the state takes the session takes
-pub step_taken : (h : Trace) (old new : Session) (event : Happening) (reply : Reply) (noted : Noted) (before after : Made) (past verdicts : List Verdict)
+pub step_taken : (h : Trace) (old new : Session) (event : EventValue) (reply : Reply) (noted : Noted) (before after : StepOutput) (past verdicts : List Verdict)
     → noted ≡ record { acts = after.acts.items; verdicts = verdicts } → before.acts.items ≡ [] → past ≡ [] → StandsFor h old → TakenAs event reply (tables_of h) new.state before after past verdicts
     → (made : List Effect) × (after.effects.items ≡ before.effects.items ++ made) × StandsFor (with_step h (entry_of event reply noted made)) new
 step_taken h old new event reply noted before after past verdicts noted_is no_acts none st taken =
@@ -100,7 +100,7 @@ step_taken h old new event reply noted before after past verdicts noted_is no_ac
 -- ---- calls
 
 -- one step, whose reply says what it leaves of its event
-pub one_step : (old new : Session) (event : Happening) (left : List Happening) (noted : Noted) (before after : List Effect) (reply : Reply)
+pub one_step : (old new : Session) (event : EventValue) (left : List EventValue) (noted : Noted) (before after : List Effect) (reply : Reply)
     → ((t : Tables) → reply ≡ (outcome t event).reply → left_of event reply ≡ left) → Takes old event noted before after reply new
     → SomeSteps old (record { events = event ∷ []; effects = before; more_effects = after; replies = []; more_replies = last_reply left reply; left = left }) new
 one_step old new event left noted before after reply leaves takes h st =
@@ -119,7 +119,7 @@ one_step old new event left noted before after reply leaves takes h st =
     )
 
 -- steps that take what others left
-more_steps : (old mid new : Session) (events first left rest : List Happening) (e1 e2 e3 : List Effect) (r1 r2 r3 : List Reply)
+more_steps : (old mid new : Session) (events first left rest : List EventValue) (e1 e2 e3 : List Effect) (r1 r2 r3 : List Reply)
     → SomeSteps old (record { events = events; effects = e1; more_effects = e2; replies = r1; more_replies = r2; left = first ++ rest }) mid
     → SomeSteps mid (record { events = first; effects = e2; more_effects = e3; replies = []; more_replies = r3; left = left }) new
     → SomeSteps old (record { events = events; effects = e1; more_effects = e3; replies = r1; more_replies = r2 ++ r3; left = left ++ rest }) new
@@ -137,7 +137,7 @@ more_steps old mid new events first left rest e1 e2 e3 r1 r2 r3 before after h s
     )
 
 -- the same, with what is left and told by equations
-pub then_steps : (old mid new : Session) (events first left rest left_mid left_new : List Happening) (e1 e2 e3 : List Effect) (r1 r2 r3 r4 : List Reply)
+pub then_steps : (old mid new : Session) (events first left rest left_mid left_new : List EventValue) (e1 e2 e3 : List Effect) (r1 r2 r3 r4 : List Reply)
     → left_mid ≡ first ++ rest → left_new ≡ left ++ rest → r4 ≡ r2 ++ r3
     → SomeSteps old (record { events = events; effects = e1; more_effects = e2; replies = r1; more_replies = r2; left = left_mid }) mid
     → SomeSteps mid (record { events = first; effects = e2; more_effects = e3; replies = []; more_replies = r3; left = left }) new
@@ -150,19 +150,19 @@ then_steps old mid new events first left rest left_mid left_new e1 e2 e3 r1 r2 r
 
 -- ---- parts of events
 
-pub without_none : (events : List Happening) → without_part 0 events ≡ events
+pub without_none : (events : List EventValue) → without_part 0 events ≡ events
 without_none [] = refl
 without_none (event ∷ events) = on event where
-  on : (event : Happening) → without_part 0 (event ∷ events) ≡ event ∷ events
+  on : (event : EventValue) → without_part 0 (event ∷ events) ≡ event ∷ events
   on (Keys client bytes) = refl
   on _ = refl
 
-without_part-append : (part : ℕ) (event : Happening) (events : List Happening) → without_part part (event ∷ []) ++ events ≡ without_part part (event ∷ events)
+without_part-append : (part : ℕ) (event : EventValue) (events : List EventValue) → without_part part (event ∷ []) ++ events ≡ without_part part (event ∷ events)
 without_part-append part (Keys client bytes) events = refl
 without_part-append part _ events = refl
 
 -- a part of the first event alone is one
-pub part_of : (part : ℕ) (event : Happening) (events : List Happening) → IsPart part (event ∷ []) → IsPart part (event ∷ events)
+pub part_of : (part : ℕ) (event : EventValue) (events : List EventValue) → IsPart part (event ∷ []) → IsPart part (event ∷ events)
 part_of part (Keys client bytes) events is = is
 part_of part (Attach user rows columns) events is = is
 part_of part (Detach client) events is = is
@@ -174,7 +174,7 @@ part_of part (Closed window) events is = is
 part_of part (Draw client) events is = is
 
 -- a run that was stopped in an event
-pub came_to : (events : List Happening) (taken part : ℕ) (first : Happening) (rest : List Happening) → taken < length events → drop taken events ≡ first ∷ rest → IsPart part (first ∷ [])
+pub came_to : (events : List EventValue) (taken part : ℕ) (first : EventValue) (rest : List EventValue) → taken < length events → drop taken events ≡ first ∷ rest → IsPart part (first ∷ [])
     → HasCome (record { taken = taken; part = part; stopped = true }) events
 came_to events taken part first rest lt at is = record {
   within = omega arith;
@@ -198,11 +198,11 @@ rest_at (e ∷ events) (suc i) event lt =
     subst (λ n. drop i (map happening events) ≡ happening (get_or events i event) ∷ drop n (map happening (e ∷ events))) (sym same) (rest_at events i event (omega arith))
 
 -- the first of them was taken in part
-pub stops_in : (part : ℕ) (first : Happening) (rest events : List Happening) → events ≡ first ∷ rest → without_part part events ≡ without_part part (first ∷ []) ++ rest
+pub stops_in : (part : ℕ) (first : EventValue) (rest events : List EventValue) → events ≡ first ∷ rest → without_part part events ≡ without_part part (first ∷ []) ++ rest
 stops_in part first rest events is = ap (λ es. without_part part es) is ∙ sym (without_part-append part first rest)
 
 -- the end of the events
-pub at_end : (old new : Session) (events : List Happening) (e1 e2 : List Effect) (r1 r2 : List Reply) (n m : ℕ) → n ≡ m
+pub at_end : (old new : Session) (events : List EventValue) (e1 e2 : List Effect) (r1 r2 : List Reply) (n m : ℕ) → n ≡ m
     → SomeSteps old (record { events = events; effects = e1; more_effects = e2; replies = r1; more_replies = r2; left = drop n events }) new
     → SomeSteps old (record { events = events; effects = e1; more_effects = e2; replies = r1; more_replies = r2; left = without_part 0 (drop m events) }) new
 at_end old new events e1 e2 r1 r2 n m same some =

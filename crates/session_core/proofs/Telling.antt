@@ -10,7 +10,7 @@ use Rattle.session_model.specs.Events.{told, says}
 use Rattle.session_rows.proofs.Serials.{serial_is}
 use Rattle.session_clients.specs.declared.client.Client.{Client}
 use Rattle.session_clients.specs.Stands.{AreClients, Changes}
-use Rattle.session_state.specs.declared.made.Made.{Made}
+use Rattle.session_state.specs.declared.step_output.StepOutput.{StepOutput}
 use Rattle.session_state.specs.declared.state.State.{State}
 use Rattle.session_state.specs.Stands.{Stands}
 use Rattle.session_state.specs.Doing.{HasDone}
@@ -45,7 +45,7 @@ abbrev saying : Tables → ℕ → List ℕ → Deed
 saying u n text = record (changing u) { effects = Say n text ∷ [] }
 
 pub said_done : (t : Tables) (s : State) (n : ℕ) (m : Message) (text : List ℕ) (c : model.Client)
-    (cs : List Client) (before after : Made) → client_at t n ≡ Some c
+    (cs : List Client) (before after : StepOutput) → client_at t n ≡ Some c
     → Changes (hearing m) n s.clients cs → Stands t s
     → after.effects.items ≡ before.effects.items ++ Say n text ∷ []
     → after.acts.items ≡ before.acts.items

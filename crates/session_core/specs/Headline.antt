@@ -9,7 +9,7 @@ use Rattle.session_model.specs.declared.event.Event.{Event}
 use Rattle.session_model.specs.declared.event.Ran.{Ran}
 use Rattle.session_model.specs.declared.refusal.Refusal.{Refusal}
 use Rattle.session_model.specs.declared.refusal.Refusal.TheVariants.{NoWindow, NoMemory}
-use Rattle.session_model.specs.Trace.{Happening, Keys, Reply, Entry, Trace, with_step, begun}
+use Rattle.session_model.specs.Trace.{EventValue, Keys, Reply, Entry, Trace, with_step, begun}
 use Rattle.session_model.specs.Trace.{happening}
 use Rattle.session_model.specs.Tables.{client_at}
 use Rattle.session_model.specs.Granted.{granted_view}
@@ -37,7 +37,7 @@ abbrev pub Keeps : Trace → Entry → Type 0
 Keeps h e = KeepsPromise (tables_of h) e
 
 -- what is left of an event after a step: keys that it did not read
-abbrev pub left_of : Happening → Reply → List Happening
+abbrev pub left_of : EventValue → Reply → List EventValue
 left_of (Keys client bytes) (Ok done) =
     if nat_lt done.taken (length bytes) then Keys client (drop done.taken bytes) ∷ [] else []
 left_of _ _ = []
@@ -49,14 +49,14 @@ read_by (Err r) = 0
 
 -- the steps take these events one after another, each with what was left of it before the next one,
 -- and leave those
-abbrev pub Serves : List Happening → List Entry → List Happening → Type 0
+abbrev pub Serves : List EventValue → List Entry → List EventValue → Type 0
 Serves events [] left = left ≡ events
 Serves [] (e ∷ steps) left = ⊥
 Serves (event ∷ events) (e ∷ steps) left =
     (e.event ≡ event) × Serves (left_of e.event e.reply ++ events) steps left
 
 -- an event's reply is that of its last step
-abbrev pub last_reply : List Happening → Reply → List Reply
+abbrev pub last_reply : List EventValue → Reply → List Reply
 last_reply [] reply = reply ∷ []
 last_reply (event ∷ events) reply = []
 
@@ -69,23 +69,23 @@ effects_of [] = []
 effects_of (e ∷ steps) = e.effects ++ effects_of steps
 
 -- events whose first has lost its first keys
-abbrev pub without_part : ℕ → List Happening → List Happening
+abbrev pub without_part : ℕ → List EventValue → List EventValue
 without_part part [] = []
 without_part part (Keys client bytes ∷ events) = Keys client (drop part bytes) ∷ events
 without_part part (event ∷ events) = event ∷ events
 
 -- what a run that came so far leaves of the events
-abbrev pub left_by : Ran → List Happening → List Happening
+abbrev pub left_by : Ran → List EventValue → List EventValue
 left_by ran events = without_part ran.part (drop ran.taken events)
 
 -- so many bytes are a part of the first of some events: of keys no more than they are, of others
 -- none
-abbrev pub IsPart : ℕ → List Happening → Type 0
+abbrev pub IsPart : ℕ → List EventValue → Type 0
 IsPart part (Keys client bytes ∷ events) = part ≤ length bytes
 IsPart part _ = part ≡ 0
 
 -- a run came so far in these events: it stopped exactly where it left one
-pub record HasCome (ran : Ran) (events : List Happening) : Type 0 where
+pub record HasCome (ran : Ran) (events : List EventValue) : Type 0 where
   pub within : ran.taken ≤ length events
   pub part : IsPart ran.part (drop ran.taken events)
   pub stopped : ran.stopped ≡ nat_lt ran.taken (length events)
@@ -93,12 +93,12 @@ pub record HasCome (ran : Ran) (events : List Happening) : Type 0 where
 -- what a call was given and gave: events, the effects and replies before it and after it, and the
 -- events that it left
 pub record Call : Type 0 where
-  pub events : List Happening
+  pub events : List EventValue
   pub effects : List Effect
   pub more_effects : List Effect
   pub replies : List Reply
   pub more_replies : List Reply
-  pub left : List Happening
+  pub left : List EventValue
 
 -- these steps are the call
 pub record AreSteps (call : Call) (steps : List Entry) : Type 0 where
@@ -136,7 +136,7 @@ run_call events effects more_effects replies more_replies ran = record {
 }
 
 -- what was taken of one event
-abbrev pub left_by_taken : Happening → Taken → List Happening
+abbrev pub left_by_taken : EventValue → Taken → List EventValue
 left_by_taken event (Whole reply) = []
 left_by_taken event (Part part) = without_part part (event ∷ [])
 
@@ -144,7 +144,7 @@ abbrev pub replies_by_taken : Taken → List Reply
 replies_by_taken (Whole reply) = reply ∷ []
 replies_by_taken (Part part) = []
 
-abbrev pub take_call : Happening → List Effect → List Effect → Taken → Call
+abbrev pub take_call : EventValue → List Effect → List Effect → Taken → Call
 take_call event effects more_effects taken = record {
   events = event ∷ [];
   effects = effects;
@@ -155,7 +155,7 @@ take_call event effects more_effects taken = record {
 }
 
 -- no more of it than there is
-abbrev pub IsPartOf : Happening → Taken → Type 0
+abbrev pub IsPartOf : EventValue → Taken → Type 0
 IsPartOf event (Whole reply) = Unit {0}
 IsPartOf event (Part part) = IsPart part (event ∷ [])
 

@@ -12,7 +12,7 @@ use Rattle.session_model.specs.Events.{reading}
 use Rattle.session_clients.specs.declared.client.Client.{Client as Row}
 use Rattle.session_clients.specs.Moves.{in_focus}
 use Rattle.session_state.specs.declared.caller.Caller.{Caller}
-use Rattle.session_state.specs.declared.made.Made.{Made}
+use Rattle.session_state.specs.declared.step_output.StepOutput.{StepOutput}
 use Rattle.session_state.specs.declared.state.State.{State}
 use Rattle.session_state.specs.Stands.{Stands}
 use Rattle.session_model.specs.Sound.{AreFit}
@@ -54,7 +54,7 @@ read_by message keys c = hearing message (reading keys c)
 
 -- the command that keys complete was obeyed, where the client has read them and says this
 abbrev pub ObeysRead : Caller → ℕ → Keeping → Message → Result Command ParseFault →
-    State → State → Made → Made → List Verdict → List Verdict → Type 0
+    State → State → StepOutput → StepOutput → List Verdict → List Verdict → Type 0
 ObeysRead k client reader message order old new before after past noted =
     (t : Tables) (c : Client) (keys : List ℕ) → Stands t old → AreFit t
     → client_at t client ≡ Some c → k ≡ caller_by client c → StandsFor reader (c.keys ++ keys)
@@ -62,27 +62,27 @@ ObeysRead k client reader message order old new before after past noted =
     past noted
 
 -- the deed of keys was done, and their verdicts were noted
-pub record AreGiven (t : Tables) (c : Client) (keys : List ℕ) (new : State) (before after : Made)
+pub record AreGiven (t : Tables) (c : Client) (keys : List ℕ) (new : State) (before after : StepOutput)
     (old noted : List Verdict) : Type 0 where
   pub done : HasDone t (keys_deed t c keys) new before after
   pub verdicts : noted ≡ old ++ keys_verdicts t c keys
 
 -- whichever tables the state stood for
 abbrev pub Gives : Caller → ℕ → Keeping → List ℕ → Option (Result Command ParseFault) →
-    State → State → Made → Made → List Verdict → List Verdict → Type 0
+    State → State → StepOutput → StepOutput → List Verdict → List Verdict → Type 0
 Gives k client reader typed order old new before after past noted =
     (t : Tables) (c : Client) (keys : List ℕ) → Stands t old → AreFit t
     → client_at t client ≡ Some c → k ≡ caller_by client c → AreRead c keys reader typed order
     → AreGiven t c keys new before after past noted
 
 -- and then users left windows
-pub record HaveEnded (t : Tables) (c : Client) (keys : List ℕ) (new : State) (before after : Made)
+pub record HaveEnded (t : Tables) (c : Client) (keys : List ℕ) (new : State) (before after : StepOutput)
     (old noted : List Verdict) : Type 0 where
   pub ended : HasEnded t (keys_deed t c keys) new before after
   pub verdicts : noted ≡ old ++ keys_verdicts t c keys
 
 abbrev pub Ends : Caller → ℕ → Keeping → List ℕ → Option (Result Command ParseFault) →
-    State → State → Made → Made → List Verdict → List Verdict → Type 0
+    State → State → StepOutput → StepOutput → List Verdict → List Verdict → Type 0
 Ends k client reader typed order old new before after past noted =
     (t : Tables) (c : Client) (keys : List ℕ) → Stands t old → AreFit t
     → client_at t client ≡ Some c → k ≡ caller_by client c → AreRead c keys reader typed order

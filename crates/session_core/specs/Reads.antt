@@ -8,7 +8,7 @@ use Rattle.session_model.specs.Deeds.{Deed}
 use Rattle.session_model.specs.Keying.{items_behind, taken, typed_bytes, command_item}
 use Rattle.session_model.specs.Events.{Ordered, ordered, types, typing_verdicts, reading, unsaid}
 use Rattle.session_model.specs.Events.{left_acts}
-use Rattle.session_state.specs.declared.made.Made.{Made}
+use Rattle.session_state.specs.declared.step_output.StepOutput.{StepOutput}
 use Rattle.session_state.specs.declared.state.State.{State}
 use Rattle.session_state.specs.Stands.{Stands}
 use Rattle.session_model.specs.Sound.{AreFit}
@@ -43,7 +43,7 @@ abbrev pub read_of : Client → List ℕ → List ℕ
 read_of c bytes = take (taken c.keys bytes) bytes
 
 -- a deed was done, and then users left windows
-pub record HasEnded (t : Tables) (d : Deed) (new : State) (before after : Made) : Type 0 where
+pub record HasEnded (t : Tables) (d : Deed) (new : State) (before after : StepOutput) : Type 0 where
   pub stands : Stands (ended t d) new
   pub acts :
       after.acts.items ≡ before.acts.items ++ (d.acts ++ left_acts t.clients d.tables.clients)
@@ -51,13 +51,13 @@ pub record HasEnded (t : Tables) (d : Deed) (new : State) (before after : Made) 
 
 -- so many were read, their step was taken to its end, and their verdicts were noted
 pub record HasRead (t : Tables) (c : Client) (read : List ℕ) (count : ℕ) (new : State)
-    (before after : Made) (old noted : List Verdict) : Type 0 where
+    (before after : StepOutput) (old noted : List Verdict) : Type 0 where
   pub count_is : count ≡ length read
   pub ended : HasEnded t (keys_deed t c read) new before after
   pub verdicts : noted ≡ old ++ keys_verdicts t c read
 
 -- where a client gave them; memory may be wanting
-abbrev pub ReadFor : Tables → Option Client → List ℕ → Result ℕ Refusal → State → Made → Made →
+abbrev pub ReadFor : Tables → Option Client → List ℕ → Result ℕ Refusal → State → StepOutput → StepOutput →
     List Verdict → List Verdict → Type 0
 ReadFor t (Some c) bytes (Ok count) new before after old noted =
     HasRead t c (read_of c bytes) count new before after old noted
@@ -66,7 +66,7 @@ ReadFor t None bytes (Ok count) new before after old noted = ⊥
 ReadFor t None bytes (Err r) new before after old noted = (r ≡ NoWindow) × (noted ≡ old)
 
 -- whichever tables the state stood for
-abbrev pub Reads : ℕ → List ℕ → State → Result ℕ Refusal → State → Made → Made →
+abbrev pub Reads : ℕ → List ℕ → State → Result ℕ Refusal → State → StepOutput → StepOutput →
     List Verdict → List Verdict → Type 0
 Reads client bytes old result new before after past noted =
     (t : Tables) → Stands t old → AreFit t

@@ -7,7 +7,7 @@ use Rattle.session_model.specs.declared.verdict.Verdict.{Verdict}
 use Rattle.session_model.specs.Tables.{Tables}
 use Rattle.session_model.specs.Commands.{Ruling, ruling}
 use Rattle.session_state.specs.declared.caller.Caller.{Caller}
-use Rattle.session_state.specs.declared.made.Made.{Made}
+use Rattle.session_state.specs.declared.step_output.StepOutput.{StepOutput}
 use Rattle.session_state.specs.declared.state.State.{State}
 use Rattle.session_state.specs.Stands.{Stands}
 use Rattle.session_model.specs.Sound.{AreFit}
@@ -15,7 +15,7 @@ use Rattle.session_state.specs.Doing.{Answers, caller_in}
 
 -- its deed was done, or it was refused, and its verdicts were noted; or memory was wanting
 abbrev pub Ruled : Tables → Ruling → Result (Option (List ℕ)) Refusal →
-    State → Made → Made → List Verdict → List Verdict → Type 0
+    State → StepOutput → StepOutput → List Verdict → List Verdict → Type 0
 Ruled t r (Ok lists) new before after old noted =
     Answers t r.answer (Ok lists) new before after × (noted ≡ old ++ r.verdicts)
 Ruled t r (Err e) new before after old noted =
@@ -23,7 +23,7 @@ Ruled t r (Err e) new before after old noted =
 
 -- whichever tables the state stood for
 abbrev pub Rules : Caller → Command → State → Result (Option (List ℕ)) Refusal →
-    State → Made → Made → List Verdict → List Verdict → Type 0
+    State → StepOutput → StepOutput → List Verdict → List Verdict → Type 0
 Rules k c old result new before after noted now_noted =
     (t : Tables) → Stands t old → AreFit t
     → Ruled t (ruling t (caller_in t k) c) result new before after noted now_noted

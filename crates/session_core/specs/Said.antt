@@ -5,13 +5,13 @@ use Rattle.session_model.specs.declared.refusal.Refusal.TheVariants.{NoMemory}
 use Rattle.session_model.specs.declared.message.Message.{Message}
 use Rattle.session_model.specs.Tables.{Tables, Client, client_at}
 use Rattle.session_model.specs.Events.{says}
-use Rattle.session_state.specs.declared.made.Made.{Made}
+use Rattle.session_state.specs.declared.step_output.StepOutput.{StepOutput}
 use Rattle.session_state.specs.declared.state.State.{State}
 use Rattle.session_state.specs.Stands.{Stands}
 use Rattle.session_state.specs.Doing.{HasDone}
 
 -- a client that is there was told a text, and has the message, whichever tables the state stood for
-abbrev pub Says : ℕ → Message → List ℕ → State → State → Made → Made → Type 0
+abbrev pub Says : ℕ → Message → List ℕ → State → State → StepOutput → StepOutput → Type 0
 Says client message text old new before after =
     (t : Tables) (c : Client) → Stands t old → client_at t client ≡ Some c
     → HasDone t (says t client message text) new before after

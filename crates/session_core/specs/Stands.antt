@@ -1,7 +1,7 @@
 -- What a session stands for.
 use Rattle.std.specs.Prelude.{List, ◌++◌, ◌≡◌, false}
 use Rattle.session_model.specs.declared.event.Effect.{Effect}
-use Rattle.session_model.specs.Trace.{Happening, Reply, Entry, Trace, with_step}
+use Rattle.session_model.specs.Trace.{EventValue, Reply, Entry, Trace, with_step}
 use Rattle.session_model.specs.Run.{IsRun, tables_of}
 use Rattle.session_state.specs.Stands.{Stands}
 pub use Rattle.session_core.specs.Taking.{wants_memory}
@@ -18,7 +18,7 @@ abbrev pub IfTaken : Reply → Type 0 → Type 0
 IfTaken reply P = wants_memory reply ≡ false → P
 
 -- a step with what was noted of it and its effects
-abbrev pub entry_of : Happening → Reply → Noted → List Effect → Entry
+abbrev pub entry_of : EventValue → Reply → Noted → List Effect → Entry
 entry_of event reply noted effects = record {
   event = event;
   reply = reply;
@@ -30,7 +30,7 @@ entry_of event reply noted effects = record {
 -- for each trace that the session stands for before, it stands afterwards for that trace with this
 -- step, whose effects were put behind others
 abbrev pub Takes :
-    Session → Happening → Noted → List Effect → List Effect → Reply → Session → Type 0
+    Session → EventValue → Noted → List Effect → List Effect → Reply → Session → Type 0
 Takes old event noted before after reply new = (h : Trace) → StandsFor h old →
     (made : List Effect) × (after ≡ before ++ made)
     × StandsFor (with_step h (entry_of event reply noted made)) new

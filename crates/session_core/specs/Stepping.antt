@@ -2,17 +2,17 @@
 use Rattle.std.specs.Prelude.{◌≡◌, ◌⊎◌, ◌++◌, List, Ok, Err}
 use Rattle.session_model.specs.declared.refusal.Refusal.TheVariants.{NoMemory}
 use Rattle.session_model.specs.declared.verdict.Verdict.{Verdict}
-use Rattle.session_model.specs.Trace.{Happening, Reply}
+use Rattle.session_model.specs.Trace.{EventValue, Reply}
 use Rattle.session_model.specs.Tables.{Tables}
 use Rattle.session_model.specs.Events.{Outcome, outcome}
-use Rattle.session_state.specs.declared.made.Made.{Made}
+use Rattle.session_state.specs.declared.step_output.StepOutput.{StepOutput}
 use Rattle.session_state.specs.declared.state.State.{State}
 use Rattle.session_state.specs.Stands.{Stands}
 use Rattle.session_model.specs.Sound.{AreFit}
 
 -- its reply was given, the state stands for its tables, and its acts, effects and verdicts stand
 -- behind those before
-pub record HasHappened (o : Outcome) (reply : Reply) (new : State) (before after : Made)
+pub record HasHappened (o : Outcome) (reply : Reply) (new : State) (before after : StepOutput)
     (old noted : List Verdict) : Type 0 where
   pub replied : o.reply ≡ reply
   pub stands : Stands o.tables new
@@ -22,14 +22,14 @@ pub record HasHappened (o : Outcome) (reply : Reply) (new : State) (before after
 
 -- so it was, or memory was wanting
 abbrev pub Stepped :
-    Outcome → Reply → State → Made → Made → List Verdict → List Verdict → Type 0
+    Outcome → Reply → State → StepOutput → StepOutput → List Verdict → List Verdict → Type 0
 Stepped o (Ok done) new before after old noted =
     HasHappened o (Ok done) new before after old noted
 Stepped o (Err r) new before after old noted =
     (r ≡ NoMemory) ⊎ HasHappened o (Err r) new before after old noted
 
 -- that of an event, whichever tables the state stood for
-abbrev pub Steps : Happening → State → Reply → State → Made → Made → List Verdict →
+abbrev pub Steps : EventValue → State → Reply → State → StepOutput → StepOutput → List Verdict →
     List Verdict → Type 0
 Steps event old reply new before after past noted =
     (t : Tables) → Stands t old → AreFit t

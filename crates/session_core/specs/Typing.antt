@@ -11,7 +11,7 @@ use Rattle.session_model.specs.Checks.{first_fault, typing_checks}
 use Rattle.session_model.specs.Events.{types, typing_verdicts}
 use Rattle.session_model.specs.Texts.{text_of}
 use Rattle.session_state.specs.declared.caller.Caller.{Caller}
-use Rattle.session_state.specs.declared.made.Made.{Made}
+use Rattle.session_state.specs.declared.step_output.StepOutput.{StepOutput}
 use Rattle.session_state.specs.declared.state.State.{State}
 use Rattle.session_state.specs.Stands.{Stands}
 use Rattle.session_model.specs.Sound.{AreFit}
@@ -35,13 +35,13 @@ message_after t c (b ∷ bytes) =
 
 -- they are typed: this is the effect, and the verdicts are noted
 pub record Typed (t : Tables) (c : Client) (typed : List ℕ) (message : Message)
-    (before after : Made) (old noted : List Verdict) : Type 0 where
+    (before after : StepOutput) (old noted : List Verdict) : Type 0 where
   pub message_is : message ≡ message_after t c typed
   pub effects : after.effects.items ≡ before.effects.items ++ (types t c typed).effects
   pub verdicts : noted ≡ old ++ typing_verdicts t c typed
 
 -- whichever tables the state stands for
-abbrev pub Types : Caller → ℕ → List ℕ → State → Message → Made → Made → List Verdict →
+abbrev pub Types : Caller → ℕ → List ℕ → State → Message → StepOutput → StepOutput → List Verdict →
     List Verdict → Type 0
 Types k client typed s message before after old noted =
     (t : Tables) (c : Client) → Stands t s → AreFit t → client_at t client ≡ Some c

@@ -11,7 +11,7 @@ use session_checks::{check_attach, check_open, check_resize};
 use session_events::{attach, open, resize};
 use session_leaving::{Focuses, leave};
 use session_model::{Done, Refusal, Reply, Verdict};
-use session_state::{Made, State};
+use session_state::{State, StepOutput};
 
 /// What is answered where nothing was read and nothing is listed: the serial of what was made, and
 /// its number.
@@ -32,7 +32,7 @@ pub(crate) fn attach_client(
     user: UserId,
     rows: u16,
     cols: u16,
-    made: &mut Made,
+    made: &mut StepOutput,
     verdicts: &mut Vec<Verdict>,
 ) -> Reply
     ensures step { Steps (Attach user rows cols) state.old result state.new made.old made.new
@@ -53,7 +53,7 @@ pub(crate) fn resize_client(
     client: u32,
     rows: u16,
     cols: u16,
-    made: &mut Made,
+    made: &mut StepOutput,
     verdicts: &mut Vec<Verdict>,
 ) -> Reply
     ensures step { Steps (Resize client rows cols) state.old result state.new made.old made.new
@@ -79,7 +79,7 @@ pub(crate) fn open_window(
     cols: u16,
     keep: u16,
     title: &str,
-    made: &mut Made,
+    made: &mut StepOutput,
     verdicts: &mut Vec<Verdict>,
 ) -> Reply
     ensures step { Steps (Open user rows cols keep title.now) state.old result state.new

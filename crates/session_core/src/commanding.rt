@@ -12,7 +12,7 @@ use command_lang::{Command, FaultKind, ParseFault, parse};
 use session_checks::is_known;
 use session_leaving::{Focuses, leave};
 use session_model::{Done, Refusal, Reply, Verdict};
-use session_state::{Caller, Made, State};
+use session_state::{Caller, State, StepOutput};
 use std::alloc::Global;
 
 /// Why a line with a fault is refused.
@@ -50,7 +50,7 @@ pub(crate) fn give_line(
     user: UserId,
     window: Option<u8>,
     line: &[u8],
-    made: &mut Made,
+    made: &mut StepOutput,
     verdicts: &mut Vec<Verdict>,
 ) -> Reply
     ensures step { Steps (Given user window line.now) state.old result state.new made.old made.new

@@ -9,10 +9,10 @@ ghost use Rattle.session_core.specs.Stepping.{Steps};
 use crate::coming::made_so;
 use session_leaving::{Focuses, close_window, detach_client, leave};
 use session_model::Reply;
-use session_state::{Made, State};
+use session_state::{State, StepOutput};
 
 /// A client goes.
-pub(crate) fn let_go(state: &mut State, client: u32, made: &mut Made) -> Reply
+pub(crate) fn let_go(state: &mut State, client: u32, made: &mut StepOutput) -> Reply
     ensures step { (past : List Verdict) → Steps (Detach client) state.old result state.new
         made.old made.new past past }
     ensures err { OnErr result (IsAsBefore state.old state.new made.old made.new) }
@@ -24,7 +24,7 @@ pub(crate) fn let_go(state: &mut State, client: u32, made: &mut Made) -> Reply
 }
 
 /// The program of a window ended.
-pub(crate) fn end_window(state: &mut State, window: u32, made: &mut Made) -> Reply
+pub(crate) fn end_window(state: &mut State, window: u32, made: &mut StepOutput) -> Reply
     ensures step { (past : List Verdict) → Steps (Closed window) state.old result state.new
         made.old made.new past past }
     ensures err { OnErr result (IsAsBefore state.old state.new made.old made.new) }

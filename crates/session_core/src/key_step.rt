@@ -16,7 +16,7 @@ use keys::KeyReader;
 use session_clients::{Client, read_keys};
 use session_leaving::{Focuses, leave};
 use session_model::{Bytes, Message, Refusal, Verdict};
-use session_state::{Caller, Made, State};
+use session_state::{Caller, State, StepOutput};
 use std::alloc::{AllocError, Global};
 
 /// What a step reads of a client's keys.
@@ -63,7 +63,7 @@ fn obey_read(
     reader: &mut KeyReader,
     mut message: Message,
     order: &Result<Command, ParseFault>,
-    made: &mut Made,
+    made: &mut StepOutput,
     verdicts: &mut Vec<Verdict>,
 ) -> Result<(), Refusal>
     ensures ok { OnOk result (ObeysRead caller client reader.old message order.now
@@ -91,7 +91,7 @@ fn give(
     reader: &mut KeyReader,
     typed: Bytes,
     order: &Result<Command, ParseFault>,
-    made: &mut Made,
+    made: &mut StepOutput,
     verdicts: &mut Vec<Verdict>,
 ) -> Result<(), Refusal>
     ensures ok { OnOk result (Gives caller client reader.old typed (Some order.now)
@@ -126,7 +126,7 @@ fn give_order(
     reader: &mut KeyReader,
     typed: Bytes,
     order: &Result<Command, ParseFault>,
-    made: &mut Made,
+    made: &mut StepOutput,
     verdicts: &mut Vec<Verdict>,
 ) -> Result<(), Refusal>
     ensures ok { OnOk result (Ends caller client reader.old typed (Some order.now)
@@ -149,7 +149,7 @@ fn give_typed(
     client: u32,
     reader: &mut KeyReader,
     typed: Bytes,
-    made: &mut Made,
+    made: &mut StepOutput,
     verdicts: &mut Vec<Verdict>,
 ) -> Result<(), Refusal>
     ensures ok { OnOk result (Ends caller client reader.old typed None
@@ -170,7 +170,7 @@ fn give_read(
     reader: &mut KeyReader,
     typed: Bytes,
     order: &Option<Result<Command, ParseFault>>,
-    made: &mut Made,
+    made: &mut StepOutput,
     verdicts: &mut Vec<Verdict>,
 ) -> Result<(), Refusal>
     ensures ok { OnOk result (Ends caller client reader.old typed order.now
@@ -193,7 +193,7 @@ pub fn keys(
     state: &mut State,
     client: u32,
     bytes: &[u8],
-    made: &mut Made,
+    made: &mut StepOutput,
     verdicts: &mut Vec<Verdict>,
 ) -> Result<usize, Refusal>
     ensures answer { Reads client bytes.now state.old result state.new made.old made.new

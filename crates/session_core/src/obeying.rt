@@ -10,7 +10,7 @@ use crate::orders::order;
 use crate::saying::{say, say_why, wants_memory};
 use command_lang::{Command, ParseFault};
 use session_model::{Bytes, Message, Refusal, Verdict};
-use session_state::{Caller, Made, State};
+use session_state::{Caller, State, StepOutput};
 use std::alloc::{AllocError, Global};
 
 /// What a client's status line says of what a command lists: the lists of windows and of clients
@@ -31,7 +31,7 @@ fn obey_command(
     caller: Caller,
     client: u32,
     command: &Command,
-    made: &mut Made,
+    made: &mut StepOutput,
     verdicts: &mut Vec<Verdict>,
 ) -> Result<(), Refusal>
     ensures ok { OnOk result (Obeys caller client (Some (Ok command.now)) state.old state.new
@@ -62,7 +62,7 @@ pub fn obey(
     caller: Caller,
     client: u32,
     order: &Result<Command, ParseFault>,
-    made: &mut Made,
+    made: &mut StepOutput,
     verdicts: &mut Vec<Verdict>,
 ) -> Result<(), Refusal>
     ensures ok { OnOk result (Obeys caller client (Some order.now) state.old state.new

@@ -14,7 +14,7 @@ use session_leaving::{acldel, detach, kill, multiuser, quit};
 use session_lists::{acladd, aclchg, aclgrp, aclumask};
 use session_model::{Bytes, Refusal, Verdict};
 use session_pages::{fit, focus, next, only, other, prev, remove, scrollview, select, split};
-use session_state::{Caller, Made, State};
+use session_state::{Caller, State, StepOutput};
 use session_view::{aclgrp_of, displays, screen, windows};
 
 /// What a command does once its checks have passed: the deed of its row.
@@ -22,7 +22,7 @@ fn act(
     state: &mut State,
     caller: Caller,
     command: &Command,
-    made: &mut Made,
+    made: &mut StepOutput,
 ) -> Result<Option<Bytes>, Refusal>
     requires { HasRoom 256 made.old }
     ensures answer { Does caller command.now state.old result state.new made.old made.new }
@@ -76,7 +76,7 @@ pub fn order(
     state: &mut State,
     caller: Caller,
     command: &Command,
-    made: &mut Made,
+    made: &mut StepOutput,
     verdicts: &mut Vec<Verdict>,
 ) -> Result<Option<Bytes>, Refusal>
     ensures ruled { Rules caller command.now state.old result state.new made.old made.new

@@ -10,10 +10,10 @@ use crate::coming::made_so;
 use session_events::output;
 use session_leaving::{Focuses, leave};
 use session_model::{Refusal, Reply};
-use session_state::{Made, State};
+use session_state::{State, StepOutput};
 
 /// The program of a window writes.
-pub(crate) fn write(state: &mut State, window: u32, bytes: &[u8], made: &mut Made) -> Reply
+pub(crate) fn write(state: &mut State, window: u32, bytes: &[u8], made: &mut StepOutput) -> Reply
     ensures step { (past : List Verdict) → Steps (Output window bytes.now) state.old result
         state.new made.old made.new past past }
     ensures err { OnErr result (IsAsBefore state.old state.new made.old made.new) }

@@ -7,7 +7,7 @@ ghost use Rattle.session_core.specs.Stepping.{Steps};
 
 use crate::key_step::keys;
 use session_model::{Done, Reply, Verdict};
-use session_state::{Made, State};
+use session_state::{State, StepOutput};
 
 /// A client gives keys: they are read up to the first that completes a command or a line. Users
 /// leave windows only where there is one.
@@ -15,7 +15,7 @@ pub(crate) fn give_keys(
     state: &mut State,
     client: u32,
     bytes: &[u8],
-    made: &mut Made,
+    made: &mut StepOutput,
     verdicts: &mut Vec<Verdict>,
 ) -> Reply
     ensures step { Steps (Keys client bytes.now) state.old result state.new made.old made.new

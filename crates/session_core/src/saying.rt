@@ -8,7 +8,7 @@ ghost use Rattle.session_state.specs.Doing.{IsAsBefore};
 ghost use Rattle.session_core.specs.Said.{Says, wants_memory};
 
 use session_model::{Bytes, Effect, Message, Refusal};
-use session_state::{Made, State};
+use session_state::{State, StepOutput};
 
 /// Whether memory was wanting.
 pub(crate) fn wants_memory(refusal: &Refusal) -> bool
@@ -23,7 +23,7 @@ pub(crate) fn say(
     client: u32,
     message: Message,
     text: Bytes,
-    made: &mut Made,
+    made: &mut StepOutput,
 ) -> Result<(), Refusal>
     ensures ok { OnOk result (Says client message text state.old state.new made.old made.new) }
     ensures err { OnErr result (IsAsBefore state.old state.new made.old made.new) }
@@ -40,7 +40,7 @@ pub(crate) fn say_why(
     state: &mut State,
     client: u32,
     refusal: Refusal,
-    made: &mut Made,
+    made: &mut StepOutput,
 ) -> Result<(), Refusal>
     ensures ok { OnOk result (Says client (message.Text (text_of refusal)) (text_of refusal)
         state.old state.new made.old made.new) }

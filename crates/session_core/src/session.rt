@@ -20,7 +20,7 @@ use crate::taking::take;
 use acl::{Edition, UserId};
 use session_clients::Client;
 use session_model::{Effect, Event, Ran, Refusal, Reply};
-use session_state::{Made, State};
+use session_state::{State, StepOutput};
 use session_view::view_of;
 use std::alloc::Global;
 use std::mem;
@@ -90,7 +90,7 @@ impl Session {
         ensures memory { result ≡ Err NoMemory → (self.new ≡ self.old)
             × (effects.new.items ≡ effects.old.items) × (notes.new ≡ notes.old) }
     {
-        let mut made = Made {
+        let mut made = StepOutput {
             acts: Vec::new(self.alloc),
             effects: mem::replace(effects, Vec::new(self.alloc)),
         };

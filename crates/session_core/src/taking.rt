@@ -13,12 +13,17 @@ use crate::going::{end_window, let_go};
 use crate::programs::write;
 use crate::reading::give_keys;
 use session_model::{Event, Reply, Verdict};
-use session_state::{Made, State};
+use session_state::{State, StepOutput};
 
 /// A step of a session: its checks are made and noted, then it does what its event does, and at its
 /// end users leave the windows that none of their clients has in focus any more. Nothing is left of
 /// a step that found no memory but, in `verdicts`, what was checked.
-pub fn take(state: &mut State, event: Event, made: &mut Made, verdicts: &mut Vec<Verdict>) -> Reply
+pub fn take(
+    state: &mut State,
+    event: Event,
+    made: &mut StepOutput,
+    verdicts: &mut Vec<Verdict>,
+) -> Reply
     ensures step { Takes (happening event.entry) state.old result state.new made.old made.new
         verdicts.old.items verdicts.new.items }
     ensures memory { result ≡ Err NoMemory → IsAsBefore state.old state.new made.old made.new }

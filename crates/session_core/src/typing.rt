@@ -7,7 +7,7 @@ ghost use Rattle.session_core.specs.Typing.{Types, Grows, input_to};
 use crate::saying::wants_memory;
 use session_checks::check_typing;
 use session_model::{Bytes, Effect, Message, Refusal, Verdict};
-use session_state::{Caller, Made, State};
+use session_state::{Caller, State, StepOutput};
 use std::alloc::AllocError;
 
 /// Bytes for a window's program.
@@ -29,7 +29,7 @@ pub fn type_bytes(
     caller: Caller,
     client: u32,
     typed: Bytes,
-    made: &mut Made,
+    made: &mut StepOutput,
     verdicts: &mut Vec<Verdict>,
 ) -> Result<Message, Refusal>
     ensures ok { IfOk result (λ message. Types caller client typed state.now message

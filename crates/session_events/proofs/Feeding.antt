@@ -16,7 +16,7 @@ use Rattle.windows.specs.declared.window.Window.{Window as Row}
 use Rattle.windows.specs.Standing.{StandFor, AnsweredIfRoom, serial, written, written_to, fed_in}
 use Rattle.windows.proofs.Callers.{row_done, row_refused_as}
 use Rattle.session_rows.proofs.Serials.{serial_is, if_true, if_false}
-use Rattle.session_state.specs.declared.made.Made.{Made}
+use Rattle.session_state.specs.declared.step_output.StepOutput.{StepOutput}
 use Rattle.session_state.specs.declared.state.State.{State}
 use Rattle.session_state.specs.Stands.{Stands}
 use Rattle.session_state.specs.Doing.{HasDone}
@@ -39,7 +39,7 @@ module _ (t : Tables) (window : ℕ) (w : Window) (bytes : List ℕ)
   serial_of_row : w.serial ≡ window
   serial_of_row = serial_is (λ (v : Window). v.serial) t.windows window w here
 
-  pub fed_done : {A : Type 0} (a : A) (s : State) (ws : List Row) (before after : Made)
+  pub fed_done : {A : Type 0} (a : A) (s : State) (ws : List Row) (before after : StepOutput)
       → Stands t s → AnsweredIfRoom (fed_in window bytes t.windows) (Ok a) ws
       → after.acts.items ≡ before.acts.items
       → after.effects.items

@@ -18,7 +18,7 @@ use Rattle.session_clients.specs.Moves.{attached}
 use Rattle.session_clients.specs.Stands as clients
 use Rattle.session_clients.specs.Stands.{AreClients}
 use Rattle.session_rows.proofs.Serials.{serial_is as serial_at}
-use Rattle.session_state.specs.declared.made.Made.{Made}
+use Rattle.session_state.specs.declared.step_output.StepOutput.{StepOutput}
 use Rattle.session_state.specs.declared.state.State.{State}
 use Rattle.session_state.specs.Stands.{Stands}
 use Rattle.session_model.specs.Sound.{AreFit}
@@ -63,7 +63,7 @@ module _ (t : Tables) (user : UserId) (rows columns : ℕ) where
         }
 
     -- and then he enters it
-    pub attached_done : (new : State) (before middle after : Made) → AreFit t
+    pub attached_done : (new : State) (before middle after : StepOutput) → AreFit t
         → middle.acts.items ≡ before.acts.items ++ act.Attached serial user ∷ []
         → middle.effects.items ≡ before.effects.items
         → ((u : Tables) → Stands u (record s { clients = cs; next_client = s.next_client + 1 })
@@ -95,7 +95,7 @@ module _ (t : Tables) (user : UserId) (rows columns : ℕ) where
 -- ---- a client whose terminal has another size
 
 pub resized_done : (t : Tables) (s : State) (client rows columns : ℕ) (c : Client) (cs : List Row)
-    (made : Made) → Stands t s → client_at t client ≡ Some c
+    (made : StepOutput) → Stands t s → client_at t client ≡ Some c
     → clients.Changes (resized rows columns) client s.clients cs
     → HasDone t (changing (with_client t (resized rows columns c))) (record s { clients = cs }) made
     made

@@ -20,7 +20,7 @@ use Rattle.session_model.specs.Sound.{AreFit, Rises, window_serials}
 use Rattle.windows.specs.declared.window.Window.{Window as Row}
 use Rattle.windows.specs.Standing.{StandFor, AnsweredIfRoom, is_above, opened, new_row, numbered}
 use Rattle.session_rows.proofs.Serials.{if_true}
-use Rattle.session_state.specs.declared.made.Made.{Made}
+use Rattle.session_state.specs.declared.step_output.StepOutput.{StepOutput}
 use Rattle.session_state.specs.declared.state.State.{State}
 use Rattle.session_state.specs.Stands.{Stands}
 use Rattle.session_state.specs.Doing.{HasDone}
@@ -111,7 +111,7 @@ module _ (t : Tables) (user : UserId) (rows columns keep : ℕ) (title : List �
   unopened r (inr by) = absurd (cc (by, opened_is))
 
   pub opened_done : (s : State) (a : acl.Table) (locks : Locks) (ws : List Row)
-      (before after : Made) → Stands t s
+      (before after : StepOutput) → Stands t s
       → acl.StandsFor a t.edition t.owner (act.Opened user serial ∷ t.acts)
       → LocksStandFor locks t.edition t.owner (act.Opened user serial ∷ t.acts)
       → StandFor (t.windows ++ new_window t rows columns keep title ∷ []) ws

@@ -11,7 +11,7 @@ use Rattle.session_model.specs.Checks.{first_fault}
 use Rattle.session_model.specs.Deeds.{Deed, changing}
 use Rattle.session_model.specs.Events.{is_client_size, attach_checks, new_client, attaches}
 use Rattle.session_model.specs.Events.{open_checks, new_window, opens, resized, outputs}
-use Rattle.session_state.specs.declared.made.Made.{Made}
+use Rattle.session_state.specs.declared.step_output.StepOutput.{StepOutput}
 use Rattle.session_state.specs.declared.state.State.{State}
 use Rattle.session_state.specs.Stands.{Stands}
 use Rattle.session_model.specs.Sound.{AreFit}
@@ -28,13 +28,13 @@ IsOpenIn h (Some window) = is_open h window ≡ true
 
 -- an event's deed was done, with this for an answer; or it was refused for want of memory
 abbrev pub Happens : {A : Type 0} →
-    Tables → Deed → A → Result A Refusal → State → Made → Made → Type 0
+    Tables → Deed → A → Result A Refusal → State → StepOutput → StepOutput → Type 0
 Happens t d answer (Ok a) new before after = (a ≡ answer) × HasDone t d new before after
 Happens t d answer (Err r) new before after = r ≡ NoMemory
 
 -- a client attaches where its checks have passed, and its serial is the answer
 abbrev pub Attaches :
-    UserId → ℕ → ℕ → State → Result ℕ Refusal → State → Made → Made → Type 0
+    UserId → ℕ → ℕ → State → Result ℕ Refusal → State → StepOutput → StepOutput → Type 0
 Attaches user rows columns old result new before after =
     (t : Tables) → Stands t old → AreFit t
     → first_fault t (attach_checks t user rows columns) ≡ None
@@ -42,7 +42,7 @@ Attaches user rows columns old result new before after =
 
 -- a window opens where its checks have passed, and its serial and its number are the answer
 abbrev pub Opens : UserId → ℕ → ℕ → ℕ → List ℕ → State → Result (ℕ × ℕ) Refusal →
-    State → Made → Made → Type 0
+    State → StepOutput → StepOutput → Type 0
 Opens user rows columns keep title old result new before after =
     (t : Tables) → Stands t old → AreFit t
     → first_fault t (open_checks t user rows columns keep title) ≡ None
@@ -50,7 +50,7 @@ Opens user rows columns keep title old result new before after =
     Happens t (opens t user w) (w.serial, w.number) result new before after
 
 -- a client's page has another size where its check has passed
-abbrev pub Resizes : ℕ → ℕ → ℕ → State → State → Made → Made → Type 0
+abbrev pub Resizes : ℕ → ℕ → ℕ → State → State → StepOutput → StepOutput → Type 0
 Resizes client rows columns old new before after =
     (t : Tables) (c : Client) → Stands t old → AreFit t → client_at t client ≡ Some c
     → first_fault t (must (is_client_size rows columns) BadSize ∷ []) ≡ None
@@ -58,7 +58,7 @@ Resizes client rows columns old new before after =
 
 -- the program of an open window writes
 abbrev pub Outputs :
-    ℕ → List ℕ → State → Result (Unit {0}) Refusal → State → Made → Made → Type 0
+    ℕ → List ℕ → State → Result (Unit {0}) Refusal → State → StepOutput → StepOutput → Type 0
 Outputs window bytes old result new before after =
     (t : Tables) (w : Window) → Stands t old → AreFit t → window_at t window ≡ Some w
     → Happens t (outputs t w bytes) (tt {0}) result new before after

@@ -13,7 +13,7 @@ ghost use Rattle.session_events.specs.Events.{IsOpenIn, Attaches, Resizes};
 use crate::serials::serial_from;
 use acl::{Act, Bit, Object, UserId};
 use session_model::Refusal;
-use session_state::{Made, State, is_client_size};
+use session_state::{State, StepOutput, is_client_size};
 
 /// The window of the lowest number.
 fn first_window(state: &State) -> Option<u32>
@@ -27,7 +27,7 @@ fn first_window(state: &State) -> Option<u32>
 }
 
 /// A user enters the window that he sees, if he sees one.
-fn enter(state: &mut State, user: UserId, window: Option<u32>, made: &mut Made)
+fn enter(state: &mut State, user: UserId, window: Option<u32>, made: &mut StepOutput)
     requires { HasRoom 255 made.old }
     ensures done { (t : Tables) → Stands t state.old → IsOpenIn t.acts window
         → HasDone t (acting t (entering user window)) state.new made.old made.new }
@@ -51,7 +51,7 @@ pub fn attach(
     user: UserId,
     rows: u16,
     cols: u16,
-    made: &mut Made,
+    made: &mut StepOutput,
 ) -> Result<u32, Refusal>
     requires { HasRoom 256 made.old }
     ensures answer { Attaches user rows cols state.old result state.new made.old made.new }
@@ -75,7 +75,7 @@ pub fn attach(
 }
 
 /// A client's terminal has another size, whose check has passed. No other size changes anything.
-pub fn resize(state: &mut State, client: u32, rows: u16, cols: u16, made: &mut Made)
+pub fn resize(state: &mut State, client: u32, rows: u16, cols: u16, made: &mut StepOutput)
     requires { HasRoom 256 made.old }
     ensures answer { Resizes client rows cols state.old state.new made.old made.new }
     ensures kept { is_client_size rows cols ≡ false

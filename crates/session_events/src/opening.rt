@@ -7,7 +7,7 @@ ghost use Rattle.session_events.specs.Events.{Opens};
 use crate::serials::serial_from;
 use acl::{Act, UserId};
 use session_model::{Refusal, WindowsFault};
-use session_state::{Made, State};
+use session_state::{State, StepOutput};
 
 /// A user opens a window, whose checks have passed; it gets the next serial and the lowest number
 /// that is free. Gives both.
@@ -18,7 +18,7 @@ pub fn open(
     cols: u16,
     keep: u16,
     title: &str,
-    made: &mut Made,
+    made: &mut StepOutput,
 ) -> Result<(u32, u8), Refusal>
     requires { HasRoom 256 made.old }
     ensures answer { Opens user rows cols keep title.now state.old result state.new

@@ -5,11 +5,16 @@ ghost use Rattle.session_state.specs.Doing.{IsAsBefore, HasRoom};
 ghost use Rattle.session_events.specs.Events.{Outputs};
 
 use session_model::{Bytes, Effect, Refusal};
-use session_state::{Made, State};
+use session_state::{State, StepOutput};
 
 /// The program of a window that is open writes: its terminal reads that, and what it answers is
 /// input for the program.
-pub fn output(state: &mut State, window: u32, bytes: &[u8], made: &mut Made) -> Result<(), Refusal>
+pub fn output(
+    state: &mut State,
+    window: u32,
+    bytes: &[u8],
+    made: &mut StepOutput,
+) -> Result<(), Refusal>
     requires { HasRoom 256 made.old }
     ensures answer { Outputs window bytes.now state.old result state.new made.old made.new }
     ensures err { OnErr result (IsAsBefore state.old state.new made.old made.new) }

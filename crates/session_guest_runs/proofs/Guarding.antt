@@ -13,6 +13,7 @@ use Rattle.session_guests.specs.Gates.{ModeGate, ClientsStay}
 use Rattle.session_guests.specs.Locking.{StepsKeepHolders, RunsHaveHolders, LocksAreTaken, HoldersStay}
 use Rattle.session_guests.specs.Naming.{WindowsStay}
 use Rattle.session_guests.specs.Opening.{NewWindowsAreMasked}
+use Rattle.session_unseen.specs.Watching.{SpectatorsLeaveOthers}
 use Rattle.session_guest_runs.specs.Guarded.{IsGuarded, GuestsAreHeld}
 use Rattle.session_core.specs.Headline.{AllSteps, Keeps, with_steps, Call, SomeRun, IsRunOf, AreSteps}
 use Rattle.session_core.specs.Stands.{StandsFor}
@@ -30,6 +31,7 @@ pub record Laws : Type 0 where
   pub stay : HoldersStay
   pub names : WindowsStay
   pub fit : RunsAreFit
+  pub watching : SpectatorsLeaveOthers
 
 guarded_step : Laws → (h : Trace) (e : Entry) → IsRun h → IsStep (tables_of h) e → IsGuarded h e
 guarded_step laws h e run step = record {
@@ -41,6 +43,7 @@ guarded_step laws h e run step = record {
   clients = laws.clients (tables_of h) e (laws.fit h) step;
   stay = laws.stay (tables_of h) e (laws.fit h) (laws.runs_hold h run) step;
   names = laws.names (tables_of h) e (laws.fit h) step;
+  watching = λ user by watches. laws.watching (tables_of h) e user (laws.fit h) (laws.runs_hold h run) step by watches;
 }
 
 guarded : Laws → (h : Trace) (steps : List Entry) → IsRun h → AllSteps Keeps h steps → AllSteps IsGuarded h steps

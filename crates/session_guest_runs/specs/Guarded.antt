@@ -1,5 +1,5 @@
 -- What the laws of guests say of a call of a session.
-use Rattle.std.specs.Prelude.{Bool, List}
+use Rattle.std.specs.Prelude.{◌≡◌, Bool, List, Some}
 use Rattle.acl.specs.declared.user_id.UserId.{UserId}
 use Rattle.acl.specs.declared.edition.Edition.{Edition}
 use Rattle.session_model.specs.Trace.{Entry, Trace, begun}
@@ -7,9 +7,10 @@ use Rattle.session_model.specs.Run.{after, tables_of}
 use Rattle.session_guests.specs.Changing.{RightsAreGated}
 use Rattle.session_guests.specs.Contained.{AreGuests, ChangesAreTheirs, AreContained}
 use Rattle.session_guests.specs.Gates.{ModeIsGated, ClientsStayIn}
-use Rattle.session_guests.specs.Locking.{HoldersMayWrite, LocksAreTakenBy, HoldersStayIn}
+use Rattle.session_guests.specs.Locking.{user_of, HoldersMayWrite, LocksAreTakenBy, HoldersStayIn}
 use Rattle.session_guests.specs.Naming.{WindowsStayIn}
 use Rattle.session_guests.specs.Opening.{IsGivenByMasks}
+use Rattle.session_unseen.specs.Watching.{IsSpectator, LeavesOthers}
 use Rattle.session_core.specs.Headline.{AllSteps, Keeps, Call, SomeRun, IsRunOf, AreSteps}
 use Rattle.session_core.specs.Headline.{with_steps}
 use Rattle.session_core.specs.Stands.{StandsFor}
@@ -18,7 +19,8 @@ use Rattle.session_core.specs.declared.session.Session.{Session}
 -- A step changes rights by a granted list command alone; a new window is given by its opener's
 -- masks; who holds a lock may write there, took it in a step of his own, and keeps it in steps of
 -- users who may neither write there nor change rights; the mode, others' clients, and windows with
--- their numbers and titles change by granted commands alone.
+-- their numbers and titles change by granted commands alone; and a step of a user who only watches
+-- leaves others all that they have.
 pub record IsGuarded (h : Trace) (e : Entry) : Type 0 where
   pub rights : RightsAreGated (tables_of h) e
   pub windows : IsGivenByMasks (tables_of h) e e.event e.reply
@@ -28,6 +30,9 @@ pub record IsGuarded (h : Trace) (e : Entry) : Type 0 where
   pub clients : ClientsStayIn (tables_of h) e
   pub stay : HoldersStayIn (tables_of h) e
   pub names : WindowsStayIn (tables_of h) e
+  pub watching :
+      (user : UserId) → user_of (tables_of h) e.event ≡ Some user →
+      IsSpectator (tables_of h) user → LeavesOthers (tables_of h) e user
 
 -- users who may not change rights before the call can't by it, while nobody else does
 abbrev pub AreContainedBy : Trace → List Entry → Type 0

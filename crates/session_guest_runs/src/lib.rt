@@ -3,10 +3,12 @@
 #![tactic(auto)]
 
 ghost use Rattle.session_guest_runs.specs.Guarded.{CallsAreGuarded, NewRunsAreGuarded};
+ghost use Rattle.session_guest_runs.specs.Unseen.{SessionsHideOutput};
 
 /// The steps that `Session::run` promises of a call, and those of a new session's run, change
-/// rights, locks, the mode, others' clients and windows as the laws of guests say; and users who
-/// may not change rights can't by the call, while nobody else does.
+/// rights, locks, the mode, others' clients and windows as the laws of guests say; a step of one who
+/// only watches leaves others all that they have; and users who may not change rights can't by the
+/// call, while nobody else does.
 pub fn calls_are_guarded()
     ensures call { CallsAreGuarded }
     ensures new { NewRunsAreGuarded }
@@ -17,5 +19,15 @@ pub fn calls_are_guarded()
     session_guests::locks_are_taken();
     session_guests::holders_stay();
     session_guests::others_are_gated();
+    session_unseen::spectators_leave_others();
     session_laws::tables_stay_fit();
+}
+
+/// Of two sessions of one edition and owner, which stand for runs that differ only in output that
+/// is hidden from a user, he observed the same. (Each call of `Session::run` says for which run the
+/// session stands behind it.)
+pub fn sessions_hide_output()
+    ensures { SessionsHideOutput }
+{
+    session_unseen::hidden_output_is_unseen();
 }

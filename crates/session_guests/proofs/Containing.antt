@@ -16,7 +16,7 @@ use Rattle.session_model.specs.Lines.{Caller}
 use Rattle.session_model.specs.Promises.{SomeOf}
 use Rattle.session_model.specs.Run.{IsStep, IsRunFrom, after, tables_from}
 use Rattle.session_model.specs.Tables.{Tables}
-use Rattle.session_model.specs.Trace.{Happening, Attach, Detach, Keys, Command, Resize, Open, Output, Closed, Draw, Entry}
+use Rattle.session_model.specs.Trace.{EventValue, Command, Open, Closed, Entry}
 use Rattle.session_laws.proofs.Lists.{contradicts, all_weaken, all_append}
 use Rattle.session_guests.specs.Changing.{changes_rights, opens_window, opened_by, SameLists, SameRights, MayChangeRights, RightsAreGated}
 use Rattle.session_guests.specs.Contained.{AllSteps, AreGuests, ChangesAreTheirs, stood, AreContained}
@@ -38,18 +38,11 @@ pub record Grows (t : Tables) (acts : List Act) (u : Tables) : Type 0 where
 same_le : (m n : ℕ) → m ≡ n → m ≤ n
 same_le m n is = omega (arith, is)
 
-plain_new : (t : Tables) (event : Happening) (a : Act) → IsActIn t event a → IsNew t.next_window a
+plain_new : (t : Tables) (event : EventValue) (a : Act) → IsActIn t event a → IsNew t.next_window a
 plain_new t event (act.Opened by w) is = on event is where
-  on : (event : Happening) → IsActIn t event (act.Opened by w) → t.next_window ≤ w
+  on : (event : EventValue) → IsActIn t event (act.Opened by w) → t.next_window ≤ w
   on (Open user rows columns keep title) is = same_le t.next_window w (sym is.1)
-  on (Attach user rows columns) is = absurd is
-  on (Detach client) is = absurd is
-  on (Keys client bytes) is = absurd is
-  on (Command user number bytes) is = absurd is
-  on (Resize client rows columns) is = absurd is
-  on (Output window bytes) is = absurd is
-  on (Closed window) is = absurd is
-  on (Draw client) is = absurd is
+  on event is = absurd is
 plain_new t event a is = tt
 
 row_new : (next : ℕ) (k : Caller) (c : Order) (a : Act) → IsActOf k c a → IsNew next a

@@ -15,22 +15,22 @@ use Rattle.session_model.specs.Checks.{first_fault, verdicts}
 use Rattle.session_model.specs.Deeds.{Deed, changing, parts, closes, entering}
 use Rattle.session_model.specs.Events.{outcome, Outcome, left_by, left_acts, attach_checks, attaches, new_client, open_checks, opens, new_window, reply_of, finished, done, where_passed, is_client_size, resized, outputs}
 use Rattle.session_model.specs.Run.{IsStep, after, drawn, drawn_on}
-use Rattle.session_model.specs.Trace.{Happening, Attach, Detach, Keys, Command, Resize, Open, Output, Closed, Draw, Entry}
+use Rattle.session_model.specs.Trace.{EventValue, Attach, Detach, Keys, Command, Resize, Open, Output, Closed, Draw, Entry}
 use Rattle.session_laws.proofs.Lists.{equal, all_of, all_map, all_passed, all_append}
 use Rattle.session_laws.proofs.Outcomes as outcomes
 
 -- whether an event gives commands
-abbrev pub gives_commands : Happening → Bool
+abbrev pub gives_commands : EventValue → Bool
 gives_commands (Keys client bytes) = true
 gives_commands (Command user number bytes) = true
 gives_commands _ = false
 
-abbrev pub is_open : Happening → Bool
+abbrev pub is_open : EventValue → Bool
 is_open (Open user rows columns keep title) = true
 is_open _ = false
 
 -- which acts another event has
-abbrev pub IsActIn : Tables → Happening → Act → Type 0
+abbrev pub IsActIn : Tables → EventValue → Act → Type 0
 IsActIn t event (act.Left user w) = Unit {0}
 IsActIn t (Attach user rows columns) (act.Attached client v) = (client ≡ t.next_client) × (v ≡ user)
 IsActIn t (Attach user rows columns) (act.Entered v w) = v ≡ user
@@ -39,7 +39,7 @@ IsActIn t (Open user rows columns keep title) (act.Opened by w) = (by ≡ user) 
 IsActIn t (Closed window) (act.Closed w) = w ≡ window
 IsActIn t _ _ = ⊥
 
-pub record Plain (t : Tables) (event : Happening) (acts : List Act) (u : Tables) : Type 0 where
+pub record Plain (t : Tables) (event : EventValue) (acts : List Act) (u : Tables) : Type 0 where
   pub acts_in : AllByRecursion (IsActIn t event) acts
   pub owner : u.owner ≡ t.owner
   pub edition : u.edition ≡ t.edition
@@ -47,7 +47,7 @@ pub record Plain (t : Tables) (event : Happening) (acts : List Act) (u : Tables)
   pub mode : u.is_multiuser ≡ t.is_multiuser
   pub next_window : t.next_window ≤ u.next_window
 
-abbrev PlainTo : Tables → Happening → Outcome → Type 0
+abbrev PlainTo : Tables → EventValue → Outcome → Type 0
 PlainTo t event o = Plain t event o.acts o.tables
 
 -- users that leave windows
@@ -67,10 +67,10 @@ le_same n = omega arith
 le_more : (n : ℕ) → n ≤ n + 1
 le_more n = omega arith
 
-still : (t : Tables) (event : Happening) → Plain t event [] t
+still : (t : Tables) (event : EventValue) → Plain t event [] t
 still t event = record { acts_in = tt; owner = refl; edition = refl; acts_are = refl; mode = refl; next_window = le_same t.next_window }
 
-made : (t : Tables) (event : Happening) (d : Deed) → AllByRecursion (IsActIn t event) d.acts → d.tables.owner ≡ t.owner → d.tables.edition ≡ t.edition → d.tables.is_multiuser ≡ t.is_multiuser
+made : (t : Tables) (event : EventValue) (d : Deed) → AllByRecursion (IsActIn t event) d.acts → d.tables.owner ≡ t.owner → d.tables.edition ≡ t.edition → d.tables.is_multiuser ≡ t.is_multiuser
     → t.next_window ≤ d.tables.next_window → let acts : List Act = d.acts ++ left_acts t.clients d.tables.clients in Plain t event acts (record d.tables { acts = followed_by t.acts acts })
 made t event d all owner edition mode next = record {
   acts_in = all_append (IsActIn t event) d.acts (left_acts t.clients d.tables.clients) all (all_left (IsActIn t event) t.clients d.tables.clients (λ user w. tt));
@@ -85,7 +85,7 @@ enters_in : (t : Tables) (user : UserId) (rows columns : ℕ) (o : Option ℕ) �
 enters_in t user rows columns None = tt
 enters_in t user rows columns (Some w) = (refl, tt)
 
-plain : (t : Tables) (event : Happening) → gives_commands event ≡ false → PlainTo t event (outcome t event)
+plain : (t : Tables) (event : EventValue) → gives_commands event ≡ false → PlainTo t event (outcome t event)
 plain t (Attach user rows columns) not =
     let c : Client = new_client t user rows columns in
     outcomes.passed (PlainTo t (Attach user rows columns)) t (verdicts t (attach_checks t user rows columns)) (first_fault t (attach_checks t user rows columns)) (reply_of 0 t.next_client 0 None) (attaches t c)
@@ -124,20 +124,13 @@ plain t (Draw client) not =
     (λ c is. made t (Draw client) (changing t) tt refl refl refl (le_same t.next_window))
 
 -- what is drawn changes clients alone
-drawn_plain : (t : Tables) (event : Happening) (acts : List Act) (o : Option Client) (effects : List Effect) (u : Tables) → Plain t event acts u → Plain t event acts (drawn_on o effects u)
+drawn_plain : (t : Tables) (event : EventValue) (acts : List Act) (o : Option Client) (effects : List Effect) (u : Tables) → Plain t event acts u → Plain t event acts (drawn_on o effects u)
 drawn_plain t event acts None effects u p = p
 drawn_plain t event acts (Some c) effects u p = record { acts_in = p.acts_in; owner = p.owner; edition = p.edition; acts_are = p.acts_are; mode = p.mode; next_window = p.next_window }
 
-after_plain : (t : Tables) (event : Happening) (effects : List Effect) → gives_commands event ≡ false → Plain t event (outcome t event).acts (drawn event effects (outcome t event).tables)
+after_plain : (t : Tables) (event : EventValue) (effects : List Effect) → gives_commands event ≡ false → Plain t event (outcome t event).acts (drawn event effects (outcome t event).tables)
 after_plain t (Draw client) effects not = let u : Tables = (outcome t (Draw client)).tables in drawn_plain t (Draw client) (outcome t (Draw client)).acts (client_at u client) effects u (plain t (Draw client) not)
-after_plain t (Attach user rows columns) effects not = plain t (Attach user rows columns) not
-after_plain t (Detach client) effects not = plain t (Detach client) not
-after_plain t (Keys client bytes) effects not = absurd (cc (not))
-after_plain t (Command user number bytes) effects not = absurd (cc (not))
-after_plain t (Resize client rows columns) effects not = plain t (Resize client rows columns) not
-after_plain t (Open user rows columns keep title) effects not = plain t (Open user rows columns keep title) not
-after_plain t (Output window bytes) effects not = plain t (Output window bytes) not
-after_plain t (Closed window) effects not = plain t (Closed window) not
+after_plain t event effects not = plain t event not
 
 pub step_plain : (t : Tables) (e : Entry) → IsStep t e → gives_commands e.event ≡ false → Plain t e.event e.acts (after t e)
 step_plain t e step not = subst (λ acts. Plain t e.event acts (after t e)) (sym step.acts) (after_plain t e.event e.effects not)

@@ -1,35 +1,27 @@
 -- Commands leave what is in focus of others' clients.
-use Rattle.std.proofs.Common.{◌≡◌, ℕ, Bool, true, false, not, List, [], ◌∷◌, Option, Some, None, Ok, Err, refl, ap, sym, ◌∙◌, map, filter}
+use Rattle.std.proofs.Common.{◌≡◌, ℕ, Bool, true, false, not, List, [], ◌∷◌, Option, Some, None, refl, ap, sym, ◌∙◌, map, filter}
 use Rattle.std.specs.Prelude.{if◌then◌else◌, ◌==◌, ◌||◌, ◌&&◌}
 use Rattle.std.specs.List.{AllByRecursion, list_any}
 use Rattle.std.specs.Option.{option_and_then}
 use Rattle.acl.specs.declared.user_id.UserId.{UserId}
 use Rattle.acl.specs.declared.act.Act.{Act}
 use Rattle.acl.specs.declared.act.Act.TheVariants as act
-use Rattle.acl.specs.declared.act.Object.{Object}
-use Rattle.acl.specs.declared.faults.AclFault.{AclFault}
 use Rattle.acl.specs.Same.{same_user}
 use Rattle.acl.proofs.StandsForLemmas.{same_user-refl, same_user-true}
 use Rattle.command_lang.specs.command.Command.{Command as Order}
-use Rattle.command_lang.specs.command.Command.TheVariants as command
 use Rattle.command_lang.specs.Names.{name_of}
 use Rattle.regions.specs.Layouts.{Arrangement}
-use Rattle.session_model.specs.declared.event.Reason.TheVariants.{Detached}
-use Rattle.session_model.specs.declared.refusal.Refusal.{Refusal}
-use Rattle.session_model.specs.declared.refusal.Refusal.TheVariants.{Acl, Windows, NoWindow}
-use Rattle.session_model.specs.declared.refusal.WindowsFault.TheVariants.{NoSuchWindow}
-use Rattle.session_model.specs.Tables.{Tables, Window, Client, row_of, with_row, window_at, client_at, with_client, with_layout, focused, is_window, shows, is_in_focus}
-use Rattle.session_model.specs.Naming.{window_named, window_after, window_before}
+use Rattle.session_model.specs.Tables.{Tables, Client, row_of, with_row, client_at, with_client, with_layout, focused, is_window, shows, is_in_focus}
 use Rattle.session_model.specs.Lines.{Caller}
-use Rattle.session_model.specs.Deeds as deeds
-use Rattle.session_model.specs.Deeds.{Deed, Answer, given, parts, former_of, hearing}
-use Rattle.session_model.specs.Commands.{does, caller_client, on_client}
+use Rattle.session_model.specs.Deeds.{Deed, hearing}
+use Rattle.session_model.specs.Commands.{does, caller_client}
 use Rattle.session_model.specs.Events.{left_by, left_acts}
-use Rattle.session_laws.proofs.Lists.{equal, itself, row_serial, contradicts, all_append}
-use Rattle.session_laws.proofs.Doing.{Either, by_given, by_unless, by_refused, by_fault, by_shown, is_plain, caller_is}
+use Rattle.session_laws.proofs.Lists.{itself, row_serial, contradicts, all_append}
+use Rattle.session_laws.proofs.Doing.{Either, caller_is}
 use Rattle.session_guests.specs.Changing.{changes_rights}
 use Rattle.session_guests.specs.Locking.{may_free}
 use Rattle.session_guests.proofs.Rows.{IsCaller}
+use Rattle.session_laws.proofs.Shapes as shapes
 
 -- ---- lists
 
@@ -52,7 +44,7 @@ any_without p q (x ∷ xs) all = on (q x) all.0 (any_without p q xs all.1) where
   on true off same = same ∙ sym (ap (λ b. b || list_any p xs) (off refl))
   on false off same = ap (λ b. p x || b) same
 
--- ---- rows
+-- ---- deeds
 
 -- the caller's serial is that of clients of its user alone
 abbrev pub IsMine : Tables → Caller → Type 0
@@ -76,51 +68,31 @@ module _ (t : Tables) (k : Caller) (by : IsCaller t k) (mine : IsMine t k) (x : 
       any_with_row (shows x w) (λ (c : Client). c.serial) t.clients d.serial (with_layout l d)
       (λ r at. hidden (with_layout l d) w (by d is) ∙ sym (hidden r w (own_user k.client d is by r at)))
 
-  shown : (o : Client → Option Window) (r : Refusal) → is_plain r ≡ true → Either Stays (on_client t k (λ d. given (o d) r (λ w. Ok (deeds.selects t d w))))
-  shown o r is = by_shown Stays t k o r is (λ d w at there. paged d _ at)
-
-  faulty : (f : Option AclFault) (objects : Option (List Object)) (acts : List Object → List Act)
-      → Either Stays (elim f [ Some f ↦ Err (Acl f) | None ↦ given objects (Windows NoSuchWindow) (λ all. Ok (deeds.acting t (acts all))) ])
-  faulty f objects acts = by_fault Stays t f objects acts (λ os w. refl)
-
   without : (s : ℕ) → k.client ≡ Some s → (w : ℕ) → is_in_focus (filter (λ (d : Client). not (d.serial == s)) t.clients) x w ≡ is_in_focus t.clients x w
   without s is w =
       any_without (shows x w) (λ (d : Client). d.serial == s) t.clients
       (Rattle.session_laws.proofs.Lists.all_weaken (λ (d : Client). (d.serial == s) ≡ true → d.user ≡ k.user) (λ (d : Client). (d.serial == s) ≡ true → shows x w d ≡ false) t.clients (λ d own at. hidden d w (own at)) (mine s is))
 
+  deed_stays : (c : Order) (d : Deed) → changes_rights (name_of c) ≡ false → may_free c ≡ false → shapes.Shape t k c d → Stays d
+  deed_stays c d not free (shapes.lists bytes none tells) w = refl
+  deed_stays c d not free (shapes.acts all none acted) w = refl
+  deed_stays c d not free (shapes.enters_page y l of at shows) w = paged y l at w
+  deed_stays c d not free (shapes.keeps_page y l of at shows same) w = paged y l at w
+  deed_stays c d not free (shapes.writes_to v what one at) w = refl
+  deed_stays c d not free (shapes.opened is) w = refl
+  deed_stays c d not free (shapes.shut is) w = contradicts (may_free c) (ap may_free is) free
+  deed_stays c d not free (shapes.told bytes is) w = any_map (shows x w) (hearing _) t.clients (λ y. refl)
+  deed_stays c d not free (shapes.removed word is clear) w = contradicts (changes_rights (name_of c)) (ap (λ (o : Order). changes_rights (name_of o)) is) not
+  deed_stays c d not free (shapes.fitted v rows columns is at) w = refl
+  deed_stays c d not free (shapes.titled v bytes is at) w = refl
+  deed_stays c d not free (shapes.numbered v n is at clear) w = refl
+  deed_stays c d not free (shapes.typed v bytes is at) w = refl
+  deed_stays c d not free (shapes.detached y is at) w = without y.serial (caller_is t k.client y at) w
+  deed_stays c d not free (shapes.killed v is at) w = contradicts (may_free c) (ap may_free is) free
+  deed_stays c d not free (shapes.quits is) w = contradicts (may_free c) (ap may_free is) free
+
   pub focus_stays : (c : Order) → changes_rights (name_of c) ≡ false → may_free c ≡ false → Either Stays (does t k c)
-  focus_stays (command.Acladd names) not free = absurd (cc (not))
-  focus_stays (command.Aclchg names bits list) not free = absurd (cc (not))
-  focus_stays (command.Acldel word) not free = absurd (cc (not))
-  focus_stays (command.Aclgrp word leader) not free = absurd (cc (not))
-  focus_stays (command.Aclumask masks) not free = absurd (cc (not))
-  focus_stays (command.Multiuser true) not free = λ w. refl
-  focus_stays (command.Multiuser false) not free = absurd (cc (free))
-  focus_stays (command.Writelock mode) not free = by_given Stays k.window _ _ refl (λ v is w. refl)
-  focus_stays (command.Defwritelock mode) not free = λ w. refl
-  focus_stays (command.Wall bytes) not free = λ w. any_map (shows x w) (hearing _) t.clients (λ c. refl)
-  focus_stays command.Screen not free = λ w. refl
-  focus_stays command.Windows not free = λ w. refl
-  focus_stays command.Displays not free = λ w. refl
-  focus_stays (command.Select word) not free = shown (λ d. window_named t.windows word) (Windows NoSuchWindow) refl
-  focus_stays command.Next not free = shown (λ d. window_after t.windows k.window) NoWindow refl
-  focus_stays command.Prev not free = shown (λ d. window_before t.windows k.window) NoWindow refl
-  focus_stays command.Other not free = shown (λ d. option_and_then (window_at t) (former_of d)) NoWindow refl
-  focus_stays (command.Split vertical) not free = by_given Stays (caller_client t k) _ _ refl (λ d is. by_unless Stays _ _ _ (λ f. refl) (paged d _ is))
-  focus_stays command.Focus not free = by_given Stays (caller_client t k) _ _ refl (λ d is. paged d _ is)
-  focus_stays command.Remove not free = by_given Stays (caller_client t k) _ _ refl (λ d is. by_refused Stays _ _ _ refl (λ no. paged d _ is))
-  focus_stays command.Only not free = by_given Stays (caller_client t k) _ _ refl (λ d is. paged d _ is)
-  focus_stays (command.Scrollview n) not free = by_given Stays (caller_client t k) _ _ refl (λ d is. paged d _ is)
-  focus_stays command.Fit not free = by_given Stays (caller_client t k) _ _ refl (λ d is. by_given Stays k.window _ _ refl (λ v at. by_given Stays _ _ _ refl (λ box there. by_refused Stays _ _ _ refl (λ no w. refl))))
-  focus_stays (command.Title bytes) not free = by_given Stays k.window _ _ refl (λ v at. by_refused Stays _ _ _ refl (λ no w. refl))
-  focus_stays (command.Number n) not free = by_given Stays k.window _ _ refl (λ v at. by_refused Stays _ _ _ refl (λ no w. refl))
-  focus_stays command.Clear not free = by_given Stays k.window _ _ refl (λ v at w. refl)
-  focus_stays command.Reset not free = by_given Stays k.window _ _ refl (λ v at w. refl)
-  focus_stays (command.Encoding coding) not free = by_given Stays k.window _ _ refl (λ v at w. refl)
-  focus_stays (command.Stuff bytes) not free = by_given Stays k.window NoWindow _ refl (λ v at w. refl)
-  focus_stays command.Detach not free = by_given Stays (caller_client t k) NoWindow (λ d. Ok (parts (λ (c : Client). c.serial == d.serial) Detached t)) refl (λ d is. without d.serial (caller_is t k.client d is))
-  focus_stays command.Kill not free = absurd (cc (free))
-  focus_stays command.Quit not free = absurd (cc (free))
+  focus_stays c not free = shapes.by_shape Stays t k c (λ d is. deed_stays c d not free is)
 
 -- ---- nobody else leaves
 

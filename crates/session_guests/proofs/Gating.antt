@@ -21,12 +21,12 @@ use Rattle.session_model.specs.Deeds.{Answer}
 use Rattle.session_model.specs.Events.{left_acts}
 use Rattle.session_model.specs.Given.{Given, commands_of}
 use Rattle.session_model.specs.Lines.{Caller}
-use Rattle.session_model.specs.Needs.{needs}
+use Rattle.command_lang.specs.Needs.{needs}
 use Rattle.session_model.specs.Promises.{SomeOf}
 use Rattle.session_model.specs.Keeps.{KeepsPromise}
 use Rattle.session_model.specs.Rights.{may_in}
 use Rattle.session_model.specs.Run.{IsStep, after}
-use Rattle.session_model.specs.Trace.{Happening, Keys, Command, Reply, Entry}
+use Rattle.session_model.specs.Trace.{EventValue, Keys, Command, Reply, Entry}
 use Rattle.session_laws.specs.Keyed.{KeysDoTheirRows}
 use Rattle.session_laws.specs.Laws.{StepsKeepPromise, CommandsDoTheirRows, CommandsAreRefusedSo}
 use Rattle.session_laws.proofs.Lists.{contradicts, all_weaken, all_append}
@@ -50,7 +50,7 @@ pub record Below : Type 0 where
 abbrev pub Steps : Tables → Entry → Type 0
 Steps t e = Plain t e.event e.acts (after t e) ⊎ Obeys t e
 
-obeys_by : Below → (t : Tables) (event : Happening) (reply : Reply) (acts : List Act) (vs : List Verdict) (effects : List Effect)
+obeys_by : Below → (t : Tables) (event : EventValue) (reply : Reply) (acts : List Act) (vs : List Verdict) (effects : List Effect)
     → let e : Entry = record { event = event; reply = reply; acts = acts; verdicts = vs; effects = effects } in IsStep t e → gives_commands event ≡ true → Obeys t e
 obeys_by laws t (Keys client bytes) reply acts vs effects step is =
     let e : Entry = record { event = Keys client bytes; reply = reply; acts = acts; verdicts = vs; effects = effects } in
@@ -80,7 +80,7 @@ row_did t e g d = on (does (with_clients t d.clients) g.caller g.order) d.does_i
 
 -- ---- which acts are on lists
 
-plain_listing : (t : Tables) (event : Happening) (a : Act) → IsActIn t event a → is_listing a ≡ false
+plain_listing : (t : Tables) (event : EventValue) (a : Act) → IsActIn t event a → is_listing a ≡ false
 plain_listing t event (act.Known user) is = absurd is
 plain_listing t event (act.Gone user) is = absurd is
 plain_listing t event (act.Set user bit object value) is = absurd is

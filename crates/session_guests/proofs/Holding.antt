@@ -22,13 +22,13 @@ use Rattle.session_model.specs.Events.{left_acts}
 use Rattle.session_model.specs.Given.{Given, commands_of, with_order, order_in, ok_of}
 use Rattle.session_model.specs.Keying.{step_items, command_item}
 use Rattle.session_model.specs.Lines.{Caller, caller_of, line_caller, read_line}
-use Rattle.session_model.specs.Needs as need
-use Rattle.session_model.specs.Needs.{needs}
+use Rattle.command_lang.specs.Needs as need
+use Rattle.command_lang.specs.Needs.{needs}
 use Rattle.session_model.specs.Promises.{SomeOf, IsOn}
 use Rattle.session_model.specs.Rights.{may_in, holder_in}
 use Rattle.session_model.specs.Run.{IsStep, IsRunFrom, after, tables_from}
 use Rattle.session_model.specs.Tables.{Tables, Window, Client, client_at, is_known}
-use Rattle.session_model.specs.Trace.{Happening, Attach, Detach, Keys, Command, Resize, Open, Output, Closed, Draw, Entry}
+use Rattle.session_model.specs.Trace.{EventValue, Attach, Detach, Keys, Command, Resize, Open, Output, Closed, Draw, Entry}
 use Rattle.session_laws.proofs.Lists.{contradicts, all_weaken, all_append}
 use Rattle.session_guests.specs.Changing.{changes_rights}
 use Rattle.session_guests.specs.Locking.{user_of, HoldersMayWrite, TakesIt}
@@ -45,7 +45,7 @@ given_by : (user : UserId) (k : Caller) (o : Option Order) → Some user ≡ Som
 given_by user k None is = tt
 given_by user k (Some c) is = (is, tt)
 
-pub givers : (t : Tables) (event : Happening) → AllByRecursion (λ (g : Given). user_of t event ≡ Some g.caller.user) (commands_of t event)
+pub givers : (t : Tables) (event : EventValue) → AllByRecursion (λ (g : Given). user_of t event ≡ Some g.caller.user) (commands_of t event)
 givers t (Command user number bytes) = on (is_known t user) where
   on : (b : Bool) → AllByRecursion (λ (g : Given). Some user ≡ Some g.caller.user) (if b then with_order (line_caller t user number) (ok_of (read_line bytes)) else [])
   on true = given_by user (line_caller t user number) (ok_of (read_line bytes)) refl
@@ -54,13 +54,7 @@ givers t (Keys client bytes) = on (client_at t client) where
   on : (o : Option Client) → AllByRecursion (λ (g : Given). option_map (λ (c : Client). c.user) o ≡ Some g.caller.user) (option_map_or (λ c. with_order (caller_of t c) (order_in (command_item (step_items c bytes)))) o [])
   on None = tt
   on (Some c) = given_by c.user (caller_of t c) (order_in (command_item (step_items c bytes))) refl
-givers t (Attach user rows columns) = tt
-givers t (Detach client) = tt
-givers t (Resize client rows columns) = tt
-givers t (Open user rows columns keep title) = tt
-givers t (Output window bytes) = tt
-givers t (Closed window) = tt
-givers t (Draw client) = tt
+givers t event = tt
 
 -- ---- a lock that is set needs w
 
@@ -97,25 +91,13 @@ module _ (t : Tables) (P : UserId → Type 0) where
   row_own k (command.Writelock mode) not passed (act.Mode by w m) is =
       (is.0, λ on. subst (λ u. may_in t u Write (object.Window w) ≡ true) (sym is.0) (lock_written t k mode w (ap is_off (sym is.2) ∙ on) is.1 passed))
   row_own k c not passed (act.Mode by w m) is = absurd is
-  row_own k (command.Select word) not passed (act.Entered user w) is = is
-  row_own k command.Next not passed (act.Entered user w) is = is
-  row_own k command.Prev not passed (act.Entered user w) is = is
-  row_own k command.Other not passed (act.Entered user w) is = is
-  row_own k command.Focus not passed (act.Entered user w) is = is
-  row_own k command.Remove not passed (act.Entered user w) is = is
-  row_own k c not passed (act.Entered user w) is = absurd is
+  row_own k c not passed (act.Entered user w) is = is.0
   row_own k c not passed a is = tt
 
   row_silent : (k : Caller) (c : Order) → changes_rights (name_of c) ≡ true → (a : Act) → IsActOf k c a → gives_lock t.edition t.owner P t.acts a ≡ false
   row_silent k (command.Writelock mode) changes (act.Mode by w m) is = absurd (cc (changes))
   row_silent k c changes (act.Mode by w m) is = absurd is
-  row_silent k (command.Select word) changes (act.Entered user w) is = absurd (cc (changes))
-  row_silent k command.Next changes (act.Entered user w) is = absurd (cc (changes))
-  row_silent k command.Prev changes (act.Entered user w) is = absurd (cc (changes))
-  row_silent k command.Other changes (act.Entered user w) is = absurd (cc (changes))
-  row_silent k command.Focus changes (act.Entered user w) is = absurd (cc (changes))
-  row_silent k command.Remove changes (act.Entered user w) is = absurd (cc (changes))
-  row_silent k c changes (act.Entered user w) is = absurd is
+  row_silent k c changes (act.Entered user w) is = contradicts (changes_rights (name_of c)) changes is.1
   row_silent k c changes (act.Opened by w) is = absurd is
   row_silent k c changes a is = refl
 
@@ -163,7 +145,7 @@ module _ (t : Tables) (P : UserId → Type 0) where
   closed_silent window (act.Left v w) is = refl
   closed_silent window a is = absurd is
 
-  other_silent : (event : Happening) → ((a : Act) → IsActIn t event a → Silent a) → (acts : List Act) → AllByRecursion (IsActIn t event) acts → All acts
+  other_silent : (event : EventValue) → ((a : Act) → IsActIn t event a → Silent a) → (acts : List Act) → AllByRecursion (IsActIn t event) acts → All acts
   other_silent event on acts all = giving.silent t.edition t.owner P t.acts t.acts acts (all_weaken (IsActIn t event) Silent acts on all)
 
   abbrev pub Each : History → List Act → Type 0
@@ -197,7 +179,7 @@ module _ (t : Tables) (P : UserId → Type 0) where
   draw_silent client (act.Left v w) is = refl
   draw_silent client a is = absurd is
 
-  plain_gives : (event : Happening) → ((user : UserId) → user_of t event ≡ Some user → P user) → (acts : List Act) → AllByRecursion (IsActIn t event) acts → All acts
+  plain_gives : (event : EventValue) → ((user : UserId) → user_of t event ≡ Some user → P user) → (acts : List Act) → AllByRecursion (IsActIn t event) acts → All acts
   plain_gives (Attach user rows columns) p acts all =
       giving.own t.edition t.owner P t.acts user (p user refl) t.acts acts (λ u w. refl) (all_weaken (IsActIn t (Attach user rows columns)) (Own user) acts (attach_own user rows columns) all)
   plain_gives (Open user rows columns keep title) p acts all = open_gives user rows columns keep title (p user refl) t.acts acts all

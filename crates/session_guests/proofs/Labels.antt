@@ -1,32 +1,23 @@
 -- Commands leave the numbers and titles of other windows than their own.
-use Rattle.std.proofs.Common.{◌≡◌, ℕ, ◌-◌, Bool, true, false, not, List, [], ◌∷◌, ◌++◌, Option, Some, None, Ok, Err, refl, ap, sym, ◌∙◌, subst, filter, inl, inr}
+use Rattle.std.proofs.Common.{◌≡◌, ℕ, Bool, true, false, not, List, [], ◌∷◌, ◌++◌, Option, Some, None, refl, ap, sym, ◌∙◌, subst, filter, inl, inr}
 use Rattle.std.specs.Prelude.{if◌then◌else◌, ◌==◌, ◌⊎◌}
-use Rattle.std.specs.Option.{option_map, option_and_then}
-use Rattle.acl.specs.declared.act.Act.{Act}
-use Rattle.acl.specs.declared.act.Object.{Object}
-use Rattle.acl.specs.declared.faults.AclFault.{AclFault}
+use Rattle.std.specs.Option.{option_map}
 use Rattle.acl.specs.declared.user_id.UserId.{UserId}
 use Rattle.acl.specs.declared.command_name.CommandName.TheVariants as name
 use Rattle.acl.specs.Names.{named_by}
-use Rattle.acl.specs.Commands.{change_fault}
 use Rattle.command_lang.specs.command.Command.{Command as Order}
-use Rattle.command_lang.specs.command.Command.TheVariants as command
 use Rattle.command_lang.specs.Names.{name_of}
 use Rattle.terminal_model.specs.Writing as written
-use Rattle.session_model.specs.declared.event.Reason.TheVariants.{Killed, Detached}
-use Rattle.session_model.specs.declared.refusal.Refusal.{Refusal}
-use Rattle.session_model.specs.declared.refusal.Refusal.TheVariants.{Acl, Windows, NoWindow}
-use Rattle.session_model.specs.declared.refusal.WindowsFault.TheVariants.{NoSuchWindow}
-use Rattle.session_model.specs.Tables.{Tables, Window, Client, row_of, with_row, window_at, with_window, known_users}
-use Rattle.session_model.specs.Naming.{names_of, window_named, window_after, window_before}
+use Rattle.session_model.specs.Tables.{Tables, Window, row_of, with_row, window_at, with_window}
 use Rattle.session_model.specs.Lines.{Caller}
 use Rattle.session_model.specs.Deeds as deeds
-use Rattle.session_model.specs.Deeds.{Deed, Answer, given, parts, closes, removes, former_of}
-use Rattle.session_model.specs.Commands.{does, caller_client, on_client, is_taken}
+use Rattle.session_model.specs.Deeds.{Deed, removes}
+use Rattle.session_model.specs.Commands.{does}
 use Rattle.session_model.specs.Promises.{IsOn}
 use Rattle.session_laws.proofs.Lists.{equal}
-use Rattle.session_laws.proofs.Doing.{Either, by_given, by_unless, by_refused, by_fault, by_shown, is_plain}
+use Rattle.session_laws.proofs.Doing.{Either}
 use Rattle.session_guests.specs.Naming.{names_its_window}
+use Rattle.session_laws.proofs.Shapes as shapes
 
 abbrev pub serial : Window → ℕ
 serial w = w.serial
@@ -97,7 +88,7 @@ pub written_label : (t : Tables) (w v : Window) (at : ℕ) → window_at t w.ser
 written_label t w v at row is same =
     changed t.windows v.serial v at refl (λ r here. same ∙ (let e : Some w ≡ Some r = sym row ∙ ap (row_of serial t.windows) (sym is) ∙ here in (let f : w ≡ r = cc (e) in ap label f)))
 
--- ---- the rows
+-- ---- the kinds
 
 module _ (t : Tables) (k : Caller) (row : (w : Window) → k.window ≡ Some w → window_at t w.serial ≡ Some w) (at : ℕ) where
   abbrev Names : Order → Type 0
@@ -106,16 +97,9 @@ module _ (t : Tables) (k : Caller) (row : (w : Window) → k.window ≡ Some w �
   abbrev pub Kept : Order → Deed → Type 0
   Kept c d = (label_in d.tables.windows at ≡ label_in t.windows at) ⊎ Names c
 
-  shown : (c : Order) (o : Client → Option Window) (r : Refusal) → is_plain r ≡ true → Either (Kept c) (on_client t k (λ d. given (o d) r (λ w. Ok (deeds.selects t d w))))
-  shown c o r is = by_shown (Kept c) t k o r is (λ d w at there. inl refl)
-
-  fault : (c : Order) (f : Option AclFault) (objects : Option (List Object)) (acts : List Object → List Act)
-      → Either (Kept c) (elim f [ Some f ↦ Err (Acl f) | None ↦ given objects (Windows NoSuchWindow) (λ all. Ok (deeds.acting t (acts all))) ])
-  fault c f objects acts = by_fault (Kept c) t f objects acts (λ os. inl refl)
-
-  removal : (word : List ℕ) (o : Option UserId) → Kept (command.Acldel word) (removes o t)
-  removal word None = inl refl
-  removal word (Some u) = inl refl
+  removal : (c : Order) (o : Option UserId) → Kept c (removes o t)
+  removal c None = inl refl
+  removal c (Some u) = inl refl
 
   writes : (c : Order) (w : Window) (what : written.Writing) → k.window ≡ Some w → Kept c (deeds.writes t w what)
   writes c w what is = inl (written_label t w (record w { writing = w.writing ++ what ∷ [] }) at (row w is) refl refl)
@@ -127,41 +111,28 @@ module _ (t : Tables) (k : Caller) (row : (w : Window) → k.window ≡ Some w �
     on true here = inr (inl (names, subst (λ o. IsOn o at) (sym is) (equal w.serial at here)))
     on false here = inl (off here)
 
+  names_it : (c x : Order) → c ≡ x → names_its_window (name_of x) ≡ true → names_its_window (name_of c) ≡ true
+  names_it c x is names = ap (λ (y : Order). names_its_window (name_of y)) is ∙ names
+
+  deed_kept : (c : Order) (d : Deed) → shapes.Shape t k c d → Kept c d
+  deed_kept c d (shapes.lists bytes none tells) = inl refl
+  deed_kept c d (shapes.acts all none acted) = inl refl
+  deed_kept c d (shapes.enters_page x l of here shows) = inl refl
+  deed_kept c d (shapes.keeps_page x l of here shows same) = inl refl
+  deed_kept c d (shapes.writes_to w what one here) = writes c w what here
+  deed_kept c d (shapes.opened is) = inl refl
+  deed_kept c d (shapes.shut is) = inl refl
+  deed_kept c d (shapes.told bytes is) = inl refl
+  deed_kept c d (shapes.removed word is clear) = removal c (named_by word)
+  deed_kept c d (shapes.fitted w rows columns is here) = inl (written_label t w (record w { writing = w.writing ++ written.Size rows columns ∷ [] }) at (row w here) refl refl)
+  deed_kept c d (shapes.titled w bytes is here) =
+      own c (names_it c _ is refl) w here (with_window t (record w { title = bytes })).windows (elsewhere t.windows w.serial (record w { title = bytes }) at refl)
+  deed_kept c d (shapes.numbered w n is here free) =
+      own c (names_it c _ is refl) w here (with_window t (record w { number = n })).windows (elsewhere t.windows w.serial (record w { number = n }) at refl)
+  deed_kept c d (shapes.typed w bytes is here) = inl refl
+  deed_kept c d (shapes.detached x is here) = inl refl
+  deed_kept c d (shapes.killed w is here) = own c (names_it c _ is refl) w here (filter (λ (v : Window). not (v.serial == w.serial)) t.windows) (closed t.windows w.serial at)
+  deed_kept c d (shapes.quits is) = inr (inr (ap name_of is))
+
   pub labels_kept : (c : Order) → Either (Kept c) (does t k c)
-  labels_kept (command.Acladd names) = fault (command.Acladd names) (change_fault t.owner (known_users t) (names_of t names)) _ _
-  labels_kept (command.Aclchg names bits list) = fault (command.Aclchg names bits list) (change_fault t.owner (known_users t) (names_of t names)) _ _
-  labels_kept (command.Acldel word) = by_unless (Kept (command.Acldel word)) _ _ _ (λ f. refl) (removal word (named_by word))
-  labels_kept (command.Aclgrp word None) = by_unless (Kept (command.Aclgrp word None)) _ _ _ (λ f. refl) (inl refl)
-  labels_kept (command.Aclgrp word (Some leader)) = by_unless (Kept (command.Aclgrp word (Some leader))) _ _ _ (λ f. refl) (inl refl)
-  labels_kept (command.Aclumask masks) = by_unless (Kept (command.Aclumask masks)) _ _ _ (λ f. refl) (inl refl)
-  labels_kept (command.Multiuser true) = inl refl
-  labels_kept (command.Multiuser false) = inl refl
-  labels_kept (command.Writelock mode) = by_given (Kept (command.Writelock mode)) k.window _ _ refl (λ w is. inl refl)
-  labels_kept (command.Defwritelock mode) = inl refl
-  labels_kept (command.Wall bytes) = inl refl
-  labels_kept command.Screen = inl refl
-  labels_kept command.Windows = inl refl
-  labels_kept command.Displays = inl refl
-  labels_kept (command.Select word) = shown (command.Select word) (λ d. window_named t.windows word) (Windows NoSuchWindow) refl
-  labels_kept command.Next = shown command.Next (λ d. window_after t.windows k.window) NoWindow refl
-  labels_kept command.Prev = shown command.Prev (λ d. window_before t.windows k.window) NoWindow refl
-  labels_kept command.Other = shown command.Other (λ d. option_and_then (window_at t) (former_of d)) NoWindow refl
-  labels_kept (command.Split vertical) = by_given (Kept (command.Split vertical)) (caller_client t k) _ _ refl (λ d is. by_unless (Kept (command.Split vertical)) _ _ _ (λ f. refl) (inl refl))
-  labels_kept command.Focus = by_given (Kept command.Focus) (caller_client t k) _ _ refl (λ d is. inl refl)
-  labels_kept command.Remove = by_given (Kept command.Remove) (caller_client t k) _ _ refl (λ d is. by_refused (Kept command.Remove) _ _ _ refl (λ no. inl refl))
-  labels_kept command.Only = by_given (Kept command.Only) (caller_client t k) _ _ refl (λ d is. inl refl)
-  labels_kept (command.Scrollview n) = by_given (Kept (command.Scrollview n)) (caller_client t k) _ _ refl (λ d is. inl refl)
-  labels_kept command.Fit = by_given (Kept command.Fit) (caller_client t k) _ _ refl (λ d is. by_given (Kept command.Fit) k.window _ _ refl (λ w here. by_given (Kept command.Fit) _ _ _ refl (λ box there. by_refused (Kept command.Fit) _ _ _ refl (λ no.
-      inl (written_label t w (record w { writing = w.writing ++ written.Size (box.rows - 1) box.cols ∷ [] }) at (row w here) refl refl)))))
-  labels_kept (command.Title bytes) = by_given (Kept (command.Title bytes)) k.window _ _ refl (λ w is. by_refused (Kept (command.Title bytes)) _ _ _ refl (λ no.
-      own (command.Title bytes) refl w is (with_window t (record w { title = bytes })).windows (elsewhere t.windows w.serial (record w { title = bytes }) at refl)))
-  labels_kept (command.Number n) = by_given (Kept (command.Number n)) k.window _ _ refl (λ w is. by_refused (Kept (command.Number n)) (is_taken t w n) _ _ refl (λ no.
-      own (command.Number n) refl w is (with_window t (record w { number = n })).windows (elsewhere t.windows w.serial (record w { number = n }) at refl)))
-  labels_kept command.Clear = by_given (Kept command.Clear) k.window _ _ refl (λ w is. writes command.Clear w written.Clear is)
-  labels_kept command.Reset = by_given (Kept command.Reset) k.window _ _ refl (λ w is. writes command.Reset w written.Reset is)
-  labels_kept (command.Encoding coding) = by_given (Kept (command.Encoding coding)) k.window _ _ refl (λ w is. writes (command.Encoding coding) w _ is)
-  labels_kept (command.Stuff bytes) = by_given (Kept (command.Stuff bytes)) k.window NoWindow _ refl (λ w is. inl refl)
-  labels_kept command.Detach = by_given (Kept command.Detach) (caller_client t k) NoWindow (λ d. Ok (parts (λ (c : Client). c.serial == d.serial) Detached t)) refl (λ d is. inl refl)
-  labels_kept command.Kill = by_given (Kept command.Kill) k.window NoWindow (λ (w : Window). Ok (closes (λ (v : Window). v.serial == w.serial) Killed t)) refl (λ w is.
-      own command.Kill refl w is (filter (λ (v : Window). not (v.serial == w.serial)) t.windows) (closed t.windows w.serial at))
-  labels_kept command.Quit = inr (inr refl)
+  labels_kept c = shapes.by_shape (Kept c) t k c (deed_kept c)

@@ -15,7 +15,7 @@ use Rattle.session_model.specs.Tables.{Tables, Window, Client}
 use Rattle.session_model.specs.Checks.{first_fault, verdicts}
 use Rattle.session_model.specs.Events.{outcome, Outcome, left_acts, open_checks, opens, new_window, reply_of}
 use Rattle.session_model.specs.Run.{IsStep}
-use Rattle.session_model.specs.Trace.{Happening, Attach, Detach, Keys, Command, Resize, Open, Output, Closed, Draw, Reply, Entry}
+use Rattle.session_model.specs.Trace.{EventValue, Open, Reply, Entry}
 use Rattle.session_laws.proofs.Lists.{itself}
 use Rattle.session_laws.proofs.Outcomes as outcomes
 use Rattle.session_guests.specs.Changing.{opens_window}
@@ -63,16 +63,9 @@ masked t opener rows columns keep title =
     outcomes.passed (IsMasked t opener) t (verdicts t (open_checks t opener rows columns keep title)) (first_fault t (open_checks t opener rows columns keep title)) (reply_of 0 v.serial v.number None) (opens t opener v)
     (λ r is ok. absurd (cc (ok))) (λ is ok user bit known. opened_row t opener t.clients user bit known)
 
-pub given_by_masks : (t : Tables) (event : Happening) (reply : Reply) (acts : List Act) (vs : List Verdict) (effects : List Effect)
+pub given_by_masks : (t : Tables) (event : EventValue) (reply : Reply) (acts : List Act) (vs : List Verdict) (effects : List Effect)
     → let e : Entry = record { event = event; reply = reply; acts = acts; verdicts = vs; effects = effects } in IsStep t e → IsGivenByMasks t e event reply
 given_by_masks t (Open opener rows columns keep title) (Ok done) acts vs effects step =
     masked t opener rows columns keep title (ap is_ok (sym step.reply))
 given_by_masks t (Open opener rows columns keep title) (Err r) acts vs effects step = tt
-given_by_masks t (Attach user rows columns) reply acts vs effects step = tt
-given_by_masks t (Detach client) reply acts vs effects step = tt
-given_by_masks t (Keys client bytes) reply acts vs effects step = tt
-given_by_masks t (Command user number bytes) reply acts vs effects step = tt
-given_by_masks t (Resize client rows columns) reply acts vs effects step = tt
-given_by_masks t (Output window bytes) reply acts vs effects step = tt
-given_by_masks t (Closed window) reply acts vs effects step = tt
-given_by_masks t (Draw client) reply acts vs effects step = tt
+given_by_masks t event reply acts vs effects step = tt

@@ -27,7 +27,7 @@ use Rattle.session_model.specs.Rights.{may_in}
 use Rattle.session_model.specs.Run.{IsStep, after, drawn_on}
 use Rattle.session_model.specs.Sound.{AreFit}
 use Rattle.session_model.specs.Tables.{Tables, Window, Client, window_at, client_at, with_client, focused, is_known}
-use Rattle.session_model.specs.Trace.{Happening, Attach, Detach, Keys, Command, Resize, Open, Output, Closed, Draw, Reply, Entry}
+use Rattle.session_model.specs.Trace.{EventValue, Attach, Detach, Keys, Command, Resize, Open, Output, Closed, Draw, Reply, Entry}
 use Rattle.session_laws.proofs.Lists.{equal, row_serial}
 use Rattle.session_laws.proofs.Doing.{Either}
 use Rattle.session_laws.proofs.Lasting.{differ}
@@ -48,7 +48,7 @@ row_given : (t : Tables) (k : Caller) (o : Option Order) → IsRowOf t k → All
 row_given t k None row = tt
 row_given t k (Some c) row = (row, tt)
 
-rows_given : (t : Tables) (event : Happening) → AreFit t → AllByRecursion (λ (g : Given). IsRowOf t g.caller) (commands_of t event)
+rows_given : (t : Tables) (event : EventValue) → AreFit t → AllByRecursion (λ (g : Given). IsRowOf t g.caller) (commands_of t event)
 rows_given t (Command user number bytes) fit = on (is_known t user) where
   on : (b : Bool) → AllByRecursion (λ (g : Given). IsRowOf t g.caller) (if b then with_order (line_caller t user number) (ok_of (read_line bytes)) else [])
   on true = row_given t (line_caller t user number) (ok_of (read_line bytes)) (λ w is. line_row t number w (differ t.windows t.next_window fit.sound.windows_rise) is)
@@ -57,13 +57,7 @@ rows_given t (Keys client bytes) fit = on (client_at t client) where
   on : (o : Option Client) → AllByRecursion (λ (g : Given). IsRowOf t g.caller) (option_map_or (λ c. with_order (caller_of t c) (order_in (command_item (step_items c bytes)))) o [])
   on None = tt
   on (Some c) = row_given t (caller_of t c) (order_in (command_item (step_items c bytes))) (focus_row t (focused c))
-rows_given t (Attach user rows columns) fit = tt
-rows_given t (Detach client) fit = tt
-rows_given t (Resize client rows columns) fit = tt
-rows_given t (Open user rows columns keep title) fit = tt
-rows_given t (Output window bytes) fit = tt
-rows_given t (Closed window) fit = tt
-rows_given t (Draw client) fit = tt
+rows_given t event fit = tt
 
 -- ---- what commands leave
 
@@ -152,7 +146,7 @@ module _ (t : Tables) (w : ℕ) where
 
   -- ---- each step
 
-  stay_by : Below → AreFit t → (event : Happening) (reply : Reply) (acts : List Act) (vs : List Verdict) (effects : List Effect)
+  stay_by : Below → AreFit t → (event : EventValue) (reply : Reply) (acts : List Act) (vs : List Verdict) (effects : List Effect)
       → let e : Entry = record { event = event; reply = reply; acts = acts; verdicts = vs; effects = effects } in IsStep t e → Same (after t e) ⊎ IsNamed t e event w
   stay_by laws fit (Keys client bytes) reply acts vs effects step =
       let e : Entry = record { event = Keys client bytes; reply = reply; acts = acts; verdicts = vs; effects = effects } in obeys_named e fit (obeys_of laws t e step refl)

@@ -17,7 +17,7 @@ use Rattle.session_model.specs.Promises.{SomeOf}
 use Rattle.session_model.specs.Run.{IsStep, after}
 use Rattle.session_model.specs.Sound.{AreFit, ActsAgree}
 use Rattle.session_model.specs.Tables.{Tables, Client, client_at, row_of}
-use Rattle.session_model.specs.Trace.{Happening, Detach, Entry}
+use Rattle.session_model.specs.Trace.{EventValue, Detach, Entry}
 use Rattle.session_laws.specs.Fit.{TablesStayFit}
 use Rattle.session_laws.proofs.Lists.{equal, all_weaken, all_append}
 use Rattle.session_laws.proofs.Passing.{passed_has_x}
@@ -171,7 +171,7 @@ some_parts t e client [] some parts = absurd some
 some_parts t e client (g ∷ gs) (inl d) parts = inl (did_parts t e g client d parts)
 some_parts t e client (g ∷ gs) (inr later) parts = inr (some_parts t e client gs later parts)
 
-plain_parts : (t : Tables) (client : ℕ) (event : Happening) (a : Act) → IsActIn t event a → parts_it client a ≡ true → event ≡ Detach client
+plain_parts : (t : Tables) (client : ℕ) (event : EventValue) (a : Act) → IsActIn t event a → parts_it client a ≡ true → event ≡ Detach client
 plain_parts t client (Detach c) (act.Parted d) is parts = ap Detach (sym is ∙ equal d client parts)
 plain_parts t client event (act.Parted d) is parts = absurd is
 plain_parts t client event a is parts = absurd (cc (parts))

@@ -1,34 +1,29 @@
--- Which acts each command has, and what it leaves: one row a command.
-use Rattle.std.proofs.Common.{◌≡◌, ℕ, Bool, true, false, not, List, [], ◌∷◌, Option, Some, None, Ok, Err, refl, ap, sym, ◌∙◌, subst, map, filter}
+-- Which acts each command has, and what it leaves.
+use Rattle.std.proofs.Common.{◌≡◌, ℕ, Bool, true, false, not, List, [], ◌∷◌, Option, Some, None, refl, ap, sym, ◌∙◌, subst, map, filter}
 use Rattle.std.specs.Prelude.{◌==◌}
 use Rattle.std.specs.List.{AllByRecursion}
-use Rattle.std.specs.Option.{option_and_then}
 use Rattle.acl.specs.declared.user_id.UserId.{UserId}
 use Rattle.acl.specs.declared.act.Act.{Act}
 use Rattle.acl.specs.declared.act.Act.TheVariants as act
-use Rattle.acl.specs.declared.act.Object.{Object}
-use Rattle.acl.specs.declared.faults.AclFault.{AclFault}
 use Rattle.acl.specs.Names.{named_by}
-use Rattle.acl.specs.Commands.{change_fault}
 use Rattle.command_lang.specs.command.Command.{Command as Order}
 use Rattle.command_lang.specs.command.Command.TheVariants as command
 use Rattle.regions.specs.Layouts.{Arrangement}
-use Rattle.session_model.specs.declared.event.Reason.TheVariants.{Detached, Killed}
-use Rattle.session_model.specs.declared.refusal.Refusal.{Refusal}
-use Rattle.session_model.specs.declared.refusal.Refusal.TheVariants.{Acl, Windows, NoWindow}
-use Rattle.session_model.specs.declared.refusal.WindowsFault.TheVariants.{NoSuchWindow}
-use Rattle.session_model.specs.Tables.{Tables, Window, Client, window_at, with_layout, focused, known_users}
-use Rattle.session_model.specs.Naming.{names_of, window_named, window_after, window_before}
+use Rattle.session_model.specs.declared.event.Reason.TheVariants.{Detached, Killed, SingleUser, Quit}
+use Rattle.session_model.specs.Tables.{Tables, Window, Client, with_layout, focused, known_users}
+use Rattle.session_model.specs.Naming.{names_of, new_leader_of}
 use Rattle.session_model.specs.Lines.{Caller}
 use Rattle.session_model.specs.Deeds as deeds
-use Rattle.session_model.specs.Deeds.{Deed, Answer, given, removes, parts, closes, entering, former_of, without_windows}
-use Rattle.session_model.specs.Commands.{does, caller_client, on_client, mask_entries}
+use Rattle.session_model.specs.Deeds.{Deed, removes, parts, closes, entering, without_windows}
+use Rattle.session_model.specs.Commands.{does, caller_client, mask_entries}
 use Rattle.session_model.specs.Promises.{IsOn}
-use Rattle.session_laws.proofs.Lists.{equal, all_weaken, all_of, all_map, all_passed, all_append}
-use Rattle.session_laws.proofs.Doing.{Either, by_given, by_unless, by_refused, by_fault, by_shown, is_plain, caller_is}
+use Rattle.session_laws.proofs.Lists.{equal, all_weaken, all_of, all_map, all_passed, all_append, contradicts}
+use Rattle.session_laws.proofs.Doing.{Either, caller_is}
 use Rattle.command_lang.specs.Names.{name_of}
 use Rattle.session_guests.specs.Changing.{changes_rights}
 use Rattle.session_guests.proofs.Listing.{is_listing, AllListing, change_list, add_list, group_list, mask_list}
+use Rattle.session_laws.proofs.Shapes as shapes
+use Rattle.command_lang.specs.Needs.{needs}
 
 -- which acts a command of this caller has
 abbrev pub IsActOf : Caller → Order → Act → Type 0
@@ -38,16 +33,11 @@ IsActOf k c (act.Set user bit object value) = changes_rights (name_of c) ≡ tru
 IsActOf k c (act.Grouped user leader) = changes_rights (name_of c) ≡ true
 IsActOf k c (act.Masked by user bit value) = changes_rights (name_of c) ≡ true
 IsActOf k c (act.Preset kind bit value) = changes_rights (name_of c) ≡ true
+IsActOf k c (act.Entered user w) = (user ≡ k.user) × (changes_rights (name_of c) ≡ false)
 IsActOf k (command.Acldel word) (act.Parted client) = Unit {0}
 IsActOf k (command.Multiuser is_on) (act.Parted client) = is_on ≡ false
 IsActOf k (command.Writelock mode) (act.Mode by w m) = (by ≡ k.user) × IsOn k.window w × (m ≡ mode)
 IsActOf k (command.Defwritelock mode) (act.Default m) = Unit {0}
-IsActOf k (command.Select word) (act.Entered user w) = user ≡ k.user
-IsActOf k command.Next (act.Entered user w) = user ≡ k.user
-IsActOf k command.Prev (act.Entered user w) = user ≡ k.user
-IsActOf k command.Other (act.Entered user w) = user ≡ k.user
-IsActOf k command.Focus (act.Entered user w) = user ≡ k.user
-IsActOf k command.Remove (act.Entered user w) = user ≡ k.user
 IsActOf k command.Detach (act.Parted client) = k.client ≡ Some client
 IsActOf k command.Kill (act.Closed w) = IsOn k.window w
 IsActOf k command.Quit (act.Closed w) = Unit {0}
@@ -93,20 +83,12 @@ row : (t : Tables) (k : Caller) (c : Order) (d : Deed) → AllByRecursion (IsAct
     → d.tables.next_window ≡ t.next_window → d.tables.is_multiuser ≡ t.is_multiuser → IsRow t k c d
 row t k c d acts owner edition next mode = record { acts = acts; owner = owner; edition = edition; next_window = next; mode = λ other. mode }
 
-fault_row : (t : Tables) (k : Caller) (c : Order) (f : Option AclFault) (objects : Option (List Object)) (acts : List Object → List Act) → ((all : List Object) → AllByRecursion (IsActOf k c) (acts all))
-    → Either (IsRow t k c) (elim f [ Some f ↦ Err (Acl f) | None ↦ given objects (Windows NoSuchWindow) (λ all. Ok (deeds.acting t (acts all))) ])
-fault_row t k c f objects acts all = by_fault (IsRow t k c) t f objects acts (λ os. row t k c _ (all os) refl refl refl refl)
-
 entering_acts : (k : Caller) (c : Order) (user : UserId) (o : Option ℕ) → ((w : ℕ) → IsActOf k c (act.Entered user w)) → AllByRecursion (IsActOf k c) (entering user o)
 entering_acts k c user None on = tt
 entering_acts k c user (Some w) on = (on w, tt)
 
 entered : (t : Tables) (k : Caller) (c : Order) (d : Client) (l : Arrangement) → ((w : ℕ) → IsActOf k c (act.Entered d.user w)) → IsRow t k c (deeds.enters t d l)
 entered t k c d l on = row t k c _ (entering_acts k c d.user (focused (with_layout l d)) on) refl refl refl refl
-
-shown : (t : Tables) (k : Caller) (c : Order) (o : Client → Option Window) (r : Refusal) → is_plain r ≡ true → ((d : Client) → caller_client t k ≡ Some d → (w : ℕ) → IsActOf k c (act.Entered d.user w))
-    → Either (IsRow t k c) (on_client t k (λ d. given (o d) r (λ w. Ok (deeds.selects t d w))))
-shown t k c o r is on = by_shown (IsRow t k c) t k o r is (λ d w at there. entered t k c d _ (on d at))
 
 parted_acts : (k : Caller) (c : Order) (goes : Client → Bool) (cs : List Client) → ((d : Client) → goes d ≡ true → IsActOf k c (act.Parted d.serial))
     → AllByRecursion (IsActOf k c) (map (λ (d : Client). act.Parted d.serial) (filter goes cs))
@@ -130,52 +112,82 @@ removal t k word (Some u) =
 own_window : (k : Caller) (w : Window) (n : ℕ) → k.window ≡ Some w → w.serial ≡ n → IsOn k.window n
 own_window k w n is same = subst (λ o. IsOn o n) (sym is) same
 
--- ---- the rows
+-- a command on rights needs multiuser mode
+needs_mode : (c : Order) → changes_rights (name_of c) ≡ true → (needs c).multiuser ≡ true
+needs_mode (command.Acladd users) is = refl
+needs_mode (command.Aclchg users bits list) is = refl
+needs_mode (command.Acldel user) is = refl
+needs_mode (command.Aclgrp user leader) is = refl
+needs_mode (command.Aclumask masks) is = refl
+needs_mode c is = absurd (cc (is))
+
+-- ---- the kinds
+
+module _ (t : Tables) (k : Caller) (by : IsCaller t k) where
+  as_row : (c x : Order) (d : Deed) → c ≡ x → IsRow t k x d → IsRow t k c d
+  as_row c x d is r = subst (λ (y : Order). IsRow t k y d) (sym is) r
+
+  no_right : (c : Order) → (needs c).multiuser ≡ false → changes_rights (name_of c) ≡ false
+  no_right c none = on (changes_rights (name_of c)) refl where
+    on : (b : Bool) → changes_rights (name_of c) ≡ b → b ≡ false
+    on true is = contradicts (needs c).multiuser (needs_mode c is) none
+    on false is = refl
+
+  on_rights : (c x : Order) (acts : List Act) → c ≡ x → changes_rights (name_of x) ≡ true → AllListing acts → AllByRecursion (IsActOf k c) acts
+  on_rights c x acts is changes all = listing k c acts (ap (λ (y : Order). changes_rights (name_of y)) is ∙ changes) all
+
+  acted_row : (c : Order) (acts : List Act) → shapes.Acted t k c acts → AllByRecursion (IsActOf k c) acts
+  acted_row c acts (shapes.added names all is clear every) = on_rights c _ _ is refl (add_list (known_users t) (names_of t names) all)
+  acted_row c acts (shapes.changed names bits list all is clear objects) = on_rights c _ _ is refl (change_list (known_users t) (names_of t names) bits all)
+  acted_row c acts (shapes.grouped word leader is clear) = on_rights c _ _ is refl (group_list (named_by word) (new_leader_of leader))
+  acted_row c acts (shapes.masked masks is clear) = on_rights c _ _ is refl (mask_list k.user (mask_entries t masks))
+  acted_row c acts (shapes.locked w mode is at) = (subst (λ (y : Order). IsActOf k y (act.Mode k.user w.serial mode)) (sym is) (refl, own_window k w w.serial at refl, refl), tt)
+  acted_row c acts (shapes.preset mode is) = (subst (λ (y : Order). IsActOf k y (act.Default mode)) (sym is) tt, tt)
+
+  shut_row : IsRow t k (command.Multiuser false) (parts (λ d. not (deeds.is_of t.owner d)) SingleUser (record t { is_multiuser = false }))
+  shut_row = record {
+    acts = parted_acts k (command.Multiuser false) (λ d. not (deeds.is_of t.owner d)) t.clients (λ d goes. refl);
+    owner = refl;
+    edition = refl;
+    next_window = refl;
+    mode = λ other. absurd (cc (other));
+  }
+
+  opened_row : IsRow t k (command.Multiuser true) (deeds.changing (record t { is_multiuser = true }))
+  opened_row = record { acts = tt; owner = refl; edition = refl; next_window = refl; mode = λ other. absurd (cc (other)) }
+
+  detached_row : (d : Client) → caller_client t k ≡ Some d → IsRow t k command.Detach (parts (λ (x : Client). x.serial == d.serial) Detached t)
+  detached_row d is =
+      row t k command.Detach _ (parted_acts k command.Detach (λ (x : Client). x.serial == d.serial) t.clients (λ x goes. caller_is t k.client d is ∙ ap Some (sym (equal x.serial d.serial goes)))) refl refl refl refl
+
+  killed_row : (w : Window) → k.window ≡ Some w → IsRow t k command.Kill (closes (λ (v : Window). v.serial == w.serial) Killed t)
+  killed_row w is =
+      row t k command.Kill _ (closed_acts k command.Kill (λ (v : Window). v.serial == w.serial) t.windows (λ v goes. own_window k w v.serial is (sym (equal v.serial w.serial goes)))) refl refl refl refl
+
+  quit_row : IsRow t k command.Quit (deeds.both (closes (λ w. true) Quit t) (parts (λ d. true) Quit))
+  quit_row =
+      row t k command.Quit _
+      (all_append (IsActOf k command.Quit) (map (λ (w : Window). act.Closed w.serial) (filter (λ (w : Window). true) t.windows)) _
+      (closed_acts k command.Quit (λ (w : Window). true) t.windows (λ w goes. tt))
+      (parted_acts k command.Quit (λ (d : Client). true) (without_windows (filter (λ (w : Window). true) t.windows) t.clients) (λ d goes. tt))) refl refl refl refl
+
+  deed_row : (c : Order) (d : Deed) → shapes.Shape t k c d → IsRow t k c d
+  deed_row c d (shapes.lists bytes none tells) = row t k c _ tt refl refl refl refl
+  deed_row c d (shapes.acts all none acted) = row t k c _ (acted_row c all acted) refl refl refl refl
+  deed_row c d (shapes.enters_page x l of at shows) = entered t k c x l (λ w. (by x at, no_right c of.1))
+  deed_row c d (shapes.keeps_page x l of at shows same) = row t k c _ tt refl refl refl refl
+  deed_row c d (shapes.writes_to w what one at) = row t k c _ tt refl refl refl refl
+  deed_row c d (shapes.opened is) = as_row c _ _ is opened_row
+  deed_row c d (shapes.shut is) = as_row c _ _ is shut_row
+  deed_row c d (shapes.told bytes is) = row t k c _ tt refl refl refl refl
+  deed_row c d (shapes.removed word is clear) = as_row c _ _ is (removal t k word (named_by word))
+  deed_row c d (shapes.fitted w rows columns is at) = row t k c _ tt refl refl refl refl
+  deed_row c d (shapes.titled w bytes is at) = row t k c _ tt refl refl refl refl
+  deed_row c d (shapes.numbered w n is at free) = row t k c _ tt refl refl refl refl
+  deed_row c d (shapes.typed w bytes is at) = row t k c _ tt refl refl refl refl
+  deed_row c d (shapes.detached x is at) = as_row c _ _ is (detached_row x at)
+  deed_row c d (shapes.killed w is at) = as_row c _ _ is (killed_row w at)
+  deed_row c d (shapes.quits is) = as_row c _ _ is quit_row
 
 pub row_of : (t : Tables) (k : Caller) → IsCaller t k → (c : Order) → Either (IsRow t k c) (does t k c)
-row_of t k by (command.Acladd names) = fault_row t k _ (change_fault t.owner (known_users t) (names_of t names)) _ _ (λ all. listing k (command.Acladd names) _ refl (add_list (known_users t) (names_of t names) all))
-row_of t k by (command.Aclchg names bits list) = fault_row t k _ (change_fault t.owner (known_users t) (names_of t names)) _ _ (λ all. listing k (command.Aclchg names bits list) _ refl (change_list (known_users t) (names_of t names) bits all))
-row_of t k by (command.Acldel word) = by_unless (IsRow t k (command.Acldel word)) _ _ _ (λ f. refl) (removal t k word (named_by word))
-row_of t k by (command.Aclgrp word None) = by_unless (IsRow t k (command.Aclgrp word None)) _ _ _ (λ f. refl) (row t k _ _ tt refl refl refl refl)
-row_of t k by (command.Aclgrp word (Some leader)) = by_unless (IsRow t k (command.Aclgrp word (Some leader))) _ _ _ (λ f. refl) (row t k _ _ (listing k (command.Aclgrp word (Some leader)) _ refl (group_list (named_by word) _)) refl refl refl refl)
-row_of t k by (command.Aclumask masks) = by_unless (IsRow t k (command.Aclumask masks)) _ _ _ (λ f. refl) (row t k _ _ (listing k (command.Aclumask masks) _ refl (mask_list k.user (mask_entries t masks))) refl refl refl refl)
-row_of t k by (command.Multiuser true) = record { acts = tt; owner = refl; edition = refl; next_window = refl; mode = λ other. absurd (cc (other)) }
-row_of t k by (command.Multiuser false) = record {
-  acts = parted_acts k (command.Multiuser false) (λ d. not (deeds.is_of t.owner d)) t.clients (λ d goes. refl);
-  owner = refl;
-  edition = refl;
-  next_window = refl;
-  mode = λ other. absurd (cc (other));
-}
-row_of t k by (command.Writelock mode) = by_given (IsRow t k (command.Writelock mode)) k.window _ _ refl (λ w is. row t k _ _ ((refl, own_window k w w.serial is refl, refl), tt) refl refl refl refl)
-row_of t k by (command.Defwritelock mode) = row t k _ _ (tt, tt) refl refl refl refl
-row_of t k by (command.Wall bytes) = row t k _ _ tt refl refl refl refl
-row_of t k by command.Screen = row t k _ _ tt refl refl refl refl
-row_of t k by command.Windows = row t k _ _ tt refl refl refl refl
-row_of t k by command.Displays = row t k _ _ tt refl refl refl refl
-row_of t k by (command.Select word) = shown t k _ (λ d. window_named t.windows word) (Windows NoSuchWindow) refl (λ d at w. by d at)
-row_of t k by command.Next = shown t k _ (λ d. window_after t.windows k.window) NoWindow refl (λ d at w. by d at)
-row_of t k by command.Prev = shown t k _ (λ d. window_before t.windows k.window) NoWindow refl (λ d at w. by d at)
-row_of t k by command.Other = shown t k _ (λ d. option_and_then (window_at t) (former_of d)) NoWindow refl (λ d at w. by d at)
-row_of t k by (command.Split vertical) = by_given (IsRow t k (command.Split vertical)) (caller_client t k) _ _ refl (λ d is. by_unless (IsRow t k (command.Split vertical)) _ _ _ (λ f. refl) (row t k _ _ tt refl refl refl refl))
-row_of t k by command.Focus = by_given (IsRow t k command.Focus) (caller_client t k) _ _ refl (λ d is. entered t k _ d _ (λ w. by d is))
-row_of t k by command.Remove = by_given (IsRow t k command.Remove) (caller_client t k) _ _ refl (λ d is. by_refused (IsRow t k command.Remove) _ _ _ refl (λ other. entered t k _ d _ (λ w. by d is)))
-row_of t k by command.Only = by_given (IsRow t k command.Only) (caller_client t k) _ _ refl (λ d is. row t k _ _ tt refl refl refl refl)
-row_of t k by (command.Scrollview n) = by_given (IsRow t k (command.Scrollview n)) (caller_client t k) _ _ refl (λ d is. row t k _ _ tt refl refl refl refl)
-row_of t k by command.Fit = by_given (IsRow t k command.Fit) (caller_client t k) _ _ refl (λ d is. by_given (IsRow t k command.Fit) k.window _ _ refl (λ w at. by_given (IsRow t k command.Fit) _ _ _ refl (λ box there.
-    by_refused (IsRow t k command.Fit) _ _ _ refl (λ other. row t k _ _ tt refl refl refl refl))))
-row_of t k by (command.Title bytes) = by_given (IsRow t k (command.Title bytes)) k.window _ _ refl (λ w at. by_refused (IsRow t k (command.Title bytes)) _ _ _ refl (λ other. row t k _ _ tt refl refl refl refl))
-row_of t k by (command.Number n) = by_given (IsRow t k (command.Number n)) k.window _ _ refl (λ w at. by_refused (IsRow t k (command.Number n)) _ _ _ refl (λ other. row t k _ _ tt refl refl refl refl))
-row_of t k by command.Clear = by_given (IsRow t k command.Clear) k.window _ _ refl (λ w at. row t k _ _ tt refl refl refl refl)
-row_of t k by command.Reset = by_given (IsRow t k command.Reset) k.window _ _ refl (λ w at. row t k _ _ tt refl refl refl refl)
-row_of t k by (command.Encoding coding) = by_given (IsRow t k (command.Encoding coding)) k.window _ _ refl (λ w at. row t k _ _ tt refl refl refl refl)
-row_of t k by (command.Stuff bytes) = by_given (IsRow t k (command.Stuff bytes)) k.window NoWindow _ refl (λ w at. row t k _ _ tt refl refl refl refl)
-row_of t k by command.Detach = by_given (IsRow t k command.Detach) (caller_client t k) NoWindow (λ d. Ok (parts (λ (x : Client). x.serial == d.serial) Detached t)) refl (λ d is.
-    row t k command.Detach _ (parted_acts k command.Detach (λ (x : Client). x.serial == d.serial) t.clients (λ x goes. caller_is t k.client d is ∙ ap Some (sym (equal x.serial d.serial goes)))) refl refl refl refl)
-row_of t k by command.Kill = by_given (IsRow t k command.Kill) k.window NoWindow (λ (w : Window). Ok (closes (λ (v : Window). v.serial == w.serial) Killed t)) refl (λ w is.
-    row t k command.Kill _ (closed_acts k command.Kill (λ (v : Window). v.serial == w.serial) t.windows (λ v goes. own_window k w v.serial is (sym (equal v.serial w.serial goes)))) refl refl refl refl)
-row_of t k by command.Quit =
-    row t k command.Quit _
-    (all_append (IsActOf k command.Quit) (map (λ (w : Window). act.Closed w.serial) (filter (λ (w : Window). true) t.windows)) _
-    (closed_acts k command.Quit (λ (w : Window). true) t.windows (λ w goes. tt))
-    (parted_acts k command.Quit (λ (d : Client). true) (without_windows (filter (λ (w : Window). true) t.windows) t.clients) (λ d goes. tt))) refl refl refl refl
+row_of t k by c = shapes.by_shape (IsRow t k c) t k c (deed_row t k by c)

@@ -30,14 +30,14 @@ use Rattle.session_model.specs.Events.{outcome, Outcome, left_acts, finished, do
 use Rattle.session_model.specs.Given.{Given, commands_of, with_order, order_in, ok_of}
 use Rattle.session_model.specs.Keying.{step_items, command_item}
 use Rattle.session_model.specs.Lines.{Caller, caller_of, line_caller, read_line}
-use Rattle.session_model.specs.Needs as need
-use Rattle.session_model.specs.Needs.{needs}
+use Rattle.command_lang.specs.Needs as need
+use Rattle.command_lang.specs.Needs.{needs}
 use Rattle.session_model.specs.Promises.{SomeOf, IsOn, unread}
 use Rattle.session_model.specs.Rights.{may_in, holder_in}
 use Rattle.session_model.specs.Run.{IsStep, after}
 use Rattle.session_model.specs.Sound.{Rises, AreFit}
 use Rattle.session_model.specs.Tables.{Tables, Window, Client, row_of, client_at, with_client, focused, shows, is_in_focus, is_known}
-use Rattle.session_model.specs.Trace.{Happening, Attach, Detach, Keys, Command, Resize, Open, Output, Closed, Draw, Entry}
+use Rattle.session_model.specs.Trace.{EventValue, Attach, Detach, Keys, Command, Resize, Open, Output, Closed, Draw, Entry}
 use Rattle.session_laws.proofs.Lists.{contradicts, equal, all_weaken, all_append, all_map, all_of, all_passed}
 use Rattle.session_laws.proofs.Doing.{Either}
 use Rattle.session_laws.proofs.Outcomes as outcomes
@@ -51,7 +51,7 @@ use Rattle.session_guests.proofs.Events.{gives_commands}
 use Rattle.session_guests.proofs.Gating.{Below, obeys_of, row_did, first_passed, then_passed, had_x}
 use Rattle.session_guests.proofs.Harmless.{NoneOf, IsHarmless, stays_held}
 use Rattle.session_guests.proofs.Focusing.{IsMine, focus_stays, NotHis, nobody_else}
-use Rattle.session_guests.proofs.Holding.{Kept, kept, by_acts, givers}
+use Rattle.session_guests.proofs.Holding.{kept, by_acts, givers}
 use Rattle.session_guests.proofs.Parting.{did_x}
 
 -- ---- serials of clients are their own
@@ -99,7 +99,7 @@ keys_of : (t : Tables) (c : Client) (o : Option Order) → client_at t c.serial 
 keys_of t c None at = tt
 keys_of t c (Some order) at = ((λ s is. (c, (let same : c.serial ≡ s = cc (is) in ap (client_at t) (sym same) ∙ at), refl)), tt)
 
-callers : (t : Tables) (event : Happening) → AllByRecursion (λ (g : Given). IsOf t g.caller) (commands_of t event)
+callers : (t : Tables) (event : EventValue) → AllByRecursion (λ (g : Given). IsOf t g.caller) (commands_of t event)
 callers t (Command user number bytes) = on (is_known t user) where
   on : (b : Bool) → AllByRecursion (λ (g : Given). IsOf t g.caller) (if b then with_order (line_caller t user number) (ok_of (read_line bytes)) else [])
   on true = line_of t user number (ok_of (read_line bytes))
@@ -108,13 +108,7 @@ callers t (Keys client bytes) = on (client_at t client) refl where
   on : (o : Option Client) → client_at t client ≡ o → AllByRecursion (λ (g : Given). IsOf t g.caller) (option_map_or (λ c. with_order (caller_of t c) (order_in (command_item (step_items c bytes)))) o [])
   on None is = tt
   on (Some c) is = keys_of t c (order_in (command_item (step_items c bytes))) (row_at t client c is)
-callers t (Attach user rows columns) = tt
-callers t (Detach client) = tt
-callers t (Resize client rows columns) = tt
-callers t (Open user rows columns keep title) = tt
-callers t (Output window bytes) = tt
-callers t (Closed window) = tt
-callers t (Draw client) = tt
+callers t event = tt
 
 -- ---- locks that are set
 
@@ -286,7 +280,7 @@ module _ (t : Tables) (fit : AreFit t) (able : HoldersMayWrite t) (w : ℕ) (use
   abbrev Sum : List Act → Type 0
   Sum acts = AllByRecursion (Holds true) acts ⊎ AllByRecursion (Holds false) acts
 
-  plain_harmless : (event : Happening) → gives_commands event ≡ false → user_of t event ≡ Some user → Sum (outcome t event).acts
+  plain_harmless : (event : EventValue) → gives_commands event ≡ false → user_of t event ≡ Some user → Sum (outcome t event).acts
   plain_harmless (Attach u rows columns) not is = inl (subst (λ v. Harmless true (outcome t (Attach v rows columns))) (let same : u ≡ user = cc (is) in sym same) (attach_harmless rows columns))
   plain_harmless (Open u rows columns keep title) not is = inl (subst (λ v. Harmless true (outcome t (Open v rows columns keep title))) (let same : u ≡ user = cc (is) in sym same) (open_harmless rows columns keep title))
   plain_harmless (Detach client) not is = inr (detach_harmless client is)

@@ -25,7 +25,7 @@ use Rattle.session_model.specs.Events.{outcome, Outcome, reading, refused, keys_
 use Rattle.session_model.specs.Given.{Given, commands_of, with_order, order_in, ok_of}
 use Rattle.session_model.specs.Promises.{SomeOf, OnlyRead, unread, ChangesNothing}
 use Rattle.session_model.specs.Run.{after}
-use Rattle.session_model.specs.Trace.{Happening, Keys, Command, Reply, Entry}
+use Rattle.session_model.specs.Trace.{EventValue, Keys, Command, Reply, Entry}
 use Rattle.session_laws.specs.Keyed.{typing, heard, DidItsRowByKeys, WasRefusedByKeys, WasTypedAlone, IsAnswered, IsNoCommand, KeysAreAnswered, KeysDidTheirRow}
 use Rattle.session_laws.specs.Laws.{DidItsRow, LineDidItsRow, refusal_in, why_refused}
 use Rattle.session_laws.proofs.Unread.{SameClients, typing_clients}
@@ -193,7 +193,7 @@ module _ (t : Tables) (e : Entry) (client : ℕ) (bytes : List ℕ) (c : Client)
       subst (λ gs. Rests t e ⊎ SomeOf (Did t e) gs) (sym given) (by_item (command_item (step_items c bytes)) (subst (λ gs. Answered before.tables gs) given all) none)
 
 module _ (t : Tables) (reply : Reply) (acts : List Act) (vs : List Verdict) (effects : List Effect) where
-  abbrev entry : Happening → Entry
+  abbrev entry : EventValue → Entry
   entry event = record { event = event; reply = reply; acts = acts; verdicts = vs; effects = effects }
 
   pub keys_obeys : (client : ℕ) (bytes : List ℕ) → ChangesNothing t (entry (Keys client bytes)) (after t (entry (Keys client bytes))) → reply ≡ (outcome t (Keys client bytes)).reply

@@ -7,7 +7,7 @@ use Rattle.acl.specs.declared.command_name.CommandName.{CommandName}
 use Rattle.acl.specs.declared.act.Object.TheVariants as object
 use Rattle.command_lang.specs.command.Command.{Command as Order}
 use Rattle.command_lang.specs.command.Command.TheVariants as command
-use Rattle.session_model.specs.Trace.{Happening, Attach, Detach, Keys, Command, Resize, Open}
+use Rattle.session_model.specs.Trace.{EventValue, Attach, Detach, Keys, Command, Resize, Open}
 use Rattle.session_model.specs.Trace.{Output, Closed, Draw, Entry, Trace}
 use Rattle.session_model.specs.Tables.{Tables, Client, client_at}
 use Rattle.session_model.specs.Rights.{may_in, holder_in}
@@ -22,7 +22,7 @@ use Rattle.session_guests.specs.Contained.{stood}
 abbrev pub client_user : Tables → ℕ → Option UserId
 client_user t client = option_map (λ (c : Client). c.user) (client_at t client)
 
-abbrev pub user_of : Tables → Happening → Option UserId
+abbrev pub user_of : Tables → EventValue → Option UserId
 user_of t (Attach user rows columns) = Some user
 user_of t (Detach client) = client_user t client
 user_of t (Keys client bytes) = client_user t client

@@ -6,7 +6,7 @@ use Rattle.acl.specs.declared.act.Object.TheVariants as object
 use Rattle.acl.specs.declared.command_name.CommandName.{CommandName}
 use Rattle.acl.specs.declared.command_name.CommandName.TheVariants as name
 use Rattle.command_lang.specs.Names.{name_of}
-use Rattle.session_model.specs.Trace.{Happening, Open, Closed, Entry}
+use Rattle.session_model.specs.Trace.{EventValue, Open, Closed, Entry}
 use Rattle.session_model.specs.Tables.{Window, Tables, window_at}
 use Rattle.session_model.specs.Rights.{may_in}
 use Rattle.session_model.specs.Sound.{AreFit}
@@ -34,7 +34,7 @@ pub record MayName (t : Tables) (window : ℕ) (g : Given) : Type 0 where
 
 -- why a window's number or title changes, or whether it is open: its program ended, it is opened by
 -- one who has x on screen, or such a command
-abbrev pub IsNamed : Tables → Entry → Happening → ℕ → Type 0
+abbrev pub IsNamed : Tables → Entry → EventValue → ℕ → Type 0
 IsNamed t e (Open user rows columns keep title) window =
     (t.next_window ≡ window) × (may_in t user Execute (object.Command name.Screen) ≡ true)
 IsNamed t e (Closed at) window = at ≡ window

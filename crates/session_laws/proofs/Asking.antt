@@ -16,7 +16,7 @@ use Rattle.session_model.specs.declared.refusal.Refusal.{Refusal}
 use Rattle.session_model.specs.declared.refusal.Refusal.TheVariants.{NoWindow, UnknownUser, BadSize}
 use Rattle.session_model.specs.declared.check.Check.TheVariants.{Must as must}
 use Rattle.session_model.specs.declared.verdict.Verdict.{Verdict}
-use Rattle.session_model.specs.Trace.{Happening, Attach, Detach, Keys, Command, Resize, Open, Output, Closed, Draw, Reply}
+use Rattle.session_model.specs.Trace.{EventValue, Attach, Detach, Keys, Command, Resize, Open, Output, Closed, Draw, Reply}
 use Rattle.session_model.specs.Tables.{Tables, Window, Client, row_of, window_at, client_at, with_client, focused, focused_window, is_known}
 use Rattle.session_model.specs.Naming.{with_number}
 use Rattle.session_model.specs.Lines.{Caller, caller_of, line_caller, read_line}
@@ -30,7 +30,8 @@ use Rattle.session_model.specs.Given.{commands_of, keys_typed, typed_by_client, 
 use Rattle.session_model.specs.Promises.{SomeOf}
 use Rattle.session_model.specs.Denying.{NamesTruly, Asks, AsksFor, TypesOn, IsWindow}
 use Rattle.session_laws.proofs.Lists.{row_serial, itself}
-use Rattle.session_laws.proofs.Doing.{giving, own}
+use Rattle.session_laws.proofs.Doing.{giving}
+use Rattle.session_laws.proofs.Shapes.{own}
 use Rattle.session_laws.proofs.Denying.{OnFault, MatchAnswer, on_fault, ruled_answer, missing, checks_each, typing_each, plain_names, IsAsked, IsAskedOfRow, IsListed}
 
 -- ---- windows that are there
@@ -143,14 +144,14 @@ command_reply t user number bytes true (Ok c) known read =
     answered_reply P t (verdicts t (checks t k c)) (ruling t k c).answer (ruled_answer P (λ d. Unit {0}) (first_fault t (checks t k c)) (does t k c)
     (line_names t user number bytes c (line_given t user number bytes true (Ok c) known read)) (plain_names t (Asks t (Command user number bytes))) (λ none. own t k c))
 
-abbrev row_reply : {X : Type 0} → Tables → Happening → (X → Outcome) → Option X → Type 0
+abbrev row_reply : {X : Type 0} → Tables → EventValue → (X → Outcome) → Option X → Type 0
 row_reply t event f o = ReplyIs (NamesTruly t (Asks t event)) (elim o as (λ _. Outcome) [ None ↦ refused t [] NoWindow | Some x ↦ f x ]).reply
 
-found_reply : {X : Type 0} (t : Tables) (event : Happening) (f : X → Outcome) (o : Option X) → ((x : X) → ReplyIs (NamesTruly t (Asks t event)) (f x).reply) → row_reply t event f o
+found_reply : {X : Type 0} (t : Tables) (event : EventValue) (f : X → Outcome) (o : Option X) → ((x : X) → ReplyIs (NamesTruly t (Asks t event)) (f x).reply) → row_reply t event f o
 found_reply t event f None on = tt
 found_reply t event f (Some x) on = on x
 
-pub replies : (t : Tables) (event : Happening) → ReplyIs (NamesTruly t (Asks t event)) (outcome t event).reply
+pub replies : (t : Tables) (event : EventValue) → ReplyIs (NamesTruly t (Asks t event)) (outcome t event).reply
 replies t (Attach user rows columns) =
     let P : Refusal → Type 0 = NamesTruly t (Asks t (Attach user rows columns)) in
     passed_reply P t (verdicts t (attach_checks t user rows columns)) (first_fault t (attach_checks t user rows columns)) (attaches t (new_client t user rows columns)) 0 t.next_client 0

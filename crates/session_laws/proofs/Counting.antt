@@ -11,7 +11,7 @@ use Rattle.session_model.specs.declared.event.Reason.TheVariants as reason
 use Rattle.session_model.specs.declared.check.Check.TheVariants.{Must as must}
 use Rattle.session_model.specs.declared.refusal.Refusal.{Refusal}
 use Rattle.session_model.specs.declared.refusal.Refusal.TheVariants.{BadSize}
-use Rattle.session_model.specs.Trace.{Happening, Attach, Detach, Keys, Command, Resize, Open, Output, Closed, Draw, Entry}
+use Rattle.session_model.specs.Trace.{EventValue, Attach, Detach, Keys, Command, Resize, Open, Output, Closed, Draw, Entry}
 use Rattle.session_model.specs.Tables.{Tables, Window, Client, window_at, client_at, with_client, focused, focused_window, is_known}
 use Rattle.session_model.specs.Terminals.{terminal_of}
 use Rattle.session_model.specs.Lines.{Caller, caller_of, line_caller, read_line}
@@ -106,7 +106,7 @@ keys_few t client bytes c is =
 
 -- ---- events
 
-few : (t : Tables) (event : Happening) → AreSound t → Few t (outcome t event)
+few : (t : Tables) (event : EventValue) → AreSound t → Few t (outcome t event)
 few t (Attach user rows columns) s =
     outcomes.passed (Few t) t (verdicts t (attach_checks t user rows columns)) (first_fault t (attach_checks t user rows columns)) (reply_of 0 t.next_client 0 None) (attaches t (new_client t user rows columns)) (λ r is. none_few t) (λ is. none_few t)
 few t (Detach client) s =
@@ -145,6 +145,6 @@ step_few t e s step = on e.event step.effects where
   bound : (n : ℕ) → IsFew t n → n ≤ 256
   bound n le = let windows : length t.windows ≤ 40 = s.few_windows in let clients : length t.clients ≤ 64 = s.few_clients in omega (arith, le, windows, clients)
 
-  on : (event : Happening) → HasEffects t event e.effects → length e.effects ≤ 256
+  on : (event : EventValue) → HasEffects t event e.effects → length e.effects ≤ 256
   on (Draw client) is = let le : length e.effects ≤ 1 = drawn_few t e.effects (client_at t client) is in omega (arith, le)
   on event is = subst (λ (es : List Effect). length es ≤ 256) (sym is) (bound (length (outcome t event).effects) (few t event s))

@@ -16,7 +16,7 @@ use Rattle.command_lang.specs.command.Command.{Command as Order}
 use Rattle.command_lang.specs.Names.{name_of}
 use Rattle.session_model.specs.declared.check.Check.{Check}
 use Rattle.session_model.specs.declared.check.Check.TheVariants.{Right as right, Unlocked as unlocked}
-use Rattle.session_model.specs.declared.needs.Needs.{Needs}
+use Rattle.command_lang.specs.needs.Needs.{Needs}
 use Rattle.session_model.specs.declared.refusal.EntryDenied.{EntryDenied as EntryDenial}
 use Rattle.session_model.specs.declared.refusal.LockDenied.{LockDenied as LockDenial}
 use Rattle.session_model.specs.declared.refusal.Refusal.{Refusal}
@@ -29,7 +29,7 @@ use Rattle.session_model.specs.Deeds.{Answer, Deed}
 use Rattle.session_model.specs.Denials.{number_of, denied_on, entry_denial, lock_denial}
 use Rattle.session_model.specs.Denying.{NamesTruly, IsEntryMissing, IsLockHeld, object_named, numbered}
 use Rattle.session_model.specs.Lines.{Caller}
-use Rattle.session_model.specs.Needs.{needs}
+use Rattle.command_lang.specs.Needs.{needs}
 use Rattle.session_model.specs.Rights.{may_in, has_in, leaders_in, holder_in}
 use Rattle.session_model.specs.Tables.{Tables, Window, window_at}
 

@@ -1,5 +1,5 @@
 -- The focus of a client shows what its own steps entered last.
-use Rattle.std.proofs.Common.{◌≡◌, ℕ, ◌+◌, ◌<◌, ◌≤◌, Bool, true, false, not, List, [], ◌∷◌, ◌++◌, Option, Some, None, Ok, Err, Result, refl, ap, sym, ◌∙◌, subst, map, take, inl, inr, ⊎_elim, arith}
+use Rattle.std.proofs.Common.{◌≡◌, ℕ, ◌+◌, ◌<◌, Bool, true, false, not, List, [], ◌∷◌, ◌++◌, Option, Some, None, Ok, Err, Result, refl, ap, sym, ◌∙◌, subst, take, inl, inr, ⊎_elim, arith}
 use Rattle.std.specs.Prelude.{◌⊎◌, if◌then◌else◌, ◌==◌, ◌||◌}
 use Rattle.std.specs.List.{AllByRecursion}
 use Rattle.std.specs.Option.{option_or}
@@ -21,7 +21,7 @@ use Rattle.session_model.specs.declared.message.Message.{Message}
 use Rattle.session_model.specs.declared.message.Message.TheVariants.{Text}
 use Rattle.session_model.specs.declared.refusal.Refusal.{Refusal}
 use Rattle.session_model.specs.declared.refusal.Refusal.TheVariants.{BadSize, Line}
-use Rattle.session_model.specs.Trace.{Happening, Attach, Detach, Keys, Command, Resize, Open, Output, Closed, Draw, Reply, Entry, Trace}
+use Rattle.session_model.specs.Trace.{EventValue, Attach, Detach, Keys, Command, Resize, Open, Output, Closed, Draw, Reply, Entry, Trace}
 use Rattle.session_model.specs.Tables.{Tables, Window, Client, fresh, row_of, with_row, window_at, client_at, with_client, focused, is_in_focus, is_known}
 use Rattle.session_model.specs.Texts.{text_of}
 use Rattle.session_model.specs.Lines.{Caller, caller_of, line_caller, read_line}
@@ -42,9 +42,8 @@ use Rattle.session_laws.proofs.Settling.{told_same, ids_same}
 use Rattle.session_laws.proofs.Lasting.{client_firsts, firsts}
 use Rattle.session_laws.proofs.Sounding.{run_sound, fresh_sound}
 use Rattle.session_laws.proofs.Remembering.{some_elim}
-use Rattle.session_laws.proofs.Fitting.{some_has, all_row}
+use Rattle.session_laws.proofs.Showing.{some_has, all_row, alone_place}
 use Rattle.session_laws.proofs.Focusing.{GoesOn, AllGoOn, alike, Same, Kept, kept_same, kept_fewer, kept_go, without_kept, row_goes, entered_of, HasGone, none_if, gone}
-use Rattle.session_laws.proofs.Focusing as focusing
 use Rattle.session_laws.proofs.Outcomes as outcomes
 
 -- ---- who leaves enters nothing
@@ -161,7 +160,7 @@ below_rows f (c ∷ cs) next rise none = (
   all_weaken (λ d. SomeOf (λ q. GoesOn f q d) cs) (λ d. SomeOf (λ q. GoesOn f q d) (c ∷ cs)) cs (λ d some. inr some) (below_rows f cs next rise.2 none),
 )
 
-abbrev InOutcome : Tables → Happening → Outcome → Type 0
+abbrev InOutcome : Tables → EventValue → Outcome → Type 0
 InOutcome t event o = Rows t (entered_in event o.reply o.acts) o.tables.clients
 
 attached : (t : Tables) (user : UserId) (rows columns : ℕ) → AreSound t → let c : Client = new_client t user rows columns in let left : List Act = left_acts t.clients (t.clients ++ c ∷ []) in
@@ -185,9 +184,9 @@ resized_row t rows columns c at s = old_rows t (λ n. None) (with_row (λ (r : C
     (row_goes (λ n. None) c (resized rows columns c) (refl, refl, λ w is. inr (refl, on (has_room c.layout.shape rows columns) w is)) (λ n off. refl) t.clients t.next_client s.clients_rise at) where
       on : (b : Bool) (w : ℕ) → (let l : Arrangement = if b then c.layout else kept_alone c.layout in Rattle.std.specs.Option.option_and_then (λ (x : Rattle.regions.specs.declared.shown.Shown.Shown). x.window) (Rattle.std.specs.Prelude.slice_get l.shown l.focus)) ≡ Some w → focused c ≡ Some w
       on true w is = is
-      on false w is = focusing.alone_place (Rattle.std.specs.Prelude.slice_get c.layout.shown c.layout.focus) w is
+      on false w is = alone_place (Rattle.std.specs.Prelude.slice_get c.layout.shown c.layout.focus) w is
 
-outcome_gone : (t : Tables) (event : Happening) → AreSound t → InOutcome t event (outcome t event)
+outcome_gone : (t : Tables) (event : EventValue) → AreSound t → InOutcome t event (outcome t event)
 outcome_gone t (Attach user rows columns) s =
     outcomes.passed (InOutcome t (Attach user rows columns)) t (verdicts t (attach_checks t user rows columns)) (first_fault t (attach_checks t user rows columns)) (reply_of 0 t.next_client 0 None) (attaches t (new_client t user rows columns))
     (λ r is. still t) (λ is. attached t user rows columns s)
@@ -241,7 +240,7 @@ drawn_rows t u client effects (Some c) same at s =
     (old_rows t (λ n. None) (with_row (λ (r : Client). r.serial) t.clients c.serial x)
     (row_goes (λ n. None) c x (row.0, row.1, λ w is. inr (refl, row.2 w is)) (λ n off. refl) t.clients t.next_client s.clients_rise (row_at t client c there))))
 
-step_gone : (t : Tables) (event : Happening) (reply : Reply) (acts : List Act) (effects : List Effect) → AreSound t → reply ≡ (outcome t event).reply → acts ≡ (outcome t event).acts
+step_gone : (t : Tables) (event : EventValue) (reply : Reply) (acts : List Act) (effects : List Effect) → AreSound t → reply ≡ (outcome t event).reply → acts ≡ (outcome t event).acts
     → Rows t (entered_in event reply acts) (drawn event effects (outcome t event).tables).clients
 step_gone t (Draw client) reply acts effects s r a =
     let u : Tables = (outcome t (Draw client)).tables in

@@ -1,39 +1,35 @@
 -- How each command moves the focus of clients: one row a command.
-use Rattle.std.proofs.Common.{◌≡◌, ℕ, zero, suc, ◌+◌, ◌<◌, Bool, true, false, not, List, [], ◌∷◌, ◌++◌, Option, Some, None, Ok, Err, refl, ap, sym, ◌∙◌, subst, map, filter, take, drop, inl, inr, ⊎_elim, arith}
-use Rattle.std.specs.Prelude.{◌⊎◌, if◌then◌else◌, ◌==◌, slice_get, slice_set, unwrap_or}
-use Rattle.std.specs.List.{AllByRecursion, insert}
+use Rattle.std.proofs.Common.{◌≡◌, ℕ, zero, suc, ◌+◌, ◌<◌, Bool, true, false, not, List, [], ◌∷◌, ◌++◌, Option, Some, None, refl, ap, sym, ◌∙◌, subst, map, filter, inl, inr, ⊎_elim, arith}
+use Rattle.std.specs.Prelude.{◌⊎◌, if◌then◌else◌, ◌==◌}
+use Rattle.std.specs.List.{AllByRecursion}
 use Rattle.std.specs.Option.{option_and_then}
 use Rattle.std.proofs.lemmas.Bool.Decides.{nat_tests}
 use Rattle.acl.specs.declared.user_id.UserId.{UserId}
-use Rattle.acl.specs.declared.faults.AclFault.{AclFault}
 use Rattle.acl.specs.declared.act.Act.{Act}
 use Rattle.acl.specs.declared.act.Act.TheVariants as act
-use Rattle.acl.specs.declared.act.Object.{Object}
 use Rattle.acl.specs.Names.{named_by}
-use Rattle.acl.specs.Commands.{change_fault}
 use Rattle.command_lang.specs.command.Command.{Command as Order}
-use Rattle.command_lang.specs.command.Command.TheVariants as command
 use Rattle.regions.specs.declared.shown.Shown.{Shown}
-use Rattle.regions.specs.Layouts.{Arrangement, empty, emptied}
+use Rattle.regions.specs.Layouts.{Arrangement, emptied}
 use Rattle.session_model.specs.declared.event.Reason.{Reason}
 use Rattle.session_model.specs.declared.event.Reason.TheVariants.{Detached, Killed, Quit, SingleUser}
 use Rattle.session_model.specs.declared.message.Message.TheVariants as message
-use Rattle.session_model.specs.declared.refusal.Refusal.{Refusal}
-use Rattle.session_model.specs.declared.refusal.Refusal.TheVariants.{Acl, Windows, NoWindow}
-use Rattle.session_model.specs.declared.refusal.WindowsFault.TheVariants.{NoSuchWindow}
-use Rattle.session_model.specs.Tables.{Tables, Window, Client, row_of, with_row, window_at, client_at, with_layout, focused, known_users}
-use Rattle.session_model.specs.Naming.{names_of, window_named, window_after, window_before}
+use Rattle.session_model.specs.Tables.{Tables, Window, Client, row_of, with_row, client_at, with_layout, focused}
 use Rattle.session_model.specs.Lines.{Caller}
 use Rattle.session_model.specs.Deeds as deeds
-use Rattle.session_model.specs.Deeds.{Deed, Answer, given, removes, parts, closes, is_of, without_window, without_windows, selects, enters, arranges, entering, former_of, shown_in_focus, showing, hearing}
-use Rattle.session_model.specs.Commands.{does, caller_client, on_client, mask_entries}
+use Rattle.session_model.specs.Deeds.{Deed, removes, parts, closes, is_of, without_window, without_windows, enters, arranges, entering, hearing}
+use Rattle.session_model.specs.Commands.{does, caller_client}
 use Rattle.session_model.specs.Promises.{SomeOf}
 use Rattle.session_model.specs.Sound.{Rises, client_serials}
 use Rattle.session_laws.specs.Focus.{entered_by}
 use Rattle.session_laws.proofs.Lists.{all_weaken, all_filter, all_map, members, some_weaken, equal, itself}
-use Rattle.session_laws.proofs.Doing.{Either, is_plain, by_given, by_unless, by_refused, by_fault, by_shown, caller_is}
+use Rattle.session_laws.proofs.Doing.{Either, caller_is}
 use Rattle.session_laws.proofs.Unread.{row_at}
-use Rattle.session_laws.proofs.Moving.{AllRights, change_rights, add_rights, group_rights, mask_rights}
+use Rattle.session_laws.proofs.Moving.{AllRights}
+use Rattle.session_laws.proofs.Inputs.{append_nil}
+use Rattle.session_laws.proofs.Showing.{at_place}
+use Rattle.session_laws.proofs.Shapes as shapes
+use Rattle.session_laws.proofs.Shapes.{acted_rights}
 
 -- ---- acts that enter no window
 
@@ -104,9 +100,6 @@ emptied_window serial (Some n) back w is = on (n == serial) is where
   on false is = is
 
 -- the window that a region shows
-abbrev at_place : List Shown → ℕ → Option ℕ
-at_place shown n = option_and_then (λ (s : Shown). s.window) (slice_get shown n)
-
 emptied_place : (serial : ℕ) (shown : List Shown) (n w : ℕ) → at_place (map (emptied serial) shown) n ≡ Some w → at_place shown n ≡ Some w
 emptied_place serial [] n w is = is
 emptied_place serial (s ∷ shown) zero w is = emptied_window serial s.window s.back w is
@@ -115,26 +108,6 @@ emptied_place serial (s ∷ shown) (suc n) w is = emptied_place serial shown n w
 pub without_kept : (cs : List Client) (ws : List Window) (ds : List Client) → Kept cs ds → Kept cs (without_windows ws ds)
 without_kept cs [] ds all = all
 without_kept cs (w ∷ ws) ds all = without_kept cs ws (map (without_window w.serial) ds) (kept_map (without_window w.serial) cs ds (λ d. (refl, refl, λ v is. emptied_place w.serial d.layout.shown d.layout.focus v is)) all)
-
--- ---- a page that changes
-
-insert_place : (shown : List Shown) (n w : ℕ) → at_place (take (suc n) shown ++ empty ∷ drop (suc n) shown) n ≡ Some w → at_place shown n ≡ Some w
-insert_place [] zero w is = absurd (cc (is))
-insert_place [] (suc n) w is = is
-insert_place (s ∷ shown) zero w is = is
-insert_place (s ∷ shown) (suc n) w is = insert_place shown n w is
-
-split_place : (shown : List Shown) (n w : ℕ) → at_place (insert shown (n + 1) empty) n ≡ Some w → at_place shown n ≡ Some w
-split_place shown n w is = let e : n + 1 ≡ suc n = omega arith in insert_place shown n w (ap (λ m. at_place (insert shown m empty) n) (sym e) ∙ is)
-
-pub alone_place : (o : Option Shown) (w : ℕ) → (unwrap_or o empty).window ≡ Some w → option_and_then (λ (s : Shown). s.window) o ≡ Some w
-alone_place None w is = is
-alone_place (Some s) w is = is
-
-scrolled_place : (shown : List Shown) (n back w : ℕ) → at_place (slice_set shown n (record (unwrap_or (slice_get shown n) empty) { back = back })) n ≡ Some w → at_place shown n ≡ Some w
-scrolled_place [] n back w is = is
-scrolled_place (s ∷ shown) zero back w is = is
-scrolled_place (s ∷ shown) (suc n) back w is = scrolled_place shown n back w is
 
 module _ (f : ℕ → Option (UserId × ℕ)) (c x : Client) (own : GoesOn f c x) (others : (n : ℕ) → (c.serial == n) ≡ false → f n ≡ None) where
   goes_same : (r : Client) → (c.serial == r.serial) ≡ false → GoesOn f r r
@@ -197,26 +170,22 @@ caller_row t None c is = absurd (cc (is))
 caller_row t (Some n) c is = row_at t n c is
 
 parts_gone : (t : Tables) (k : Caller) (p : Client → Bool) (why : Reason) → HasGone t k (parts p why t)
-parts_gone t k p why = calm t k (parts p why t) (sym (ap entered_by (Rattle.session_laws.proofs.Inputs.append_nil (parts p why t).acts)) ∙ parted_enter (filter p t.clients) []) (kept_fewer (λ c. not (p c)) t.clients t.clients (kept_same t.clients))
+parts_gone t k p why = calm t k (parts p why t) (sym (ap entered_by (append_nil (parts p why t).acts)) ∙ parted_enter (filter p t.clients) []) (kept_fewer (λ c. not (p c)) t.clients t.clients (kept_same t.clients))
 
 removal_gone : (t : Tables) (k : Caller) (o : Option UserId) → HasGone t k (removes o t)
 removal_gone t k None = calm t k (removes None t) refl (kept_same t.clients)
 removal_gone t k (Some u) = calm t k (removes (Some u) t) (parted_enter (filter (is_of u) t.clients) (act.Gone u ∷ [])) (kept_fewer (λ c. not (is_of u c)) t.clients t.clients (kept_same t.clients))
 
 closes_gone : (t : Tables) (k : Caller) (p : Window → Bool) (why : Reason) → HasGone t k (closes p why t)
-closes_gone t k p why = calm t k (closes p why t) (sym (ap entered_by (Rattle.session_laws.proofs.Inputs.append_nil (closes p why t).acts)) ∙ closed_enter (filter p t.windows) []) (without_kept t.clients (filter p t.windows) t.clients (kept_same t.clients))
+closes_gone t k p why = calm t k (closes p why t) (sym (ap entered_by (append_nil (closes p why t).acts)) ∙ closed_enter (filter p t.windows) []) (without_kept t.clients (filter p t.windows) t.clients (kept_same t.clients))
 
 quit_gone : (t : Tables) (k : Caller) → HasGone t k (deeds.both (closes (λ w. true) Quit t) (parts (λ c. true) Quit))
 quit_gone t k =
     let first : Deed = closes (λ w. true) Quit t in
     let second : Deed = parts (λ c. true) Quit first.tables in
     calm t k (deeds.both first (parts (λ c. true) Quit))
-    (closed_enter (filter (λ (w : Window). true) t.windows) second.acts ∙ sym (ap entered_by (Rattle.session_laws.proofs.Inputs.append_nil second.acts)) ∙ parted_enter (filter (λ (c : Client). true) first.tables.clients) [])
+    (closed_enter (filter (λ (w : Window). true) t.windows) second.acts ∙ sym (ap entered_by (append_nil second.acts)) ∙ parted_enter (filter (λ (c : Client). true) first.tables.clients) [])
     (kept_fewer (λ c. not true) t.clients first.tables.clients (without_kept t.clients (filter (λ (w : Window). true) t.windows) t.clients (kept_same t.clients)))
-
-fault_gone : (t : Tables) (k : Caller) (f : Option AclFault) (objects : Option (List Object)) (acts : List Object → List Act) → ((all : List Object) → AllRights (acts all))
-    → Either (HasGone t k) (elim f [ Some f ↦ Err (Acl f) | None ↦ given objects (Windows NoSuchWindow) (λ all. Ok (deeds.acting t (acts all))) ])
-fault_gone t k f objects acts all = by_fault (HasGone t k) t f objects acts (λ os. rights t k (acts os) (all os))
 
 module _ (t : Tables) (k : Caller) (s : Rises (client_serials t.clients) t.next_client) where
   mine_here : (c : Client) → caller_client t k ≡ Some c → is_mine k.client c.serial ≡ true
@@ -241,41 +210,24 @@ module _ (t : Tables) (k : Caller) (s : Rises (client_serials t.clients) t.next_
     all = row_goes (entered_of k []) c (with_layout l c) (refl, refl, λ w at. inr (none_if (is_mine k.client c.serial), same w at)) (λ n off. none_if (is_mine k.client n)) t.clients t.next_client s (caller_row t k.client c is);
   }
 
-  shown : (o : Client → Option Window) (r : Refusal) → is_plain r ≡ true → Either (HasGone t k) (on_client t k (λ c. given (o c) r (λ w. Ok (selects t c w))))
-  shown o r is = by_shown (HasGone t k) t k o r is (λ c w at there. entered c _ at)
+  gone_deed : (c : Order) (d : Deed) → shapes.Shape t k c d → HasGone t k d
+  gone_deed c d (shapes.lists bytes none tells) = lists t k bytes
+  gone_deed c d (shapes.acts all none acted) = rights t k all (acted_rights t k c all acted)
+  gone_deed c d (shapes.enters_page x l of at shows) = entered x l at
+  gone_deed c d (shapes.keeps_page x l of at shows same) = arranged x l at same
+  gone_deed c d (shapes.writes_to w what one at) = calm t k _ refl (kept_same t.clients)
+  gone_deed c d (shapes.opened is) = calm t k _ refl (kept_same t.clients)
+  gone_deed c d (shapes.shut is) = calm t k _ (sym (ap entered_by (append_nil (parts (λ x. not (is_of t.owner x)) SingleUser t).acts)) ∙ parted_enter (filter (λ x. not (is_of t.owner x)) t.clients) [])
+      (kept_fewer (λ x. not (not (is_of t.owner x))) t.clients t.clients (kept_same t.clients))
+  gone_deed c d (shapes.told bytes is) = calm t k _ refl (kept_map (hearing (message.Text _)) t.clients t.clients (λ x. (refl, refl, λ w is. is)) (kept_same t.clients))
+  gone_deed c d (shapes.removed word is clear) = removal_gone t k (named_by word)
+  gone_deed c d (shapes.fitted w rows columns is at) = calm t k _ refl (kept_same t.clients)
+  gone_deed c d (shapes.titled w bytes is at) = calm t k _ refl (kept_same t.clients)
+  gone_deed c d (shapes.numbered w n is at free) = calm t k _ refl (kept_same t.clients)
+  gone_deed c d (shapes.typed w bytes is at) = calm t k _ refl (kept_same t.clients)
+  gone_deed c d (shapes.detached x is at) = parts_gone t k _ Detached
+  gone_deed c d (shapes.killed w is at) = closes_gone t k _ Killed
+  gone_deed c d (shapes.quits is) = quit_gone t k
 
   pub gone : (c : Order) → Either (HasGone t k) (does t k c)
-  gone (command.Acladd names) = fault_gone t k (change_fault t.owner (known_users t) (names_of t names)) _ _ (λ all. add_rights (known_users t) (names_of t names) all)
-  gone (command.Aclchg names bits list) = fault_gone t k (change_fault t.owner (known_users t) (names_of t names)) _ _ (λ all. change_rights (known_users t) (names_of t names) bits all)
-  gone (command.Acldel word) = by_unless (HasGone t k) _ _ _ (λ f. refl) (removal_gone t k (named_by word))
-  gone (command.Aclgrp word None) = by_unless (HasGone t k) _ _ _ (λ f. refl) (lists t k _)
-  gone (command.Aclgrp word (Some leader)) = by_unless (HasGone t k) _ _ _ (λ f. refl) (rights t k _ (group_rights (named_by word) _))
-  gone (command.Aclumask masks) = by_unless (HasGone t k) _ _ _ (λ f. refl) (rights t k _ (mask_rights k.user (mask_entries t masks)))
-  gone (command.Multiuser true) = calm t k _ refl (kept_same t.clients)
-  gone (command.Multiuser false) = calm t k _ (sym (ap entered_by (Rattle.session_laws.proofs.Inputs.append_nil (parts (λ c. not (is_of t.owner c)) SingleUser t).acts)) ∙ parted_enter (filter (λ c. not (is_of t.owner c)) t.clients) [])
-      (kept_fewer (λ c. not (not (is_of t.owner c))) t.clients t.clients (kept_same t.clients))
-  gone (command.Writelock mode) = by_given (HasGone t k) k.window _ _ refl (λ w is. rights t k _ (refl, tt))
-  gone (command.Defwritelock mode) = rights t k _ (refl, tt)
-  gone (command.Wall bytes) = calm t k _ refl (kept_map (hearing (message.Text _)) t.clients t.clients (λ c. (refl, refl, λ w is. is)) (kept_same t.clients))
-  gone command.Screen = lists t k _
-  gone command.Windows = lists t k _
-  gone command.Displays = lists t k _
-  gone (command.Select word) = shown (λ c. window_named t.windows word) (Windows NoSuchWindow) refl
-  gone command.Next = shown (λ c. window_after t.windows k.window) NoWindow refl
-  gone command.Prev = shown (λ c. window_before t.windows k.window) NoWindow refl
-  gone command.Other = shown (λ c. option_and_then (window_at t) (former_of c)) NoWindow refl
-  gone (command.Split vertical) = by_given (HasGone t k) (caller_client t k) _ _ refl (λ c is. by_unless (HasGone t k) _ _ _ (λ f. refl) (arranged c _ is (λ w at. split_place c.layout.shown c.layout.focus w at)))
-  gone command.Focus = by_given (HasGone t k) (caller_client t k) _ _ refl (λ c is. entered c _ is)
-  gone command.Remove = by_given (HasGone t k) (caller_client t k) _ _ refl (λ c is. by_refused (HasGone t k) _ _ _ refl (λ no. entered c _ is))
-  gone command.Only = by_given (HasGone t k) (caller_client t k) _ _ refl (λ c is. arranged c _ is (λ w at. alone_place (slice_get c.layout.shown c.layout.focus) w at))
-  gone (command.Scrollview n) = by_given (HasGone t k) (caller_client t k) _ _ refl (λ c is. arranged c _ is (λ w at. scrolled_place c.layout.shown c.layout.focus n w at))
-  gone command.Fit = by_given (HasGone t k) (caller_client t k) _ _ refl (λ c is. by_given (HasGone t k) k.window _ _ refl (λ w at. by_given (HasGone t k) _ _ _ refl (λ box there. by_refused (HasGone t k) _ _ _ refl (λ no. calm t k _ refl (kept_same t.clients)))))
-  gone (command.Title bytes) = by_given (HasGone t k) k.window _ _ refl (λ w at. by_refused (HasGone t k) _ _ _ refl (λ no. calm t k _ refl (kept_same t.clients)))
-  gone (command.Number n) = by_given (HasGone t k) k.window _ _ refl (λ w at. by_refused (HasGone t k) _ _ _ refl (λ no. calm t k _ refl (kept_same t.clients)))
-  gone command.Clear = by_given (HasGone t k) k.window _ _ refl (λ w at. calm t k _ refl (kept_same t.clients))
-  gone command.Reset = by_given (HasGone t k) k.window _ _ refl (λ w at. calm t k _ refl (kept_same t.clients))
-  gone (command.Encoding coding) = by_given (HasGone t k) k.window _ _ refl (λ w at. calm t k _ refl (kept_same t.clients))
-  gone (command.Stuff bytes) = by_given (HasGone t k) k.window _ _ refl (λ w at. calm t k _ refl (kept_same t.clients))
-  gone command.Detach = by_given (HasGone t k) (caller_client t k) NoWindow (λ c. Ok (parts (λ (d : Client). d.serial == c.serial) Detached t)) refl (λ c is. parts_gone t k _ Detached)
-  gone command.Kill = by_given (HasGone t k) k.window NoWindow (λ (w : Window). Ok (closes (λ (v : Window). v.serial == w.serial) Killed t)) refl (λ w at. closes_gone t k _ Killed)
-  gone command.Quit = quit_gone t k
+  gone c = shapes.by_shape (HasGone t k) t k c (gone_deed c)

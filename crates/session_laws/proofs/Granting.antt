@@ -15,7 +15,7 @@ use Rattle.command_lang.specs.fault.ParseFault.{ParseFault}
 use Rattle.keys.specs.Grammar.{Item, typed, bound, line}
 use Rattle.session_model.specs.declared.check.Check.{Check}
 use Rattle.session_model.specs.declared.check.Check.TheVariants.{Right as right, Unlocked as unlocked, Must as must}
-use Rattle.session_model.specs.declared.needs.Needs.{Needs}
+use Rattle.command_lang.specs.needs.Needs.{Needs}
 use Rattle.session_model.specs.declared.event.Effect.{Effect}
 use Rattle.session_model.specs.declared.event.Effect.TheVariants.{Input}
 use Rattle.session_model.specs.declared.message.Message.{Message}
@@ -24,32 +24,26 @@ use Rattle.session_model.specs.declared.refusal.Refusal.{Refusal}
 use Rattle.session_model.specs.declared.refusal.Refusal.TheVariants.{EntryDenied, LockDenied, NoWindow, NotMultiuser, UnknownUser}
 use Rattle.session_model.specs.declared.verdict.Verdict.{Verdict}
 use Rattle.session_laws.proofs.Lists.{row_serial, all_append, all_filter, all_weaken, and_first, and_second, contradicts}
-use Rattle.session_laws.proofs.Doing.{is_plain, own}
+use Rattle.session_laws.proofs.Doing.{is_plain}
+use Rattle.session_laws.proofs.Shapes.{own}
 use Rattle.session_laws.proofs.Unread.{read_row, row_at, typing_told, nobody_left}
 use Rattle.session_laws.proofs.Denying.{OnFault, MatchAnswer, Each, on_fault, ruled_answer}
 use Rattle.session_laws.proofs.Passing.{passed_has_x}
-use Rattle.session_model.specs.Checks.{passes, refusal_of, first_fault, verdicts, checks}
-use Rattle.session_model.specs.Checks.{window_checks, where_needed, typing_checks}
+use Rattle.session_model.specs.Checks.{passes, refusal_of, first_fault, verdicts, checks, window_checks, where_needed, typing_checks}
 use Rattle.session_model.specs.Commands.{does, ruling}
 use Rattle.session_model.specs.Deeds.{Answer, Deed, changing, hearing}
 use Rattle.session_model.specs.Denials.{lock_denial}
-use Rattle.session_model.specs.Events.{types, says, told, keyed, ordered, by_line, line_ruling, reading}
-use Rattle.session_model.specs.Events.{message_of, answered, commanded, outcome, keys_outcome}
-use Rattle.session_model.specs.Events.{refused, Outcome, unsaid, left_acts}
-use Rattle.session_model.specs.Given.{has_x, has_x_on, Given, with_order, order_in, ok_of}
-use Rattle.session_model.specs.Given.{commands_of}
+use Rattle.session_model.specs.Events.{types, says, told, keyed, ordered, by_line, line_ruling, reading, message_of, answered, commanded, outcome, keys_outcome, refused, Outcome, unsaid, left_acts}
+use Rattle.session_model.specs.Given.{has_x, has_x_on, Given, with_order, order_in, ok_of, commands_of}
 use Rattle.session_model.specs.Keying.{typed_bytes, command_item, taken, step_items}
 use Rattle.session_model.specs.Lines.{Caller, caller_of, line_caller, read_line}
-use Rattle.session_model.specs.Needs.{needs}
-use Rattle.session_model.specs.Promises.{wants_x, reply_wants_x, OnlyRead, is_answer_to}
-use Rattle.session_model.specs.Promises.{ActsAsGranted, CommandsAct}
+use Rattle.command_lang.specs.Needs.{needs}
+use Rattle.session_model.specs.Promises.{wants_x, reply_wants_x, OnlyRead, is_answer_to, ActsAsGranted, CommandsAct}
 use Rattle.session_model.specs.Rights.{may_in, holder_in}
 use Rattle.session_model.specs.Run.{IsStep, after}
-use Rattle.session_model.specs.Tables.{is_known, Tables, Window, Client}
-use Rattle.session_model.specs.Tables.{client_at, with_client, focused_window}
+use Rattle.session_model.specs.Tables.{is_known, Tables, Window, Client, client_at, with_client, focused_window}
 use Rattle.session_model.specs.Texts.{text_of}
-use Rattle.session_model.specs.Trace.{Happening, Attach, Detach, Keys, Command, Resize, Open}
-use Rattle.session_model.specs.Trace.{Output, Closed, Draw, Reply, Entry}
+use Rattle.session_model.specs.Trace.{EventValue, Keys, Command, Draw, Reply, Entry}
 
 -- ---- with x, nothing is refused for want of x
 
@@ -98,7 +92,7 @@ answered_other t vs (Err r) is = is
 
 -- ---- outcomes
 
-pub record Acts (t : Tables) (event : Happening) (o : Outcome) (g : Given) : Type 0 where
+pub record Acts (t : Tables) (event : EventValue) (o : Outcome) (g : Given) : Type 0 where
   pub granted : has_x t g ≡ true → reply_wants_x o.reply ≡ false
   pub acts : has_x t g ≡ false → o.acts ≡ []
   pub tables : has_x t g ≡ false → OnlyRead t o.tables
@@ -107,7 +101,7 @@ pub record Acts (t : Tables) (event : Happening) (o : Outcome) (g : Given) : Typ
 pub same_tables : (t : Tables) → OnlyRead t t
 same_tables t = record { owner = refl; edition = refl; next_window = refl; next_client = refl; acts = refl; multiuser = refl; windows = refl; clients = refl }
 
-command_acts : (t : Tables) (event : Happening) (k : Caller) (c : Order) → Acts t event (commanded t (ruling t k c)) (record { caller = k; order = c })
+command_acts : (t : Tables) (event : EventValue) (k : Caller) (c : Order) → Acts t event (commanded t (ruling t k c)) (record { caller = k; order = c })
 command_acts t event k c = on (first_fault t (checks t k c)) refl (λ has. on_fault t NotX (checks t k c) (checks_granted t k c has)) where
   on : (o : Option Refusal) → first_fault t (checks t k c) ≡ o → (has_x t (record { caller = k; order = c }) ≡ true → OnFault NotX o)
       → Acts t event (answered t (verdicts t (checks t k c)) (elim o as (λ _. Answer) [ Some r ↦ Err r | None ↦ does t k c ])) (record { caller = k; order = c })
@@ -119,7 +113,7 @@ command_acts t event k c = on (first_fault t (checks t k c)) refl (λ has. on_fa
     effects = λ lacks. contradicts (has_x t (record { caller = k; order = c })) has lacks;
   }
 
-line_acts : (t : Tables) (event : Happening) (k : Caller) (b : Bool) (r : Result Order ParseFault)
+line_acts : (t : Tables) (event : EventValue) (k : Caller) (b : Bool) (r : Result Order ParseFault)
     → AllByRecursion (Acts t event (if b then commanded t (line_ruling t k r) else refused t [] UnknownUser)) (if b then with_order k (ok_of r) else [])
 line_acts t event k false r = tt
 line_acts t event k true (Err f) = tt
@@ -143,7 +137,7 @@ told_read t v client m all = on (client_at v client) refl where
 
 -- ---- keys
 
-pub record Refused (t : Tables) (event : Happening) (d : Deed) : Type 0 where
+pub record Refused (t : Tables) (event : EventValue) (d : Deed) : Type 0 where
   pub acts : d.acts ≡ []
   pub tables : OnlyRead t d.tables
   pub effects : AllByRecursion (λ f. is_answer_to event f ≡ true) d.effects
@@ -214,20 +208,14 @@ module _ (t : Tables) (client : ℕ) (bytes : List ℕ) (c : Client) (is : clien
       (typing_told (λ v. AllByRecursion (refusing v) (with_order (caller_of t c) (order_in item))) u d (typed_bytes given) (item_refused u.clients read item only)
       (λ m e at. item_refused (with_client u (hearing m e)).clients read item (record { owner = refl; edition = refl; next_window = refl; next_client = refl; acts = refl; multiuser = refl; windows = refl; clients = read_row u.clients e.serial e (hearing m e) (row_at u c.serial e at) refl ∙ only.clients })))
 
-acting : (t : Tables) (event : Happening) → AllByRecursion (Acts t event (outcome t event)) (commands_of t event)
-acting t (Attach user rows columns) = tt
-acting t (Detach client) = tt
+acting : (t : Tables) (event : EventValue) → AllByRecursion (Acts t event (outcome t event)) (commands_of t event)
 acting t (Keys client bytes) = on (client_at t client) refl where
   on : (o : Option Client) → client_at t client ≡ o → AllByRecursion (Acts t (Keys client bytes) (elim o as (λ _. Outcome) [ None ↦ refused t [] NoWindow | Some c ↦ keys_outcome t c (take (taken c.keys bytes) bytes) ]))
       (option_map_or (λ c. with_order (caller_of t c) (order_in (command_item (step_items c bytes)))) o [])
   on None is = tt
   on (Some c) is = keys_acts t client bytes c is
 acting t (Command user number bytes) = line_acts t (Command user number bytes) (line_caller t user number) (is_known t user) (read_line bytes)
-acting t (Resize client rows columns) = tt
-acting t (Open user rows columns keep title) = tt
-acting t (Output window bytes) = tt
-acting t (Closed window) = tt
-acting t (Draw client) = tt
+acting t event = tt
 
 entered : (t : Tables) (e : Entry) (effects : e.effects ≡ (outcome t e.event).effects) (tables : after t e ≡ (outcome t e.event).tables) → IsStep t e → CommandsAct t e (after t e)
 entered t e effects tables step = all_weaken (Acts t e.event (outcome t e.event)) (ActsAsGranted t e (after t e)) (commands_of t e.event) (λ g a. record {
@@ -237,6 +225,6 @@ entered t e effects tables step = all_weaken (Acts t e.event (outcome t e.event)
   effects = λ lacks. subst (λ es. AllByRecursion (λ f. is_answer_to e.event f ≡ true) es) (sym effects) (a.effects lacks);
 }) (acting t e.event)
 
-pub commands : (t : Tables) (event : Happening) (reply : Reply) (acts : List Act) (vs : List Verdict) (effects : List Effect) → let e : Entry = record { event = event; reply = reply; acts = acts; verdicts = vs; effects = effects } in IsStep t e → CommandsAct t e (after t e)
+pub commands : (t : Tables) (event : EventValue) (reply : Reply) (acts : List Act) (vs : List Verdict) (effects : List Effect) → let e : Entry = record { event = event; reply = reply; acts = acts; verdicts = vs; effects = effects } in IsStep t e → CommandsAct t e (after t e)
 commands t (Draw client) reply acts vs effects step = tt
 commands t event reply acts vs effects step = entered t (record { event = event; reply = reply; acts = acts; verdicts = vs; effects = effects }) step.effects refl step

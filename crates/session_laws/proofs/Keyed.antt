@@ -13,7 +13,7 @@ use Rattle.session_model.specs.declared.message.Message.TheVariants.{Text}
 use Rattle.session_model.specs.declared.refusal.Refusal.{Refusal}
 use Rattle.session_model.specs.declared.refusal.Refusal.TheVariants.{NoWindow, Line}
 use Rattle.session_model.specs.declared.verdict.Verdict.{Verdict}
-use Rattle.session_model.specs.Trace.{Happening, Keys, Reply, Entry}
+use Rattle.session_model.specs.Trace.{EventValue, Keys, Reply, Entry}
 use Rattle.session_model.specs.Tables.{Tables, Client, client_at}
 use Rattle.session_model.specs.Texts.{text_of}
 use Rattle.session_model.specs.Lines.{Caller, caller_of, read_line}
@@ -216,7 +216,7 @@ module _ (t : Tables) (client : ℕ) (bytes : List ℕ) (reply : Reply) (acts : 
     no_command = fault_by item refl (typing_clients (λ v. Faulty t c read v item) t client c (reading read c) (typed_bytes (step_items c bytes)) is refl refl (λ cs same. by_fault t c read cs item same));
   }
 
-pub rows_keyed : (t : Tables) (event : Happening) (reply : Reply) (acts : List Act) (vs : List Verdict) (effects : List Effect)
+pub rows_keyed : (t : Tables) (event : EventValue) (reply : Reply) (acts : List Act) (vs : List Verdict) (effects : List Effect)
     → let e : Entry = record { event = event; reply = reply; acts = acts; verdicts = vs; effects = effects } in IsStep t e → KeysDidTheirRow t e event
 rows_keyed t (Keys client bytes) reply acts vs effects step = λ c is. answered t client bytes reply acts vs effects step c is
 rows_keyed t event reply acts vs effects step = tt

@@ -4,6 +4,9 @@ pub mod Leaving
 pub mod Inputs
 pub mod Reaching
 pub mod Doing
+pub mod Done
+pub mod Showing
+pub mod Shapes
 pub mod Denying
 pub mod Passing
 pub mod Unread

@@ -1,5 +1,5 @@
 -- After each event the acts of all steps agree with the tables.
-use Rattle.std.proofs.Common.{◌≡◌, ℕ, ◌+◌, Bool, true, false, List, [], ◌∷◌, ◌++◌, Option, Some, None, refl, ap, sym, ◌∙◌, subst, length, take, arith}
+use Rattle.std.proofs.Common.{◌≡◌, ℕ, ◌+◌, Bool, true, false, List, [], ◌∷◌, ◌++◌, Option, Some, None, refl, ap, sym, ◌∙◌, subst, length, arith}
 use Rattle.std.specs.Prelude.{if◌then◌else◌, ◌==◌, ◌||◌, unwrap_or}
 use Rattle.std.proofs.lemmas.List.{reverse-append}
 use Rattle.acl.specs.declared.edition.Edition.{Edition}
@@ -7,18 +7,11 @@ use Rattle.acl.specs.declared.user_id.UserId.{UserId}
 use Rattle.acl.specs.declared.act.Act.TheVariants as act
 use Rattle.acl.specs.History.{History, followed_by, is_open, open_count}
 use Rattle.session_model.specs.declared.event.Effect.{Effect}
-use Rattle.session_model.specs.Trace.{Happening, Attach, Detach, Keys, Command, Resize, Open, Output, Closed, Draw, Entry}
+use Rattle.session_model.specs.Trace.{EventValue, Attach, Open, Draw, Entry}
 use Rattle.session_model.specs.Tables.{Tables, Window, Client, client_at, focused, fresh}
 use Rattle.session_model.specs.Checks.{first_fault, verdicts}
 use Rattle.session_model.specs.Deeds.{entering}
-use Rattle.session_model.specs.declared.event.Reason.TheVariants as reason
-use Rattle.session_model.specs.declared.check.Check.TheVariants.{Must as must}
-use Rattle.session_model.specs.declared.refusal.Refusal.TheVariants.{BadSize}
-use Rattle.session_model.specs.Tables.{window_at, with_client, is_known}
-use Rattle.session_model.specs.Lines.{line_caller, read_line}
-use Rattle.session_model.specs.Keying.{taken}
-use Rattle.session_model.specs.Deeds.{changing, parts, closes}
-use Rattle.session_model.specs.Events.{outcome, Outcome, left_acts, attach_checks, attaches, new_client, open_checks, opens, new_window, reply_of, finished, done, keys_outcome, where_passed, is_client_size, resized, outputs}
+use Rattle.session_model.specs.Events.{outcome, Outcome, left_acts, attach_checks, attaches, new_client, open_checks, opens, new_window, reply_of, done}
 use Rattle.session_model.specs.Run.{after, drawn, drawn_on, tables_from}
 use Rattle.session_model.specs.Sound.{AreSound, ActsAgree}
 use Rattle.session_laws.proofs.Numbers.{serial_of}
@@ -68,27 +61,19 @@ SaysIn o = SaysOf o.tables
 abbrev Noted : Tables → Outcome → Type 0
 Noted t o = o.tables.acts ≡ followed_by t.acts o.acts
 
-pub noted : (t : Tables) (event : Happening) → Noted t (outcome t event)
-noted t (Attach user rows columns) = outcomes.passed (Noted t) t (verdicts t (attach_checks t user rows columns)) (first_fault t (attach_checks t user rows columns)) (reply_of 0 t.next_client 0 None) (attaches t (new_client t user rows columns)) (λ r is. refl) (λ is. refl)
-noted t (Detach client) = outcomes.found (Noted t) t (λ c. finished t [] done (parts (λ d. d.serial == client) reason.Detached t)) (client_at t client) refl (λ c is. refl)
-noted t (Keys client bytes) = outcomes.found (Noted t) t (λ c. keys_outcome t c (take (taken c.keys bytes) bytes)) (client_at t client) refl (λ c is. refl)
-noted t (Command user number bytes) = outcomes.by_line (Noted t) t (line_caller t user number) (is_known t user) (read_line bytes) (λ vs f. refl) (λ c d known read passes is. refl)
-noted t (Resize client rows columns) =
-    outcomes.found (Noted t) t (λ c. where_passed t (must (is_client_size rows columns) BadSize ∷ []) done (changing (with_client t (resized rows columns c)))) (client_at t client) refl
-    (λ c is. outcomes.passed (Noted t) t (verdicts t (must (is_client_size rows columns) BadSize ∷ [])) (first_fault t (must (is_client_size rows columns) BadSize ∷ [])) done (changing (with_client t (resized rows columns c))) (λ r at. refl) (λ at. refl))
-noted t (Open user rows columns keep title) =
-    let v : Window = new_window t rows columns keep title in
-    outcomes.passed (Noted t) t (verdicts t (open_checks t user rows columns keep title)) (first_fault t (open_checks t user rows columns keep title)) (reply_of 0 v.serial v.number None) (opens t user v) (λ r is. refl) (λ is. refl)
-noted t (Output window bytes) = outcomes.found (Noted t) t (λ v. finished t [] done (outputs t v bytes)) (window_at t window) refl (λ v is. refl)
-noted t (Closed window) = outcomes.found (Noted t) t (λ v. finished t [] done (closes (λ x. x.serial == window) reason.Detached t)) (window_at t window) refl (λ v is. refl)
-noted t (Draw client) = outcomes.found (Noted t) t (λ c. finished t [] done (changing t)) (client_at t client) refl (λ c is. refl)
+noted_end : (t : Tables) (o : Outcome) → outcomes.Ends t o → Noted t o
+noted_end t o (outcomes.refuses vs r) = refl
+noted_end t o (outcomes.does_it vs done d) = refl
 
-moved : (t : Tables) (event : Happening) → AreSound t → SaysOf t → is_new event ≡ false → SaysIn (outcome t event)
+pub noted : (t : Tables) (event : EventValue) → Noted t (outcome t event)
+noted t event = noted_end t (outcome t event) (outcomes.ends t event)
+
+moved : (t : Tables) (event : EventValue) → AreSound t → SaysOf t → is_new event ≡ false → SaysIn (outcome t event)
 moved t event s says other =
     let o : Outcome = outcome t event in
     subst (λ h. Says h (serials o.tables) (ids o.tables)) (sym (noted t event)) (moved_says t o.tables o.acts 0 s says (moving t event s other))
 
-said : (t : Tables) (event : Happening) → AreSound t → SaysOf t → SaysIn (outcome t event)
+said : (t : Tables) (event : EventValue) → AreSound t → SaysOf t → SaysIn (outcome t event)
 said t (Attach user rows columns) s says =
     let c : Client = new_client t user rows columns in
     outcomes.passed SaysIn t (verdicts t (attach_checks t user rows columns)) (first_fault t (attach_checks t user rows columns)) (reply_of 0 t.next_client 0 None) (attaches t c) (λ r is. says)
@@ -102,13 +87,7 @@ said t (Open user rows columns keep title) s says =
     (λ is. subst (λ ns. Says (followed_by t.acts (act.Opened user t.next_window ∷ left_acts t.clients t.clients)) ns (ids t)) (sym (map_append serial_of t.windows v))
     (aside_all (left_acts t.clients t.clients) (act.Opened user t.next_window ∷ t.acts) (serials t ++ t.next_window ∷ []) (ids t) (left_aside t.clients t.clients)
     (opened_says t.acts (serials t) (ids t) user t.next_window says)))
-said t (Detach client) s says = moved t (Detach client) s says refl
-said t (Keys client bytes) s says = moved t (Keys client bytes) s says refl
-said t (Command user number bytes) s says = moved t (Command user number bytes) s says refl
-said t (Resize client rows columns) s says = moved t (Resize client rows columns) s says refl
-said t (Output window bytes) s says = moved t (Output window bytes) s says refl
-said t (Closed window) s says = moved t (Closed window) s says refl
-said t (Draw client) s says = moved t (Draw client) s says refl
+said t event s says = moved t event s says refl
 
 -- ---- after a draw
 
@@ -124,7 +103,7 @@ same_says : (h k : History) (ns ms : List ℕ) (ps qs : List (ℕ × UserId)) �
 same_says h k ns ms ps qs acts windows clients s =
     subst (λ x. Says x ms qs) (sym acts) (subst (λ x. Says h x qs) (sym windows) (subst (Says h ns) (sym clients) s))
 
-pub drawn_says : (t : Tables) (event : Happening) (effects : List Effect) → AreSound t → SaysOf t → SaysOf (drawn event effects (outcome t event).tables)
+pub drawn_says : (t : Tables) (event : EventValue) (effects : List Effect) → AreSound t → SaysOf t → SaysOf (drawn event effects (outcome t event).tables)
 drawn_says t (Draw client) effects s says =
     let u : Tables = (outcome t (Draw client)).tables in
     let o : Option Client = client_at u client in
@@ -132,7 +111,7 @@ drawn_says t (Draw client) effects s says =
     (drawn_acts o effects u) (drawn_serials o effects u) (drawn_ids u client effects o refl) (said t (Draw client) s says)
 drawn_says t event effects s says = said t event s says
 
-pub after_acts : (t : Tables) (event : Happening) (effects : List Effect) → (drawn event effects (outcome t event).tables).acts ≡ followed_by t.acts (outcome t event).acts
+pub after_acts : (t : Tables) (event : EventValue) (effects : List Effect) → (drawn event effects (outcome t event).tables).acts ≡ followed_by t.acts (outcome t event).acts
 after_acts t (Draw client) effects = drawn_acts (client_at (outcome t (Draw client)).tables client) effects (outcome t (Draw client)).tables ∙ noted t (Draw client)
 after_acts t event effects = noted t event
 

@@ -18,7 +18,7 @@ use Rattle.session_model.specs.declared.check.Check.TheVariants.{Must as must}
 use Rattle.session_model.specs.declared.message.Message.{Message}
 use Rattle.session_model.specs.declared.refusal.Refusal.{Refusal}
 use Rattle.session_model.specs.declared.refusal.Refusal.TheVariants.{BadSize}
-use Rattle.session_model.specs.Trace.{Happening, Attach, Detach, Keys, Command, Resize, Open, Output, Closed, Draw, Entry}
+use Rattle.session_model.specs.Trace.{EventValue, Attach, Detach, Keys, Command, Resize, Open, Output, Closed, Draw, Entry}
 use Rattle.session_model.specs.Tables.{Tables, Window, Client, window_at, client_at, with_client, focused_window, is_known}
 use Rattle.session_model.specs.Terminals.{terminal_of}
 use Rattle.session_model.specs.Lines.{Caller, caller_of, line_caller, read_line}
@@ -34,7 +34,8 @@ use Rattle.session_model.specs.Promises.{SomeOf, IsDoneBy}
 use Rattle.session_laws.specs.Laws.{IsSaidOnce, AreSaidOnce}
 use Rattle.session_laws.proofs.Inputs.{is_say}
 use Rattle.session_laws.proofs.Lists.{all_of, all_weaken, all_append, all_filter, all_passed, members, both_true, itself, contradicts}
-use Rattle.session_laws.proofs.Doing.{Either, HasDone, done_by, giving}
+use Rattle.session_laws.proofs.Doing.{Either, giving}
+use Rattle.session_laws.proofs.Done.{HasDone, done_by}
 use Rattle.session_laws.proofs.Lasting.{client_firsts, firsts}
 use Rattle.session_laws.proofs.Settling.{ids_same}
 use Rattle.session_laws.proofs.Unread.{typing_clients}
@@ -230,7 +231,7 @@ input_once at bytes false = (tt, tt)
 abbrev Once : Outcome → Type 0
 Once o = AreSaidOnce o.effects
 
-once : (t : Tables) (event : Happening) → AreSound t → Once (outcome t event)
+once : (t : Tables) (event : EventValue) → AreSound t → Once (outcome t event)
 once t (Attach user rows columns) s =
     outcomes.passed Once t (verdicts t (attach_checks t user rows columns)) (first_fault t (attach_checks t user rows columns)) (reply_of 0 t.next_client 0 None) (attaches t (new_client t user rows columns)) (λ r is. tt) (λ is. tt)
 once t (Detach client) s =
@@ -261,6 +262,6 @@ drawn_once t effects (Some c) is = on effects is.drawn where
 
 pub step_once : (t : Tables) (e : Entry) → AreSound t → IsStep t e → AreSaidOnce e.effects
 step_once t e s step = on e.event step.effects where
-  on : (event : Happening) → HasEffects t event e.effects → AreSaidOnce e.effects
+  on : (event : EventValue) → HasEffects t event e.effects → AreSaidOnce e.effects
   on (Draw client) is = drawn_once t e.effects (client_at t client) is
   on event is = subst AreSaidOnce (sym is) (once t event s)

@@ -9,13 +9,13 @@ use Rattle.command_lang.specs.command.Command.{Command as Order}
 use Rattle.command_lang.specs.Names.{name_of}
 use Rattle.session_model.specs.declared.check.Check.{Check}
 use Rattle.session_model.specs.declared.check.Check.TheVariants.{Right as right, Must as must}
-use Rattle.session_model.specs.declared.needs.Needs.{Needs}
+use Rattle.command_lang.specs.needs.Needs.{Needs}
 use Rattle.session_model.specs.declared.refusal.Refusal.{Refusal}
 use Rattle.session_model.specs.declared.refusal.Refusal.TheVariants.{NotMultiuser, NoWindow}
 use Rattle.session_model.specs.Tables.{Tables, Window}
 use Rattle.session_model.specs.Rights.{may_in}
 use Rattle.session_model.specs.Lines.{Caller}
-use Rattle.session_model.specs.Needs.{needs}
+use Rattle.command_lang.specs.Needs.{needs}
 use Rattle.session_model.specs.Checks.{passes, refusal_of, first_fault, checks, checks_by, window_checks, where_needed}
 use Rattle.session_model.specs.Given.{has_x, has_x_on}
 use Rattle.session_laws.proofs.Lists.{both_true}

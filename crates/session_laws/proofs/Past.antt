@@ -10,7 +10,7 @@ use Rattle.session_model.specs.declared.event.Effect.{Effect}
 use Rattle.session_model.specs.declared.event.Effect.TheVariants.{Input, Deliver, Say, Size, GoneWindow, GoneClient}
 use Rattle.session_model.specs.declared.message.Message.{Message}
 use Rattle.session_model.specs.declared.refusal.Refusal.{Refusal}
-use Rattle.session_model.specs.Trace.{Happening, Detach, Keys, Command, Closed, Draw, Reply}
+use Rattle.session_model.specs.Trace.{EventValue, Detach, Keys, Command, Closed, Draw, Reply}
 use Rattle.session_model.specs.Tables.{Tables, Client, row_of, with_row}
 use Rattle.session_model.specs.Lines.{caller_of, read_line}
 use Rattle.session_model.specs.Checks.{checks, first_fault}
@@ -33,15 +33,15 @@ use Rattle.session_laws.proofs.Keeping.{core, Keeps, keeps_same, keeps_client, k
 
 -- ---- how a row goes on
 
-abbrev pub GoesOn : Happening → Reply → List Effect → Client → Client → Type 0
+abbrev pub GoesOn : EventValue → Reply → List Effect → Client → Client → Type 0
 GoesOn event reply effects c d =
     (d.serial ≡ c.serial) × (d.keys ≡ c.keys ++ keys_read event reply c.serial) × (d.delivered ≡ delivered_by event reply effects c.serial c.delivered)
 
-abbrev pub AllGoOn : Happening → Reply → List Effect → List Client → List Client → Type 0
+abbrev pub AllGoOn : EventValue → Reply → List Effect → List Client → List Client → Type 0
 AllGoOn event reply effects cs ds = AllByRecursion (λ d. SomeOf (λ c. GoesOn event reply effects c d) cs) ds
 
 -- where nothing was read or delivered
-module _ (event : Happening) (reply : Reply) (effects : List Effect) (c d : Client) (unread : keys_read event reply c.serial ≡ []) (same_size : is_resize event reply c.serial ≡ false) (undelivered : deliveries effects c.serial ≡ []) where
+module _ (event : EventValue) (reply : Reply) (effects : List Effect) (c d : Client) (unread : keys_read event reply c.serial ≡ []) (same_size : is_resize event reply c.serial ≡ false) (undelivered : deliveries effects c.serial ≡ []) where
   pub goes_on : core c ≡ core d → GoesOn event reply effects c d
   goes_on same = (
     sym (ap (λ (x : Client). x.serial) same),
@@ -50,7 +50,7 @@ module _ (event : Happening) (reply : Reply) (effects : List Effect) (c d : Clie
         ∙ ap (λ (b : Bool). (if b then [] else c.delivered) ++ deliveries effects c.serial) (sym same_size),
   )
 
-pub all_go_on : (event : Happening) (reply : Reply) (effects : List Effect) (cs ds : List Client) → ((n : ℕ) → keys_read event reply n ≡ []) → ((n : ℕ) → is_resize event reply n ≡ false) → ((n : ℕ) → deliveries effects n ≡ [])
+pub all_go_on : (event : EventValue) (reply : Reply) (effects : List Effect) (cs ds : List Client) → ((n : ℕ) → keys_read event reply n ≡ []) → ((n : ℕ) → is_resize event reply n ≡ false) → ((n : ℕ) → deliveries effects n ≡ [])
     → Keeps cs ds → AllGoOn event reply effects cs ds
 all_go_on event reply effects cs ds unread same_size undelivered kept =
     all_weaken (λ d. SomeOf (λ c. core c ≡ core d) cs) (λ d. SomeOf (λ c. GoesOn event reply effects c d) cs) ds
@@ -99,11 +99,11 @@ not_by_right : (t : Tables) (to : ℕ) (bytes : List ℕ) (gs : List Given) → 
 not_by_right t to bytes [] some = some
 not_by_right t to bytes (g ∷ gs) some = ⊎_elim (λ (here : IsDoneByRight t (Deliver to bytes) g). never_delivers t g g.order to bytes here.1) (λ later. not_by_right t to bytes gs later) some
 
-abbrev pub is_draw : Happening → Bool
+abbrev pub is_draw : EventValue → Bool
 is_draw (Draw client) = true
 is_draw event = false
 
-no_deliver : (t : Tables) (event : Happening) → is_draw event ≡ false → (f : Effect) → IsEffectOf t event f → IsNoDeliver f
+no_deliver : (t : Tables) (event : EventValue) → is_draw event ≡ false → (f : Effect) → IsEffectOf t event f → IsNoDeliver f
 no_deliver t (Draw client) other f is = absurd (cc (other))
 no_deliver t (Keys client bytes) other (Deliver to said) is = ⊎_elim (λ (never : ⊥). never) (λ some. not_by_right t to said (commands_of t (Keys client bytes)) some) is
 no_deliver t (Command user number bytes) other (Deliver to said) is = not_by_right t to said (commands_of t (Command user number bytes)) is
@@ -112,7 +112,7 @@ no_deliver t (Closed window) other (Deliver to said) is = cc (is)
 no_deliver t event other (Deliver to said) is = is
 no_deliver t event other f is = tt
 
-pub undelivered : (t : Tables) (event : Happening) (effects : List Effect) → is_draw event ≡ false → AllByRecursion (IsEffectOf t event) effects → (n : ℕ) → deliveries effects n ≡ []
+pub undelivered : (t : Tables) (event : EventValue) (effects : List Effect) → is_draw event ≡ false → AllByRecursion (IsEffectOf t event) effects → (n : ℕ) → deliveries effects n ≡ []
 undelivered t event effects other all = none_delivered effects (all_weaken (IsEffectOf t event) IsNoDeliver effects (no_deliver t event other) all)
 
 -- ---- what keys and commands keep

@@ -45,7 +45,7 @@ use Rattle.session_model.specs.Tables.{is_known, Tables, Window, Client, row_of,
 use Rattle.session_model.specs.Tables.{client_at, with_client, focused_window}
 use Rattle.session_model.specs.Terminals.{terminal_of}
 use Rattle.session_model.specs.Texts.{text_of}
-use Rattle.session_model.specs.Trace.{Happening, Attach, Detach, Keys, Command, Resize, Open}
+use Rattle.session_model.specs.Trace.{EventValue, Attach, Detach, Keys, Command, Resize, Open}
 use Rattle.session_model.specs.Trace.{Output, Closed, Draw}
 
 -- ---- typed bytes of a client
@@ -205,7 +205,7 @@ output_reach t at bytes w (Some v) is =
     input_in v.serial w (reads (terminal_of v) bytes).reports ∙ append_nil (if v.serial == w then (reads (terminal_of v) bytes).reports else [])
     ∙ ap (λ n. if n == w then (reads (terminal_of v) bytes).reports else []) (row_serial (λ (x : Window). x.serial) t.windows at v is)
 
-pub reach : (t : Tables) (event : Happening) (effects : List Effect) → HasEffects t event effects → (w : ℕ)
+pub reach : (t : Tables) (event : EventValue) (effects : List Effect) → HasEffects t event effects → (w : ℕ)
     → inputs effects w ≡ flat_map (reaching t w) (all_typed t event) ++ reporting t event w
 reach t (Attach user rows columns) effects is w = ap (λ es. inputs es w) is ∙ passed_inputs t (first_fault t (attach_checks t user rows columns)) (verdicts t (attach_checks t user rows columns)) (reply_of 0 t.next_client 0 None) (attaches t (new_client t user rows columns)) w refl
 reach t (Detach client) effects is w = ap (λ es. inputs es w) is ∙ on (client_at t client) where

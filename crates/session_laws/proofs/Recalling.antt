@@ -20,7 +20,7 @@ use Rattle.session_model.specs.declared.message.Message.TheVariants.{Text}
 use Rattle.session_model.specs.declared.refusal.Refusal.{Refusal}
 use Rattle.session_model.specs.declared.refusal.Refusal.TheVariants.{NoWindow, UnknownUser, BadSize, Line}
 use Rattle.session_model.specs.declared.verdict.Verdict.{Verdict}
-use Rattle.session_model.specs.Trace.{Happening, Attach, Detach, Keys, Command, Resize, Open, Output, Closed, Draw, Reply, Entry, Trace}
+use Rattle.session_model.specs.Trace.{EventValue, Attach, Detach, Keys, Command, Resize, Open, Output, Closed, Draw, Reply, Entry, Trace}
 use Rattle.session_model.specs.Tables.{Tables, Window, Client, fresh, window_at, client_at, with_client, focused, focused_window, is_known}
 use Rattle.session_model.specs.Texts.{text_of}
 use Rattle.session_model.specs.Terminals.{terminal_of}
@@ -45,7 +45,7 @@ use Rattle.session_laws.proofs.Lasting.{differ}
 use Rattle.session_laws.proofs.Asking.{keys_given}
 use Rattle.session_laws.proofs.Sounding.{run_sound, fresh_sound}
 use Rattle.session_laws.proofs.Remembering.{some_elim}
-use Rattle.session_laws.proofs.Fitting.{some_has}
+use Rattle.session_laws.proofs.Showing.{some_has}
 use Rattle.session_laws.proofs.Written.{GoesOn, Row, Wrote, alike, kept_same, kept_fewer, kept_wrote, row_wrote, sizes_append, sizes_unsaid, sizes_gone, sizes_closed, sizes_input, row_writing, HasWrote, wrote, refused_writes}
 use Rattle.session_laws.proofs.Outcomes as outcomes
 
@@ -158,13 +158,13 @@ keys_wrote t client bytes c is s =
 
 -- ---- the events
 
-abbrev InOutcome : Tables → Happening → Outcome → Type 0
+abbrev InOutcome : Tables → EventValue → Outcome → Type 0
 InOutcome t event o = Wrote t (λ n. step_writing t event o.reply o.effects n) o.tables.windows
 
 still : (t : Tables) → Wrote t (λ n. []) t.windows
 still t = kept_wrote t (λ n. []) t.windows (λ n. refl) (kept_same t.windows)
 
-outcome_wrote : (t : Tables) (event : Happening) → AreSound t → InOutcome t event (outcome t event)
+outcome_wrote : (t : Tables) (event : EventValue) → AreSound t → InOutcome t event (outcome t event)
 outcome_wrote t (Attach user rows columns) s =
     outcomes.passed (InOutcome t (Attach user rows columns)) t (verdicts t (attach_checks t user rows columns)) (first_fault t (attach_checks t user rows columns)) (reply_of 0 t.next_client 0 None) (attaches t (new_client t user rows columns))
     (λ r is. still t) (λ is. still t)
@@ -214,13 +214,13 @@ draw_sizes t effects (Some c) is n = on effects is.drawn where
   on (Deliver to bytes ∷ []) one = refl
   on (f ∷ es) other = absurd other
 
-by_effects : (t : Tables) (event : Happening) (effects : List Effect) (ws : List Window) → effects ≡ (outcome t event).effects → (outcome t event).tables.windows ≡ ws → InOutcome t event (outcome t event) → Wrote t (λ n. step_writing t event (outcome t event).reply effects n) ws
+by_effects : (t : Tables) (event : EventValue) (effects : List Effect) (ws : List Window) → effects ≡ (outcome t event).effects → (outcome t event).tables.windows ≡ ws → InOutcome t event (outcome t event) → Wrote t (λ n. step_writing t event (outcome t event).reply effects n) ws
 by_effects t event effects ws same windows all = subst (λ es. Wrote t (λ n. step_writing t event (outcome t event).reply es n) ws) (sym same) (subst (Wrote t (λ n. step_writing t event (outcome t event).reply (outcome t event).effects n)) windows all)
 
 quiet_draw : (t : Tables) (client : ℕ) → (outcome t (Draw client)).tables.windows ≡ t.windows
 quiet_draw t client = outcomes.found (λ o. o.tables.windows ≡ t.windows) t (λ c. finished t [] done (changing t)) (client_at t client) refl (λ c is. refl)
 
-step_wrote : (t : Tables) (event : Happening) (effects : List Effect) → AreSound t → HasEffects t event effects → Wrote t (λ n. step_writing t event (outcome t event).reply effects n) (drawn event effects (outcome t event).tables).windows
+step_wrote : (t : Tables) (event : EventValue) (effects : List Effect) → AreSound t → HasEffects t event effects → Wrote t (λ n. step_writing t event (outcome t event).reply effects n) (drawn event effects (outcome t event).tables).windows
 step_wrote t (Draw client) effects s is =
     let u : Tables = (outcome t (Draw client)).tables in
     subst (λ ws. Wrote t (λ n. sizes_of effects n) ws) (sym (drawn_windows (client_at u client) effects u ∙ quiet_draw t client))
@@ -232,25 +232,19 @@ step_wrote t event effects s is = by_effects t event effects (outcome t event).t
 same_next : (a b : ℕ) → a ≡ b → b ≤ a
 same_next a b is = omega (arith, is)
 
-next_grows : (t : Tables) (event : Happening) → AreSound t → t.next_window ≤ (outcome t event).tables.next_window
+next_grows : (t : Tables) (event : EventValue) → AreSound t → t.next_window ≤ (outcome t event).tables.next_window
 next_grows t (Attach user rows columns) s =
     outcomes.passed (λ o. t.next_window ≤ o.tables.next_window) t (verdicts t (attach_checks t user rows columns)) (first_fault t (attach_checks t user rows columns)) (reply_of 0 t.next_client 0 None) (attaches t (new_client t user rows columns)) (λ r is. omega arith) (λ is. omega arith)
 next_grows t (Open user rows columns keep title) s =
     let v : Window = new_window t rows columns keep title in
     outcomes.passed (λ o. t.next_window ≤ o.tables.next_window) t (verdicts t (open_checks t user rows columns keep title)) (first_fault t (open_checks t user rows columns keep title)) (reply_of 0 v.serial v.number None) (opens t user v) (λ r is. omega arith) (λ is. omega arith)
-next_grows t (Detach client) s = same_next _ _ (moving t (Detach client) s refl).next_window
-next_grows t (Keys client bytes) s = same_next _ _ (moving t (Keys client bytes) s refl).next_window
-next_grows t (Command user number bytes) s = same_next _ _ (moving t (Command user number bytes) s refl).next_window
-next_grows t (Resize client rows columns) s = same_next _ _ (moving t (Resize client rows columns) s refl).next_window
-next_grows t (Output window bytes) s = same_next _ _ (moving t (Output window bytes) s refl).next_window
-next_grows t (Closed window) s = same_next _ _ (moving t (Closed window) s refl).next_window
-next_grows t (Draw client) s = same_next _ _ (moving t (Draw client) s refl).next_window
+next_grows t event s = same_next _ _ (moving t event s refl).next_window
 
 drawn_next : (o : Option Client) (effects : List Effect) (v : Tables) → (drawn_on o effects v).next_window ≡ v.next_window
 drawn_next None effects v = refl
 drawn_next (Some c) effects v = refl
 
-after_grows : (t : Tables) (event : Happening) (effects : List Effect) → AreSound t → t.next_window ≤ (drawn event effects (outcome t event).tables).next_window
+after_grows : (t : Tables) (event : EventValue) (effects : List Effect) → AreSound t → t.next_window ≤ (drawn event effects (outcome t event).tables).next_window
 after_grows t (Draw client) effects s =
     let w : Tables = (outcome t (Draw client)).tables in
     subst (λ n. t.next_window ≤ n) (sym (drawn_next (client_at w client) effects w)) (next_grows t (Draw client) s)

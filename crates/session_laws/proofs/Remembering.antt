@@ -10,7 +10,7 @@ use Rattle.session_model.specs.declared.event.Effect.TheVariants.{Deliver}
 use Rattle.session_model.specs.declared.event.Reason.TheVariants as reason
 use Rattle.session_model.specs.declared.check.Check.TheVariants.{Must as must}
 use Rattle.session_model.specs.declared.refusal.Refusal.TheVariants.{NoWindow, BadSize}
-use Rattle.session_model.specs.Trace.{Happening, Attach, Detach, Keys, Command, Resize, Open, Output, Closed, Draw, Reply, Entry, Trace}
+use Rattle.session_model.specs.Trace.{EventValue, Attach, Detach, Keys, Command, Resize, Open, Output, Closed, Draw, Reply, Entry, Trace}
 use Rattle.session_model.specs.Tables.{Tables, Window, Client, row_of, with_row, window_at, client_at, with_client, is_known, fresh}
 use Rattle.session_model.specs.Lines.{line_caller, read_line}
 use Rattle.session_model.specs.Checks.{first_fault, verdicts}
@@ -39,17 +39,17 @@ use Rattle.session_laws.proofs.Outcomes as outcomes
 abbrev pub IsNew : Tables → Client → Type 0
 IsNew t d = (d.serial ≡ t.next_client) × (d.keys ≡ []) × (d.delivered ≡ [])
 
-abbrev pub Row : Tables → Happening → Reply → List Effect → Client → Type 0
+abbrev pub Row : Tables → EventValue → Reply → List Effect → Client → Type 0
 Row t event reply effects d = SomeOf (λ c. GoesOn event reply effects c d) t.clients ⊎ IsNew t d
 
-abbrev pub Rows : Tables → Happening → Reply → List Effect → List Client → Type 0
+abbrev pub Rows : Tables → EventValue → Reply → List Effect → List Client → Type 0
 Rows t event reply effects ds = AllByRecursion (Row t event reply effects) ds
 
-old_rows : (t : Tables) (event : Happening) (reply : Reply) (effects : List Effect) (ds : List Client) → AllGoOn event reply effects t.clients ds → Rows t event reply effects ds
+old_rows : (t : Tables) (event : EventValue) (reply : Reply) (effects : List Effect) (ds : List Client) → AllGoOn event reply effects t.clients ds → Rows t event reply effects ds
 old_rows t event reply effects ds all = all_weaken (λ d. SomeOf (λ c. GoesOn event reply effects c d) t.clients) (Row t event reply effects) ds (λ d some. inl some) all
 
 -- where no keys are read and nothing is delivered
-kept_rows : (t : Tables) (event : Happening) (reply : Reply) (effects : List Effect) (ds : List Client) → ((n : ℕ) → keys_read event reply n ≡ []) → ((n : ℕ) → is_resize event reply n ≡ false) → ((n : ℕ) → deliveries effects n ≡ [])
+kept_rows : (t : Tables) (event : EventValue) (reply : Reply) (effects : List Effect) (ds : List Client) → ((n : ℕ) → keys_read event reply n ≡ []) → ((n : ℕ) → is_resize event reply n ≡ false) → ((n : ℕ) → deliveries effects n ≡ [])
     → Keeps t.clients ds → Rows t event reply effects ds
 kept_rows t event reply effects ds unread same_size none kept = old_rows t event reply effects ds (all_go_on event reply effects t.clients ds unread same_size none kept)
 
@@ -141,7 +141,7 @@ drawn_rows t w client effects reply (Some c) same at s is =
       others (Deliver to bytes ∷ []) one n off = off_by to n bytes one.0 off
       others (f ∷ es) other n off = absurd other
 
-none_of : (t : Tables) (event : Happening) (effects : List Effect) → is_draw event ≡ false → HasEffects t event effects → (n : ℕ) → deliveries effects n ≡ []
+none_of : (t : Tables) (event : EventValue) (effects : List Effect) → is_draw event ≡ false → HasEffects t event effects → (n : ℕ) → deliveries effects n ≡ []
 none_of t event effects other is = undelivered t event effects other (all_weaken (Fits t event) (IsEffectOf t event) effects (λ f all. all.0) (step_fits t event effects is))
 
 -- ---- the events
@@ -154,7 +154,7 @@ abbrev Kept : Tables → Outcome → Type 0
 Kept t o = Keeps t.clients o.tables.clients
 
 module _ (t : Tables) (effects : List Effect) (s : AreSound t) where
-  rows_of : (event : Happening) → is_draw event ≡ false → ((n : ℕ) → deliveries effects n ≡ []) → Rows t event (outcome t event).reply effects (outcome t event).tables.clients
+  rows_of : (event : EventValue) → is_draw event ≡ false → ((n : ℕ) → deliveries effects n ≡ []) → Rows t event (outcome t event).reply effects (outcome t event).tables.clients
   rows_of (Attach user rows columns) other none =
       let c : Client = new_client t user rows columns in
       outcomes.passed (λ o. Rows t (Attach user rows columns) o.reply effects o.tables.clients) t (verdicts t (attach_checks t user rows columns)) (first_fault t (attach_checks t user rows columns)) (reply_of 0 t.next_client 0 None) (attaches t c)
@@ -191,7 +191,7 @@ module _ (t : Tables) (effects : List Effect) (s : AreSound t) where
 quiet_draw : (t : Tables) (client : ℕ) → (outcome t (Draw client)).tables.clients ≡ t.clients
 quiet_draw t client = outcomes.found (λ o. o.tables.clients ≡ t.clients) t (λ c. finished t [] done (changing t)) (client_at t client) refl (λ c is. refl)
 
-pub step_rows : (t : Tables) (event : Happening) (effects : List Effect) → AreSound t → HasEffects t event effects → Rows t event (outcome t event).reply effects (drawn event effects (outcome t event).tables).clients
+pub step_rows : (t : Tables) (event : EventValue) (effects : List Effect) → AreSound t → HasEffects t event effects → Rows t event (outcome t event).reply effects (drawn event effects (outcome t event).tables).clients
 step_rows t (Draw client) effects s is =
     let w : Tables = (outcome t (Draw client)).tables in
     subst (λ (o : Option Client). Rows t (Draw client) (outcome t (Draw client)).reply effects (drawn_on o effects w).clients) (sym (ap (λ cs. row_of (λ (c : Client). c.serial) cs client) (quiet_draw t client)))
@@ -218,7 +218,7 @@ below_off : (client n next : ℕ) → client < next → next ≤ n → (client =
 below_off client n next lt le = grind (arith, nat_tests, lt, le)
 
 -- no keys are read of a client that isn't there, and nothing is delivered to it
-above_unread : (t : Tables) (event : Happening) (n : ℕ) → AreSound t → t.next_client ≤ n → keys_read event (outcome t event).reply n ≡ []
+above_unread : (t : Tables) (event : EventValue) (n : ℕ) → AreSound t → t.next_client ≤ n → keys_read event (outcome t event).reply n ≡ []
 above_unread t (Keys client bytes) n s le =
     outcomes.found (λ o. keys_read (Keys client bytes) o.reply n ≡ []) t (λ c. keys_outcome t c (take (taken c.keys bytes) bytes)) (client_at t client) refl
     (λ c is. let lt : client < t.next_client = subst (λ m. m < t.next_client) (row_serial (λ (r : Client). r.serial) t.clients client c is) (row_below t.clients t.next_client client c s.clients_rise is) in
@@ -243,7 +243,7 @@ drawn_above t client n effects (Some c) at s le is = on effects is.drawn where
   on (Deliver to bytes ∷ []) one = ap (λ (b : Bool). (if b then bytes else []) ++ []) (below_off to n t.next_client (subst (λ m. m < t.next_client) (sym one.0) lt) le)
   on (f ∷ es) other = absurd other
 
-above_none : (t : Tables) (event : Happening) (effects : List Effect) (n : ℕ) → AreSound t → t.next_client ≤ n → HasEffects t event effects → deliveries effects n ≡ []
+above_none : (t : Tables) (event : EventValue) (effects : List Effect) (n : ℕ) → AreSound t → t.next_client ≤ n → HasEffects t event effects → deliveries effects n ≡ []
 above_none t (Draw client) effects n s le is = drawn_above t client n effects (client_at t client) refl s le is
 above_none t (Attach user rows columns) effects n s le is = none_of t (Attach user rows columns) effects refl is n
 above_none t (Detach client) effects n s le is = none_of t (Detach client) effects refl is n
@@ -259,7 +259,7 @@ above_none t (Closed window) effects n s le is = none_of t (Closed window) effec
 same_next : (a b : ℕ) → a ≡ b → b ≤ a
 same_next a b is = omega (arith, is)
 
-next_grows : (t : Tables) (event : Happening) → AreSound t → t.next_client ≤ (outcome t event).tables.next_client
+next_grows : (t : Tables) (event : EventValue) → AreSound t → t.next_client ≤ (outcome t event).tables.next_client
 next_grows t (Attach user rows columns) s =
     outcomes.passed (λ o. t.next_client ≤ o.tables.next_client) t (verdicts t (attach_checks t user rows columns)) (first_fault t (attach_checks t user rows columns)) (reply_of 0 t.next_client 0 None) (attaches t (new_client t user rows columns)) (λ r is. omega arith) (λ is. omega arith)
 next_grows t (Open user rows columns keep title) s =
@@ -277,7 +277,7 @@ drawn_next : (o : Option Client) (effects : List Effect) (v : Tables) → (drawn
 drawn_next None effects v = refl
 drawn_next (Some c) effects v = refl
 
-after_grows : (t : Tables) (event : Happening) (effects : List Effect) → AreSound t → t.next_client ≤ (drawn event effects (outcome t event).tables).next_client
+after_grows : (t : Tables) (event : EventValue) (effects : List Effect) → AreSound t → t.next_client ≤ (drawn event effects (outcome t event).tables).next_client
 after_grows t (Draw client) effects s =
     let w : Tables = (outcome t (Draw client)).tables in
     subst (λ n. t.next_client ≤ n) (sym (drawn_next (client_at w client) effects w)) (next_grows t (Draw client) s)
@@ -293,7 +293,7 @@ pub some_elim : {A : Type 0} (P Q : A → Type 0) (R : Type 0) (xs : List A) →
 some_elim P Q R [] on some all = absurd some
 some_elim P Q R (x ∷ xs) on some all = ⊎_elim (λ (here : P x). on x here all.0) (λ later. some_elim P Q R xs on later all.1) some
 
-none_by : (event : Happening) (reply : Reply) (effects : List Effect) (n : ℕ) (before : List ℕ) → before ≡ [] → deliveries effects n ≡ [] → delivered_by event reply effects n before ≡ []
+none_by : (event : EventValue) (reply : Reply) (effects : List Effect) (n : ℕ) (before : List ℕ) → before ≡ [] → deliveries effects n ≡ [] → delivered_by event reply effects n before ≡ []
 none_by event reply effects n before is none = ap (λ bs. (if is_resize event reply n then [] else bs) ++ deliveries effects n) is ∙ ap (λ bs. (if is_resize event reply n then [] else []) ++ bs) none ∙ on (is_resize event reply n) where
   on : (b : Bool) → (if b then (let empty : List ℕ = [] in empty) else []) ++ [] ≡ []
   on true = refl

@@ -11,7 +11,7 @@ use Rattle.session_model.specs.declared.refusal.Refusal.{Refusal}
 use Rattle.session_model.specs.declared.refusal.Refusal.TheVariants.{UnknownUser, Line}
 use Rattle.command_lang.specs.command.Command.{Command as Order}
 use Rattle.command_lang.specs.fault.ParseFault.{ParseFault}
-use Rattle.session_model.specs.Trace.{Happening, Command, Reply, Entry}
+use Rattle.session_model.specs.Trace.{EventValue, Command, Reply, Entry}
 use Rattle.session_model.specs.Tables.{Tables, is_known}
 use Rattle.session_model.specs.Lines.{Caller, line_caller, read_line}
 use Rattle.session_model.specs.Checks.{checks, verdicts}
@@ -57,7 +57,7 @@ did t user number bytes =
       tables = refl;
     })))
 
-pub rows_done : (t : Tables) (event : Happening) (reply : Reply) (acts : List Act) (vs : List Verdict) (effects : List Effect)
+pub rows_done : (t : Tables) (event : EventValue) (reply : Reply) (acts : List Act) (vs : List Verdict) (effects : List Effect)
     → let e : Entry = record { event = event; reply = reply; acts = acts; verdicts = vs; effects = effects } in IsStep t e → LineDidItsRow t e event reply
 rows_done t (Command user number bytes) (Ok done) acts vs effects step = some (commands_of t (Command user number bytes)) (did t user number bytes done (sym step.reply)) where
   one : (g : Given) → Did t (outcome t (Command user number bytes)) done g → DidItsRow t (record { event = Command user number bytes; reply = Ok done; acts = acts; verdicts = vs; effects = effects }) done g
@@ -90,7 +90,7 @@ line_refused t k true (Ok order) = answer_refused t (verdicts t (checks t k orde
 line_refused t k true (Err f) = refl
 line_refused t k false r = refl
 
-pub refused_so : (t : Tables) (event : Happening) (reply : Reply) (acts : List Act) (vs : List Verdict) (effects : List Effect)
+pub refused_so : (t : Tables) (event : EventValue) (reply : Reply) (acts : List Act) (vs : List Verdict) (effects : List Effect)
     → let e : Entry = record { event = event; reply = reply; acts = acts; verdicts = vs; effects = effects } in IsStep t e → IsRefusedSo t e event
 refused_so t (Command user number bytes) reply acts vs effects step = ap refusal_in step.reply ∙ line_refused t (line_caller t user number) (is_known t user) (read_line bytes)
 refused_so t event reply acts vs effects step = tt

@@ -1,17 +1,13 @@
--- What each command moves: one row a command.
-use Rattle.std.proofs.Common.{◌≡◌, ℕ, ◌+◌, ◌-◌, ◌≤◌, Bool, true, false, not, List, [], ◌∷◌, ◌++◌, Option, Some, None, Ok, Err, refl, ap, sym, ◌∙◌, subst, map, filter, length, arith, suc}
+-- What each command moves.
+use Rattle.std.proofs.Common.{◌≡◌, ℕ, ◌+◌, ◌≤◌, Bool, true, false, not, List, [], ◌∷◌, ◌++◌, Option, Some, None, refl, ap, sym, ◌∙◌, subst, map, filter, length, arith, suc}
 use Rattle.std.specs.Prelude.{if◌then◌else◌, ◌==◌}
 use Rattle.std.specs.Option.{option_and_then, option_map_or}
 use Rattle.acl.specs.declared.user_id.UserId.{UserId}
 use Rattle.acl.specs.declared.act.Act.{Act}
 use Rattle.acl.specs.declared.act.Act.TheVariants as act
-use Rattle.acl.specs.declared.act.Object.{Object}
-use Rattle.acl.specs.declared.faults.AclFault.{AclFault}
 use Rattle.acl.specs.Same.{same_user}
 use Rattle.acl.specs.Names.{named_by}
-use Rattle.acl.specs.Commands.{change_fault}
 use Rattle.command_lang.specs.command.Command.{Command as Order}
-use Rattle.command_lang.specs.command.Command.TheVariants as command
 use Rattle.regions.specs.Layouts.{Arrangement}
 use Rattle.terminal_model.specs.Writing as written
 use Rattle.session_model.specs.declared.event.Effect.{Effect}
@@ -19,23 +15,21 @@ use Rattle.session_model.specs.declared.event.Effect.TheVariants.{Input, Say, Si
 use Rattle.session_model.specs.declared.event.Reason.{Reason}
 use Rattle.session_model.specs.declared.event.Reason.TheVariants.{Detached, Killed, Removed, SingleUser, Quit}
 use Rattle.session_model.specs.declared.message.Message.TheVariants.{Text}
-use Rattle.session_model.specs.declared.refusal.Refusal.{Refusal}
-use Rattle.session_model.specs.declared.refusal.Refusal.TheVariants.{Acl, Windows, NoWindow}
-use Rattle.session_model.specs.declared.refusal.WindowsFault.TheVariants.{NoSuchWindow}
-use Rattle.session_model.specs.Tables.{Tables, Window, Client, window_at, client_at, with_window, with_client, with_layout, focused, known_users}
-use Rattle.session_model.specs.Naming.{names_of, with_number, window_named, window_after, window_before}
+use Rattle.session_model.specs.Tables.{Tables, Window, Client, window_at, client_at, with_window, with_client, with_layout, focused}
+use Rattle.session_model.specs.Naming.{with_number}
 use Rattle.session_model.specs.Lines.{Caller}
 use Rattle.session_model.specs.Deeds as deeds
-use Rattle.session_model.specs.Deeds.{Deed, Answer, given, unless, refused_if, changing, acting, listing, removes, is_of, parts, closes, both, without_window, without_windows}
-use Rattle.session_model.specs.Deeds.{selects, enters, arranges, entering, former_of, input_of, hearing, tells}
-use Rattle.session_model.specs.Commands.{does, caller_client, on_client, is_taken, coding_of, mask_entries}
+use Rattle.session_model.specs.Deeds.{Deed, changing, acting, removes, is_of, parts, closes, both, without_window, without_windows, enters, arranges, entering, input_of, hearing, tells}
+use Rattle.session_model.specs.Commands.{does, caller_client, is_taken}
 use Rattle.session_model.specs.Sound.{NumbersDiffer}
 use Rattle.session_laws.proofs.Inputs.{append_nil}
 use Rattle.session_laws.proofs.Lists.{equal, filter_all, row_serial}
 use Rattle.session_laws.proofs.Numbers.{serial_of, IsFree, with_numbers, fewer_numbers, own_number}
-use Rattle.session_laws.proofs.Doing.{Either, by_given, by_unless, by_refused, by_fault, by_shown}
+use Rattle.session_laws.proofs.Doing.{Either}
 use Rattle.session_laws.proofs.Unread.{row_at}
-use Rattle.session_laws.proofs.Moving.{AllAside, DeedMoves, id_of, ids, serials, closed, parted, filter_map, stays, acts_only, lists_only, map_with_row, filter_none, right_aside, change_rights, add_rights, group_rights, mask_rights}
+use Rattle.session_laws.proofs.Moving.{AllAside, DeedMoves, id_of, ids, serials, closed, parted, filter_map, stays, acts_only, lists_only, map_with_row, filter_none, right_aside}
+use Rattle.session_laws.proofs.Shapes as shapes
+use Rattle.session_laws.proofs.Shapes.{acted_rights}
 
 pub length_map : {A B : Type 0} (f : A → B) (xs : List A) → length (map f xs) ≡ length xs
 length_map f [] = refl
@@ -83,9 +77,6 @@ arranged t k c l is = page_moves t c (with_layout l c) [] (caller_row t k.client
 
 entered : (t : Tables) (k : Caller) (c : Client) (l : Arrangement) → caller_client t k ≡ Some c → DeedMoves t (enters t c l)
 entered t k c l is = page_moves t c (with_layout l c) (entering c.user (focused (with_layout l c))) (caller_row t k.client c is) refl (entering_aside c.user (focused (with_layout l c)))
-
-shown : (t : Tables) (k : Caller) (o : Client → Option Window) (r : Refusal) → Rattle.session_laws.proofs.Doing.is_plain r ≡ true → Either (DeedMoves t) (on_client t k (λ c. given (o c) r (λ w. Ok (selects t c w))))
-shown t k o r is = by_shown (DeedMoves t) t k o r is (λ c w at there. entered t k c _ at)
 
 -- ---- windows
 
@@ -205,11 +196,7 @@ told_moves t bytes =
     stays t (tells bytes t).tables [] (length (tells bytes t).effects) tt refl (map_map id_of (hearing (Text bytes)) t.clients (λ c. refl)) refl refl
     (let same : length (map (λ (c : Client). Say c.serial bytes) t.clients) ≡ length t.clients = length_map _ t.clients in omega (arith, same)) (λ differ numbers. numbers)
 
--- ---- the rows
-
-fault_moves : (t : Tables) (f : Option AclFault) (objects : Option (List Object)) (acts : List Object → List Act) → ((all : List Object) → AllAside (acts all))
-    → Either (DeedMoves t) (elim f [ Some f ↦ Err (Acl f) | None ↦ given objects (Windows NoSuchWindow) (λ all. Ok (deeds.acting t (acts all))) ])
-fault_moves t f objects acts aside = by_fault (DeedMoves t) t f objects acts (λ all. acts_only t (acts all) (aside all))
+-- ---- the kinds
 
 pub nothing_moves : (t : Tables) (effects : List Effect) → length effects ≤ 1 → DeedMoves t (record (changing t) { effects = effects })
 nothing_moves t effects few = stays t t [] (length effects) tt refl refl refl refl (omega (arith, few)) (λ differ numbers. numbers)
@@ -237,38 +224,25 @@ single_user t = let all = only_parts t (λ p. not (same_user p.1 t.owner)) Singl
   numbers = λ differ numbers. numbers;
 }
 
-pub moves : (t : Tables) (k : Caller) → ((w : Window) → k.window ≡ Some w → window_at t w.serial ≡ Some w) → (c : Order) → Either (DeedMoves t) (does t k c)
-moves t k row (command.Acladd names) = fault_moves t (change_fault t.owner (known_users t) (names_of t names)) _ _ (λ all. right_aside _ (add_rights (known_users t) (names_of t names) all))
-moves t k row (command.Aclchg names bits list) = fault_moves t (change_fault t.owner (known_users t) (names_of t names)) _ _ (λ all. right_aside _ (change_rights (known_users t) (names_of t names) bits all))
-moves t k row (command.Acldel word) = by_unless (DeedMoves t) _ _ _ (λ f. refl) (removal_moves t (named_by word))
-moves t k row (command.Aclgrp word None) = by_unless (DeedMoves t) _ _ _ (λ f. refl) (lists_only t [])
-moves t k row (command.Aclgrp word (Some leader)) = by_unless (DeedMoves t) _ _ _ (λ f. refl) (acts_only t _ (right_aside _ (group_rights (named_by word) _)))
-moves t k row (command.Aclumask masks) = by_unless (DeedMoves t) _ _ _ (λ f. refl) (acts_only t _ (right_aside _ (mask_rights k.user (mask_entries t masks))))
-moves t k row (command.Multiuser true) = stays t (record t { is_multiuser = true }) [] 0 tt refl refl refl refl (omega arith) (λ differ numbers. numbers)
-moves t k row (command.Multiuser false) = single_user t
-moves t k row (command.Writelock mode) = by_given (DeedMoves t) k.window _ _ refl (λ w is. acts_only t _ (refl, tt))
-moves t k row (command.Defwritelock mode) = acts_only t _ (refl, tt)
-moves t k row (command.Wall bytes) = told_moves t _
-moves t k row command.Screen = lists_only t []
-moves t k row command.Windows = lists_only t []
-moves t k row command.Displays = lists_only t []
-moves t k row (command.Select word) = shown t k (λ c. window_named t.windows word) (Windows NoSuchWindow) refl
-moves t k row command.Next = shown t k (λ c. window_after t.windows k.window) NoWindow refl
-moves t k row command.Prev = shown t k (λ c. window_before t.windows k.window) NoWindow refl
-moves t k row command.Other = shown t k (λ c. option_and_then (window_at t) (former_of c)) NoWindow refl
-moves t k row (command.Split vertical) = by_given (DeedMoves t) (caller_client t k) _ _ refl (λ c is. by_unless (DeedMoves t) _ _ _ (λ f. refl) (arranged t k c _ is))
-moves t k row command.Focus = by_given (DeedMoves t) (caller_client t k) _ _ refl (λ c is. entered t k c _ is)
-moves t k row command.Remove = by_given (DeedMoves t) (caller_client t k) _ _ refl (λ c is. by_refused (DeedMoves t) _ _ _ refl (λ other. entered t k c _ is))
-moves t k row command.Only = by_given (DeedMoves t) (caller_client t k) _ _ refl (λ c is. arranged t k c _ is)
-moves t k row (command.Scrollview n) = by_given (DeedMoves t) (caller_client t k) _ _ refl (λ c is. arranged t k c _ is)
-moves t k row command.Fit = by_given (DeedMoves t) (caller_client t k) _ _ refl (λ c is. by_given (DeedMoves t) k.window _ _ refl (λ w at. by_given (DeedMoves t) _ _ _ refl (λ box there. by_refused (DeedMoves t) _ _ _ refl (λ other.
-    same_window t w (record w { writing = w.writing ++ written.Size (box.rows - 1) box.cols ∷ [] }) (Size w.serial (box.rows - 1) box.cols ∷ []) (omega arith) (row w at) refl refl))))
-moves t k row (command.Title bytes) = by_given (DeedMoves t) k.window _ _ refl (λ w at. by_refused (DeedMoves t) _ _ _ refl (λ other. same_window t w (record w { title = bytes }) [] (omega arith) (row w at) refl refl))
-moves t k row (command.Number n) = by_given (DeedMoves t) k.window _ _ refl (λ w at. by_refused (DeedMoves t) (is_taken t w n) _ _ refl (λ other. window_moves t (record w { number = n }) [] (omega arith) (λ numbers. other_free t w n other)))
-moves t k row command.Clear = by_given (DeedMoves t) k.window _ _ refl (λ w at. written_moves t w written.Clear (row w at))
-moves t k row command.Reset = by_given (DeedMoves t) k.window _ _ refl (λ w at. written_moves t w written.Reset (row w at))
-moves t k row (command.Encoding coding) = by_given (DeedMoves t) k.window _ _ refl (λ w at. written_moves t w (written.Encoding (coding_of coding)) (row w at))
-moves t k row (command.Stuff bytes) = by_given (DeedMoves t) k.window NoWindow _ refl (λ w at. nothing_moves t (input_of w.serial bytes) (input_few w.serial bytes (length bytes == 0)))
-moves t k row command.Detach = by_given (DeedMoves t) (caller_client t k) NoWindow (λ c. Ok (parts (λ (d : Client). d.serial == c.serial) Detached t)) refl (λ c is. only_parts t (λ p. p.0 == c.serial) Detached)
-moves t k row command.Kill = by_given (DeedMoves t) k.window NoWindow (λ (w : Window). Ok (closes (λ (v : Window). v.serial == w.serial) Killed t)) refl (λ w is. closes_moves t (λ n. n == w.serial) Killed)
-moves t k row command.Quit = quit_moves t
+module _ (t : Tables) (k : Caller) (row : (w : Window) → k.window ≡ Some w → window_at t w.serial ≡ Some w) where
+  deed_moves : (c : Order) (d : Deed) → shapes.Shape t k c d → DeedMoves t d
+  deed_moves c d (shapes.lists bytes none tells) = lists_only t bytes
+  deed_moves c d (shapes.acts all none acted) = acts_only t all (right_aside all (acted_rights t k c all acted))
+  deed_moves c d (shapes.enters_page x l of at shows) = entered t k x l at
+  deed_moves c d (shapes.keeps_page x l of at shows same) = arranged t k x l at
+  deed_moves c d (shapes.writes_to w what one at) = written_moves t w what (row w at)
+  deed_moves c d (shapes.opened is) = stays t (record t { is_multiuser = true }) [] 0 tt refl refl refl refl (omega arith) (λ differ numbers. numbers)
+  deed_moves c d (shapes.shut is) = single_user t
+  deed_moves c d (shapes.told bytes is) = told_moves t _
+  deed_moves c d (shapes.removed word is clear) = removal_moves t (named_by word)
+  deed_moves c d (shapes.fitted w rows columns is at) =
+      same_window t w (record w { writing = w.writing ++ written.Size rows columns ∷ [] }) (Size w.serial rows columns ∷ []) (omega arith) (row w at) refl refl
+  deed_moves c d (shapes.titled w bytes is at) = same_window t w (record w { title = bytes }) [] (omega arith) (row w at) refl refl
+  deed_moves c d (shapes.numbered w n is at free) = window_moves t (record w { number = n }) [] (omega arith) (λ numbers. other_free t w n free)
+  deed_moves c d (shapes.typed w bytes is at) = nothing_moves t (input_of w.serial bytes) (input_few w.serial bytes (length bytes == 0))
+  deed_moves c d (shapes.detached x is at) = only_parts t (λ p. p.0 == x.serial) Detached
+  deed_moves c d (shapes.killed w is at) = closes_moves t (λ n. n == w.serial) Killed
+  deed_moves c d (shapes.quits is) = quit_moves t
+
+  pub moves : (c : Order) → Either (DeedMoves t) (does t k c)
+  moves c = shapes.by_shape (DeedMoves t) t k c (deed_moves c)

@@ -15,7 +15,7 @@ use Rattle.session_model.specs.declared.message.Message.{Message}
 use Rattle.session_model.specs.declared.refusal.Refusal.{Refusal}
 use Rattle.session_model.specs.declared.refusal.Refusal.TheVariants.{NoWindow, BadSize, Line}
 use Rattle.session_model.specs.declared.check.Check.TheVariants.{Must as must}
-use Rattle.session_model.specs.Trace.{Happening, Attach, Detach, Keys, Command, Resize, Open, Output, Closed, Draw, Reply, Entry}
+use Rattle.session_model.specs.Trace.{EventValue, Attach, Detach, Keys, Command, Resize, Open, Output, Closed, Draw, Reply, Entry}
 use Rattle.session_model.specs.Tables.{Tables, Window, Client, window_at, client_at, with_client, focused_window, is_known}
 use Rattle.session_model.specs.Terminals.{terminal_of}
 use Rattle.session_model.specs.Texts.{text_of}
@@ -34,7 +34,8 @@ use Rattle.session_model.specs.Given.{Given, has_x, with_order, order_in, ok_of,
 use Rattle.session_model.specs.Promises.{SomeOf, IsOn, IsDoneBy, IsDoneByRight, IsEffectOf, IsFrameTo}
 use Rattle.session_model.specs.Denying.{NamesTruly, ReplyNamesTruly, IsTrueSay, TellsByRight, told_by, DenialsName, Asks}
 use Rattle.session_laws.proofs.Lists.{all_append, all_map, all_filter, all_of, all_weaken, all_passed, equal, row_serial}
-use Rattle.session_laws.proofs.Doing.{giving, Either, HasDone, done_by}
+use Rattle.session_laws.proofs.Doing.{giving, Either}
+use Rattle.session_laws.proofs.Done.{HasDone, done_by}
 use Rattle.session_laws.proofs.Denying.{OnFault, plain_names}
 use Rattle.session_laws.proofs.Passing.{passed_has_x}
 use Rattle.session_laws.proofs.Unread.{SameClients, typing_clients, told_in, done_in}
@@ -42,7 +43,7 @@ use Rattle.session_laws.proofs.Asking.{line_given, keys_given, typing_names, ord
 use Rattle.session_laws.proofs.Outcomes as outcomes
 
 -- an effect of the event, true where it says something, and a frame where it delivers
-abbrev pub Fits : Tables → Happening → Effect → Type 0
+abbrev pub Fits : Tables → EventValue → Effect → Type 0
 Fits t event f = IsEffectOf t event f × IsTrueSay t event f × IsFrameTo t f
 
 -- ---- what commands do
@@ -58,7 +59,7 @@ never_delivers t g (command.Multiuser true) to bytes is = is
 never_delivers t g (command.Multiuser false) to bytes is = is
 never_delivers t g c to bytes is = is
 
-module _ (t : Tables) (event : Happening) (g : Given) (given : commands_of t event ≡ g ∷ []) (has : has_x t g ≡ true) where
+module _ (t : Tables) (event : EventValue) (g : Given) (given : commands_of t event ≡ g ∷ []) (has : has_x t g ≡ true) where
   pub some_given : (P : Given → Type 0) → P g → SomeOf P (commands_of t event)
   some_given P p = subst (λ gs. SomeOf P gs) (sym given) (inl p)
 
@@ -73,10 +74,10 @@ module _ (t : Tables) (event : Happening) (g : Given) (given : commands_of t eve
 line_fits : (t : Tables) (user : UserId) (number : Option ℕ) (bytes : List ℕ) (g : Given) → commands_of t (Command user number bytes) ≡ g ∷ [] → has_x t g ≡ true
     → (f : Effect) → IsDoneBy t g g.order f → Fits t (Command user number bytes) f
 line_fits t user number bytes g given has f is =
-    let event : Happening = Command user number bytes in
+    let event : EventValue = Command user number bytes in
     (some_given t event g given has (IsDoneByRight t f) (has, is), true_done t event g given has f is, frame_done t event g given has f is)
 
-deed_fits : (t : Tables) (event : Happening) (k : Caller) (c : Order) (a : Answer) (d : Deed) → a ≡ Ok d → Either (HasDone t k c) a
+deed_fits : (t : Tables) (event : EventValue) (k : Caller) (c : Order) (a : Answer) (d : Deed) → a ≡ Ok d → Either (HasDone t k c) a
     → ((f : Effect) → IsDoneBy t (giving k c) c f → Fits t event f) → AllByRecursion (Fits t event) d.effects
 deed_fits t event k c (Ok e) d is done fits =
     let same : e ≡ d = cc (is) in
@@ -85,13 +86,13 @@ deed_fits t event k c (Err r) d is done fits = absurd (cc (is))
 
 command_fits : (t : Tables) (user : UserId) (number : Option ℕ) (bytes : List ℕ) → AllByRecursion (Fits t (Command user number bytes)) (outcome t (Command user number bytes)).effects
 command_fits t user number bytes =
-    let event : Happening = Command user number bytes in
+    let event : EventValue = Command user number bytes in
     let k : Caller = line_caller t user number in
     on (is_known t user) (read_line bytes) refl refl where
       on : (b : Bool) (r : Result Order ParseFault) → is_known t user ≡ b → read_line bytes ≡ r
           → AllByRecursion (Fits t (Command user number bytes)) (if b then events.commanded t (events.line_ruling t (line_caller t user number) r) else refused t [] Rattle.session_model.specs.declared.refusal.Refusal.TheVariants.UnknownUser).effects
       on b r known read =
-          let event : Happening = Command user number bytes in
+          let event : EventValue = Command user number bytes in
           let k : Caller = line_caller t user number in
           outcomes.by_line (λ o. AllByRecursion (Fits t event) o.effects) t k b r (λ vs f. tt)
           (λ c d is_true is_command passes is. deed_fits t event k c (does t k c) d is (done_by t k c)
@@ -116,7 +117,7 @@ module _ (t : Tables) (client : ℕ) (bytes : List ℕ) (c : Client) (is : clien
   order_fits_all : (order : Order) → commands_of t (Keys client bytes) ≡ giving (caller_of t c) order ∷ [] → has_x t (giving (caller_of t c) order) ≡ true
       → (f : Effect) → IsDoneBy t (giving (caller_of t c) order) order f → Fits t (Keys client bytes) f
   order_fits_all order given has f done =
-      let event : Happening = Keys client bytes in
+      let event : EventValue = Keys client bytes in
       let g : Given = giving (caller_of t c) order in
       (inr (some_given t event g given has (IsDoneByRight t f) (has, done)), true_done t event g given has f done, frame_done t event g given has f done)
 
@@ -196,7 +197,7 @@ input_fits : (t : Tables) (at : ℕ) (bytes rs : List ℕ) (w : ℕ) (b : Bool) 
 input_fits t at bytes rs w true same = tt
 input_fits t at bytes rs w false same = ((same, tt, tt), tt)
 
-pub fits : (t : Tables) (event : Happening) → AllByRecursion (Fits t event) (outcome t event).effects
+pub fits : (t : Tables) (event : EventValue) → AllByRecursion (Fits t event) (outcome t event).effects
 fits t (Attach user rows columns) =
     outcomes.passed (λ o. AllByRecursion (Fits t (Attach user rows columns)) o.effects) t (verdicts t (attach_checks t user rows columns)) (first_fault t (attach_checks t user rows columns))
     (reply_of 0 t.next_client 0 None) (attaches t (new_client t user rows columns)) (λ r is. tt) (λ is. tt)
@@ -240,11 +241,11 @@ drawn_fits t client effects (Some c) at is = on effects is.drawn where
       ((to_is, tt, subst (λ o. MatchOption o ⊥ (λ d. IsFrame d.rows d.columns d.delivered (granted_view t d) bytes)) (sym (ap (client_at t) to_is ∙ at)) one.2), tt)
   on (f ∷ es) other = absurd other
 
-pub step_fits : (t : Tables) (event : Happening) (effects : List Effect) → HasEffects t event effects → AllByRecursion (Fits t event) effects
+pub step_fits : (t : Tables) (event : EventValue) (effects : List Effect) → HasEffects t event effects → AllByRecursion (Fits t event) effects
 step_fits t (Draw client) effects is = drawn_fits t client effects (client_at t client) refl is
 step_fits t event effects is = subst (λ es. AllByRecursion (Fits t event) es) (sym is) (fits t event)
 
-reply_truly : (t : Tables) (event : Happening) (reply : Reply) → ReplyIs (NamesTruly t (Asks t event)) reply → ReplyNamesTruly t event reply
+reply_truly : (t : Tables) (event : EventValue) (reply : Reply) → ReplyIs (NamesTruly t (Asks t event)) reply → ReplyNamesTruly t event reply
 reply_truly t event (Ok d) is = tt
 reply_truly t event (Err r) is = is
 

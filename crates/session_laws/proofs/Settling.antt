@@ -29,7 +29,7 @@ use Rattle.session_model.specs.Events as events
 use Rattle.session_model.specs.Promises.{unread}
 use Rattle.terminal_model.specs.Reading.{reads}
 use Rattle.session_model.specs.declared.event.Effect.{Effect}
-use Rattle.session_model.specs.Trace.{Happening, Attach, Detach, Keys, Command, Resize, Open, Output, Closed, Draw}
+use Rattle.session_model.specs.Trace.{EventValue, Attach, Detach, Keys, Command, Resize, Open, Output, Closed, Draw}
 use Rattle.session_model.specs.Terminals.{terminal_of}
 use Rattle.session_model.specs.Deeds.{input_of}
 use Rattle.session_model.specs.Events.{outcome}
@@ -203,12 +203,12 @@ refused_moves t vs r = still_moves t
 
 -- ---- all events but those that bring something new
 
-abbrev pub is_new : Happening → Bool
+abbrev pub is_new : EventValue → Bool
 is_new (Attach user rows columns) = true
 is_new (Open user rows columns keep title) = true
 is_new event = false
 
-pub moving : (t : Tables) (event : Happening) → AreSound t → is_new event ≡ false → MovesTo t (outcome t event)
+pub moving : (t : Tables) (event : EventValue) → AreSound t → is_new event ≡ false → MovesTo t (outcome t event)
 moving t (Attach user rows columns) s other = absurd (cc (other))
 moving t (Detach client) s other =
     outcomes.found (MovesTo t) t (λ c. finished t [] done (parts (λ d. d.serial == client) reason.Detached t)) (client_at t client) (still_moves t)

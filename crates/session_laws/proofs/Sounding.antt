@@ -12,7 +12,7 @@ use Rattle.session_model.specs.declared.check.Check.TheVariants.{Right as right,
 use Rattle.session_model.specs.declared.event.Effect.{Effect}
 use Rattle.session_model.specs.declared.refusal.Refusal.TheVariants.{NotMultiuser, UnknownUser, TooManyClients, BadSize, Windows}
 use Rattle.session_model.specs.declared.refusal.WindowsFault.TheVariants.{Full, BadTitle}
-use Rattle.session_model.specs.Trace.{Happening, Attach, Detach, Keys, Command, Resize, Open, Output, Closed, Draw, Entry}
+use Rattle.session_model.specs.Trace.{EventValue, Attach, Command, Open, Draw, Entry}
 use Rattle.session_model.specs.Tables.{Tables, Window, Client, client_at, is_known, fresh}
 use Rattle.session_model.specs.Naming.{free_number, is_title}
 use Rattle.session_model.specs.Checks.{first_fault, verdicts}
@@ -71,7 +71,7 @@ opened t user rows columns keep title s passes =
       few_clients = s.few_clients;
     }
 
-sound : (t : Tables) (event : Happening) → AreSound t → AreSound (outcome t event).tables
+sound : (t : Tables) (event : EventValue) → AreSound t → AreSound (outcome t event).tables
 sound t (Attach user rows columns) s =
     outcomes.passed (λ o. AreSound o.tables) t (verdicts t (attach_checks t user rows columns)) (first_fault t (attach_checks t user rows columns)) (reply_of 0 t.next_client 0 None) (attaches t (new_client t user rows columns))
     (λ r is. s) (λ is. sounds (attached t user rows columns s is)) where
@@ -81,13 +81,7 @@ sound t (Open user rows columns keep title) s =
     let v : Window = new_window t rows columns keep title in
     outcomes.passed (λ o. AreSound o.tables) t (verdicts t (open_checks t user rows columns keep title)) (first_fault t (open_checks t user rows columns keep title)) (reply_of 0 v.serial v.number None) (opens t user v)
     (λ r is. s) (λ is. opened t user rows columns keep title s is)
-sound t (Detach client) s = moved_sound t _ _ 0 s (moving t (Detach client) s refl)
-sound t (Keys client bytes) s = moved_sound t _ _ 0 s (moving t (Keys client bytes) s refl)
-sound t (Command user number bytes) s = moved_sound t _ _ 0 s (moving t (Command user number bytes) s refl)
-sound t (Resize client rows columns) s = moved_sound t _ _ 0 s (moving t (Resize client rows columns) s refl)
-sound t (Output window bytes) s = moved_sound t _ _ 0 s (moving t (Output window bytes) s refl)
-sound t (Closed window) s = moved_sound t _ _ 0 s (moving t (Closed window) s refl)
-sound t (Draw client) s = moved_sound t _ _ 0 s (moving t (Draw client) s refl)
+sound t event s = moved_sound t _ _ 0 s (moving t event s refl)
 
 -- ---- after a draw
 
@@ -110,7 +104,7 @@ same_rows t effects (Some c) same s =
       few_clients = let e : length u.clients ≡ length t.clients = length_ids u.clients t.clients same in let le : length t.clients ≤ 64 = s.few_clients in omega (arith, e, le);
     }
 
-pub lasting : (t : Tables) (event : Happening) (effects : List Effect) → AreSound t → AreSound (drawn event effects (outcome t event).tables)
+pub lasting : (t : Tables) (event : EventValue) (effects : List Effect) → AreSound t → AreSound (drawn event effects (outcome t event).tables)
 lasting t (Draw client) effects s =
     let u : Tables = (outcome t (Draw client)).tables in
     same_rows u effects (client_at u client) (drawn_ids u client effects (client_at u client) refl) (sound t (Draw client) s)

@@ -17,7 +17,7 @@ use Rattle.session_model.specs.declared.check.Check.TheVariants.{Must as must}
 use Rattle.session_model.specs.declared.message.Message.{Message}
 use Rattle.session_model.specs.declared.refusal.Refusal.{Refusal}
 use Rattle.session_model.specs.declared.refusal.Refusal.TheVariants.{BadSize}
-use Rattle.session_model.specs.Trace.{Happening, Attach, Detach, Keys, Command, Resize, Open, Output, Closed, Draw, Entry}
+use Rattle.session_model.specs.Trace.{EventValue, Attach, Detach, Keys, Command, Resize, Open, Output, Closed, Draw, Entry}
 use Rattle.session_model.specs.Tables.{Tables, Window, Client, fresh, window_at, client_at, with_client, focused, is_known}
 use Rattle.session_model.specs.Naming.{lowest, free_number, has_number}
 use Rattle.session_model.specs.Lines.{caller_of, line_caller, read_line}
@@ -41,7 +41,8 @@ use Rattle.session_laws.proofs.Agreeing.{has, has_row, has_append}
 use Rattle.session_laws.proofs.Sounding.{lasting, map_append, fresh_sound}
 use Rattle.session_laws.proofs.Noting.{acts_agree, fresh_agrees}
 use Rattle.session_laws.proofs.Small.{is_small, is_small_order, read_small, keys_small}
-use Rattle.session_laws.proofs.Fitting.{ShowsIn, PageIn, IsBelow, Holds, holds_client, holds_window, holds_closed, holds, page_of, get_all, lowest_there, number_there, at_there, has_there, some_has}
+use Rattle.session_laws.proofs.Showing.{get_all, lowest_there, number_there, at_there, some_has}
+use Rattle.session_laws.proofs.Fitting.{ShowsIn, PageIn, IsBelow, Holds, holds_client, holds_window, holds_closed, holds, page_of, has_there}
 use Rattle.session_laws.proofs.Outcomes as outcomes
 
 -- ---- messages
@@ -143,7 +144,7 @@ resized_page ns rows columns c page = on (Rattle.regions.specs.Pages.has_room c.
   on true = page
   on false = (get_all (ShowsIn ns) c.layout.shown c.layout.focus empty tt page, tt)
 
-pub held : (t : Tables) (event : Happening) → Holds t → HoldsIn (outcome t event)
+pub held : (t : Tables) (event : EventValue) → Holds t → HoldsIn (outcome t event)
 held t (Attach user rows columns) h =
     let c : Client = new_client t user rows columns in
     outcomes.passed HoldsIn t (verdicts t (attach_checks t user rows columns)) (first_fault t (attach_checks t user rows columns)) (reply_of 0 t.next_client 0 None) (attaches t c) (λ r is. h)
@@ -190,7 +191,7 @@ drawn_holds : (u : Tables) (client : ℕ) (effects : List Effect) (o : Option Cl
 drawn_holds u client effects None is h = h
 drawn_holds u client effects (Some c) is h = holds_client u (with_drawn effects (granted_view u c) c) (drawn_page (serials u) effects (granted_view u c) c (page_of u client c is h)) h
 
-pub after_holds : (t : Tables) (event : Happening) (effects : List Effect) → Holds t → Holds (drawn event effects (outcome t event).tables)
+pub after_holds : (t : Tables) (event : EventValue) (effects : List Effect) → Holds t → Holds (drawn event effects (outcome t event).tables)
 after_holds t (Draw client) effects h =
     let u : Tables = (outcome t (Draw client)).tables in drawn_holds u client effects (client_at u client) refl (held t (Draw client) h)
 after_holds t event effects h = held t event h

@@ -19,7 +19,7 @@ use Rattle.session_model.specs.declared.event.Effect.{Effect}
 use Rattle.session_model.specs.declared.event.Effect.TheVariants.{Input, Deliver, Say, Size, GoneWindow, GoneClient}
 use Rattle.session_model.specs.declared.refusal.Refusal.{Refusal}
 use Rattle.session_model.specs.declared.refusal.Refusal.TheVariants.{NoWindow, UnknownUser}
-use Rattle.session_model.specs.Trace.{Happening, Keys, Command, Reply, Entry}
+use Rattle.session_model.specs.Trace.{EventValue, Keys, Command, Reply, Entry}
 use Rattle.session_model.specs.Tables.{Tables, Window, Client, client_at, with_client, focused_window, is_known}
 use Rattle.session_model.specs.Rights.{may_in}
 use Rattle.session_model.specs.Texts.{text_of}
@@ -267,7 +267,7 @@ module _ (t : Tables) (reply : Reply) (acts : List Act) (vs : List Verdict) (eff
     on (b ∷ bs) None is = tt
     on (b ∷ bs) (Some r) is = is
 
-  pub told : (event : Happening) → let e : Entry = record { event = event; reply = reply; acts = acts; verdicts = vs; effects = effects } in IsStep t e → DenialIsTold t e
+  pub told : (event : EventValue) → let e : Entry = record { event = event; reply = reply; acts = acts; verdicts = vs; effects = effects } in IsStep t e → DenialIsTold t e
   told (Keys client bytes) step = on (client_at t client) refl step.effects where
     on : (o : Option Client) → client_at t client ≡ o → effects ≡ (elim o as (λ _. Outcome) [ None ↦ refused t [] NoWindow | Some c ↦ keys_outcome t c (take (taken c.keys bytes) bytes) ]).effects
         → AllByRecursion (λ bs. IsTold (record { event = Keys client bytes; reply = reply; acts = acts; verdicts = vs; effects = effects }) bs.bytes (why_not t bs))

@@ -1,15 +1,10 @@
--- What each command writes to windows: one row a command.
-use Rattle.std.proofs.Common.{◌≡◌, ℕ, ◌-◌, ◌<◌, ◌≤◌, Bool, true, false, not, List, [], ◌∷◌, ◌++◌, Option, Some, None, Ok, Err, refl, ap, sym, ◌∙◌, subst, map, filter, inl, inr, ⊎_elim, arith, append_assoc}
-use Rattle.std.specs.Prelude.{◌⊎◌, if◌then◌else◌, ◌==◌}
+-- What each command writes to windows.
+use Rattle.std.proofs.Common.{◌≡◌, ℕ, ◌<◌, ◌≤◌, Bool, true, false, not, List, [], ◌∷◌, ◌++◌, Option, Some, None, Ok, Err, refl, ap, sym, ◌∙◌, subst, map, filter, inl, inr, ⊎_elim, arith, append_assoc}
+use Rattle.std.specs.Prelude.{◌⊎◌, if◌then◌else◌, ◌==◌, length}
 use Rattle.std.specs.List.{AllByRecursion, list_any}
-use Rattle.std.specs.Option.{option_and_then}
 use Rattle.std.proofs.lemmas.Bool.Decides.{nat_tests}
 use Rattle.acl.specs.declared.user_id.UserId.{UserId}
-use Rattle.acl.specs.declared.faults.AclFault.{AclFault}
-use Rattle.acl.specs.declared.act.Act.{Act}
-use Rattle.acl.specs.declared.act.Object.{Object}
 use Rattle.acl.specs.Names.{named_by}
-use Rattle.acl.specs.Commands.{change_fault}
 use Rattle.command_lang.specs.command.Command.{Command as Order}
 use Rattle.command_lang.specs.command.Command.TheVariants as command
 use Rattle.terminal_model.specs.Writing.{Writing}
@@ -17,16 +12,14 @@ use Rattle.terminal_model.specs.Writing as written
 use Rattle.session_model.specs.declared.event.Effect.{Effect}
 use Rattle.session_model.specs.declared.event.Effect.TheVariants.{Input, Deliver, Say, Size, GoneWindow, GoneClient}
 use Rattle.session_model.specs.declared.event.Reason.{Reason}
-use Rattle.session_model.specs.declared.event.Reason.TheVariants.{Detached, Killed, Quit}
+use Rattle.session_model.specs.declared.event.Reason.TheVariants.{Detached, Killed, Quit, Removed, SingleUser}
 use Rattle.session_model.specs.declared.refusal.Refusal.{Refusal}
-use Rattle.session_model.specs.declared.refusal.Refusal.TheVariants.{Acl, Windows, NoWindow}
-use Rattle.session_model.specs.declared.refusal.WindowsFault.TheVariants.{NoSuchWindow}
-use Rattle.session_model.specs.Tables.{Tables, Window, Client, row_of, with_row, window_at, with_window, known_users}
-use Rattle.session_model.specs.Naming.{names_of, window_named, window_after, window_before}
+use Rattle.session_model.specs.declared.refusal.Refusal.TheVariants.{NoWindow}
+use Rattle.session_model.specs.Tables.{Tables, Window, Client, row_of, with_row, window_at, with_window}
 use Rattle.session_model.specs.Lines.{Caller}
 use Rattle.session_model.specs.Deeds as deeds
-use Rattle.session_model.specs.Deeds.{Deed, Answer, given, removes, parts, closes, selects, former_of, is_of, input_of}
-use Rattle.session_model.specs.Commands.{does, caller_client, on_client, coding_of}
+use Rattle.session_model.specs.Deeds.{Deed, given, removes, parts, closes, is_of}
+use Rattle.session_model.specs.Commands.{does, coding_of}
 use Rattle.session_model.specs.Events.{says_same, unsaid}
 use Rattle.session_model.specs.Promises.{SomeOf}
 use Rattle.session_model.specs.Sound.{Rises}
@@ -34,8 +27,9 @@ use Rattle.session_laws.specs.Written.{order_writing, is_own, sizes_of}
 use Rattle.session_laws.proofs.Inputs.{append_nil}
 use Rattle.session_laws.proofs.Lists.{all_weaken, all_filter, members, some_weaken, some_row, equal, itself}
 use Rattle.session_laws.proofs.Numbers.{serial_of}
-use Rattle.session_laws.proofs.Doing.{Either, is_plain, by_given, by_unless, by_refused, by_fault, by_shown}
+use Rattle.session_laws.proofs.Doing.{Either}
 use Rattle.session_laws.proofs.Moving.{serials}
+use Rattle.session_laws.proofs.Shapes as shapes
 
 -- ---- how a window's row goes on
 
@@ -209,7 +203,7 @@ pub sizes_input : (at : ℕ) (bytes : List ℕ) (b : Bool) (n : ℕ) → sizes_o
 sizes_input at bytes true n = refl
 sizes_input at bytes false n = refl
 
--- ---- the rows
+-- ---- the kinds
 
 abbrev pub row_writing : Caller → Order → ℕ → List Writing
 row_writing k c n = if is_own k.window n then order_writing c else []
@@ -231,16 +225,9 @@ quiet t k c d none sizes kept = record {
 silent : (t : Tables) (k : Caller) (c : Order) (d : Deed) → order_writing c ≡ [] → d.effects ≡ [] → d.tables.windows ≡ t.windows → HasWrote t k c d
 silent t k c d none effects windows = quiet t k c d none (λ n. ap (λ es. sizes_of es n) effects) (subst (Kept t.windows) (sym windows) (kept_same t.windows))
 
-fault_wrote : (t : Tables) (k : Caller) (c : Order) (f : Option AclFault) (objects : Option (List Object)) (acts : List Object → List Act) → order_writing c ≡ []
-    → Either (HasWrote t k c) (elim f [ Some f ↦ Err (Acl f) | None ↦ given objects (Windows NoSuchWindow) (λ all. Ok (deeds.acting t (acts all))) ])
-fault_wrote t k c f objects acts none = by_fault (HasWrote t k c) t f objects acts (λ all. silent t k c _ none refl refl)
-
 removal_wrote : (t : Tables) (k : Caller) (c : Order) (o : Option UserId) → order_writing c ≡ [] → HasWrote t k c (removes o t)
 removal_wrote t k c None none = silent t k c _ none refl refl
-removal_wrote t k c (Some u) none = quiet t k c _ none (sizes_gone Rattle.session_model.specs.declared.event.Reason.TheVariants.Removed (filter (is_of u) t.clients)) (kept_same t.windows)
-
-shown_wrote : (t : Tables) (k : Caller) (c : Order) (o : Client → Option Window) (r : Refusal) → is_plain r ≡ true → order_writing c ≡ [] → Either (HasWrote t k c) (on_client t k (λ d. given (o d) r (λ w. Ok (selects t d w))))
-shown_wrote t k c o r is none = by_shown (HasWrote t k c) t k o r is (λ d w at there. silent t k c _ none refl refl)
+removal_wrote t k c (Some u) none = quiet t k c _ none (sizes_gone Removed (filter (is_of u) t.clients)) (kept_same t.windows)
 
 module _ (t : Tables) (k : Caller) (s : Rises (serials t) t.next_window) (row : (w : Window) → k.window ≡ Some w → window_at t w.serial ≡ Some w) where
   own_here : (w : Window) → k.window ≡ Some w → is_own k.window w.serial ≡ true
@@ -261,52 +248,41 @@ module _ (t : Tables) (k : Caller) (s : Rises (serials t) t.next_window) (row : 
   renamed : (c : Order) (w v : Window) → k.window ≡ Some w → order_writing c ≡ [] → core v ≡ core w → HasWrote t k c (deeds.changing (with_window t v))
   renamed c w v is none same = quiet t k c (deeds.changing (with_window t v)) none (λ n. refl) (kept_window t w v (row w is) same)
 
-  sized : (w : Window) (rows columns : ℕ) → k.window ≡ Some w → HasWrote t k command.Fit (record (deeds.writes t w (written.Size rows columns)) { effects = Size w.serial rows columns ∷ [] })
-  sized w rows columns is = record {
-    all = row_wrote t (λ n. row_writing k command.Fit n ++ sizes_of (Size w.serial rows columns ∷ []) n) w (written.Size rows columns) s (row w is)
-        (ap (λ ws. ws ++ sizes_of (Size w.serial rows columns ∷ []) w.serial) (none_if (is_own k.window w.serial)) ∙ ap (λ (b : Bool). (if b then written.Size rows columns ∷ [] else []) ++ []) (itself w.serial))
-        (λ n off. ap (λ ws. ws ++ sizes_of (Size w.serial rows columns ∷ []) n) (none_if (is_own k.window n)) ∙ ap (λ (b : Bool). (if b then written.Size rows columns ∷ [] else []) ++ []) off);
-  }
+  sized : (c : Order) (w : Window) (rows columns : ℕ) → order_writing c ≡ [] → k.window ≡ Some w → HasWrote t k c (record (deeds.writes t w (written.Size rows columns)) { effects = Size w.serial rows columns ∷ [] })
+  sized c w rows columns none is = record {
+    all = row_wrote t (λ n. row_writing k c n ++ sizes_of (Size w.serial rows columns ∷ []) n) w (written.Size rows columns) s (row w is)
+        (ap (λ ws. ws ++ sizes_of (Size w.serial rows columns ∷ []) w.serial) (none_written c none w.serial) ∙ ap (λ (b : Bool). (if b then written.Size rows columns ∷ [] else []) ++ []) (itself w.serial))
+        (λ n off. ap (λ ws. ws ++ sizes_of (Size w.serial rows columns ∷ []) n) (none_written c none n) ∙ ap (λ (b : Bool). (if b then written.Size rows columns ∷ [] else []) ++ []) off);
+  } where
+    none_written : (c : Order) → order_writing c ≡ [] → (n : ℕ) → row_writing k c n ≡ []
+    none_written c none n = ap (λ ws. if is_own k.window n then ws else []) none ∙ none_if (is_own k.window n)
+
+  quits : (c : Order) → order_writing c ≡ [] → HasWrote t k c (deeds.both (closes (λ w. true) Quit t) (parts (λ d. true) Quit))
+  quits c none = quiet t k c _ none (λ n. sizes_append (closes (λ w. true) Quit t).effects (parts (λ d. true) Quit (closes (λ w. true) Quit t).tables).effects n
+      ∙ ap (λ ws. ws ++ sizes_of (parts (λ d. true) Quit (closes (λ w. true) Quit t).tables).effects n) (sizes_closed Quit (filter (λ (w : Window). true) t.windows) n)
+      ∙ sizes_gone Quit (filter (λ (d : Client). true) (closes (λ w. true) Quit t).tables.clients) n) (kept_fewer (λ (w : Window). not true) t.windows)
+
+  deed_wrote : (c : Order) (d : Deed) → shapes.Shape t k c d → HasWrote t k c d
+  deed_wrote c d (shapes.lists bytes none tells) = silent t k c _ none refl refl
+  deed_wrote c d (shapes.acts all none acted) = silent t k c _ none refl refl
+  deed_wrote c d (shapes.enters_page x l of at shows) = silent t k c _ of.0 refl refl
+  deed_wrote c d (shapes.keeps_page x l of at shows same) = silent t k c _ of.0 refl refl
+  deed_wrote c d (shapes.writes_to w what one at) = writes c w what at one
+  deed_wrote c d (shapes.opened is) = silent t k c _ (ap order_writing is) refl refl
+  deed_wrote c d (shapes.shut is) = quiet t k c _ (ap order_writing is) (sizes_gone SingleUser (filter (λ (x : Client). not (is_of t.owner x)) t.clients)) (kept_same t.windows)
+  deed_wrote c d (shapes.told bytes is) = quiet t k c _ (ap order_writing is) (sizes_said _ t.clients) (kept_same t.windows)
+  deed_wrote c d (shapes.removed word is clear) = removal_wrote t k c (named_by word) (ap order_writing is)
+  deed_wrote c d (shapes.fitted w rows columns is at) = sized c w rows columns (ap order_writing is) at
+  deed_wrote c d (shapes.titled w bytes is at) = renamed c w (record w { title = bytes }) at (ap order_writing is) refl
+  deed_wrote c d (shapes.numbered w n is at free) = renamed c w (record w { number = n }) at (ap order_writing is) refl
+  deed_wrote c d (shapes.typed w bytes is at) = quiet t k c _ (ap order_writing is) (sizes_input w.serial bytes (length bytes == 0)) (kept_same t.windows)
+  deed_wrote c d (shapes.detached x is at) = quiet t k c _ (ap order_writing is) (sizes_gone Detached (filter (λ (y : Client). y.serial == x.serial) t.clients)) (kept_same t.windows)
+  deed_wrote c d (shapes.killed w is at) =
+      quiet t k c _ (ap order_writing is) (sizes_closed Killed (filter (λ (v : Window). v.serial == w.serial) t.windows)) (kept_fewer (λ (v : Window). not (v.serial == w.serial)) t.windows)
+  deed_wrote c d (shapes.quits is) = quits c (ap order_writing is)
 
   pub wrote : (c : Order) → Either (HasWrote t k c) (does t k c)
-  wrote (command.Acladd names) = fault_wrote t k _ (change_fault t.owner (known_users t) (names_of t names)) _ _ refl
-  wrote (command.Aclchg names bits list) = fault_wrote t k _ (change_fault t.owner (known_users t) (names_of t names)) _ _ refl
-  wrote (command.Acldel word) = by_unless (HasWrote t k (command.Acldel word)) _ _ _ (λ f. refl) (removal_wrote t k (command.Acldel word) (named_by word) refl)
-  wrote (command.Aclgrp word None) = by_unless (HasWrote t k (command.Aclgrp word None)) _ _ _ (λ f. refl) (silent t k _ _ refl refl refl)
-  wrote (command.Aclgrp word (Some leader)) = by_unless (HasWrote t k (command.Aclgrp word (Some leader))) _ _ _ (λ f. refl) (silent t k _ _ refl refl refl)
-  wrote (command.Aclumask masks) = by_unless (HasWrote t k (command.Aclumask masks)) _ _ _ (λ f. refl) (silent t k _ _ refl refl refl)
-  wrote (command.Multiuser true) = silent t k _ _ refl refl refl
-  wrote (command.Multiuser false) = quiet t k _ _ refl (sizes_gone Rattle.session_model.specs.declared.event.Reason.TheVariants.SingleUser (filter (λ (c : Client). not (is_of t.owner c)) t.clients)) (kept_same t.windows)
-  wrote (command.Writelock mode) = by_given (HasWrote t k (command.Writelock mode)) k.window _ _ refl (λ w is. silent t k _ _ refl refl refl)
-  wrote (command.Defwritelock mode) = silent t k _ _ refl refl refl
-  wrote (command.Wall bytes) = quiet t k _ _ refl (sizes_said _ t.clients) (kept_same t.windows)
-  wrote command.Screen = silent t k _ _ refl refl refl
-  wrote command.Windows = silent t k _ _ refl refl refl
-  wrote command.Displays = silent t k _ _ refl refl refl
-  wrote (command.Select word) = shown_wrote t k _ (λ c. window_named t.windows word) (Windows NoSuchWindow) refl refl
-  wrote command.Next = shown_wrote t k _ (λ c. window_after t.windows k.window) NoWindow refl refl
-  wrote command.Prev = shown_wrote t k _ (λ c. window_before t.windows k.window) NoWindow refl refl
-  wrote command.Other = shown_wrote t k _ (λ c. option_and_then (window_at t) (former_of c)) NoWindow refl refl
-  wrote (command.Split vertical) = by_given (HasWrote t k (command.Split vertical)) (caller_client t k) _ _ refl (λ c is. by_unless (HasWrote t k (command.Split vertical)) _ _ _ (λ f. refl) (silent t k _ _ refl refl refl))
-  wrote command.Focus = by_given (HasWrote t k command.Focus) (caller_client t k) _ _ refl (λ c is. silent t k _ _ refl refl refl)
-  wrote command.Remove = by_given (HasWrote t k command.Remove) (caller_client t k) _ _ refl (λ c is. by_refused (HasWrote t k command.Remove) _ _ _ refl (λ no. silent t k _ _ refl refl refl))
-  wrote command.Only = by_given (HasWrote t k command.Only) (caller_client t k) _ _ refl (λ c is. silent t k _ _ refl refl refl)
-  wrote (command.Scrollview n) = by_given (HasWrote t k (command.Scrollview n)) (caller_client t k) _ _ refl (λ c is. silent t k _ _ refl refl refl)
-  wrote command.Fit = by_given (HasWrote t k command.Fit) (caller_client t k) _ _ refl (λ c is. by_given (HasWrote t k command.Fit) k.window _ _ refl (λ w at. by_given (HasWrote t k command.Fit) _ _ _ refl (λ box there.
-      by_refused (HasWrote t k command.Fit) _ _ _ refl (λ no. sized w (box.rows - 1) box.cols at))))
-  wrote (command.Title bytes) = by_given (HasWrote t k (command.Title bytes)) k.window _ _ refl (λ w at. by_refused (HasWrote t k (command.Title bytes)) _ _ _ refl (λ no. renamed _ w (record w { title = bytes }) at refl refl))
-  wrote (command.Number n) = by_given (HasWrote t k (command.Number n)) k.window _ _ refl (λ w at. by_refused (HasWrote t k (command.Number n)) _ _ _ refl (λ no. renamed _ w (record w { number = n }) at refl refl))
-  wrote command.Clear = by_given (HasWrote t k command.Clear) k.window _ _ refl (λ w at. writes command.Clear w written.Clear at refl)
-  wrote command.Reset = by_given (HasWrote t k command.Reset) k.window _ _ refl (λ w at. writes command.Reset w written.Reset at refl)
-  wrote (command.Encoding coding) = by_given (HasWrote t k (command.Encoding coding)) k.window _ _ refl (λ w at. writes (command.Encoding coding) w (written.Encoding (coding_of coding)) at refl)
-  wrote (command.Stuff bytes) = by_given (HasWrote t k (command.Stuff bytes)) k.window NoWindow _ refl (λ w at. quiet t k _ _ refl (sizes_input w.serial bytes (Rattle.std.specs.Prelude.length bytes == 0)) (kept_same t.windows))
-  wrote command.Detach = by_given (HasWrote t k command.Detach) (caller_client t k) NoWindow (λ c. Ok (parts (λ (d : Client). d.serial == c.serial) Detached t)) refl
-      (λ c is. quiet t k _ _ refl (sizes_gone Detached (filter (λ (d : Client). d.serial == c.serial) t.clients)) (kept_same t.windows))
-  wrote command.Kill = by_given (HasWrote t k command.Kill) k.window NoWindow (λ (w : Window). Ok (closes (λ (v : Window). v.serial == w.serial) Killed t)) refl
-      (λ w at. quiet t k _ _ refl (sizes_closed Killed (filter (λ (v : Window). v.serial == w.serial) t.windows)) (kept_fewer (λ (v : Window). not (v.serial == w.serial)) t.windows))
-  wrote command.Quit = quiet t k _ _ refl (λ n. sizes_append (closes (λ w. true) Quit t).effects (parts (λ c. true) Quit (closes (λ w. true) Quit t).tables).effects n
-      ∙ ap (λ ws. ws ++ sizes_of (parts (λ c. true) Quit (closes (λ w. true) Quit t).tables).effects n) (sizes_closed Quit (filter (λ (w : Window). true) t.windows) n)
-      ∙ sizes_gone Quit (filter (λ (c : Client). true) (closes (λ w. true) Quit t).tables.clients) n) (kept_fewer (λ (w : Window). not true) t.windows)
+  wrote c = shapes.by_shape (HasWrote t k c) t k c (deed_wrote c)
 
 -- where a command is refused nothing is written
 window_refused : (o : Option Window) (r : Refusal) (f : Window → Deed) (ws : List Writing) (n : ℕ) → given o NoWindow (λ w. Ok (f w)) ≡ Err r → (if is_own o n then ws else []) ≡ []

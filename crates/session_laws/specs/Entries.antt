@@ -2,12 +2,12 @@
 use Rattle.std.specs.Prelude.{◌≡◌, ℕ, Bool, false, ◌==◌, List, [], ◌∷◌, ◌++◌, Ok, Some}
 use Rattle.std.specs.Prelude.{if◌then◌else◌, take}
 use Rattle.session_model.specs.declared.event.Effect.{Effect}
-use Rattle.session_model.specs.Trace.{Happening, Keys, Resize, Reply, Entry, Trace}
+use Rattle.session_model.specs.Trace.{EventValue, Keys, Resize, Reply, Entry, Trace}
 use Rattle.session_model.specs.Tables.{Client, client_at}
 use Rattle.session_model.specs.Run.{IsRun, deliveries, tables_of}
 
 -- the keys of a client that a step read
-abbrev pub keys_read : Happening → Reply → ℕ → List ℕ
+abbrev pub keys_read : EventValue → Reply → ℕ → List ℕ
 keys_read (Keys at bytes) (Ok done) client = if at == client then take done.taken bytes else []
 keys_read event reply client = []
 
@@ -17,12 +17,12 @@ all_keys [] client = []
 all_keys (e ∷ past) client = all_keys past client ++ keys_read e.event e.reply client
 
 -- whether a step gave a client's terminal another size
-abbrev pub is_resize : Happening → Reply → ℕ → Bool
+abbrev pub is_resize : EventValue → Reply → ℕ → Bool
 is_resize (Resize at rows columns) (Ok done) client = at == client
 is_resize event reply client = false
 
 -- all that was delivered to a client since it attached or last changed its size
-abbrev pub delivered_by : Happening → Reply → List Effect → ℕ → List ℕ → List ℕ
+abbrev pub delivered_by : EventValue → Reply → List Effect → ℕ → List ℕ → List ℕ
 delivered_by event reply effects client before =
     (if is_resize event reply client then [] else before) ++ deliveries effects client
 

@@ -5,7 +5,7 @@ use Rattle.std.specs.Option.{option_or}
 use Rattle.acl.specs.declared.user_id.UserId.{UserId}
 use Rattle.acl.specs.declared.act.Act.{Act}
 use Rattle.acl.specs.declared.act.Act.TheVariants as act
-use Rattle.session_model.specs.Trace.{Happening, Attach, Keys, Reply, Entry, Trace}
+use Rattle.session_model.specs.Trace.{EventValue, Attach, Keys, Reply, Entry, Trace}
 use Rattle.session_model.specs.Tables.{Client, client_at, focused}
 use Rattle.session_model.specs.Run.{IsRun, tables_of}
 
@@ -16,12 +16,12 @@ entered_by (act.Entered user window ∷ acts) = Some (user, window)
 entered_by (_ ∷ acts) = entered_by acts
 
 -- whether a step is a client's own: it attached then, or gave keys
-abbrev pub is_own_step : Happening → Reply → ℕ → Bool
+abbrev pub is_own_step : EventValue → Reply → ℕ → Bool
 is_own_step (Attach user rows columns) (Ok done) client = done.made == client
 is_own_step (Keys at bytes) reply client = at == client
 is_own_step event reply client = false
 
-abbrev pub entered_in : Happening → Reply → List Act → ℕ → Option (UserId × ℕ)
+abbrev pub entered_in : EventValue → Reply → List Act → ℕ → Option (UserId × ℕ)
 entered_in event reply acts client =
     if is_own_step event reply client then entered_by acts else None
 

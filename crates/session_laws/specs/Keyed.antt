@@ -9,7 +9,7 @@ use Rattle.session_model.specs.declared.event.Effect.TheVariants.{Say}
 use Rattle.session_model.specs.declared.message.Message.TheVariants.{Text}
 use Rattle.session_model.specs.declared.refusal.Refusal.{Refusal}
 use Rattle.session_model.specs.declared.refusal.Refusal.TheVariants.{Line}
-use Rattle.session_model.specs.Trace.{Happening, Keys, Entry}
+use Rattle.session_model.specs.Trace.{EventValue, Keys, Entry}
 use Rattle.session_model.specs.Tables.{Client, Tables, client_at, with_client}
 use Rattle.session_model.specs.Texts.{text_of}
 use Rattle.session_model.specs.Lines.{read_line}
@@ -95,7 +95,7 @@ pub record KeysAreAnswered (t : Tables) (e : Entry) (c : Client) (bytes : List �
       (ruling (typing t c bytes).tables g.caller g.order).answer) (commands_of t e.event)
   pub no_command : IsNoCommand t e c (typing t c bytes) (command_item (step_items c bytes))
 
-abbrev pub KeysDidTheirRow : Tables → Entry → Happening → Type 0
+abbrev pub KeysDidTheirRow : Tables → Entry → EventValue → Type 0
 KeysDidTheirRow t e (Keys client bytes) =
     (c : Client) → client_at t client ≡ Some c → KeysAreAnswered t e c bytes
 KeysDidTheirRow t e _ = Unit {0}

@@ -8,7 +8,7 @@ use Rattle.session_model.specs.declared.event.Effect.TheVariants.{Say}
 use Rattle.session_model.specs.declared.event.Done.{Done}
 use Rattle.session_model.specs.declared.refusal.Refusal.{Refusal}
 use Rattle.session_model.specs.declared.refusal.Refusal.TheVariants.{UnknownUser, Line}
-use Rattle.session_model.specs.Trace.{Happening, Command, Reply, Entry, Trace}
+use Rattle.session_model.specs.Trace.{EventValue, Command, Reply, Entry, Trace}
 use Rattle.session_model.specs.Tables.{Tables, is_known}
 use Rattle.session_model.specs.Lines.{read_line, line_caller}
 use Rattle.session_model.specs.Deeds.{Deed}
@@ -76,7 +76,7 @@ pub record DidItsRow (t : Tables) (e : Entry) (done : Done) (g : Given) : Type 0
   pub lists : done.text ≡ deed.lists
   pub tables : after t e ≡ record deed.tables { acts = followed_by t.acts e.acts }
 
-abbrev pub LineDidItsRow : Tables → Entry → Happening → Reply → Type 0
+abbrev pub LineDidItsRow : Tables → Entry → EventValue → Reply → Type 0
 LineDidItsRow t e (Command user number line) (Ok done) =
     SomeOf (DidItsRow t e done) (commands_of t (Command user number line))
 LineDidItsRow t e _ _ = Unit {0}
@@ -98,7 +98,7 @@ why_refused t user number line =
       | Ok order ↦ refusal_in (ruling t (line_caller t user number) order).answer
     ] else Some UnknownUser
 
-abbrev pub IsRefusedSo : Tables → Entry → Happening → Type 0
+abbrev pub IsRefusedSo : Tables → Entry → EventValue → Type 0
 IsRefusedSo t e (Command user number line) =
     refusal_in e.reply ≡ why_refused t user number line
 IsRefusedSo t e event = Unit {0}

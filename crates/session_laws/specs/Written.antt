@@ -8,7 +8,7 @@ use Rattle.terminal_model.specs.Writing.{Writing}
 use Rattle.terminal_model.specs.Writing as written
 use Rattle.session_model.specs.declared.event.Effect.{Effect}
 use Rattle.session_model.specs.declared.event.Effect.TheVariants.{Size}
-use Rattle.session_model.specs.Trace.{Happening, Output, Reply, Entry, Trace}
+use Rattle.session_model.specs.Trace.{EventValue, Output, Reply, Entry, Trace}
 use Rattle.session_model.specs.Tables.{Window, Tables, fresh, window_at}
 use Rattle.session_model.specs.Checks.{checks, first_fault}
 use Rattle.session_model.specs.Commands.{coding_of}
@@ -16,7 +16,7 @@ use Rattle.session_model.specs.Given.{Given, commands_of}
 use Rattle.session_model.specs.Run.{IsRun, tables_from, tables_of}
 
 -- output of its program
-abbrev pub output_to : Happening → Reply → ℕ → List Writing
+abbrev pub output_to : EventValue → Reply → ℕ → List Writing
 output_to (Output at bytes) (Ok done) window =
     if at == window then written.Output bytes ∷ [] else []
 output_to event reply window = []
@@ -46,7 +46,7 @@ sizes_of (Size at rows columns ∷ effects) window =
 sizes_of (_ ∷ effects) window = sizes_of effects window
 
 -- what a step wrote, by the tables before it, and all steps
-abbrev pub step_writing : Tables → Happening → Reply → List Effect → ℕ → List Writing
+abbrev pub step_writing : Tables → EventValue → Reply → List Effect → ℕ → List Writing
 step_writing t event reply effects window =
     output_to event reply window
     ++ (flat_map (given_writing t window) (commands_of t event) ++ sizes_of effects window)

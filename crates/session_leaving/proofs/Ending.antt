@@ -30,7 +30,7 @@ use Rattle.windows.specs.declared.window.Window.{Window}
 use Rattle.windows.specs.Standing.{StandFor, closed, without}
 use Rattle.session_clients.specs.declared.client.Client.{Client}
 use Rattle.session_clients.specs.Stands.{AreClients, Keeps, ChangesAll}
-use Rattle.session_state.specs.declared.made.Made.{Made}
+use Rattle.session_state.specs.declared.step_output.StepOutput.{StepOutput}
 use Rattle.session_state.specs.declared.state.State.{State}
 use Rattle.session_state.specs.Stands.{Stands}
 use Rattle.session_model.specs.Sound.{AreFit}
@@ -94,7 +94,7 @@ module _ (t : Tables) (why : Reason) (window : ℕ) where
       given_none (window_at t window) NoWindow (λ w. Ok (closes (λ v. v.serial == window) why t)) missing.0 ∙ ap (λ e. Err e) missing.1
 
   -- it is closed
-  pub closing_done : (s : State) (acl : Table) (locks : Locks) (windows : List Window) (clients : List Client) (before after : Made) → Stands t s → AreFit t
+  pub closing_done : (s : State) (acl : Table) (locks : Locks) (windows : List Window) (clients : List Client) (before after : StepOutput) → Stands t s → AreFit t
       → ((edition : Edition) (owner : UserId) (h : History) → StandsFor s.acl edition owner h → StandsFor acl edition owner (Closed window ∷ h))
       → ((edition : Edition) (owner : UserId) (h : History) → LocksStandFor s.locks edition owner h → LocksStandFor locks edition owner (Closed window ∷ h))
       → ChangesAll (without_window window) s.clients clients
@@ -191,7 +191,7 @@ module _ (t : Tables) (ws : List Window) (cs : List Client) (windows : StandFor 
       ∙ ap (λ xs. map (λ (m : model.Window). GoneWindow m.serial reason.Quit) closed_in ++ xs)
       (gone_are All t.clients cs clients reason.Quit ∙ clients_are (λ n. GoneClient n reason.Quit))
 
-pub quit_done : (t : Tables) (s : State) (ws : List Window) (cs : List Client) (acl : Table) (mid locks : Locks) (windows : List Window) (clients : List Client) (before after : Made)
+pub quit_done : (t : Tables) (s : State) (ws : List Window) (cs : List Client) (acl : Table) (mid locks : Locks) (windows : List Window) (clients : List Client) (before after : StepOutput)
     → ws ≡ s.windows → cs ≡ s.clients → Stands t s → AreFit t
     → ((edition : Edition) (owner : UserId) (h : History) → StandsFor s.acl edition owner h → StandsFor acl edition owner (followed_by h (closed_acts ws)))
     → ((edition : Edition) (owner : UserId) (h : History) → LocksStandFor s.locks edition owner h → LocksStandFor mid edition owner (followed_by h (closed_acts ws)))
@@ -225,7 +225,7 @@ quit_done t s ws cs acl mid locks windows clients before after same alike st fit
 
 -- ---- a user who is gone
 
-pub removed : (t : Tables) (user : UserId) (s : State) (cs : List Client) (acl : Table) (mid locks : Locks) (clients : List Client) (noted : List Act) (before after : Made)
+pub removed : (t : Tables) (user : UserId) (s : State) (cs : List Client) (acl : Table) (mid locks : Locks) (clients : List Client) (noted : List Act) (before after : StepOutput)
     → cs ≡ s.clients → Stands t s → AreFit t → TellsLocks (Of user) cs s.locks mid
     → noted ≡ before.acts.items ++ parted_now (Of user) cs
     → Does s.acl acl noted after.acts.items (λ edition owner h. LocksStandFor mid edition owner h) (λ edition owner h. LocksStandFor locks edition owner h) (λ owner h. Gone user ∷ [])

@@ -15,7 +15,7 @@ use Rattle.session_model.specs.Tables.{Tables}
 use Rattle.session_model.specs.Sound.{Rises, client_serials}
 use Rattle.session_model.specs.Deeds.{parts}
 use Rattle.session_clients.specs.declared.client.Client.{Client}
-use Rattle.session_state.specs.declared.made.Made.{Made}
+use Rattle.session_state.specs.declared.step_output.StepOutput.{StepOutput}
 use Rattle.session_state.specs.declared.state.State.{State}
 use Rattle.session_state.specs.Stands.{Stands}
 use Rattle.session_state.specs.Doing.{HasDone}
@@ -72,6 +72,6 @@ pub record AreAttached (t : Tables) : Type 0 where
       clients_of t.acts ≡ reverse (map (λ (c : model.Client). (c.serial, c.user)) t.clients)
 
 -- those who go have gone, whichever tables the state stood for
-abbrev pub Goes : Going → Reason → State → State → Made → Made → Type 0
+abbrev pub Goes : Going → Reason → State → State → StepOutput → StepOutput → Type 0
 Goes g why old new before after =
     (t : Tables) → Stands t old → AreAttached t → HasDone t (parts (goes g) why t) new before after

@@ -12,7 +12,7 @@ use Rattle.session_model.specs.Deeds.{Deed}
 use Rattle.session_model.specs.Events.{left_acts, finished, done}
 use Rattle.session_clients.specs.declared.client.Client.{Client}
 use Rattle.session_clients.specs.Moves.{in_focus}
-use Rattle.session_state.specs.declared.made.Made.{Made}
+use Rattle.session_state.specs.declared.step_output.StepOutput.{StepOutput}
 use Rattle.session_state.specs.declared.state.State.{State}
 use Rattle.session_state.specs.Stands.{Stands}
 use Rattle.session_state.specs.Doing.{did}
@@ -64,13 +64,13 @@ abbrev pub ended : Tables → Deed → Tables
 ended t d = (finished t [] done d).tables
 
 -- the state stands for them, and just the acts of those who left stand behind those before
-pub record HasLeft (t : Tables) (d : Deed) (new : State) (before after : Made) : Type 0 where
+pub record HasLeft (t : Tables) (d : Deed) (new : State) (before after : StepOutput) : Type 0 where
   pub stands : Stands (ended t d) new
   pub acts : after.acts.items ≡ before.acts.items ++ left_acts t.clients d.tables.clients
   pub effects : after.effects.items ≡ before.effects.items
 
 -- whichever deed was done, from whichever tables had these focuses
-abbrev pub Leaves : List Focus → State → State → Made → Made → Type 0
+abbrev pub Leaves : List Focus → State → State → StepOutput → StepOutput → Type 0
 Leaves focuses old new before after =
     (t : Tables) (d : Deed) → focuses ≡ focuses_of t.clients → Stands (did t d) old
     → HasLeft t d new before after

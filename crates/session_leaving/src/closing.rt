@@ -12,7 +12,7 @@ ghost use Rattle.session_leaving.specs.Settling.{Settles};
 
 use acl::{Acl, Act, UserId};
 use session_model::{Effect, Reason, Refusal};
-use session_state::{Made, State};
+use session_state::{State, StepOutput};
 use std::alloc::{AllocError, Global};
 use windows::Window;
 use writelock::Locks;
@@ -58,7 +58,7 @@ pub(crate) fn close(
     state: &mut State,
     window: u32,
     why: Reason,
-    made: &mut Made,
+    made: &mut StepOutput,
 ) -> Result<(), Refusal>
     ensures answer { Settles (closing window why) state.old result state.new made.old made.new }
     ensures err { OnErr result (IsAsBefore state.old state.new made.old made.new) }

@@ -11,10 +11,10 @@ use crate::closing::{close, gone_windows, note_closed};
 use crate::going::{Going, go, gone_clients, note_parted};
 use acl::{AclFault, UserId};
 use session_model::{Bytes, Reason, Refusal};
-use session_state::{Caller, Made, State};
+use session_state::{Caller, State, StepOutput};
 
 /// A client goes.
-pub fn detach_client(state: &mut State, client: u32, made: &mut Made) -> Result<(), Refusal>
+pub fn detach_client(state: &mut State, client: u32, made: &mut StepOutput) -> Result<(), Refusal>
     ensures answer { Settles (detaching client) state.old result state.new made.old made.new }
     ensures err { OnErr result (IsAsBefore state.old state.new made.old made.new) }
     ensures room { OnOk result (HasRoom 64 made.new) }
@@ -27,7 +27,7 @@ pub fn detach_client(state: &mut State, client: u32, made: &mut Made) -> Result<
 }
 
 /// A window's program ended.
-pub fn close_window(state: &mut State, window: u32, made: &mut Made) -> Result<(), Refusal>
+pub fn close_window(state: &mut State, window: u32, made: &mut StepOutput) -> Result<(), Refusal>
     ensures answer { Settles (closing window reason.Detached) state.old result state.new
         made.old made.new }
     ensures err { OnErr result (IsAsBefore state.old state.new made.old made.new) }
@@ -37,7 +37,11 @@ pub fn close_window(state: &mut State, window: u32, made: &mut Made) -> Result<(
 }
 
 /// `detach`: the client that asks goes.
-pub fn detach(state: &mut State, caller: Caller, made: &mut Made) -> Result<Option<Bytes>, Refusal>
+pub fn detach(
+    state: &mut State,
+    caller: Caller,
+    made: &mut StepOutput,
+) -> Result<Option<Bytes>, Refusal>
     ensures answer { Does caller command.Detach state.old result state.new made.old made.new }
     ensures silent { IfOk result (λ lists. lists ≡ None) }
     ensures err { OnErr result (IsAsBefore state.old state.new made.old made.new) }
@@ -51,7 +55,11 @@ pub fn detach(state: &mut State, caller: Caller, made: &mut Made) -> Result<Opti
 }
 
 /// `kill`: the window is closed.
-pub fn kill(state: &mut State, caller: Caller, made: &mut Made) -> Result<Option<Bytes>, Refusal>
+pub fn kill(
+    state: &mut State,
+    caller: Caller,
+    made: &mut StepOutput,
+) -> Result<Option<Bytes>, Refusal>
     ensures answer { Does caller command.Kill state.old result state.new made.old made.new }
     ensures silent { IfOk result (λ lists. lists ≡ None) }
     ensures err { OnErr result (IsAsBefore state.old state.new made.old made.new) }
@@ -65,7 +73,11 @@ pub fn kill(state: &mut State, caller: Caller, made: &mut Made) -> Result<Option
 }
 
 /// `quit`: all windows are closed, and all clients go.
-pub fn quit(state: &mut State, caller: Caller, made: &mut Made) -> Result<Option<Bytes>, Refusal>
+pub fn quit(
+    state: &mut State,
+    caller: Caller,
+    made: &mut StepOutput,
+) -> Result<Option<Bytes>, Refusal>
     ensures answer { Does caller command.Quit state.old result state.new made.old made.new }
     ensures silent { IfOk result (λ lists. lists ≡ None) }
     ensures err { OnErr result (IsAsBefore state.old state.new made.old made.new) }
@@ -91,7 +103,7 @@ pub fn multiuser(
     state: &mut State,
     caller: Caller,
     is_on: bool,
-    made: &mut Made,
+    made: &mut StepOutput,
 ) -> Result<Option<Bytes>, Refusal>
     ensures answer { Does caller (command.Multiuser is_on) state.old result state.new
         made.old made.new }
@@ -126,7 +138,7 @@ pub fn acldel(
     state: &mut State,
     caller: Caller,
     word: &str,
-    made: &mut Made,
+    made: &mut StepOutput,
 ) -> Result<Option<Bytes>, Refusal>
     ensures answer { Does caller (command.Acldel word.now) state.old result state.new
         made.old made.new }

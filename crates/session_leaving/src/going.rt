@@ -18,7 +18,7 @@ ghost use Rattle.session_leaving.specs.Going.{last_of, Goes};
 use acl::{Act, UserId};
 use session_clients::{Client, Clients};
 use session_model::{Effect, Reason};
-use session_state::{Made, State};
+use session_state::{State, StepOutput};
 use std::alloc::{AllocError, Global};
 use writelock::Locks;
 
@@ -136,7 +136,7 @@ pub(crate) fn go(
     state: &mut State,
     going: Going,
     why: Reason,
-    made: &mut Made,
+    made: &mut StepOutput,
 ) -> Result<(), AllocError>
     ensures done { OnOk result (Goes going why state.old state.new made.old made.new) }
     ensures err { OnErr result (IsAsBefore state.old state.new made.old made.new) }

@@ -12,7 +12,7 @@ ghost use Rattle.session_leaving.specs.Leaving.{Leaves, all_left, left_window, l
 use crate::focuses::{Focus, Focuses};
 use acl::{Act, UserId};
 use session_clients::Client;
-use session_state::{Made, State};
+use session_state::{State, StepOutput};
 use writelock::Locks;
 
 /// Whether it is this window.
@@ -88,7 +88,7 @@ fn note_left(before: &[Focus], clients: &[Client], locks: &mut Locks, acts: &mut
 
 /// Ends a step: whoever had a window in focus before it, by a client of his, and has it no more,
 /// has left it. These acts are noted, and the locks are told.
-pub fn leave(state: &mut State, before: &Focuses, made: &mut Made)
+pub fn leave(state: &mut State, before: &Focuses, made: &mut StepOutput)
     requires { HasRoom 64 made.old }
     ensures { Leaves before.now state.old state.new made.old made.new }
 {

@@ -11,7 +11,7 @@ use Rattle.std.proofs.lemmas.Bool.Decides.{nat_tests}
 use Rattle.std.proofs.lemmas.Fmt.{digits_decimal, digits_value-decimal, length-decimal-le, decimal_nonempty}
 use Rattle.acl.specs.declared.user_id.UserId.{UserId}
 use Rattle.acl.specs.Names.{is_name_byte, is_name, name_of}
-use Rattle.session_model.specs.Trace.{Happening, Attach, Detach, Keys, Command, Resize, Open, Output, Closed, Draw}
+use Rattle.session_model.specs.Trace.{EventValue, Attach, Detach, Keys, Command, Resize, Open, Output, Closed, Draw}
 use Rattle.session_lines.specs.declared.kind.Kind.{Kind}
 use Rattle.session_lines.specs.declared.kind.Kind.TheVariants as kind
 use Rattle.session_lines.specs.Fields.{is_blank, fields, is_number, number_of, window_of, if_utf8, title_of}
@@ -125,13 +125,13 @@ of_kind k rest =
 
 -- ---- events
 
-serial_line : (k : Kind) (make : ℕ → Happening) (n : ℕ) → IsNumber n → ((rest : List ℕ) → event_in k rest ≡ option_map make (number_of rest))
+serial_line : (k : Kind) (make : ℕ → EventValue) (n : ℕ) → IsNumber n → ((rest : List ℕ) → event_in k rest ≡ option_map make (number_of rest))
     → event_of (word_of k ++ 0x20 ∷ (decimal n ++ [])) ≡ Some (make n)
 serial_line k make n small row =
     of_kind k (decimal n ++ []) ∙ row (decimal n ++ [])
     ∙ ap (λ word. option_map make (number_of word)) (append-nil (decimal n)) ∙ ap (option_map make) (number_again n small)
 
-bytes_line : (k : Kind) (make : ℕ → List ℕ → Happening) (n : ℕ) (bytes : List ℕ) → IsNumber n → IsText bytes
+bytes_line : (k : Kind) (make : ℕ → List ℕ → EventValue) (n : ℕ) (bytes : List ℕ) → IsNumber n → IsText bytes
     → ((rest : List ℕ) → event_in k rest ≡ option_map (λ p. make p.0 p.1) (bytes_in (fields 1 rest)))
     → event_of (word_of k ++ 0x20 ∷ (decimal n ++ 0x20 ∷ (escaped bytes ++ []))) ≡ Some (make n bytes)
 bytes_line k make n bytes small text row =

@@ -17,7 +17,7 @@ use Rattle.session_model.specs.declared.event.Reason.{Reason}
 use Rattle.session_model.specs.declared.event.Reason.TheVariants as reason
 use Rattle.session_model.specs.declared.event.Done.{Done}
 use Rattle.session_model.specs.Texts.{text_of}
-use Rattle.session_model.specs.Trace.{Happening, Attach, Open, Reply}
+use Rattle.session_model.specs.Trace.{EventValue, Attach, Open, Reply}
 
 -- ---- texts
 
@@ -73,13 +73,13 @@ abbrev pub text_line : Option (List ℕ) → List ℕ
 text_line None = line (codes "ok")
 text_line (Some text) = line (codes "text " ++ escaped text)
 
-abbrev pub done_line : Happening → Done → List ℕ
+abbrev pub done_line : EventValue → Done → List ℕ
 done_line (Attach user rows columns) done = line (codes "attached " ++ decimal done.made)
 done_line (Open user rows columns keep title) done =
     line (codes "opened " ++ decimal done.made ++ codes " " ++ decimal done.number)
 done_line _ done = text_line done.text
 
-abbrev pub reply_line : Happening → Reply → List ℕ
+abbrev pub reply_line : EventValue → Reply → List ℕ
 reply_line event (Ok done) = done_line event done
 reply_line event (Err refusal) = line (codes "refused " ++ escaped (text_of refusal))
 

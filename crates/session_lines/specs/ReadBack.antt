@@ -7,7 +7,7 @@ use Rattle.std.specs.Str.{is_utf8}
 use Rattle.acl.specs.declared.user_id.UserId.{UserId}
 use Rattle.acl.specs.Names.{name_of, named_by}
 use Rattle.session_model.specs.Texts.{separated}
-use Rattle.session_model.specs.Trace.{Happening, Attach, Detach, Keys, Command, Resize}
+use Rattle.session_model.specs.Trace.{EventValue, Attach, Detach, Keys, Command, Resize}
 use Rattle.session_model.specs.Trace.{Open, Output, Closed, Draw}
 use Rattle.session_lines.specs.declared.kind.Kind.TheVariants as kind
 use Rattle.session_lines.specs.Printed.{escaped}
@@ -30,7 +30,7 @@ abbrev pub window_field : Option ℕ → List ℕ
 window_field None = codes "-"
 window_field (Some number) = decimal number
 
-abbrev pub fields_of : Happening → List (List ℕ)
+abbrev pub fields_of : EventValue → List (List ℕ)
 fields_of (Attach user rows columns) =
     word_of kind.Attach ∷ name_of user ∷ decimal rows ∷ decimal columns ∷ []
 fields_of (Detach client) = word_of kind.Detach ∷ decimal client ∷ []
@@ -47,7 +47,7 @@ fields_of (Closed window) = word_of kind.Closed ∷ decimal window ∷ []
 fields_of (Draw client) = word_of kind.Draw ∷ decimal client ∷ []
 
 -- the line of an event
-abbrev pub event_line : Happening → List ℕ
+abbrev pub event_line : EventValue → List ℕ
 event_line event = separated (codes " ") (fields_of event)
 
 -- a user whom his name names
@@ -63,7 +63,7 @@ IsWindow None = Unit {0}
 IsWindow (Some number) = number < 256
 
 -- an event that a line can say
-abbrev pub IsSayable : Happening → Type 0
+abbrev pub IsSayable : EventValue → Type 0
 IsSayable (Attach user rows columns) = IsNamed user × IsNumber rows × IsNumber columns
 IsSayable (Detach client) = IsNumber client
 IsSayable (Keys client bytes) = IsNumber client × IsText bytes
@@ -78,4 +78,4 @@ IsSayable (Draw client) = IsNumber client
 
 -- the line of an event is read as this event
 abbrev pub ReadsEvents : Type 0
-ReadsEvents = (event : Happening) → IsSayable event → event_of (event_line event) ≡ Some event
+ReadsEvents = (event : EventValue) → IsSayable event → event_of (event_line event) ≡ Some event

@@ -17,14 +17,14 @@ use Rattle.session_model.specs.declared.refusal.Refusal.TheVariants.{NoMemory, A
 use Rattle.session_model.specs.declared.refusal.WindowsFault.TheVariants.{NoSuchWindow}
 use Rattle.session_model.specs.Tables.{Tables, known_users}
 use Rattle.session_model.specs.Deeds.{Deed, Answer, acting, changes, unless, given}
-use Rattle.session_state.specs.declared.made.Made.{Made}
+use Rattle.session_state.specs.declared.step_output.StepOutput.{StepOutput}
 use Rattle.session_state.specs.declared.state.State.{State}
 use Rattle.session_state.specs.Stands.{Stands}
 use Rattle.session_state.specs.Doing.{Answers}
 use Rattle.session_lists.specs.Asked.{answered, NamesNothing}
 
 -- a list command was answered as its row says, where a fault refuses it, and else it acts
-pub acted : {X : Type 0} (t : Tables) (acts : List Act) (old : State) (lists : Table) (locks : Locks) (before after : Made) (answer : Answer) (fault : Option AclFault) (done : Result X AclFault) (result : Result (Option (List ℕ)) Refusal)
+pub acted : {X : Type 0} (t : Tables) (acts : List Act) (old : State) (lists : Table) (locks : Locks) (before after : StepOutput) (answer : Answer) (fault : Option AclFault) (done : Result X AclFault) (result : Result (Option (List ℕ)) Refusal)
     → result ≡ answered done → Stands t old
     → (fault ≡ None → answer ≡ Ok (acting t acts)) → ((f : AclFault) → fault ≡ Some f → answer ≡ Err (Acl f))
     → acl.Answers done fault

@@ -11,7 +11,7 @@ use crate::objects::{every_object, objects_of};
 use acl::AclFault;
 use command_lang::{BitList, Leader, Masks, Text, Texts, Users};
 use session_model::{Bytes, Refusal};
-use session_state::{Caller, Made, State};
+use session_state::{Caller, State, StepOutput};
 
 /// So many acts may follow those of a command in its step: users who leave windows.
 const ROOM: usize = 64;
@@ -32,7 +32,7 @@ pub fn acladd(
     state: &mut State,
     caller: Caller,
     users: &Users,
-    made: &mut Made,
+    made: &mut StepOutput,
 ) -> Result<Option<Bytes>, Refusal>
     ensures answer { Does caller (command.Acladd users.now)
         state.old result state.new made.old made.new }
@@ -54,7 +54,7 @@ pub fn aclchg(
     users: &Users,
     bits: &BitList,
     list: &Texts,
-    made: &mut Made,
+    made: &mut StepOutput,
 ) -> Result<Option<Bytes>, Refusal>
     ensures answer { Does caller (command.Aclchg users.now bits.now list.now)
         state.old result state.new made.old made.new }
@@ -81,7 +81,7 @@ pub fn aclgrp(
     caller: Caller,
     name: &Text,
     leader: &Leader,
-    made: &mut Made,
+    made: &mut StepOutput,
 ) -> Result<Option<Bytes>, Refusal>
     ensures answer { Does caller (command.Aclgrp name.now (Some leader.now))
         state.old result state.new made.old made.new }
@@ -102,7 +102,7 @@ pub fn aclumask(
     state: &mut State,
     caller: Caller,
     masks: &Masks,
-    made: &mut Made,
+    made: &mut StepOutput,
 ) -> Result<Option<Bytes>, Refusal>
     ensures answer { Does caller (command.Aclumask masks.now)
         state.old result state.new made.old made.new }

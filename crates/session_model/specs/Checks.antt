@@ -12,7 +12,7 @@ use Rattle.command_lang.specs.Names.{name_of}
 use Rattle.session_model.specs.declared.check.Check.{Check}
 use Rattle.session_model.specs.declared.check.Check.TheVariants.{Right as right}
 use Rattle.session_model.specs.declared.check.Check.TheVariants.{Unlocked as unlocked, Must as must}
-use Rattle.session_model.specs.declared.needs.Needs.{Needs}
+use Rattle.command_lang.specs.needs.Needs.{Needs}
 use Rattle.session_model.specs.declared.refusal.Refusal.{Refusal}
 use Rattle.session_model.specs.declared.refusal.Refusal.TheVariants.{NotMultiuser, NoWindow}
 use Rattle.session_model.specs.declared.verdict.Verdict.{Verdict}
@@ -21,7 +21,7 @@ use Rattle.session_model.specs.Tables.{Window, Tables}
 use Rattle.session_model.specs.Rights.{may_in, holder_in}
 use Rattle.session_model.specs.Denials.{entry_denial, lock_denial}
 use Rattle.session_model.specs.Lines.{Caller}
-use Rattle.session_model.specs.Needs.{needs}
+use Rattle.command_lang.specs.Needs.{needs}
 
 -- whether a check passes
 abbrev pub passes : Tables → Check → Bool

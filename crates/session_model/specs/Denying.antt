@@ -23,7 +23,7 @@ use Rattle.session_model.specs.declared.refusal.EntryDenied.{EntryDenied as Entr
 use Rattle.session_model.specs.declared.refusal.LockDenied.{LockDenied as LockDenial}
 use Rattle.session_model.specs.declared.refusal.Refusal.{Refusal}
 use Rattle.session_model.specs.declared.refusal.Refusal.TheVariants.{EntryDenied, LockDenied}
-use Rattle.session_model.specs.Trace.{Happening, Keys, Open, Reply, Entry}
+use Rattle.session_model.specs.Trace.{EventValue, Keys, Open, Reply, Entry}
 use Rattle.session_model.specs.Tables.{Window, Tables, window_at}
 use Rattle.session_model.specs.Rights.{may_in, has_in, leaders_in, holder_in}
 use Rattle.session_model.specs.Texts.{text_of, windows_text, clients_text, group_text}
@@ -48,7 +48,7 @@ abbrev pub TypesOn : UserId → Bit → Object → Typed → Type 0
 TypesOn user bit o typed = (user ≡ typed.user) × (bit ≡ Write) × IsWindow typed.window o
 
 -- and Open for x on `screen`
-abbrev pub Asks : Tables → Happening → UserId → Bit → Object → Type 0
+abbrev pub Asks : Tables → EventValue → UserId → Bit → Object → Type 0
 Asks t (Open who rows columns keep title) user bit o =
     (user ≡ who) × (bit ≡ Execute) × (o ≡ object.Command Screen)
 Asks t event user bit o =
@@ -92,7 +92,7 @@ NamesTruly t asks (LockDenied d) =
     MatchOption (object_named t (denied.Window d.serial d.number)) ⊥ (IsLockHeld t asks d)
 NamesTruly t asks _ = Unit {0}
 
-abbrev pub ReplyNamesTruly : Tables → Happening → Reply → Type 0
+abbrev pub ReplyNamesTruly : Tables → EventValue → Reply → Type 0
 ReplyNamesTruly t event (Err r) = NamesTruly t (Asks t event) r
 ReplyNamesTruly t event (Ok done) = Unit {0}
 
@@ -118,15 +118,15 @@ told_by t g _ = None
 abbrev pub TellsByRight : Tables → List ℕ → Given → Type 0
 TellsByRight t said g = (has_x t g ≡ true) × (told_by t g g.order ≡ Some said)
 
-abbrev pub AreKeysOf : ℕ → Happening → Type 0
+abbrev pub AreKeysOf : ℕ → EventValue → Type 0
 AreKeysOf to (Keys client bytes) = to ≡ client
 AreKeysOf to _ = ⊥
 
-abbrev pub IsTrueRefusal : Tables → Happening → List ℕ → Refusal → Type 0
+abbrev pub IsTrueRefusal : Tables → EventValue → List ℕ → Refusal → Type 0
 IsTrueRefusal t event said r = (said ≡ text_of r) × NamesTruly t (Asks t event) r
 
 -- a refusal that names truly, to the client of the keys; or what a command tells
-abbrev pub IsTrueSay : Tables → Happening → Effect → Type 0
+abbrev pub IsTrueSay : Tables → EventValue → Effect → Type 0
 IsTrueSay t event (Say to said) =
     (AreKeysOf to event × ((r : Refusal) × IsTrueRefusal t event said r))
     ⊎ SomeOf (TellsByRight t said) (commands_of t event)

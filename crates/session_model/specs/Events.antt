@@ -1,5 +1,5 @@
 -- What each event does: one case for each kind.
-use Rattle.std.specs.Prelude.{ℕ, ◌+◌, ◌^◌, ◌==◌, Bool, false, not, ◌&&◌, ◌||◌, nat_lt, nat_le}
+use Rattle.std.specs.Prelude.{ℕ, ◌+◌, ◌==◌, Bool, false, not, ◌&&◌, ◌||◌, nat_lt, nat_le}
 use Rattle.std.specs.Prelude.{List, [], ◌∷◌, ◌++◌, Option, Some, None, Result, Ok, Err}
 use Rattle.std.specs.Prelude.{if◌then◌else◌, filter, length, take, unwrap_or}
 use Rattle.std.specs.List.{list_any}
@@ -11,6 +11,7 @@ use Rattle.acl.specs.declared.bits.Bit.TheVariants.{Execute}
 use Rattle.acl.specs.declared.act.Object.TheVariants as object
 use Rattle.acl.specs.declared.act.Act.{Act}
 use Rattle.acl.specs.declared.act.Act.TheVariants as act
+use Rattle.acl.specs.limits.TheConstants.{WINDOWS}
 use Rattle.acl.specs.Same.{same_user}
 use Rattle.acl.specs.History.{followed_by}
 use Rattle.command_lang.specs.command.Command.{Command as Order}
@@ -34,7 +35,8 @@ use Rattle.session_model.specs.declared.refusal.Refusal.TheVariants.{NoWindow, T
 use Rattle.session_model.specs.declared.refusal.Refusal.TheVariants.{BadSize, Windows, Line}
 use Rattle.session_model.specs.declared.refusal.WindowsFault.TheVariants.{Full, BadTitle}
 use Rattle.session_model.specs.declared.verdict.Verdict.{Verdict}
-use Rattle.session_model.specs.Trace.{Happening, Attach, Detach, Keys, Command, Resize}
+use Rattle.session_model.specs.declared.limits.TheConstants.{CLIENTS, SERIALS}
+use Rattle.session_model.specs.Trace.{EventValue, Attach, Detach, Keys, Command, Resize}
 use Rattle.session_model.specs.Trace.{Open, Output, Closed, Draw, Reply}
 use Rattle.session_model.specs.Tables.{Window, Client, Tables, window_at, client_at, with_client}
 use Rattle.session_model.specs.Tables.{focused, focused_window, is_in_focus, seeing, is_known}
@@ -119,7 +121,7 @@ attach_checks t user rows columns =
     must (is_known t user) UnknownUser
     ∷ must (is_let_in t user) NotMultiuser
     ∷ must (is_client_size rows columns) BadSize
-    ∷ must (nat_lt (length t.clients) 64 && nat_lt t.next_client (2 ^ 32)) TooManyClients
+    ∷ must (nat_lt (length t.clients) CLIENTS && nat_lt t.next_client SERIALS) TooManyClients
     ∷ []
 
 -- a new client shows the window of the lowest number in one region
@@ -145,9 +147,9 @@ attaches t c =
     acting (record t { clients = t.clients ++ c ∷ []; next_client = t.next_client + 1 })
     (act.Attached c.serial c.user ∷ entering c.user (focused c))
 
--- there are fewer than 40 windows, and a number is free
+-- there is room for one more window, and a number is free
 abbrev pub has_place : List Window → Bool
-has_place windows = nat_lt (length windows) 40 && is_some (free_number windows)
+has_place windows = nat_lt (length windows) WINDOWS && is_some (free_number windows)
 
 abbrev pub open_checks : Tables → UserId → ℕ → ℕ → ℕ → List ℕ → List Check
 open_checks t user rows columns keep title =
@@ -155,7 +157,7 @@ open_checks t user rows columns keep title =
     ∷ right user Execute (object.Command Screen)
     ∷ must (is_let_in t user) NotMultiuser
     ∷ must (is_window_size rows columns keep) BadSize
-    ∷ must (has_place t.windows && nat_lt t.next_window (2 ^ 32)) (Windows Full)
+    ∷ must (has_place t.windows && nat_lt t.next_window SERIALS) (Windows Full)
     ∷ must (is_title title) (Windows BadTitle)
     ∷ []
 
@@ -313,7 +315,7 @@ with_window_of t window f =
     elim (window_at t window) [ None ↦ refused t [] NoWindow | Some w ↦ f w ]
 
 -- what a Draw delivers is the run's
-abbrev pub outcome : Tables → Happening → Outcome
+abbrev pub outcome : Tables → EventValue → Outcome
 outcome t (Attach user rows columns) =
     where_passed t (attach_checks t user rows columns) (reply_of 0 t.next_client 0 None)
     (attaches t (new_client t user rows columns))

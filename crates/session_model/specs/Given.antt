@@ -10,11 +10,11 @@ use Rattle.command_lang.specs.command.Command.{Command as Order}
 use Rattle.command_lang.specs.command.Command.TheVariants as command
 use Rattle.command_lang.specs.Names.{name_of}
 use Rattle.keys.specs.Grammar.{Item, bound, line}
-use Rattle.session_model.specs.Trace.{Happening, Keys, Command}
+use Rattle.session_model.specs.Trace.{EventValue, Keys, Command}
 use Rattle.session_model.specs.Tables.{Window, Client, Tables, client_at, focused_window, is_known}
 use Rattle.session_model.specs.Rights.{may_in}
 use Rattle.session_model.specs.Lines.{read_line, Caller, caller_of, line_caller}
-use Rattle.session_model.specs.Needs.{needs}
+use Rattle.command_lang.specs.Needs.{needs}
 use Rattle.session_model.specs.Keying.{step_items, typed_bytes, command_item}
 
 -- ---- commands
@@ -39,7 +39,7 @@ order_in (Some (line (b ∷ bytes))) = ok_of (read_line (b ∷ bytes))
 order_in _ = None
 
 -- a known user's Command, and the command that a step of keys completes
-abbrev pub commands_of : Tables → Happening → List Given
+abbrev pub commands_of : Tables → EventValue → List Given
 commands_of t (Command user number bytes) =
     if is_known t user then with_order (line_caller t user number) (ok_of (read_line bytes)) else []
 commands_of t (Keys client bytes) =
@@ -73,7 +73,7 @@ typed_by_client t c bytes = record {
   bytes = typed_bytes (step_items c bytes);
 }
 
-abbrev pub keys_typed : Tables → Happening → List Typed
+abbrev pub keys_typed : Tables → EventValue → List Typed
 keys_typed t (Keys client bytes) =
     option_map_or (λ c. typed_by_client t c bytes ∷ []) (client_at t client) []
 keys_typed t _ = []
@@ -85,5 +85,5 @@ stuffed t g (command.Stuff bytes) =
     then record { user = g.caller.user; window = g.caller.window; bytes = bytes } ∷ [] else []
 stuffed t g _ = []
 
-abbrev pub all_typed : Tables → Happening → List Typed
+abbrev pub all_typed : Tables → EventValue → List Typed
 all_typed t event = keys_typed t event ++ flat_map (λ g. stuffed t g g.order) (commands_of t event)

@@ -6,7 +6,6 @@ pub mod Naming
 pub mod Texts
 pub mod Denials
 pub mod Lines
-pub mod Needs
 pub mod Checks
 pub mod Deeds
 pub mod Commands

@@ -16,6 +16,7 @@ use Rattle.acl.specs.declared.entries.NewLeader.TheVariants as new_leader
 use Rattle.acl.specs.declared.entries.MaskEntry.{MaskEntry}
 use Rattle.acl.specs.declared.entries.MaskScope.{MaskScope}
 use Rattle.acl.specs.declared.entries.MaskScope.TheVariants as scope
+use Rattle.acl.specs.limits.TheConstants.{WINDOWS}
 use Rattle.acl.specs.Names.{named_by}
 use Rattle.command_lang.specs.command.Users.{Users}
 use Rattle.command_lang.specs.command.Users.TheVariants as users
@@ -68,9 +69,9 @@ window_before windows None = highest windows
 window_before windows (Some w) =
     option_or (highest (filter (λ v. nat_lt v.number w.number) windows)) (highest windows)
 
--- the lowest number from 0 to 39 that no window has
+-- the lowest number that no window has: there are as many as windows
 abbrev pub free_number : List Window → Option ℕ
-free_number windows = find (λ n. not (list_any (has_number n) windows)) (range_with_len 0 40)
+free_number windows = find (λ n. not (list_any (has_number n) windows)) (range_with_len 0 WINDOWS)
 
 -- a title has 1 to 40 characters, each of width 1 or 2 (UAX #11)
 abbrev pub is_one_or_two : Option ℕ → Bool

@@ -21,7 +21,7 @@ use Rattle.session_model.specs.declared.event.Reason.TheVariants as reason
 use Rattle.session_model.specs.declared.message.Message.TheVariants as message
 use Rattle.session_model.specs.declared.refusal.Refusal.{Refusal}
 use Rattle.session_model.specs.declared.refusal.Refusal.TheVariants.{EntryDenied, NoWindow}
-use Rattle.session_model.specs.Trace.{Happening, Detach, Keys, Command, Output, Closed, Draw}
+use Rattle.session_model.specs.Trace.{EventValue, Detach, Keys, Command, Output, Closed, Draw}
 use Rattle.session_model.specs.Trace.{Reply, Entry}
 use Rattle.session_model.specs.Tables.{Window, Client, Tables, window_at, client_at}
 use Rattle.session_model.specs.Tables.{focused_window}
@@ -55,7 +55,7 @@ reaching t window typed = elim typed.window [
 ]
 
 -- what a window's own terminal answers to its output
-abbrev pub reporting : Tables → Happening → ℕ → List ℕ
+abbrev pub reporting : Tables → EventValue → ℕ → List ℕ
 reporting t (Output at bytes) window =
     if at == window
     then option_map_or (λ w. (reads (terminal_of w) bytes).reports) (window_at t at) [] else []
@@ -89,7 +89,7 @@ why_not t typed = elim typed.window [
 ]
 
 -- keys are told by a message, and a Command by its reply
-abbrev pub IsToldOf : Entry → Happening → Refusal → Type 0
+abbrev pub IsToldOf : Entry → EventValue → Refusal → Type 0
 IsToldOf e (Keys client bytes) r = SomeOf (λ f. f ≡ Say client (text_of r)) e.effects
 IsToldOf e (Command user number bytes) r = e.reply ≡ Err r
 IsToldOf e _ r = ⊥
@@ -132,7 +132,7 @@ pub record OnlyRead (t u : Tables) : Type 0 where
 
 -- what a step may do for a command that it refuses: type what reaches its window, and tell the
 -- client that gave the keys
-abbrev pub is_answer_to : Happening → Effect → Bool
+abbrev pub is_answer_to : EventValue → Effect → Bool
 is_answer_to (Keys client bytes) (Input window typed) = true
 is_answer_to (Keys client bytes) (Say to said) = to == client
 is_answer_to _ _ = false
@@ -155,7 +155,7 @@ ChangesNothing t e u = is_ok e.reply ≡ false → (u ≡ t) × (e.acts ≡ []) 
 
 -- ---- draws
 
-abbrev pub DrawShowsOf : Tables → Entry → Happening → Type 0
+abbrev pub DrawShowsOf : Tables → Entry → EventValue → Type 0
 DrawShowsOf t e (Draw client) = MatchOption (client_at t client) (Unit {0}) (λ c.
     ShowsFromAny (c.delivered ++ deliveries e.effects client) c.rows c.columns (granted_view t c))
 DrawShowsOf t e _ = Unit {0}
@@ -228,7 +228,7 @@ IsByKeys t client (Input window typed) =
 IsByKeys t client (Say to said) = to ≡ client
 IsByKeys t client _ = ⊥
 
-abbrev pub IsEffectOf : Tables → Happening → Effect → Type 0
+abbrev pub IsEffectOf : Tables → EventValue → Effect → Type 0
 IsEffectOf t (Keys client bytes) f =
     IsByKeys t client f ⊎ SomeOf (IsDoneByRight t f) (commands_of t (Keys client bytes))
 IsEffectOf t (Command user number line) f =

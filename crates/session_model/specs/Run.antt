@@ -5,7 +5,7 @@ use Rattle.std.specs.Prelude.{if◌then◌else◌, MatchOption}
 use Rattle.terminal_model.specs.Shows.{View, ShowsFromAny}
 use Rattle.session_model.specs.declared.event.Effect.{Effect}
 use Rattle.session_model.specs.declared.event.Effect.TheVariants.{Deliver}
-use Rattle.session_model.specs.Trace.{Happening, Draw, Entry, Trace}
+use Rattle.session_model.specs.Trace.{EventValue, Draw, Entry, Trace}
 use Rattle.session_model.specs.Tables.{Client, Tables, fresh, client_at, with_client}
 use Rattle.session_model.specs.Events.{outcome}
 use Rattle.session_model.specs.Granted.{granted_view}
@@ -30,7 +30,7 @@ abbrev pub drawn_on : Option Client → List Effect → Tables → Tables
 drawn_on None effects t = t
 drawn_on (Some c) effects t = with_client t (with_drawn effects (granted_view t c) c)
 
-abbrev pub drawn : Happening → List Effect → Tables → Tables
+abbrev pub drawn : EventValue → List Effect → Tables → Tables
 drawn (Draw client) effects t = drawn_on (client_at t client) effects t
 drawn event effects t = t
 
@@ -61,7 +61,7 @@ pub record IsDraw (t : Tables) (effects : List Effect) (c : Client) : Type 0 whe
   pub shows :
       ShowsFromAny (c.delivered ++ deliveries effects c.serial) c.rows c.columns (granted_view t c)
 
-abbrev pub HasEffects : Tables → Happening → List Effect → Type 0
+abbrev pub HasEffects : Tables → EventValue → List Effect → Type 0
 HasEffects t (Draw client) effects =
     MatchOption (client_at t client) (effects ≡ []) (IsDraw t effects)
 HasEffects t event effects = effects ≡ (outcome t event).effects

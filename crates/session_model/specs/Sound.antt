@@ -3,8 +3,10 @@ use Rattle.std.specs.Prelude.{◌≡◌, ◌<◌, ◌≤◌, ℕ, List, [], ◌�
 use Rattle.std.specs.Prelude.{None, is_some, true}
 use Rattle.std.specs.List.{AllByRecursion}
 use Rattle.acl.specs.History.{is_open, open_count}
+use Rattle.acl.specs.limits.TheConstants.{WINDOWS}
 use Rattle.regions.specs.declared.shown.Shown.{Shown}
 use Rattle.writelock.specs.Holding.{clients_of}
+use Rattle.session_model.specs.declared.limits.TheConstants.{CLIENTS}
 use Rattle.session_model.specs.Tables.{Window, Client, Tables, window_at}
 use Rattle.session_model.specs.Naming.{with_number}
 
@@ -24,15 +26,15 @@ NumbersDiffer [] = Unit {0}
 NumbersDiffer (w ∷ windows) = (with_number windows w.number ≡ None) × NumbersDiffer windows
 
 -- Windows and clients rise by their serials, each of which was given; the numbers of windows
--- differ; and there are at most 40 windows and 64 clients.
+-- differ; and there are no more than a session may have.
 pub record AreSoundRows
     (windows : List Window) (clients : List Client) (next_window next_client : ℕ)
     : Type 0 where
   pub windows_rise : Rises (window_serials windows) next_window
   pub clients_rise : Rises (client_serials clients) next_client
   pub numbers : NumbersDiffer windows
-  pub few_windows : length windows ≤ 40
-  pub few_clients : length clients ≤ 64
+  pub few_windows : length windows ≤ WINDOWS
+  pub few_clients : length clients ≤ CLIENTS
 
 abbrev pub AreSound : Tables → Type 0
 AreSound t = AreSoundRows t.windows t.clients t.next_window t.next_client
@@ -54,10 +56,10 @@ IsOpen t (Some window) = is_some (window_at t window) ≡ true
 abbrev pub ShowsOpen : Tables → Client → Type 0
 ShowsOpen t c = AllByRecursion (λ (s : Shown). IsOpen t s.window) c.layout.shown
 
--- Tables as those of each run are: serials rise, numbers differ and are below 40, the acts agree
--- with the rows, and what is shown is open.
+-- Tables as those of each run are: serials rise, numbers differ and are below the limit of windows,
+-- the acts agree with the rows, and what is shown is open.
 pub record AreFit (t : Tables) : Type 0 where
   pub sound : AreSound t
   pub agree : ActsAgree t
-  pub numbered : AllByRecursion (λ (w : Window). w.number < 40) t.windows
+  pub numbered : AllByRecursion (λ (w : Window). w.number < WINDOWS) t.windows
   pub shown : AllByRecursion (ShowsOpen t) t.clients

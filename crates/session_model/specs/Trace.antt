@@ -11,18 +11,18 @@ use Rattle.session_model.specs.declared.verdict.Verdict.{Verdict}
 use Rattle.acl.specs.declared.edition.Edition.{Edition}
 
 -- an event, without the places that lent its bytes and texts
-pub data Happening : Type 0 where
-  Attach : (user : UserId) (rows columns : ℕ) → Happening
-  Detach : (client : ℕ) → Happening
-  Keys : (client : ℕ) (bytes : List ℕ) → Happening
-  Command : (user : UserId) (window : Option ℕ) (line : List ℕ) → Happening
-  Resize : (client rows columns : ℕ) → Happening
-  Open : (user : UserId) (rows columns keep : ℕ) (title : List ℕ) → Happening
-  Output : (window : ℕ) (bytes : List ℕ) → Happening
-  Closed : (window : ℕ) → Happening
-  Draw : (client : ℕ) → Happening
+pub data EventValue : Type 0 where
+  Attach : (user : UserId) (rows columns : ℕ) → EventValue
+  Detach : (client : ℕ) → EventValue
+  Keys : (client : ℕ) (bytes : List ℕ) → EventValue
+  Command : (user : UserId) (window : Option ℕ) (line : List ℕ) → EventValue
+  Resize : (client rows columns : ℕ) → EventValue
+  Open : (user : UserId) (rows columns keep : ℕ) (title : List ℕ) → EventValue
+  Output : (window : ℕ) (bytes : List ℕ) → EventValue
+  Closed : (window : ℕ) → EventValue
+  Draw : (client : ℕ) → EventValue
 
-abbrev pub happening : Event → Happening
+abbrev pub happening : Event → EventValue
 happening (event.Attach user rows cols) = Attach user rows cols
 happening (event.Detach client) = Detach client
 happening (event.Keys client bytes) = Keys client bytes.now
@@ -38,7 +38,7 @@ Reply = Result Done Refusal
 
 -- one step: its event, its reply, its acts and verdicts, and its effects
 pub record Entry : Type 0 where
-  pub event : Happening
+  pub event : EventValue
   pub reply : Reply
   pub acts : List Act
   pub verdicts : List Verdict

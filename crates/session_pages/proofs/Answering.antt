@@ -16,7 +16,7 @@ use Rattle.windows.specs.Standing.{WindowStands}
 use Rattle.session_clients.specs.declared.client.Client.{Client}
 use Rattle.session_clients.specs.Stands.{ClientStands}
 use Rattle.session_state.specs.declared.caller.Caller.{Caller}
-use Rattle.session_state.specs.declared.made.Made.{Made}
+use Rattle.session_state.specs.declared.step_output.StepOutput.{StepOutput}
 use Rattle.session_state.specs.declared.state.State.{State}
 use Rattle.session_state.specs.Stands.{Stands}
 use Rattle.session_model.specs.Sound.{AreFit}
@@ -75,12 +75,12 @@ module _ (t : Tables) (k : Caller) (c : Client) (m : model.Client) (by : Gives t
   pub on_giver : (f : model.Client → Answer) → on_client t (caller_in t k) f ≡ f m
   on_giver f = given_some (caller_client t (caller_in t k)) NoWindow f m by.is
 
-  pub done_on : (f : model.Client → Answer) (d : Deed) (new : State) (before after : Made) → f m ≡ Ok d → d.lists ≡ None → HasDone t d new before after
+  pub done_on : (f : model.Client → Answer) (d : Deed) (new : State) (before after : StepOutput) → f m ≡ Ok d → d.lists ≡ None → HasDone t d new before after
       → Answers t (on_client t (caller_in t k) f) (Ok None) new before after
   done_on f d new before after is quiet done = (d, on_giver f ∙ is, sym quiet, done)
 
   -- a window that was looked for, and is shown
-  pub shown_on : (find : model.Client → Option model.Window) (r : Refusal) (found : Option Window) (v : Window) (old new : State) (before after : Made)
+  pub shown_on : (find : model.Client → Option model.Window) (r : Refusal) (found : Option Window) (v : Window) (old new : State) (before after : StepOutput)
       → Stands t old → AreFit t → BothOrNone WindowStands (find m) found → found ≡ Some v → IfSome (find m) (StandsAt t.windows) → Selects c.serial v.serial old new before after
       → Answers t (on_client t (caller_in t k) (λ d. given (find d) r (λ w. Ok (selects t d w)))) (Ok None) new before after
   shown_on find r found v old new before after st fit both is there done =

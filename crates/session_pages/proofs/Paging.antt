@@ -12,7 +12,7 @@ use Rattle.session_rows.proofs.Serials.{serial_is, with_same}
 use Rattle.session_clients.specs.declared.client.Client.{Client}
 use Rattle.session_clients.specs.Stands.{ClientStands, AreClients, Changes}
 use Rattle.session_state.specs.declared.caller.Caller.{Caller}
-use Rattle.session_state.specs.declared.made.Made.{Made}
+use Rattle.session_state.specs.declared.step_output.StepOutput.{StepOutput}
 use Rattle.session_state.specs.declared.state.State.{State}
 use Rattle.session_state.specs.Stands.{Stands}
 use Rattle.session_state.specs.Doing.{HasDone, caller_in}
@@ -63,7 +63,7 @@ arranged_at t serial m l at =
     (with_same model_serial t.clients serial m (with_layout l m) at e)
 
 -- where nothing is made beside
-pub done_quietly : (t : Tables) (s : State) (clients : List Client) (serial : ℕ) (m : model.Client) (F : model.Client → Arrangement) (made : Made) → Stands t s → client_at t serial ≡ Some m
+pub done_quietly : (t : Tables) (s : State) (clients : List Client) (serial : ℕ) (m : model.Client) (F : model.Client → Arrangement) (made : StepOutput) → Stands t s → client_at t serial ≡ Some m
     → Changes (λ m. with_layout (F m) m) serial s.clients clients → HasDone t (arranges t m (F m)) (record s { clients = clients }) made made
 done_quietly t s clients serial m F made st at changes = record {
   stands = arranged t s clients serial m F st at changes;
@@ -76,7 +76,7 @@ still_open t m None is = tt
 still_open t m (Some w) is = is
 
 -- where its user enters the window in focus
-pub done_entering : (t : Tables) (s : State) (clients : List Client) (serial : ℕ) (m : model.Client) (F : model.Client → Arrangement) (new : State) (before after : Made) → Stands t s → client_at t serial ≡ Some m
+pub done_entering : (t : Tables) (s : State) (clients : List Client) (serial : ℕ) (m : model.Client) (F : model.Client → Arrangement) (new : State) (before after : StepOutput) → Stands t s → client_at t serial ≡ Some m
     → Changes (λ m. with_layout (F m) m) serial s.clients clients → EntersFocus serial (record s { clients = clients }) new before after → IsOpenThere t (focused (with_layout (F m) m)) → HasDone t (enters t m (F m)) new before after
 done_entering t s clients serial m F new before after st at changes enters there =
     let d : model.Client = with_layout (F m) m in

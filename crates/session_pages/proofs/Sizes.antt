@@ -24,7 +24,7 @@ use Rattle.windows.specs.Standing.{StandFor, Answered, serial, resized, resized_
 use Rattle.windows.proofs.Callers.{row_done, row_refused_as}
 use Rattle.session_clients.specs.declared.client.Client.{Client}
 use Rattle.session_state.specs.declared.caller.Caller.{Caller}
-use Rattle.session_state.specs.declared.made.Made.{Made}
+use Rattle.session_state.specs.declared.step_output.StepOutput.{StepOutput}
 use Rattle.session_state.specs.declared.state.State.{State}
 use Rattle.session_state.specs.Stands.{Stands}
 use Rattle.session_state.specs.Doing.{Answers, caller_in}
@@ -151,7 +151,7 @@ module _ (t : Tables) (k : Caller) (c : Client) (m : model.Client) (by : Gives t
         let never : Ok (written_to (terminal.Size rows r.cols) w) ≡ Err why = sym sized ∙ refusal in
         absurd (cc (never))
 
-    pub fits_there : {A : Type 0} (a : A) (old : State) (new : List code.Window) (before after : Made) → Stands t old → Answered (resized_in s rows r.cols t.windows) (Ok a) new
+    pub fits_there : {A : Type 0} (a : A) (old : State) (new : List code.Window) (before after : StepOutput) → Stands t old → Answered (resized_in s rows r.cols t.windows) (Ok a) new
         → after.acts.items ≡ before.acts.items → after.effects.items ≡ before.effects.items ++ Size s rows r.cols ∷ []
         → Answers t (fit_row t k) (Ok None) (record old { windows = new }) before after
     fits_there a old new before after st answer acts effects =

@@ -6,7 +6,7 @@ use Rattle.acl.specs.declared.act.Act.TheVariants as act
 use Rattle.acl.specs.History.{is_open}
 use Rattle.session_model.specs.Tables.{Window, Client, Tables, client_at, focused}
 use Rattle.session_model.specs.Deeds.{acting, entering, selects}
-use Rattle.session_state.specs.declared.made.Made.{Made}
+use Rattle.session_state.specs.declared.step_output.StepOutput.{StepOutput}
 use Rattle.session_state.specs.declared.state.State.{State}
 use Rattle.session_state.specs.Stands.{Stands}
 use Rattle.session_state.specs.Doing.{HasRoom, HasDone}
@@ -22,7 +22,7 @@ Enters user window old new =
     → Stands (with_act t (act.Entered user window)) new
 
 -- one act stands behind the others, in the room that there was
-pub record HasOneActMore (a : Act) (before after : Made) : Type 0 where
+pub record HasOneActMore (a : Act) (before after : StepOutput) : Type 0 where
   pub acts : after.acts.items ≡ before.acts.items ++ a ∷ []
   pub effects : after.effects.items ≡ before.effects.items
   pub room : (n : ℕ) → HasRoom (n + 1) before → HasRoom n after
@@ -33,14 +33,14 @@ IsOpenThere t None = Unit {0}
 IsOpenThere t (Some window) = is_open t.acts window ≡ true
 
 -- the client's user enters the window in focus, if there is one
-abbrev pub EntersFocus : ℕ → State → State → Made → Made → Type 0
+abbrev pub EntersFocus : ℕ → State → State → StepOutput → StepOutput → Type 0
 EntersFocus client old new before after =
     (t : Tables) (c : Client) → Stands t old → client_at t client ≡ Some c
     → IsOpenThere t (focused c)
     → HasDone t (acting t (entering c.user (focused c))) new before after
 
 -- the client's focused region shows the open window of the serial, and its user enters it
-abbrev pub Selects : ℕ → ℕ → State → State → Made → Made → Type 0
+abbrev pub Selects : ℕ → ℕ → State → State → StepOutput → StepOutput → Type 0
 Selects client window old new before after =
     (t : Tables) (c : Client) (w : Window) → Stands t old → client_at t client ≡ Some c
     → w.serial ≡ window → is_open t.acts window ≡ true

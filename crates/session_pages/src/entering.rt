@@ -5,11 +5,11 @@ ghost use Rattle.session_state.specs.Doing.{HasRoom};
 ghost use Rattle.session_pages.specs.Entering.{Enters, EntersFocus, HasOneActMore};
 
 use acl::{Act, Bit, Object, UserId};
-use session_state::{Made, State};
+use session_state::{State, StepOutput};
 
 /// A user enters an open window. A lock that is free in mode auto is his then, if he may write
 /// there.
-pub fn enter(state: &mut State, user: UserId, window: u32, made: &mut Made)
+pub fn enter(state: &mut State, user: UserId, window: u32, made: &mut StepOutput)
     requires { HasRoom 1 made.old }
     ensures stands { Enters user window state.old state.new }
     ensures noted { HasOneActMore (act.Entered user window) made.old made.new }
@@ -23,7 +23,7 @@ pub fn enter(state: &mut State, user: UserId, window: u32, made: &mut Made)
 }
 
 /// A client's user enters the window in focus, if there is one, which is open.
-pub(crate) fn enter_focused(state: &mut State, client: u32, made: &mut Made)
+pub(crate) fn enter_focused(state: &mut State, client: u32, made: &mut StepOutput)
     requires { HasRoom 256 made.old }
     ensures done { EntersFocus client state.old state.new made.old made.new }
     ensures room { HasRoom 64 made.new }

@@ -10,7 +10,7 @@ use crate::giver::{giver, refusal_of, window_of};
 use regions::{Rect, RegionFault};
 use session_clients::Client;
 use session_model::{Bytes, Effect, Refusal};
-use session_state::{Caller, Made, State};
+use session_state::{Caller, State, StepOutput};
 use std::alloc::Global;
 
 /// The rectangle of a client's focused region.
@@ -27,7 +27,11 @@ fn focused_box(alloc: Global, client: &Client) -> Result<Rect, Refusal>
 }
 
 /// `fit`: gives a window the size of the focused region, beside its caption.
-pub fn fit(state: &mut State, caller: Caller, made: &mut Made) -> Result<Option<Bytes>, Refusal>
+pub fn fit(
+    state: &mut State,
+    caller: Caller,
+    made: &mut StepOutput,
+) -> Result<Option<Bytes>, Refusal>
     requires { HasRoom 256 made.old }
     ensures answer { Does caller command.Fit state.old result state.new made.old made.new }
     ensures silent { IfOk result (λ lists. lists ≡ None) }

@@ -12,10 +12,10 @@ use crate::giver::{giver, number_of};
 use regions::Shown;
 use session_clients::Client;
 use session_model::{Bytes, Refusal, WindowsFault};
-use session_state::{Caller, Made, State};
+use session_state::{Caller, State, StepOutput};
 
 /// A client's focused region shows an open window, and its user enters it.
-fn show(state: &mut State, client: u32, window: u32, made: &mut Made)
+fn show(state: &mut State, client: u32, window: u32, made: &mut StepOutput)
     requires { HasRoom 256 made.old }
     ensures done { Selects client window state.old state.new made.old made.new }
     ensures room { HasRoom 64 made.new }
@@ -33,7 +33,7 @@ pub fn select(
     state: &mut State,
     caller: Caller,
     word: &str,
-    made: &mut Made,
+    made: &mut StepOutput,
 ) -> Result<Option<Bytes>, Refusal>
     requires { HasRoom 256 made.old }
     ensures answer { Does caller (command.Select word.now) state.old result state.new
@@ -56,7 +56,11 @@ pub fn select(
 }
 
 /// `next`: shows the window of the next higher number, cyclically.
-pub fn next(state: &mut State, caller: Caller, made: &mut Made) -> Result<Option<Bytes>, Refusal>
+pub fn next(
+    state: &mut State,
+    caller: Caller,
+    made: &mut StepOutput,
+) -> Result<Option<Bytes>, Refusal>
     requires { HasRoom 256 made.old }
     ensures answer { Does caller command.Next state.old result state.new made.old made.new }
     ensures silent { IfOk result (λ lists. lists ≡ None) }
@@ -78,7 +82,11 @@ pub fn next(state: &mut State, caller: Caller, made: &mut Made) -> Result<Option
 }
 
 /// `prev`: shows the window of the next lower number, cyclically.
-pub fn prev(state: &mut State, caller: Caller, made: &mut Made) -> Result<Option<Bytes>, Refusal>
+pub fn prev(
+    state: &mut State,
+    caller: Caller,
+    made: &mut StepOutput,
+) -> Result<Option<Bytes>, Refusal>
     requires { HasRoom 256 made.old }
     ensures answer { Does caller command.Prev state.old result state.new made.old made.new }
     ensures silent { IfOk result (λ lists. lists ≡ None) }
@@ -111,7 +119,11 @@ fn former_of(client: &Client) -> Option<u32>
 }
 
 /// `other`: shows the window that was shown before, while it is open.
-pub fn other(state: &mut State, caller: Caller, made: &mut Made) -> Result<Option<Bytes>, Refusal>
+pub fn other(
+    state: &mut State,
+    caller: Caller,
+    made: &mut StepOutput,
+) -> Result<Option<Bytes>, Refusal>
     requires { HasRoom 256 made.old }
     ensures answer { Does caller command.Other state.old result state.new made.old made.new }
     ensures silent { IfOk result (λ lists. lists ≡ None) }

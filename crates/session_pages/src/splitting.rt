@@ -10,7 +10,7 @@ use crate::entering::enter_focused;
 use crate::giver::{giver, refusal_of};
 use regions::{RegionFault, Way};
 use session_model::{Bytes, Refusal};
-use session_state::{Caller, Made, State};
+use session_state::{Caller, State, StepOutput};
 
 /// Where the second half of a split goes.
 fn way_of(is_vertical: bool) -> Way
@@ -24,7 +24,7 @@ pub fn split(
     state: &mut State,
     caller: Caller,
     is_vertical: bool,
-    made: &mut Made,
+    made: &mut StepOutput,
 ) -> Result<Option<Bytes>, Refusal>
     requires { HasRoom 256 made.old }
     ensures answer { Does caller (command.Split is_vertical) state.old result state.new
@@ -45,7 +45,11 @@ pub fn split(
 }
 
 /// `focus`: gives the focus to the next region, and the user enters the window there.
-pub fn focus(state: &mut State, caller: Caller, made: &mut Made) -> Result<Option<Bytes>, Refusal>
+pub fn focus(
+    state: &mut State,
+    caller: Caller,
+    made: &mut StepOutput,
+) -> Result<Option<Bytes>, Refusal>
     requires { HasRoom 256 made.old }
     ensures answer { Does caller command.Focus state.old result state.new made.old made.new }
     ensures silent { IfOk result (λ lists. lists ≡ None) }
@@ -64,7 +68,11 @@ pub fn focus(state: &mut State, caller: Caller, made: &mut Made) -> Result<Optio
 
 /// `remove`: closes the focused region, unless it is the last, and the user enters the window that
 /// is in focus then.
-pub fn remove(state: &mut State, caller: Caller, made: &mut Made) -> Result<Option<Bytes>, Refusal>
+pub fn remove(
+    state: &mut State,
+    caller: Caller,
+    made: &mut StepOutput,
+) -> Result<Option<Bytes>, Refusal>
     requires { HasRoom 256 made.old }
     ensures answer { Does caller command.Remove state.old result state.new made.old made.new }
     ensures silent { IfOk result (λ lists. lists ≡ None) }
@@ -87,7 +95,11 @@ pub fn remove(state: &mut State, caller: Caller, made: &mut Made) -> Result<Opti
 }
 
 /// `only`: keeps the focused region alone.
-pub fn only(state: &mut State, caller: Caller, made: &mut Made) -> Result<Option<Bytes>, Refusal>
+pub fn only(
+    state: &mut State,
+    caller: Caller,
+    made: &mut StepOutput,
+) -> Result<Option<Bytes>, Refusal>
     requires { HasRoom 256 made.old }
     ensures answer { Does caller command.Only state.old result state.new made.old made.new }
     ensures silent { IfOk result (λ lists. lists ≡ None) }
@@ -108,7 +120,7 @@ pub fn scrollview(
     state: &mut State,
     caller: Caller,
     back: u16,
-    made: &mut Made,
+    made: &mut StepOutput,
 ) -> Result<Option<Bytes>, Refusal>
     requires { HasRoom 256 made.old }
     ensures answer { Does caller (command.Scrollview back) state.old result state.new

@@ -2,11 +2,11 @@
 #![tactic(auto)]
 
 mod caller;
-mod made;
 mod sizes;
 mod state;
+mod step_output;
 
 pub use caller::Caller;
-pub use made::Made;
 pub use sizes::is_client_size;
 pub use state::State;
+pub use step_output::StepOutput;

@@ -13,7 +13,7 @@ use Rattle.session_clients.specs.declared.client.Client.{Client}
 use Rattle.session_clients.specs.Stands.{AreClients}
 use Rattle.session_clients.specs.Draws.{ShowsAlready, Draw}
 use Rattle.session_state.specs.declared.state.State.{State}
-use Rattle.session_state.specs.declared.made.Made.{Made}
+use Rattle.session_state.specs.declared.step_output.StepOutput.{StepOutput}
 use Rattle.session_state.specs.Stands.{Stands}
 use Rattle.session_view.specs.Drawn.{HasDrawn}
 
@@ -26,7 +26,7 @@ module _ (t : Tables) (s : State) (client : ℕ) (m : model.Client) (v : View) (
   own = serial_is serial_of t.clients client m at
 
   -- the client's terminal shows it already
-  pub nothing_drawn : (made : Made) (new : List Client) (after : Made) → ShowsAlready m v
+  pub nothing_drawn : (made : StepOutput) (new : List Client) (after : StepOutput) → ShowsAlready m v
       → new ≡ s.clients → after.effects.items ≡ made.effects.items
       → after.acts.items ≡ made.acts.items → HasDrawn t m (record s { clients = new }) made after
   nothing_drawn made new after shown same effects_are acts_are = record {
@@ -51,7 +51,7 @@ module _ (t : Tables) (s : State) (client : ℕ) (m : model.Client) (v : View) (
   drawn_row bytes w = record m { delivered = m.delivered ++ bytes; drawn = Some w }
 
   -- a frame is delivered to it
-  pub frame_drawn : (made : Made) (bytes : List ℕ) (new : List Client) (after : Made)
+  pub frame_drawn : (made : StepOutput) (bytes : List ℕ) (new : List Client) (after : StepOutput)
       → Draw client v bytes t.clients m new
       → after.effects.items ≡ made.effects.items ++ Deliver client bytes ∷ []
       → after.acts.items ≡ made.acts.items

@@ -4,7 +4,7 @@ use Rattle.std.proofs.Common.{append_assoc, subst, length, ◌<◌, ◌+◌, ◌
 use Rattle.std.specs.Prelude.{codes}
 use Rattle.std.proofs.lemmas.List.{map_more, take_all}
 use Rattle.session_model.specs.Texts.{separated}
-use Rattle.session_texts.specs.Items.{separator, has_none, separated_more}
+use Rattle.session_view.specs.Items.{separator, has_none, separated_more}
 use Rattle.session_view.specs.Growing.{IsList}
 
 has_more : (items : List (List ℕ)) (item : List ℕ) → has_none (items ++ item ∷ []) ≡ false

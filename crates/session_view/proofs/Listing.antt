@@ -28,14 +28,14 @@ use Rattle.acl.specs.Commands.{known_name_fault}
 use Rattle.acl.proofs.FollowingLemmas.{known-among}
 use Rattle.session_rows.specs.Matched.{BothOrNone}
 use Rattle.session_rows.proofs.Matching.{rows_match, mapped_match}
-use Rattle.session_texts.specs.Items.{number_or_dash, number_of_window, client_line, client_line_is}
+use Rattle.session_view.specs.Items.{number_or_dash, number_of_window, client_line, client_line_is}
 use Rattle.windows.specs.declared.window.Window.{Window}
 use Rattle.windows.specs.Standing.{WindowStands, StandFor}
 use Rattle.session_clients.specs.declared.client.Client.{Client}
 use Rattle.session_clients.specs.Moves.{in_focus}
 use Rattle.session_clients.specs.Stands.{ClientStands}
 use Rattle.session_state.specs.declared.state.State.{State}
-use Rattle.session_state.specs.declared.made.Made.{Made}
+use Rattle.session_state.specs.declared.step_output.StepOutput.{StepOutput}
 use Rattle.session_state.specs.Stands.{Stands}
 use Rattle.session_state.specs.Doing.{Answers}
 use Rattle.session_view.specs.Listing.{number_shown, client_item}
@@ -86,7 +86,7 @@ clients_alike t s st =
 -- ---- deeds that list
 
 -- nothing is done
-pub lists : (t : Tables) (s : State) (made : Made) (answer : Answer) (text bytes : List ℕ)
+pub lists : (t : Tables) (s : State) (made : StepOutput) (answer : Answer) (text bytes : List ℕ)
     → Stands t s → answer ≡ Ok (listing t text) → bytes ≡ text
     → Answers t answer (Ok (Some bytes)) s made made
 lists t s made answer text bytes st is same = (

@@ -10,9 +10,9 @@ use Rattle.session_model.specs.Tables as model
 use Rattle.session_model.specs.Tables.{Tables, row_of, window_at}
 use Rattle.session_model.specs.Naming.{with_number}
 use Rattle.session_model.specs.Texts.{window_item, windows_text, separated}
-use Rattle.session_texts.specs.Items.{separator}
-use Rattle.session_texts.specs.Orders.{numbered}
-use Rattle.session_texts.proofs.Numbers.{order_by_numbers}
+use Rattle.session_view.specs.Items.{separator}
+use Rattle.session_view.specs.Orders.{numbered}
+use Rattle.session_view.proofs.Numbers.{order_by_numbers}
 use Rattle.session_model.specs.Sound.{AreFit}
 use Rattle.session_view.specs.Growing.{IsList}
 use Rattle.session_view.proofs.Growing.{list_more}

@@ -6,12 +6,12 @@ use Rattle.session_model.specs.declared.refusal.Refusal.TheVariants.{NoMemory, N
 use Rattle.session_model.specs.Tables.{Client, Tables, client_at}
 use Rattle.session_model.specs.Run.{IsDraw, drawn_on}
 use Rattle.session_state.specs.declared.state.State.{State}
-use Rattle.session_state.specs.declared.made.Made.{Made}
+use Rattle.session_state.specs.declared.step_output.StepOutput.{StepOutput}
 use Rattle.session_state.specs.Stands.{Stands}
 use Rattle.session_model.specs.Sound.{AreFit}
 
 -- the client's draw stands behind the effects before it, and the state knows of it; no act was made
-pub record HasDrawn (t : Tables) (c : Client) (new : State) (before after : Made) : Type 0 where
+pub record HasDrawn (t : Tables) (c : Client) (new : State) (before after : StepOutput) : Type 0 where
   pub effects : List Effect
   pub is_draw : IsDraw t effects c
   pub effects_are : after.effects.items ≡ before.effects.items ++ effects
@@ -19,7 +19,7 @@ pub record HasDrawn (t : Tables) (c : Client) (new : State) (before after : Made
   pub stands : Stands (drawn_on (Some c) effects t) new
 
 -- the client of a serial is there, and it was drawn
-abbrev pub DrawsFor : ℕ → State → State → Made → Made → Type 0
+abbrev pub DrawsFor : ℕ → State → State → StepOutput → StepOutput → Type 0
 DrawsFor client old new before after = (t : Tables) → Stands t old → AreFit t
     → (c : Client) × (client_at t client ≡ Some c) × HasDrawn t c new before after
 

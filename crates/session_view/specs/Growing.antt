@@ -1,7 +1,7 @@
 -- A list that grows by an item.
 use Rattle.std.specs.Prelude.{ℕ, ◌≡◌, Bool, List, codes}
 use Rattle.session_model.specs.Texts.{separated}
-use Rattle.session_texts.specs.Items.{has_none}
+use Rattle.session_view.specs.Items.{has_none}
 
 -- the text of these items, and whether there is none of them
 pub record IsList (items : List (List ℕ)) (is_first : Bool) (text : List ℕ) : Type 0 where

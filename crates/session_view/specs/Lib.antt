@@ -1,3 +1,5 @@
+pub mod Items
+pub mod Orders
 pub mod Growing
 pub mod Listing
 pub mod Parts

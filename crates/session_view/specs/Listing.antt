@@ -9,7 +9,7 @@ use Rattle.session_model.specs.Tables.{Tables, row_of, window_at}
 use Rattle.session_model.specs.Commands.{known_fault}
 use Rattle.session_model.specs.Rights.{leaders_in}
 use Rattle.session_model.specs.Texts.{window_item, windows_text, clients_text, group_text}
-use Rattle.session_texts.specs.Items.{client_line}
+use Rattle.session_view.specs.Items.{client_line}
 use Rattle.windows.specs.declared.window.Window.{Window}
 use Rattle.windows.specs.Standing.{WindowStands}
 use Rattle.session_clients.specs.declared.client.Client.{Client}

@@ -2,6 +2,8 @@
 #![tactic(auto)]
 
 mod drawing;
+mod items;
+mod laws;
 mod lists;
 mod parts;
 mod status;

@@ -5,7 +5,7 @@ ghost use Rattle.std.specs.Prelude.{◌≡◌, None};
 ghost use Rattle.command_lang.specs.command.Command.TheVariants as command;
 ghost use Rattle.session_model.specs.Commands.{focus_of as model_focus};
 ghost use Rattle.session_model.specs.Tables.{Tables};
-ghost use Rattle.session_state.specs.declared.made.Made.{Made};
+ghost use Rattle.session_state.specs.declared.step_output.StepOutput.{StepOutput};
 ghost use Rattle.session_state.specs.Doing.{Does, caller_in};
 ghost use Rattle.session_state.specs.Stands.{Stands};
 ghost use Rattle.session_view.specs.Listing.{IsKnownUser};
@@ -26,7 +26,7 @@ fn focus_of(state: &State, caller: Caller) -> Option<u32>
 
 /// `windows`: lists the windows as the caller may read them.
 pub fn windows(state: &State, caller: Caller) -> Result<Option<Bytes>, Refusal>
-    ensures { (made : Made) → Does caller command.Windows state.now result state.now made made }
+    ensures { (made : StepOutput) → Does caller command.Windows state.now result state.now made made }
 {
     let text = windows_text(state, caller.user, focus_of(state, caller))?;
     Ok(Some(text))
@@ -34,14 +34,14 @@ pub fn windows(state: &State, caller: Caller) -> Result<Option<Bytes>, Refusal>
 
 /// `displays`: lists the clients.
 pub fn displays(state: &State, caller: Caller) -> Result<Option<Bytes>, Refusal>
-    ensures { (made : Made) → Does caller command.Displays state.now result state.now made made }
+    ensures { (made : StepOutput) → Does caller command.Displays state.now result state.now made made }
 {
     Ok(Some(clients_text(state)?))
 }
 
 /// `screen`: says how windows are opened.
 pub fn screen(state: &State, caller: Caller) -> Result<Option<Bytes>, Refusal>
-    ensures { (made : Made) → Does caller command.Screen state.now result state.now made made }
+    ensures { (made : StepOutput) → Does caller command.Screen state.now result state.now made made }
 {
     let text = Bytes::of(state.alloc, b"windows are opened by mux window")?;
     Ok(Some(text))
@@ -65,7 +65,7 @@ fn known_user(state: &State, word: &str) -> Result<UserId, AclFault>
 
 /// `aclgrp` without a leader: lists a user's leaders.
 pub fn aclgrp_of(state: &State, caller: Caller, name: &str) -> Result<Option<Bytes>, Refusal>
-    ensures { (made : Made)
+    ensures { (made : StepOutput)
         → Does caller (command.Aclgrp name.now None) state.now result state.now made made }
 {
     match known_user(state, name) {

@@ -5,11 +5,11 @@ ghost use Rattle.session_clients.specs.declared.client.Client.{Client};
 ghost use Rattle.session_view.specs.Listing.{SaysWindows, SaysClients, SaysLeaders, IsItem};
 ghost use Rattle.session_view.specs.Listing.{number_shown};
 
+use crate::items::{push_client, push_group, push_separator, push_window};
 use acl::{Bit, Object, UserId};
 use session_clients::Client;
 use session_model::Bytes;
 use session_state::State;
-use session_texts::{push_client, push_group, push_separator, push_window};
 use std::alloc::AllocError;
 use windows::{Window, Windows};
 

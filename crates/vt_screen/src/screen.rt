@@ -3,7 +3,7 @@
 ghost use Rattle.std.specs.Prelude.{◌≡◌, ℕ, ◌<◌, ◌≤◌, ◌↔◌, true, Err, IfOk, OnOk, OnErr, [], false};
 ghost use Rattle.std.specs.Prelude.{IsTrue, length, map, option_copied, slice_get, slice_index};
 ghost use Rattle.std.specs.List.{list_all, range_with_len};
-ghost use Rattle.charsets.specs.Units.{is_plain};
+ghost use Rattle.charsets.specs.Units.{is_letter, is_plain};
 ghost use Rattle.control_parser.specs.declared.func.Func.TheVariants.{Control, Esc, Print};
 ghost use Rattle.cells.specs.Page.{IsGridSize, line_at};
 ghost use Rattle.cells.specs.Line.{cell_at};
@@ -21,7 +21,7 @@ use control_parser::{Func, Sequence};
 use std::alloc::Global;
 use std::marker::Model;
 use terminal_model::{MAX_KEEP, Modes, Report};
-use vt_screen_actions::{acts_of, control_action, plain_escape_action};
+use vt_screen_actions::{acts_of, plain_escape_action};
 use vt_screen_rows::{Display, prints_ascii};
 
 /// The screen of a VT220: its page with all that control functions change, and its scrollback.
@@ -89,13 +89,25 @@ impl Screen {
         self.display.print_run(codes);
     }
 
-    /// Prints a character from 20 to 7E or from A0 on, as `apply` of it; nothing is answered.
-    pub fn print(&mut self, character: char)
-        ensures effect { self.new.screen ≡ effect self.old.screen (Print character) }
-        ensures places { MovesPlaces self.old (Print character) self.new }
-        ensures silent { report self.old.screen (Print character) ≡ [] }
+    /// Prints letters, one after another. It takes no memory.
+    pub fn print_letters(&mut self, letters: &[char])
+        requires { list_all is_letter letters.now ≡ true }
+        ensures effect { self.new.screen
+            ≡ effects self.old.screen (map (λ letter. Print letter) letters.now) }
+        ensures places { self.new.places
+            ≡ effects_places self.old.screen (map (λ letter. Print letter) letters.now) self.old.places }
     {
-        self.display.print_code(character);
+        self.display.print_letters(letters);
+    }
+
+    /// Prints characters from 20 to 7E and from A0 on, one after another. It takes no memory.
+    pub fn print_characters(&mut self, characters: &[char])
+        ensures effect { self.new.screen
+            ≡ effects self.old.screen (map (λ character. Print character) characters.now) }
+        ensures places { self.new.places ≡ effects_places self.old.screen
+            (map (λ character. Print character) characters.now) self.old.places }
+    {
+        self.display.print_characters(characters);
     }
 
     /// Does a C0 control, as `apply` of it; nothing is answered.
@@ -104,7 +116,7 @@ impl Screen {
         ensures places { MovesPlaces self.old (Control control) self.new }
         ensures silent { report self.old.screen (Control control) ≡ [] }
     {
-        self.display.perform_silently(control_action(control));
+        self.display.perform_control(control);
     }
 
     /// Does the escape sequence that has no intermediate and this final byte, as `apply` of it;

@@ -178,6 +178,26 @@ impl Page {
         self.stored[place].put_run(at, codes, rendition, is_protected);
     }
 
+    /// The same as `put_run`, of characters.
+    pub fn put_letters(
+        &mut self,
+        line: usize,
+        at: usize,
+        letters: &[char],
+        rendition: Rendition,
+        is_protected: bool,
+    )
+        requires line_inside { line < length self.old.lines }
+        requires room { at + length letters.now ≤ length (line_at self.old.lines line) }
+        ensures lines { self.new.lines
+            ≡ page_spliced line at (narrow_cells letters.now rendition is_protected)
+            (at + length letters.now) self.old.lines }
+        ensures places { self.new.places ≡ self.old.places }
+    {
+        let place = self.places[line];
+        self.stored[place].put_letters(at, letters, rendition, is_protected);
+    }
+
     /// Erases the cells of a line from `from` on and below `end`, but for protected ones.
     pub fn erase_unprotected(&mut self, line: usize, from: usize, end: usize)
         requires line_inside { line < length self.old.lines }

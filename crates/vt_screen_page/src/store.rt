@@ -1,7 +1,7 @@
 //! Work on the stored lines of a page and on their places.
 
-ghost use Rattle.std.specs.Prelude.{◌≡◌, ℕ, ◌+◌, ◌-◌, ◌<◌, ◌≤◌, length, map, replicate, IfOk};
-ghost use Rattle.std.specs.Prelude.{slice_index};
+ghost use Rattle.std.specs.Prelude.{◌≡◌, ℕ, ◌+◌, ◌-◌, ◌<◌, ◌≤◌, ◌++◌, length, map, replicate};
+ghost use Rattle.std.specs.Prelude.{IfOk, drop, slice_index, take};
 ghost use Rattle.std.specs.List.{range_with_len};
 ghost use Rattle.cells.specs.Line.{blank};
 ghost use Rattle.cells.specs.Page.{line_at, page_from};
@@ -28,7 +28,17 @@ pub fn turn(places: &mut [usize], top: usize, bottom: usize, count: usize)
         places[bottom] = first;
         return;
     }
-    places[top..bottom + 1].rotate_left(count);
+    rotate(&mut places[top..bottom + 1], count);
+}
+
+/// Lets the first `count` of some places come last: turned round in two parts, and then as a whole.
+fn rotate(places: &mut [usize], count: usize)
+    requires { count ≤ length places.old }
+    ensures { places.new ≡ drop count places.old ++ take count places.old }
+{
+    places[..count].reverse();
+    places[count..].reverse();
+    places.reverse();
 }
 
 /// Makes the lines at some places blank.

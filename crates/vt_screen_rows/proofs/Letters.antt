@@ -1,5 +1,5 @@
 -- The characters from U+00A0 on stand for themselves; to U+02FF they take one column each, but for the soft hyphen.
-use Rattle.std.proofs.Common.{◌≡◌, ℕ, zero, suc, ◌+◌, ◌<◌, ◌≤◌, Bool, true, false, ◌&&◌, ◌||◌, Option, Some, None, List, refl, sym, ap, ◌∙◌, arith, ⊎_elim, eqb, cond}
+use Rattle.std.proofs.Common.{◌≡◌, ℕ, zero, suc, ◌+◌, ◌<◌, ◌≤◌, Bool, true, false, ◌&&◌, ◌||◌, Option, Some, None, List, [], ◌∷◌, refl, sym, ap, ◌∙◌, arith, ⊎_elim, eqb, cond}
 use Rattle.std.proofs.lemmas.Bool.{cases_lt, ne_eqb, eqb-true}
 use Rattle.unicode_width.proofs.Computing.{unicode_width}
 use Rattle.unicode_width.specs.Width.{char_width}
@@ -14,7 +14,13 @@ use Rattle.terminal_model.specs.Screen.{Screen}
 use Rattle.terminal_model.specs.Scrollback.{is_wrapped}
 use Rattle.terminal_model.specs.Table.{acted, acted_from, columns_of, drawn, drawn_as, printed, with_state}
 use Rattle.vt_screen_rows.specs.Places.{acted_places, printed_places, wrapped_places}
-use Rattle.vt_screen_rows.proofs.RunLemmas.{both}
+use Rattle.std.specs.List.{list_all}
+use Rattle.charsets.specs.Units.{is_plain, is_letter}
+use Rattle.terminal_model.proofs.Plain.{columns-plain, drawn-plain}
+
+pub both : (p q : Bool) → (p && q) ≡ true → (p ≡ true) × (q ≡ true)
+both true q h = (refl, h)
+both false q h = (h, absurd (cc))
 
 abbrev is_one : Option ℕ → Bool
 is_one None = false
@@ -215,3 +221,29 @@ pub beyond_places : (s : State) (c : ℕ) (places : List ℕ) → 0xA0 ≤ c
 beyond_places s c places low =
     ap (λ (b : Bool). wrapped_places b s places) (wrapped_still (columns_of c) s (record s.shifts { single = None }))
     ∙ ap (λ (o : Option ℕ). printed_places o s places) (sym (beyond_mapped s.shifts c low))
+
+-- letters, those of 20 to 7E among them
+pub graphic : (c : ℕ) → is_letter c ≡ true → is_graphic (Code c) ≡ true
+graphic c h = grind (arith, nat_tests)
+
+-- a letter is plain or beyond
+by_kind : (P : Type 0) (c : ℕ) → is_letter c ≡ true → (is_plain c ≡ true → P) → (0xA0 ≤ c → c < 0x300 → (c ≡ 0xAD → ⊥) → P) → P
+by_kind P c h plain beyond = ⊎_elim
+    (λ (low : c < 0xA0). plain (grind (arith, nat_tests)))
+    (λ (high : 0xA0 ≤ c). beyond high (grind (arith, nat_tests)) (λ e. grind (arith, nat_tests)))
+    (cases_lt c 0xA0)
+
+pub columns-letter : (c : ℕ) → is_letter c ≡ true → columns_of c ≡ 1
+columns-letter c h = by_kind (columns_of c ≡ 1) c h (columns-plain c) (letter_columns c)
+
+pub drawn-letter : (c : ℕ) → is_letter c ≡ true → drawn c ≡ c
+drawn-letter c h = by_kind (drawn c ≡ c) c h (drawn-plain c) (letter_drawn c)
+
+plain_letter : (c : ℕ) → is_plain c ≡ true → is_letter c ≡ true
+plain_letter c h = rw h refl
+
+pub plain_letters : (codes : List ℕ) → list_all is_plain codes ≡ true → list_all is_letter codes ≡ true
+plain_letters [] h = refl
+plain_letters (c ∷ codes) h =
+    let k = both (is_plain c) (list_all is_plain codes) h in
+    rw (plain_letter c k.0) (plain_letters codes k.1)

@@ -1,11 +1,11 @@
--- Characters 20 to 7E that are printed one after another are one run.
-use Rattle.std.proofs.Common.{◌≡◌, ℕ, zero, suc, ◌+◌, ◌-◌, ◌<◌, ◌≤◌, Bool, true, false, ◌&&◌, cond, ltb, List, [], ◌∷◌, ◌++◌, length, take, drop, Option, Some, refl, sym, ap, ◌∙◌, subst, arith, lt-ltb}
+-- Letters that are printed one after another are one run.
+use Rattle.std.proofs.Common.{◌≡◌, ℕ, zero, suc, ◌+◌, ◌-◌, ◌<◌, ◌≤◌, Bool, true, false, cond, ltb, List, [], ◌∷◌, ◌++◌, length, take, drop, Option, Some, refl, sym, ap, ◌∙◌, subst, arith, lt-ltb}
 use Rattle.std.specs.List.{list_all}
 use Rattle.std.proofs.lemmas.List.{take_all, take-append-drop, length-drop, drop-drop, map-append}
 use Rattle.charsets.specs.declared.shifts.Shifts.{Shifts}
 use Rattle.charsets.specs.declared.unit.Unit.TheVariants.{Code}
-use Rattle.charsets.specs.Shifts.{is_graphic, spent}
-use Rattle.charsets.specs.Units.{is_plain}
+use Rattle.charsets.specs.Shifts.{spent}
+use Rattle.charsets.specs.Units.{is_letter}
 use Rattle.charsets.proofs.Shifted.{mapped-ascii, spent-none}
 use Rattle.cells.specs.Line.{narrow_cell, narrow_cells, spliced}
 use Rattle.cells.specs.Page.{page_from, edited}
@@ -15,17 +15,13 @@ use Rattle.terminal_model.specs.declared.action.Action.TheVariants.{Print}
 use Rattle.terminal_model.specs.declared.state.State.{State}
 use Rattle.terminal_model.specs.Screen.{Screen, IsSound}
 use Rattle.terminal_model.specs.Table.{acted, acted_from, advanced, all_acted, drawn, placed_narrow, printed, printed_as, with_page, with_state, wrapped}
-use Rattle.terminal_model.proofs.Plain.{columns-plain, drawn-plain}
 use Rattle.terminal_model.proofs.Sound.{IsSound-acted}
 use Rattle.vt_screen_rows.specs.declared.display.Display.{Display}
 use Rattle.vt_screen_rows.specs.Displays.{IsFit, screen_of}
 use Rattle.vt_screen_rows.specs.Runs.{TakesRuns, prints, run_placed}
+use Rattle.vt_screen_rows.proofs.Letters.{both, graphic, columns-letter, drawn-letter}
 use Rattle.vt_screen_rows.proofs.SizeLemmas.{acted_columns}
 use Rattle.vt_screen_rows.proofs.Widths.{fit_after}
-
-pub both : (p q : Bool) → (p && q) ≡ true → (p ≡ true) × (q ≡ true)
-both true q h = (refl, h)
-both false q h = (h, absurd (cc))
 
 pub list_all-take : (p : ℕ → Bool) (n : ℕ) (xs : List ℕ) → list_all p xs ≡ true → list_all p (take n xs) ≡ true
 list_all-take p zero xs h = refl
@@ -37,18 +33,15 @@ list_all-drop p zero xs h = h
 list_all-drop p (suc n) [] h = refl
 list_all-drop p (suc n) (x ∷ xs) h = list_all-drop p n xs (both (p x) (list_all p xs) h).1
 
-graphic : (c : ℕ) → is_plain c ≡ true → is_graphic (Code c) ≡ true
-graphic c h = rw h refl
-
 -- one character, in the line that a pending wrap leads to
-print_is : (x : Screen) (c : ℕ) → TakesRuns x.state → is_plain c ≡ true → acted x (Print (Code c)) ≡ placed_narrow c (wrapped x.state.is_wrap_pending x)
+print_is : (x : Screen) (c : ℕ) → TakesRuns x.state → is_letter c ≡ true → acted x (Print (Code c)) ≡ placed_narrow c (wrapped x.state.is_wrap_pending x)
 unfolding acted_from
 print_is x c t h =
     let s : State = x.state in
     ap (λ (o : Option ℕ). printed o (with_state x (record s { shifts = spent s.shifts (Code c) }))) (mapped-ascii s.shifts c t.ascii t.unshifted (graphic c h))
     ∙ ap (λ (v : Shifts). printed (Some c) (with_state x (record s { shifts = v }))) (spent-none s.shifts c t.unshifted)
-    ∙ ap (λ (n : ℕ). printed_as n (drawn c) x) (columns-plain c h)
-    ∙ ap (λ (d : ℕ). printed_as 1 d x) (drawn-plain c h)
+    ∙ ap (λ (n : ℕ). printed_as n (drawn c) x) (columns-letter c h)
+    ∙ ap (λ (d : ℕ). printed_as 1 d x) (drawn-letter c h)
 
 pub takes-wrapped : (x : Screen) (b : Bool) → TakesRuns x.state → TakesRuns (wrapped b x).state
 takes-wrapped x true t = record { ascii = t.ascii; unshifted = t.unshifted; replaces = t.replaces }
@@ -59,21 +52,21 @@ settled-wrapped x true e = refl
 settled-wrapped x false e = e
 
 -- a wrap that is due may be done first
-pub print_wrapped : (x : Screen) (c : ℕ) → TakesRuns x.state → is_plain c ≡ true → acted (wrapped x.state.is_wrap_pending x) (Print (Code c)) ≡ acted x (Print (Code c))
+pub print_wrapped : (x : Screen) (c : ℕ) → TakesRuns x.state → is_letter c ≡ true → acted (wrapped x.state.is_wrap_pending x) (Print (Code c)) ≡ acted x (Print (Code c))
 print_wrapped x c t h =
     let w : Screen = wrapped x.state.is_wrap_pending x in
     print_is w c (takes-wrapped x x.state.is_wrap_pending t) h
     ∙ ap (λ (b : Bool). placed_narrow c (wrapped b w)) (settled-wrapped x x.state.is_wrap_pending refl)
     ∙ sym (print_is x c t h)
 
-pub prints_wrapped : (x : Screen) (codes : List ℕ) → TakesRuns x.state → list_all is_plain codes ≡ true → 0 < length codes
+pub prints_wrapped : (x : Screen) (codes : List ℕ) → TakesRuns x.state → list_all is_letter codes ≡ true → 0 < length codes
     → all_acted (wrapped x.state.is_wrap_pending x) (prints codes) ≡ all_acted x (prints codes)
 prints_wrapped x [] t h some = absurd (omega arith)
 prints_wrapped x (c ∷ codes) t h some =
-    ap (λ (v : Screen). all_acted v (prints codes)) (print_wrapped x c t (both (is_plain c) (list_all is_plain codes) h).0)
+    ap (λ (v : Screen). all_acted v (prints codes)) (print_wrapped x c t (both (is_letter c) (list_all is_letter codes) h).0)
 
 -- one character is a run
-pub print_one : (x : Screen) (c : ℕ) → TakesRuns x.state → x.state.is_wrap_pending ≡ false → is_plain c ≡ true → acted x (Print (Code c)) ≡ run_placed (c ∷ []) x
+pub print_one : (x : Screen) (c : ℕ) → TakesRuns x.state → x.state.is_wrap_pending ≡ false → is_letter c ≡ true → acted x (Print (Code c)) ≡ run_placed (c ∷ []) x
 print_one x c t settled h =
     let s : State = x.state in
     let e : s.column ≡ s.column + 0 = omega arith in
@@ -121,14 +114,14 @@ pub behind_room : (v s : State) (n : ℕ) → v ≡ behind_first s → s.column 
 behind_room v s n e room = rw e (omega arith)
 
 -- characters that have room in the line are a run
-pub run_is : (codes : List ℕ) (x : Screen) → TakesRuns x.state → x.state.is_wrap_pending ≡ false → IsSound x → list_all is_plain codes ≡ true → 0 < length codes
+pub run_is : (codes : List ℕ) (x : Screen) → TakesRuns x.state → x.state.is_wrap_pending ≡ false → IsSound x → list_all is_letter codes ≡ true → 0 < length codes
     → x.state.column + length codes ≤ x.state.columns → all_acted x (prints codes) ≡ run_placed codes x
 run_is [] x t settled sound h some room = absurd (omega arith)
-run_is (c ∷ []) x t settled sound h some room = print_one x c t settled (both (is_plain c) true h).0
+run_is (c ∷ []) x t settled sound h some room = print_one x c t settled (both (is_letter c) true h).0
 run_is (c ∷ d ∷ more) x t settled sound h some room =
     let s : State = x.state in
     let y : Screen = run_placed (c ∷ []) x in
-    let k = both (is_plain c) (list_all is_plain (d ∷ more)) h in
+    let k = both (is_letter c) (list_all is_letter (d ∷ more)) h in
     let first : acted x (Print (Code c)) ≡ y = print_one x c t settled k.0 in
     let state_is : y.state ≡ behind_first s = first_state s (omega arith) in
     let takes : TakesRuns y.state = record { ascii = t.ascii; unshifted = t.unshifted; replaces = t.replaces } in

@@ -14,6 +14,7 @@ use vt_screen_state::{go_to_first_column, settle};
 impl Display {
     /// IND (VT220 Programmer Reference Manual, cursor positioning): in the last line of the margins
     /// the lines of the margins go up by one; else the cursor goes down within the page.
+    #[inline(always)]
     pub fn index(&mut self)
         requires { IsFit self.old }
         ensures screen { screen_of self.new ≡ indexed (screen_of self.old) }
@@ -30,6 +31,7 @@ impl Display {
 
     /// Scrolls the lines of the margins up by one. A line that goes out at the first line of the
     /// page enters the scrollback.
+    #[inline(never)]
     fn scroll(&mut self)
         requires { IsFit self.old }
         ensures screen { screen_of self.new ≡ scrolled (screen_of self.old) }

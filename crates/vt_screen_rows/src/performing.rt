@@ -1,7 +1,7 @@
 //! All the actions of a control function.
 
 ghost use Rattle.std.specs.Prelude.{◌≡◌, ◌≤◌, [], None, false, length, IfSome, IsTrue};
-ghost use Rattle.terminal_model.specs.Functions.{alone, each, sequence_actions};
+ghost use Rattle.terminal_model.specs.Functions.{alone, control_action, each, sequence_actions};
 ghost use Rattle.terminal_model.specs.Reports.{all_answered};
 ghost use Rattle.vt_screen_actions.specs.Acting.{actions_in};
 ghost use Rattle.vt_screen_actions.specs.Counted.{AreCounted, IsCounted};
@@ -12,7 +12,7 @@ ghost use Rattle.vt_screen_rows.specs.Displays.{IsFit, screen_of};
 
 use crate::display::Display;
 use terminal_model::{Action, Report};
-use vt_screen_actions::{Acts, Setting, sequence_acts};
+use vt_screen_actions::{Acts, Setting, control_action, sequence_acts};
 
 impl Display {
     /// Does the actions of a control function, in turn, and gives what is answered.
@@ -50,6 +50,35 @@ impl Display {
         if let Some(action) = action {
             self.change(action);
         }
+    }
+
+    /// Does a C0 control; nothing is answered. CR and LF, the commonest, have a case of their own, so
+    /// that their rows are found when this is compiled.
+    #[inline(always)]
+    pub fn perform_control(&mut self, control: u8)
+        requires { IsFit self.old }
+        ensures screen { ActsByAll self.old (alone (control_action control)) self.new }
+        ensures fit { IsFit self.new }
+        ensures places { MovesLinesByAll self.old (alone (control_action control)) self.new }
+        ensures silent { AreUnanswered self.old (alone (control_action control)) }
+    {
+        match control {
+            b'\r' => self.change(Action::CarriageReturn),
+            b'\n' => self.change(Action::LineFeed),
+            _ => self.perform_other_control(control),
+        }
+    }
+
+    /// The same of any, whose row is found when it is done.
+    #[inline(never)]
+    fn perform_other_control(&mut self, control: u8)
+        requires { IsFit self.old }
+        ensures screen { ActsByAll self.old (alone (control_action control)) self.new }
+        ensures fit { IsFit self.new }
+        ensures places { MovesLinesByAll self.old (alone (control_action control)) self.new }
+        ensures silent { AreUnanswered self.old (alone (control_action control)) }
+    {
+        self.perform_silently(control_action(control));
     }
 
     /// Does the actions of a control function that isn't answered, in turn. It gives false where it

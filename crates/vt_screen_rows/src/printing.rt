@@ -13,7 +13,7 @@ ghost use Rattle.vt_screen_rows.specs.Places.{printed_places, wrapped_places};
 ghost use Rattle.terminal_model.specs.Scrollback.{is_wrapped};
 
 use crate::display::Display;
-use cells::Cell;
+use cells::{Cell, Shape};
 use charsets::Unit;
 use unicode_width::UnicodeWidthChar;
 use vt_screen_state::{advance, following, lacks_room, needs_line, separate};
@@ -72,6 +72,7 @@ impl Display {
     }
 
     /// Prints a character by its width.
+    #[inline(always)]
     #[tactic(auto, // its columns, and what is drawn
     unfolding(terminal_model::specs::Table::columns_of, terminal_model::specs::Table::drawn))]
     fn print_character(&mut self, character: char)
@@ -80,8 +81,23 @@ impl Display {
         ensures width { self.new.ring.columns ≡ self.old.ring.columns }
         ensures places { MovesLines self.old (printed_places (Some character)) self.new }
     {
-        let width = character.width();
-        self.print_as(columns_in(width), drawn_as(width, character));
+        match character.width() {
+            Some(2) => self.print_broad(character),
+            width => self.print_as(columns_in(width), drawn_as(width, character)),
+        }
+    }
+
+    /// Prints a character in two columns.
+    #[inline(always)]
+    fn print_broad(&mut self, character: char)
+        requires { IsFit self.old }
+        ensures screen { screen_of self.new ≡ printed_as 2 character (screen_of self.old) }
+        ensures width { self.new.ring.columns ≡ self.old.ring.columns }
+        ensures places { MovesLines self.old
+            (wrapped_places (is_wrapped 2 self.old.state)) self.new }
+    {
+        self.wrap(self.state.is_wrap_pending);
+        self.print_wide(character);
     }
 
     /// Prints a character in one column.
@@ -98,6 +114,7 @@ impl Display {
     }
 
     /// Prints a character in so many columns: none for a mark.
+    #[inline(never)]
     fn print_as(&mut self, columns: u8, character: char)
         requires { IsFit self.old }
         ensures screen { screen_of self.new ≡ printed_as columns character (screen_of self.old) }
@@ -143,6 +160,7 @@ impl Display {
         }
     }
 
+    #[inline(always)]
     fn place_narrow(&mut self, character: char)
         requires { IsFit self.old }
         ensures screen { screen_of self.new ≡ placed_narrow character (screen_of self.old) }
@@ -159,6 +177,7 @@ impl Display {
 
     /// A wide character in the last column goes to the next line with ?7 set, and isn't printed
     /// with ?7 reset.
+    #[inline(always)]
     fn print_wide(&mut self, character: char)
         requires { IsFit self.old }
         ensures screen { screen_of self.new ≡ widely character (screen_of self.old) }
@@ -175,6 +194,7 @@ impl Display {
         }
     }
 
+    #[inline(always)]
     fn place_wide(&mut self, character: char)
         requires fit { IsFit self.old }
         requires room { self.old.state.column + 1 < self.old.state.columns }
@@ -184,7 +204,10 @@ impl Display {
     {
         let state = &self.state;
         let left = Cell::left(character, state.rendition, state.is_protecting);
-        let right = Cell::right(character, state.rendition, state.is_protecting);
+        let right = Cell {
+            shape: Shape::Right,
+            ..left
+        };
         let rest = following(state, 2);
         self.page
             .put_wide(self.state.line, self.state.column, left, right, rest);

@@ -3,7 +3,7 @@
 ghost use Rattle.std.specs.Prelude.{◌≡◌, ◌↔◌, ◌+◌, ◌<◌, ◌≤◌, true, length, take, IsTrue};
 ghost use Rattle.std.specs.List.{list_all};
 ghost use Rattle.charsets.specs.Shifts.{set_at};
-ghost use Rattle.charsets.specs.Units.{is_plain};
+ghost use Rattle.charsets.specs.Units.{is_letter, is_plain};
 ghost use Rattle.vt_screen_rows.specs.Acting.{ActsByAll, MovesLinesByAll};
 ghost use Rattle.vt_screen_rows.specs.Displays.{IsFit, screen_of};
 ghost use Rattle.vt_screen_rows.specs.Runs.{PrintsAscii, TakesRuns, prints, run_placed};
@@ -48,6 +48,74 @@ impl Display {
         let count = codes.len().min(self.state.columns - self.state.column);
         self.place_run(&codes[..count]);
         count
+    }
+
+    /// Prints characters, one after another.
+    pub fn print_characters(&mut self, characters: &[char])
+        requires { IsFit self.old }
+        ensures screen { ActsByAll self.old (prints characters.now) self.new }
+        ensures fit { IsFit self.new }
+        ensures places { MovesLinesByAll self.old (prints characters.now) self.new }
+    {
+        for character in characters {
+            self.print_code(*character);
+        }
+    }
+
+    /// Prints letters, one after another.
+    pub fn print_letters(&mut self, letters: &[char])
+        requires fit { IsFit self.old }
+        requires letters { list_all is_letter letters.now ≡ true }
+        ensures screen { ActsByAll self.old (prints letters.now) self.new }
+        ensures fit { IsFit self.new }
+        ensures places { MovesLinesByAll self.old (prints letters.now) self.new }
+    {
+        let mut printed = 0;
+        while printed < letters.len() {
+            printed += self.print_some_letters(&letters[printed..]);
+        }
+    }
+
+    /// The same as `print_some`, of letters.
+    fn print_some_letters(&mut self, letters: &[char]) -> usize
+        requires fit { IsFit self.old }
+        requires letters { list_all is_letter letters.now ≡ true }
+        requires some { 0 < length letters.now }
+        ensures screen { ActsByAll self.old (prints (take result letters.now)) self.new }
+        ensures fit { IsFit self.new }
+        ensures places { MovesLinesByAll self.old (prints (take result letters.now)) self.new }
+        ensures some { 0 < result }
+        ensures few { result ≤ length letters.now }
+    {
+        if !takes_runs(&self.state) {
+            self.print_code(letters[0]);
+            return 1;
+        }
+        let is_due = self.state.is_wrap_pending;
+        self.wrap(is_due);
+        let count = letters.len().min(self.state.columns - self.state.column);
+        self.place_letters(&letters[..count]);
+        count
+    }
+
+    /// The same as `place_run`, of letters.
+    fn place_letters(&mut self, letters: &[char])
+        requires fit { IsFit self.old }
+        requires some { 0 < length letters.now }
+        requires room { self.old.state.column + length letters.now ≤ self.old.state.columns }
+        ensures screen { screen_of self.new ≡ run_placed letters.now (screen_of self.old) }
+        ensures width { self.new.ring.columns ≡ self.old.ring.columns }
+        ensures places { self.new.page.places ≡ self.old.page.places }
+    {
+        self.page.put_letters(
+            self.state.line,
+            self.state.column,
+            letters,
+            self.state.rendition,
+            self.state.is_protecting,
+        );
+        self.state.column += letters.len() - 1;
+        advance(&mut self.state, 1);
     }
 
     /// Puts characters of width 1 in the cursor's line, in place of as many old cells.

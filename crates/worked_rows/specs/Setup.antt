@@ -15,7 +15,7 @@ use Rattle.command_lang.specs.command.Leader.TheVariants.{Named}
 use Rattle.regions.specs.Layouts.{one_region}
 use Rattle.session_model.specs.declared.event.Effect.{Effect}
 use Rattle.session_model.specs.declared.message.Message.TheVariants.{Silence}
-use Rattle.session_model.specs.Trace.{Happening, Keys}
+use Rattle.session_model.specs.Trace.{EventValue, Keys}
 use Rattle.session_model.specs.Texts.{text_of}
 use Rattle.session_model.specs.Tables.{Tables, Window, Client, fresh}
 use Rattle.session_model.specs.Lines.{line_caller}
@@ -104,7 +104,7 @@ abbrev pub follows : List ℕ → List ℕ → Order
 follows word leader = command.Aclgrp word (Some (Named leader))
 
 -- the tables after an event, and those after the owner opens a window
-abbrev pub then_comes : Tables → Happening → Tables
+abbrev pub then_comes : Tables → EventValue → Tables
 then_comes t event = (outcome t event).tables
 
 abbrev pub with_opened : Tables → Tables

@@ -15,6 +15,7 @@ returns-clause-call c =
       stay = c.holders_stay.ensures;
       names = c.others_are_gated.ensures.windows;
       fit = c.tables_stay_fit.ensures.run;
+      watching = c.spectators_leave_others.ensures;
     })
 
 pub returns-clause-new : goal.returns-clause-new
@@ -31,4 +32,5 @@ returns-clause-new c =
       stay = c.holders_stay.ensures;
       names = c.others_are_gated.ensures.windows;
       fit = c.tables_stay_fit.ensures.run;
+      watching = c.spectators_leave_others.ensures;
     })

@@ -1,7 +1,7 @@
 use Rattle.std.proofs.Common.{◌≡◌}
 use Rattle.indexmap.specs.IndexMap.{spare}
 use Rattle.acl.specs.Table.{without_leader}
-use Rattle.acl_slots.proofs.InPlace.{mapped_below}
+use Rattle.acl_words.proofs.InPlace.{mapped_below}
 use Rattle.acl.proofs.rows.forget_leader.Given as goal
 
 -- the rows so far are done, and the others are as they were

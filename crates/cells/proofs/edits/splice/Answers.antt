@@ -19,8 +19,8 @@ returns c =
     c.cut-3.ensures ∙ ap (λ x. cut_of (c.args.rest + c.min-moved.result) x) (c.cut-2.ensures ∙ ap (λ x. cut_of c.args.rest x) c.cut.ensures)
     ∙ ap (λ n. cut_of (c.args.rest + n) (cut_of c.args.rest (cut_of c.args.at c.args.cells.now))) m in
     let same : length c.cut-3.new.cells ≡ length c.args.cells.now = ap length cut ∙ length-cut_thrice c.args.at c.args.count c.args.rest c.args.cells.now in
-    calls_are blank c.cut-3.new.cells c.copy_within.new.self c.fill.new.self c.fill-2.new.self c.args.at (c.args.at + c.args.count) c.args.rest c.min-moved.result
-    (omega arith) (omega arith) (omega arith) c.copy_within.ensures.after (c.fill.ensures.after (λ y h. h)) (c.fill-2.ensures.after (λ y h. h))
+    calls_are blank c.cut-3.new.cells c.copy_to.new.cells c.fill.new.self c.fill-2.new.self c.args.at (c.args.at + c.args.count) c.args.rest c.min-moved.result
+    (omega arith) (omega arith) (omega arith) c.copy_to.ensures (c.fill.ensures.after (λ y h. h)) (c.fill-2.ensures.after (λ y h. h))
     ∙ ap (λ x. moved_line blank x c.args.at (c.args.at + c.args.count) c.args.rest c.min-moved.result) cut
     ∙ ap (λ n. moved_line blank (cut_thrice c.args.at c.args.count c.args.rest c.args.cells.now) c.args.at (c.args.at + c.args.count) c.args.rest n) m
     ∙ moved_line-is c.args.at c.args.count c.args.rest c.args.cells.now c.requires.order c.requires.inside c.requires.room c.requires.changes c.requires.paired

@@ -3,7 +3,7 @@ use Rattle.session_model.specs.declared.check.Check.{Check}
 use Rattle.session_model.specs.Trace.{Attach}
 use Rattle.session_model.specs.Deeds.{Deed}
 use Rattle.session_model.specs.Events.{outcome, reply_of, attach_checks, attaches, new_client}
-use Rattle.session_state.specs.declared.made.Made.{Made}
+use Rattle.session_state.specs.declared.step_output.StepOutput.{StepOutput}
 use Rattle.session_core.proofs.Outcomes.{was_passed}
 use Rattle.session_core.proofs.coming.attach_client.Goals as goal
 
@@ -13,7 +13,7 @@ returns-clause-step c = λ t st fit.
     let rows = c.args.rows in
     let cols = c.args.cols in
     let before = c.args.made.now in
-    let first : Made = record before { acts = c.reserve.new.self } in
+    let first : StepOutput = record before { acts = c.reserve.new.self } in
     let cs : List Check = attach_checks t user rows cols in
     let d : Deed = attaches t (new_client t user rows cols) in
     let passed = c.in_ok-check_attach.ensures t st in

@@ -4,7 +4,7 @@ use Rattle.session_model.specs.Trace.{Open}
 use Rattle.session_model.specs.Tables.{Window}
 use Rattle.session_model.specs.Deeds.{Deed}
 use Rattle.session_model.specs.Events.{outcome, reply_of, open_checks, opens, new_window}
-use Rattle.session_state.specs.declared.made.Made.{Made}
+use Rattle.session_state.specs.declared.step_output.StepOutput.{StepOutput}
 use Rattle.session_core.proofs.Outcomes.{was_passed}
 use Rattle.session_core.proofs.coming.open_window.Goals as goal
 
@@ -16,7 +16,7 @@ returns-clause-step c = λ t st fit.
     let keep = c.args.keep in
     let title = c.args.title.now in
     let before = c.args.made.now in
-    let first : Made = record before { acts = c.reserve.new.self } in
+    let first : StepOutput = record before { acts = c.reserve.new.self } in
     let cs : List Check = open_checks t user rows cols keep title in
     let w : Window = new_window t rows cols keep title in
     let d : Deed = opens t user w in

@@ -9,7 +9,7 @@ use Rattle.session_model.specs.Deeds.{Deed, changing}
 use Rattle.session_model.specs.Events.{outcome, done, where_passed, is_client_size, resized}
 use Rattle.session_rows.proofs.Matching.{both_back}
 use Rattle.session_clients.specs.Stands.{ClientStands}
-use Rattle.session_state.specs.declared.made.Made.{Made}
+use Rattle.session_state.specs.declared.step_output.StepOutput.{StepOutput}
 use Rattle.session_core.proofs.Outcomes.{was_passed, for_there}
 use Rattle.session_core.proofs.coming.resize_client.Goals as goal
 
@@ -19,7 +19,7 @@ returns-clause-step c = λ t st fit.
     let rows = c.args.rows in
     let cols = c.args.cols in
     let before = c.args.made.now in
-    let first : Made = record before { acts = c.reserve.new.self } in
+    let first : StepOutput = record before { acts = c.reserve.new.self } in
     let row = both_back ClientStands (client_at t client) (option_copied c.get.result)
     c.in-Some._client.now (c.get.ensures.stands t.clients st.clients) (ap option_copied c.in-Some.is) in
     let cs : List Check = must (is_client_size rows cols) BadSize ∷ [] in

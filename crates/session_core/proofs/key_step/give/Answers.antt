@@ -1,14 +1,14 @@
 use Rattle.std.proofs.Common.{Some, ap, refl, ◌∙◌}
-use Rattle.session_state.specs.declared.made.Made.{Made}
+use Rattle.session_state.specs.declared.step_output.StepOutput.{StepOutput}
 use Rattle.session_core.proofs.KeyStepping.{keys_given}
 use Rattle.session_core.proofs.key_step.give.Goals as goal
 
 pub returns-in-Ok-clause-ok : goal.returns-in-Ok-clause-ok
 returns-in-Ok-clause-ok c = λ t row keys st fit at same read.
-    let before : Made = c.args.made.now in
-    let middle : Made = c.type_bytes.new.made in
-    let later : Made = c.obey_read.new.made in
-    let after : Made = record later { effects = c.drop_said.new.effects } in
+    let before : StepOutput = c.args.made.now in
+    let middle : StepOutput = c.type_bytes.new.made in
+    let later : StepOutput = c.obey_read.new.made in
+    let after : StepOutput = record later { effects = c.drop_said.new.effects } in
     keys_given t c.args.client row keys c.args.typed c.in_ok-message.message
     c.len-start.result c.len-end.result (Some c.args.order.now) c.obey_read.new.state before middle
     later after c.args.verdicts.now.items c.type_bytes.new.verdicts.items

@@ -5,7 +5,7 @@ use Rattle.session_model.specs.Tables.{Window, window_at}
 use Rattle.session_model.specs.Events.{outcome, done, finished, outputs}
 use Rattle.session_rows.proofs.Matching.{both_back}
 use Rattle.windows.specs.Standing.{WindowStands, at_serial}
-use Rattle.session_state.specs.declared.made.Made.{Made}
+use Rattle.session_state.specs.declared.step_output.StepOutput.{StepOutput}
 use Rattle.session_core.proofs.Outcomes.{was_done, for_there}
 use Rattle.session_core.proofs.programs.write.Goals as goal
 
@@ -14,7 +14,7 @@ returns-clause-step c = λ past t st fit.
     let window = c.args.window in
     let bytes = c.args.bytes.now in
     let before = c.args.made.now in
-    let first : Made = record before { acts = c.reserve.new.self } in
+    let first : StepOutput = record before { acts = c.reserve.new.self } in
     let row = both_back WindowStands (at_serial window t.windows) (option_copied c.get.result)
     c.in-Some._window.now (c.get.ensures.finds t.windows st.windows) (ap option_copied c.in-Some.is) in
     let did = c.in_ok-output.ensures.answer t row.0 st fit row.1 in

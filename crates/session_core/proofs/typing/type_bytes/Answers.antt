@@ -7,7 +7,7 @@ use Rattle.session_model.specs.Texts.{text_of}
 use Rattle.session_model.specs.declared.refusal.Refusal.TheVariants.{NoMemory}
 use Rattle.session_model.specs.Checks.{typing_checks}
 use Rattle.session_state.specs.declared.caller.Caller.{Caller}
-use Rattle.session_state.specs.declared.made.Made.{Made}
+use Rattle.session_state.specs.declared.step_output.StepOutput.{StepOutput}
 use Rattle.session_state.specs.Doing.{caller_in}
 use Rattle.session_checks.specs.Checked.{Passed, Failed}
 use Rattle.session_core.specs.Typing.{Typed, input_to}
@@ -28,7 +28,7 @@ returns-in_ok-push-in-Err-clause-ok c = λ t row st fit at same.
     let r = c.in-Err.refusal in
     let past = c.args.verdicts.now.items in
     let noted = c.check_typing.new.verdicts.items in
-    let after : Made = record c.args.made.now { effects = c.push.new.self } in
+    let after : StepOutput = record c.args.made.now { effects = c.push.new.self } in
     let text = c.in_ok-text-in-Err.ensures.ok
     ∙ ap (λ (xs : List ℕ). xs ++ text_of r) c.new-text.ensures.items in
     subst (λ (m : Message). Typed t row c.args.typed m c.args.made.now after past noted)

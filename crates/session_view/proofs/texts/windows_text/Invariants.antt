@@ -1,7 +1,7 @@
 use Rattle.std.proofs.Common.{map}
 use Rattle.session_model.specs.Tables.{Tables}
 use Rattle.session_model.specs.Texts.{window_item}
-use Rattle.session_texts.specs.Orders.{numbered}
+use Rattle.session_view.specs.Orders.{numbered}
 use Rattle.session_state.specs.Stands.{Stands}
 use Rattle.session_model.specs.Sound.{AreFit}
 use Rattle.session_view.specs.Growing.{IsList}

@@ -4,7 +4,7 @@ use Rattle.indexmap.specs.IndexMap.{insert_entry}
 use Rattle.acl_words.specs.declared.user_id.UserId.{UserId}
 use Rattle.acl_words.specs.declared.bits.Bits.{Bits}
 use Rattle.acl.specs.declared.rows.Row.{Row}
-use Rattle.acl_slots.specs.declared.slots.Slots.{Slots}
+use Rattle.acl_words.specs.declared.slots.Slots.{Slots}
 use Rattle.acl_words.specs.BitSets.{all_bits}
 use Rattle.acl_words.specs.Same.{same_user}
 use Rattle.acl.specs.Table.{StandsFor}

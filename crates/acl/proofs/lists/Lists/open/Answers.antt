@@ -2,12 +2,12 @@ use Rattle.std.proofs.Common.{◌≡◌, ◌∙◌, ◌∷◌, ap, sym, subst, r
 use Rattle.std.specs.Map.{lookup, keys_of}
 use Rattle.acl_words.specs.declared.act.Act.TheVariants.{Opened}
 use Rattle.acl_words.specs.Same.{same_user}
-use Rattle.acl_slots.specs.Slots.{slot_of}
+use Rattle.acl_words.specs.Slots.{slot_of}
 use Rattle.acl.specs.Table.{with_window, opening_bits, StandsFor, Table}
 use Rattle.acl.specs.History.{is_open, open_count}
 use Rattle.acl.specs.Lists.{table_of}
 use Rattle.acl.proofs.RowLemmas.{lookup-revalued, keys_of-revalued}
-use Rattle.acl_slots.proofs.SlotLemmas.{found, slot_of-opened, slot_of-free, free_slot-empty, slots-opened, slots-free}
+use Rattle.acl_words.proofs.SlotLemmas.{found, slot_of-opened, slot_of-free, free_slot-empty, slots-opened, slots-free}
 use Rattle.acl.proofs.StandsForLemmas.{StandsFor-Opened}
 use Rattle.acl.proofs.lists.Lists.open.Goals as goal
 

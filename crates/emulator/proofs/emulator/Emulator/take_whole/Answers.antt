@@ -28,7 +28,7 @@ pub returns-in-24-clause-taken : goal.returns-in-24-clause-taken
 returns-in-24-clause-taken c = λ said. nothing-taken c.args.self.now c.args.bytes.now said
 
 pub returns-in_default-clause-taken : goal.returns-in_default-clause-taken
-returns-in_default-clause-taken c = c.take_character.ensures.taken
+returns-in_default-clause-taken c = c.take_text.ensures.taken
 
 pub returns-in-0-to-31-clause-taken : goal.returns-in-0-to-31-clause-taken
 returns-in-0-to-31-clause-taken c = λ said t h.

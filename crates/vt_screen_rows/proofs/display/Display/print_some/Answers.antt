@@ -1,6 +1,6 @@
 use Rattle.std.proofs.Common.{◌≡◌, ◌<◌, true, length, take, ℕ, List, refl, sym, ap, ◌∙◌, subst, arith, length-take, min}
 use Rattle.std.specs.List.{list_all}
-use Rattle.charsets.specs.Units.{is_plain}
+use Rattle.charsets.specs.Units.{is_letter}
 use Rattle.charsets.specs.declared.unit.Unit.TheVariants.{Code}
 use Rattle.terminal_model.specs.declared.action.Action.TheVariants.{Print}
 use Rattle.terminal_model.specs.Screen.{Screen, IsSound}
@@ -8,6 +8,7 @@ use Rattle.terminal_model.specs.Table.{wrapped}
 use Rattle.vt_screen_rows.specs.Displays.{screen_of}
 use Rattle.vt_screen_rows.specs.Runs.{TakesRuns, prints, run_placed}
 use Rattle.vt_screen_rows.proofs.Widths.{acted_fit}
+use Rattle.vt_screen_rows.proofs.Letters.{plain_letters}
 use Rattle.vt_screen_rows.proofs.RunLemmas.{all_acted_fit, list_all-take, prints_wrapped, run_is, settled-wrapped, takes-wrapped}
 use Rattle.vt_screen_rows.proofs.RunPlaces.{prints_places}
 use Rattle.vt_screen_rows.proofs.display.Display.print_some.Goals as goal
@@ -25,13 +26,13 @@ returns-clause-screen c =
     let column : c.wrap.new.self.state.column ≡ w.state.column = ap (λ (v : Screen). v.state.column) c.wrap.ensures.screen in
     let columns : c.wrap.new.self.state.columns ≡ w.state.columns = ap (λ (v : Screen). v.state.columns) c.wrap.ensures.screen in
     let inside : w.state.column < w.state.columns = sound.cursor.1 in
-    let plain : list_all is_plain codes ≡ true = list_all-take is_plain c.min-count.result c.args.codes.now c.requires.plain in
+    let letters : list_all is_letter codes ≡ true = list_all-take is_letter c.min-count.result c.args.codes.now (plain_letters c.args.codes.now c.requires.plain) in
     let n : length codes ≡ min c.min-count.result (length c.args.codes.now) = length-take c.min-count.result c.args.codes.now in
     let some : 0 < length codes = omega (arith, c.requires.some) in
     c.place_run.ensures.screen
     ∙ ap (run_placed codes) c.wrap.ensures.screen
-    ∙ sym (run_is codes w (takes-wrapped x x.state.is_wrap_pending takes) (settled-wrapped x x.state.is_wrap_pending refl) sound plain some (omega arith))
-    ∙ prints_wrapped x codes takes plain some
+    ∙ sym (run_is codes w (takes-wrapped x x.state.is_wrap_pending takes) (settled-wrapped x x.state.is_wrap_pending refl) sound letters some (omega arith))
+    ∙ prints_wrapped x codes takes letters some
 
 pub returns-clause-fit : goal.returns-clause-fit
 returns-clause-fit c = all_acted_fit c.args.self.now c.place_run.new.self (prints (take c.min-count.result c.args.codes.now)) c.requires.fit (returns-clause-screen c) (c.place_run.ensures.width ∙ c.wrap.ensures.width)
@@ -46,7 +47,7 @@ returns-clause-places c =
     let column : c.wrap.new.self.state.column ≡ w.state.column = ap (λ (v : Screen). v.state.column) c.wrap.ensures.screen in
     let columns : c.wrap.new.self.state.columns ≡ w.state.columns = ap (λ (v : Screen). v.state.columns) c.wrap.ensures.screen in
     let inside : w.state.column < w.state.columns = sound.cursor.1 in
-    let plain : list_all is_plain codes ≡ true = list_all-take is_plain c.min-count.result c.args.codes.now c.requires.plain in
+    let letters : list_all is_letter codes ≡ true = list_all-take is_letter c.min-count.result c.args.codes.now (plain_letters c.args.codes.now c.requires.plain) in
     let n : length codes ≡ min c.min-count.result (length c.args.codes.now) = length-take c.min-count.result c.args.codes.now in
     let some : 0 < length codes = omega (arith, c.requires.some) in
-    c.place_run.ensures.places ∙ c.wrap.ensures.places ∙ sym (prints_places x codes c.args.self.now.page.places takes plain some sound (omega arith))
+    c.place_run.ensures.places ∙ c.wrap.ensures.places ∙ sym (prints_places x codes c.args.self.now.page.places takes letters some sound (omega arith))

@@ -1,0 +1,220 @@
+//! What stands whole in a list of bytes, and is taken at once.
+
+ghost use Rattle.std.specs.Prelude.{◌≡◌, ◌≤◌, ◌<◌, ℕ, List, [], ◌∷◌, true, IsTrue, length, take};
+ghost use Rattle.std.specs.List.{list_all};
+ghost use Rattle.charsets.specs.declared.unit.Coding.TheVariants.{Utf8};
+ghost use Rattle.charsets.specs.Units.{is_plain};
+ghost use Rattle.control_parser.specs.Spelling.{IsGiven};
+ghost use Rattle.control_parser.specs.declared.func.Func.TheVariants.{Esc};
+ghost use Rattle.emulator.specs.Standing.{HasTaken, IsBetween};
+
+use crate::emulator::Emulator;
+use charsets::{Coding, first_characters, first_letters};
+use control_parser::plain_run;
+
+const CAN: u8 = 0x18;
+
+const SUB: u8 = 0x1A;
+
+const ESC: u8 = 0x1B;
+
+/// The first byte of U+0300.
+const BEHIND_LETTERS: u8 = 0xCC;
+
+/// How many letters are read before they are printed.
+const LETTERS: usize = 64;
+
+/// The same of other characters.
+const CHARACTERS: usize = 16;
+
+impl Emulator {
+    /// Where nothing has begun, reads all that stands whole at the front of some bytes and isn't
+    /// answered. It gives how many bytes that are: 0 where something has begun, or nothing of the
+    /// kind stands there.
+    pub(crate) fn take_wholes(&mut self, bytes: &[u8]) -> usize
+        ensures taken { (said : List ℕ) → HasTaken self.old bytes.now result said self.new said }
+        ensures few { result ≤ length bytes.now }
+    {
+        if self.decoder.is_idle() && self.parser.is_idle() {
+            self.take_on(bytes)
+        } else {
+            0
+        }
+    }
+
+    /// The same where nothing has begun.
+    fn take_on(&mut self, bytes: &[u8]) -> usize
+        requires { IsBetween self.old }
+        ensures taken { (said : List ℕ) → HasTaken self.old bytes.now result said self.new said }
+        ensures few { result ≤ length bytes.now }
+    {
+        let mut taken = 0;
+        while taken < bytes.len() {
+            let count = self.take_whole(&bytes[taken..]);
+            if count == 0 {
+                return taken;
+            }
+            taken += count;
+        }
+        taken
+    }
+
+    /// Reads the first that stands whole: a run of bytes 20 to 7E, and in UTF-8 a control, an
+    /// escape sequence without intermediates, a control sequence that isn't answered, a character
+    /// from U+00A0 on.
+    fn take_whole(&mut self, bytes: &[u8]) -> usize
+        requires some { 0 < length bytes.now }
+        requires idle { IsBetween self.old }
+        ensures taken { (said : List ℕ) → HasTaken self.old bytes.now result said self.new said }
+        ensures few { result ≤ length bytes.now }
+        ensures decoding { self.new.decoding ≡ self.old.decoding }
+        ensures parsing { self.new.parsing ≡ self.old.parsing }
+    {
+        let first = bytes[0];
+        if 0x1F < first && first < 0x7F {
+            let run = plain_front(bytes);
+            self.screen.print_run(&bytes[..run]);
+            return run;
+        }
+        if self.decoder.coding() != Coding::Utf8 {
+            return 0;
+        }
+        match first {
+            ESC => self.take_escape(bytes),
+            CAN | SUB => 0,
+            ..0x20 => {
+                self.screen.control(first);
+                1
+            }
+            _ => self.take_text(bytes),
+        }
+    }
+
+    /// The same of what begins with ESC.
+    fn take_escape(&mut self, bytes: &[u8]) -> usize
+        requires begins { take 1 bytes.now ≡ 0x1B ∷ [] }
+        requires idle { IsBetween self.old }
+        requires coding { self.old.decoding.coding ≡ Utf8 }
+        ensures taken { (said : List ℕ) → HasTaken self.old bytes.now result said self.new said }
+        ensures few { result ≤ length bytes.now }
+        ensures decoding { self.new.decoding ≡ self.old.decoding }
+        ensures parsing { self.new.parsing ≡ self.old.parsing }
+    {
+        if bytes.len() < 2 {
+            return 0;
+        }
+        if bytes[1] == b'[' {
+            return self.take_sequence(bytes);
+        }
+        if !ends_escape(bytes[1]) {
+            return 0;
+        }
+        self.screen.escape(bytes[1]);
+        2
+    }
+
+    /// The same of what begins with CSI.
+    fn take_sequence(&mut self, bytes: &[u8]) -> usize
+        requires begins { take 2 bytes.now ≡ 0x1B ∷ 0x5B ∷ [] }
+        requires idle { IsBetween self.old }
+        requires coding { self.old.decoding.coding ≡ Utf8 }
+        ensures taken { (said : List ℕ) → HasTaken self.old bytes.now result said self.new said }
+        ensures few { result ≤ length bytes.now }
+        ensures decoding { self.new.decoding ≡ self.old.decoding }
+        ensures parsing { self.new.parsing ≡ self.old.parsing }
+    {
+        let count = self.sequence.read(&bytes[2..]);
+        if count == 0 {
+            return 0;
+        }
+        if !self.screen.sequence(&self.sequence) {
+            return 0;
+        }
+        count + 2
+    }
+
+    /// The same of characters from U+00A0 on: of a run of letters, or of any.
+    fn take_text(&mut self, bytes: &[u8]) -> usize
+        requires some { 0 < length bytes.now }
+        requires idle { IsBetween self.old }
+        requires coding { self.old.decoding.coding ≡ Utf8 }
+        ensures taken { (said : List ℕ) → HasTaken self.old bytes.now result said self.new said }
+        ensures few { result ≤ length bytes.now }
+        ensures decoding { self.new.decoding ≡ self.old.decoding }
+        ensures parsing { self.new.parsing ≡ self.old.parsing }
+    {
+        if BEHIND_LETTERS <= bytes[0] {
+            return self.take_characters(bytes);
+        }
+        let count = self.take_letters(bytes);
+        if count == 0 {
+            return self.take_characters(bytes);
+        }
+        count
+    }
+
+    /// The same of letters, as many as there is room for at once. It gives 0 where none stands
+    /// there, and has done nothing then.
+    fn take_letters(&mut self, bytes: &[u8]) -> usize
+        requires idle { IsBetween self.old }
+        requires coding { self.old.decoding.coding ≡ Utf8 }
+        ensures taken { (said : List ℕ) → HasTaken self.old bytes.now result said self.new said }
+        ensures few { result ≤ length bytes.now }
+        ensures decoding { self.new.decoding ≡ self.old.decoding }
+        ensures parsing { self.new.parsing ≡ self.old.parsing }
+        ensures undone { result ≡ 0 → self.new ≡ self.old }
+    {
+        let mut letters = [' '; LETTERS];
+        let (count, read) = first_letters(bytes, &mut letters);
+        if read == 0 {
+            return 0;
+        }
+        self.screen.print_letters(&letters[..count]);
+        read
+    }
+
+    /// The same of characters of two or three bytes from U+00A0 on.
+    fn take_characters(&mut self, bytes: &[u8]) -> usize
+        requires idle { IsBetween self.old }
+        requires coding { self.old.decoding.coding ≡ Utf8 }
+        ensures taken { (said : List ℕ) → HasTaken self.old bytes.now result said self.new said }
+        ensures few { result ≤ length bytes.now }
+        ensures decoding { self.new.decoding ≡ self.old.decoding }
+        ensures parsing { self.new.parsing ≡ self.old.parsing }
+    {
+        let mut characters = [' '; CHARACTERS];
+        let (count, read) = first_characters(bytes, &mut characters);
+        self.screen.print_characters(&characters[..count]);
+        read
+    }
+}
+
+/// How many bytes 20 to 7E stand at the front; between two functions that is one mostly, and found
+/// at once.
+#[inline(always)]
+fn plain_front(bytes: &[u8]) -> usize
+    ensures plain { list_all is_plain (take result bytes.now) ≡ true }
+    ensures few { result ≤ length bytes.now }
+{
+    if bytes.len() > 1 && is_plain(bytes[0]) && !is_plain(bytes[1]) {
+        return 1;
+    }
+    plain_run(bytes)
+}
+
+/// Whether a byte is one of 20 to 7E.
+#[inline(always)]
+fn is_plain(byte: u8) -> bool
+    ensures { result ≡ is_plain byte }
+{
+    0x1F < byte && byte < 0x7F
+}
+
+/// Whether ESC and this byte are a whole function: the byte is a final, and begins no control
+/// sequence and no string.
+fn ends_escape(byte: u8) -> bool
+    ensures { IsTrue result → IsGiven (Esc [] byte) }
+{
+    let begins = matches!(byte, b'[' | b']' | b'P' | b'X' | b'^' | b'_' | b'k');
+    0x2F < byte && byte < 0x7F && !begins
+}

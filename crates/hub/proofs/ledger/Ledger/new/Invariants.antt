@@ -1,0 +1,11 @@
+use Rattle.std.specs.Prelude.{◌≡◌, ◌+◌, length, []}
+use Rattle.hub.specs.Closing.{receipts_of}
+use Rattle.hub.proofs.ledger.Ledger.new.Given as goal
+
+abbrev pub invariant-seats : goal.invariant-seats
+invariant-seats g l = record {
+  made : length l.made.items ≡ l.number;
+  told : receipts_of l.made.items ≡ [];
+  parts : l.all.parts + l.number ≡ g.L.Ledger.parts;
+  amount : l.all.amount ≡ 0;
+}

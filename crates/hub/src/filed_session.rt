@@ -1,0 +1,125 @@
+//! A session with its trail, and what waits for each seat.
+
+ghost use Rattle.std.specs.Prelude.{◌≡◌, ◌<◌, length, IfOk, OnErr, replicate, false, []};
+ghost use Rattle.session_model.specs.Trace.{begun, happening};
+ghost use Rattle.session_core.specs.Stands.{StandsFor, wants_memory};
+ghost use Rattle.hub_trail.specs.Filing.{kept_of};
+ghost use Rattle.hub.specs.Slips.{kept_by};
+ghost use Rattle.hub.specs.States.{IsKept, Takes, state_of};
+
+use crate::entries::Entries;
+use crate::peers::Peers;
+use crate::prepared::Prepared;
+use crate::waiting::Waiting;
+use acl::{Edition, UserId};
+use session_core::{Notes, Session};
+use session_model::{Event, Refusal, Reply};
+use std::alloc::{AllocError, Global};
+
+/// A session with its trail, the seats of its peers, and what waits for each seat.
+pub struct FiledSession {
+    pub alloc: Global,
+    pub session: Session,
+    pub entries: Entries,
+    pub peers: Peers,
+    pub waiting: Waiting,
+}
+
+impl Drop for FiledSession {
+    fn drop(self) {
+        let FiledSession {
+            alloc: _,
+            session: _,
+            entries: _,
+            peers: _,
+            waiting: _,
+        } = self;
+    }
+}
+
+/// Whether a step was refused for want of memory.
+fn wants_memory(reply: &Reply) -> bool
+    ensures { result ≡ wants_memory reply.now }
+{
+    matches!(reply, Err(Refusal::NoMemory))
+}
+
+impl FiledSession {
+    /// A session that has taken no event, with an empty trail, for which nothing waits.
+    pub fn new(
+        alloc: Global,
+        edition: Edition,
+        owner: UserId,
+        session: Session,
+        seats: usize,
+    ) -> Result<FiledSession, AllocError>
+        requires { StandsFor (begun edition owner) session }
+        ensures state { IfOk result (λ filed. state_of filed ≡ record {
+          session = session;
+          trail = record { edition = edition; owner = owner; entries = [] };
+          owners = record { clients = []; windows = [] };
+          waiting = replicate seats [];
+          marks = replicate seats false;
+        }) }
+        ensures kept { IfOk result (λ filed. IsKept (state_of filed)) }
+    {
+        let waiting = Waiting::new(alloc, seats)?;
+        let entries = Entries {
+            edition,
+            owner,
+            list: Vec::new(alloc),
+        };
+        Ok(FiledSession {
+            alloc,
+            session,
+            entries,
+            peers: Peers::new(alloc),
+            waiting,
+        })
+    }
+
+    /// One step of the session, for a seat. Where memory is refused nothing has changed.
+    pub fn take_step(
+        &mut self,
+        seat: usize,
+        event: Event<'_>,
+        prepared: Option<Prepared>,
+    ) -> Result<Reply, AllocError>
+        requires kept { IsKept (state_of self.old) }
+        requires seat { seat < length self.old.waiting.lists.items }
+        requires prepared { kept_by prepared ≡ kept_of (happening event) }
+        ensures step { IfOk result (λ reply. Takes seat (happening event.entry) reply
+            (state_of self.old) (state_of self.new)) }
+        ensures kept { IsKept (state_of self.new) }
+        ensures same { OnErr result (state_of self.new ≡ state_of self.old) }
+    {
+        self.entries.make_room()?;
+        self.peers.make_room()?;
+        self.waiting.make_room()?;
+        let mut effects = Vec::new(self.alloc);
+        let mut notes = Notes::new(self.alloc);
+        let reply = self.session.step(event, &mut effects, &mut notes);
+        if wants_memory(&reply) {
+            return Err(AllocError);
+        }
+        self.waiting.route(&self.peers, effects);
+        self.peers.add(event, &reply, seat);
+        self.waiting.mark(event);
+        self.entries.write(prepared, notes, &reply);
+        Ok(reply)
+    }
+
+    /// The entries alone.
+    pub fn into_entries(self) -> Entries
+        ensures { result ≡ self.entries }
+    {
+        let FiledSession {
+            alloc: _,
+            session: _,
+            entries,
+            peers: _,
+            waiting: _,
+        } = self;
+        entries
+    }
+}

@@ -1,0 +1,25 @@
+-- What a judge of entries, taken one after another, stands for.
+use Rattle.std.specs.Prelude.{Bool, true, false, ◌≡◌, List, [], ◌∷◌, ◌++◌, length}
+use Rattle.acl.specs.declared.edition.Edition.{Edition}
+use Rattle.acl.specs.declared.user_id.UserId.{UserId}
+use Rattle.hub_trail.specs.Trails.{Entry}
+use Rattle.hub_trail.specs.Legal.{acts_after}
+use Rattle.hub_trail.specs.Judging.{AreGood, IsBadAt}
+use Rattle.hub_replay.specs.Following.{StandsAfter}
+use Rattle.hub_check.specs.declared.judge.Judge.{Judge}
+
+-- these entries were taken, and all are good
+pub record HasJudged (judge : Judge) (edition : Edition) (owner : UserId) (entries : List Entry)
+    : Type 0 where
+  pub owner_is : judge.owner ≡ owner
+  pub good : AreGood edition owner [] entries
+  pub stands : StandsAfter judge.replay edition owner (acts_after [] entries)
+
+-- the next one is good too, or it is the first that isn't, whatever comes behind it
+abbrev pub Judges : Bool → Judge → Judge → Entry → Type 0
+Judges good old new e =
+    (edition : Edition) (owner : UserId) (entries : List Entry)
+    → HasJudged old edition owner entries
+    → (good ≡ true → HasJudged new edition owner (entries ++ e ∷ []))
+    × (good ≡ false
+    → (more : List Entry) → IsBadAt edition owner [] (entries ++ e ∷ more) (length entries))

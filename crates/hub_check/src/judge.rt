@@ -1,0 +1,126 @@
+//! The judge of entries, which takes one after another.
+
+ghost use Rattle.std.specs.Prelude.{◌≡◌, ◌↔◌, List, [], true, IfOk};
+ghost use Rattle.acl.specs.declared.edition.Edition.{Edition};
+ghost use Rattle.acl.specs.declared.user_id.UserId.{UserId};
+ghost use Rattle.acl.specs.History.{History};
+ghost use Rattle.hub_trail.specs.Legal.{AreOfUser, acts_after};
+ghost use Rattle.hub_trail.specs.Trails.{Entry};
+ghost use Rattle.hub_record.specs.Stored.{kept_lent};
+ghost use Rattle.hub_replay.specs.Following.{StandsAfter};
+ghost use Rattle.hub_check.specs.Parts.{IsAnswered, IsJudged};
+ghost use Rattle.hub_check.specs.Judges.{HasJudged, Judges};
+
+use crate::acts::are_let;
+use crate::commands::fits_line;
+use crate::replies::{carries_failed, is_denied};
+use crate::verdicts::{are_of, are_of_client, are_true, failed};
+use acl::{Edition, UserId};
+use hub_record::{Filed, KeptRef};
+use hub_replay::Replay;
+use session_model::Verdict;
+use std::alloc::{AllocError, Global};
+
+/// Judges entries of a trail, one after another, each by the acts of those before it. It keeps
+/// tables of rights, locks and clients, and no entry.
+pub struct Judge {
+    alloc: Global,
+    owner: UserId,
+    replay: Replay,
+}
+
+impl Drop for Judge {
+    fn drop(self) {
+        let Judge {
+            alloc: _,
+            owner: _,
+            replay: _,
+        } = self;
+    }
+}
+
+/// Whether the verdicts of a Command or an Open are of its user, and those of Keys of their
+/// client's.
+fn are_of_user(replay: &Replay, event: KeptRef<'_>, verdicts: &[Verdict]) -> bool
+    ensures { (edition : Edition) (owner : UserId) (h : History) →
+        StandsAfter replay.now edition owner h →
+        (result ≡ true) ↔ AreOfUser h (kept_lent event.entry) verdicts.now }
+{
+    match event {
+        KeptRef::Keys { client } => are_of_client(replay, client, verdicts),
+        KeptRef::Command { user, .. } => are_of(user, verdicts),
+        KeptRef::Open { user, .. } => are_of(user, verdicts),
+        KeptRef::Attach { .. } | KeptRef::Detach { .. } | KeptRef::Closed { .. } => true,
+    }
+}
+
+/// Whether a denial carries the verdict that failed, and stands where it must.
+fn is_answered(event: KeptRef<'_>, entry: &Filed) -> bool
+    ensures { (result ≡ true) ↔ IsAnswered (kept_lent event.entry) entry.now }
+{
+    let failed = failed(entry.verdicts());
+    let ending = entry.ending();
+    carries_failed(failed, &ending) && is_denied(event, failed, &ending)
+}
+
+/// Whether tables can judge the entry's verdicts, and it is legal.
+fn is_legal(
+    alloc: Global,
+    owner: UserId,
+    replay: &Replay,
+    entry: &Filed,
+) -> Result<bool, AllocError>
+    ensures { IfOk result (λ legal. (edition : Edition) (h : History) →
+        StandsAfter replay.now edition owner h →
+        (legal ≡ true) ↔ IsJudged edition owner h entry.now) }
+{
+    let event = entry.event().get();
+    let verdicts = entry.verdicts();
+    if !are_true(replay, verdicts) {
+        return Ok(false);
+    }
+    if !are_of_user(replay, event, verdicts) {
+        return Ok(false);
+    }
+    if !are_let(event, verdicts, entry.acts()) {
+        return Ok(false);
+    }
+    if !is_answered(event, entry) {
+        return Ok(false);
+    }
+    fits_line(alloc, owner, replay, event, entry)
+}
+
+impl Judge {
+    /// No entry so far.
+    pub fn new(alloc: Global, edition: Edition, owner: UserId) -> Result<Judge, AllocError>
+        ensures { IfOk result (λ judge. HasJudged judge edition owner []) }
+    {
+        let replay = Replay::new(alloc, edition, owner)?;
+        Ok(Judge {
+            alloc,
+            owner,
+            replay,
+        })
+    }
+
+    /// Whether the next entry is good: tables can judge it, and it is legal. Behind one that isn't,
+    /// or where memory was refused, the judge stands for nothing more.
+    pub fn take(&mut self, entry: &Filed) -> Result<bool, AllocError>
+        ensures { IfOk result (λ good. Judges good self.old self.new entry.now) }
+    {
+        if !is_legal(self.alloc, self.owner, &self.replay, entry)? {
+            return Ok(false);
+        }
+        self.replay.follow_all(entry.acts())
+    }
+
+    /// Rights, locks and clients after the entries so far.
+    pub fn replay(&self) -> &Replay
+        ensures { (edition : Edition) (owner : UserId) (entries : List Entry) →
+            HasJudged self.now edition owner entries →
+            StandsAfter result.now edition owner (acts_after [] entries) }
+    {
+        &self.replay
+    }
+}

@@ -1,2 +1,0 @@
-pub mod Slips
-pub mod States

@@ -1,7 +1,0 @@
-pub mod Rising
-pub mod Stripping
-pub mod Counting
-pub mod Tellings
-pub mod Standing
-pub mod Filing
-pub mod Crossing

@@ -1,5 +1,0 @@
-pub mod Editions
-pub mod Faults
-pub mod Seats
-pub mod Closing
-pub mod Laws

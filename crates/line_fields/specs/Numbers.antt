@@ -1,0 +1,16 @@
+-- Numbers in decimal digits.
+use Rattle.std.specs.Prelude.{ℕ, Bool, if◌then◌else◌, ◌&&◌, nat_lt, List, length}
+use Rattle.std.specs.Prelude.{Option, Some, None}
+use Rattle.std.specs.List.{list_all}
+use Rattle.std.specs.Char.{is_ascii_digit}
+use Rattle.std.specs.Str.Parse.{digits_value}
+
+-- one decimal digit or more
+unfoldable pub is_number : List ℕ → Bool
+is_number word = nat_lt 0 (length word) && list_all is_ascii_digit word
+
+-- the number that the digits say, below a limit
+unfoldable pub number_below : ℕ → List ℕ → Option ℕ
+number_below limit word =
+    if is_number word && nat_lt (digits_value 10 word) limit then Some (digits_value 10 word)
+    else None

@@ -1,0 +1,87 @@
+//! What the refusals of commands mean that are a number.
+#![tactic(auto)]
+
+use std::io::Write;
+use std::{fmt, io};
+
+// The acl faults, the faults of windows and of regions, and those of a line.
+fn words_of(kind: &str, number: u8) -> Option<&'static str> {
+    Some(match (kind, number) {
+        ("acl", 1) => "unknown user",
+        ("acl", 2) => "the owner keeps all rights",
+        ("acl", 3) => "64 users are known",
+        ("acl", 4) => "no name",
+        ("acl", 5) => "no such leader",
+        ("acl", 7) => "eight leaders",
+        ("windows", 1) => "no place for a window",
+        ("windows", 2) => "no such window",
+        ("windows", 3) => "the number is taken",
+        ("windows", 4) => "no title: 1 to 40 characters of width 1 or 2",
+        ("regions", 1) => "too small",
+        ("regions", 2) => "there are 16",
+        ("regions", 3) => "the last region",
+        ("line", 1) => "unknown command",
+        ("line", 2) => "a word is missing",
+        ("line", 3) => "a word too many",
+        ("line", 4) => "no number, or out of range",
+        ("line", 5) => "no bits",
+        ("line", 6) => "an open quote",
+        ("line", 7) => "above 1,024 bytes",
+        ("line", 9) => "no such word",
+        _ => return None,
+    })
+}
+
+// The word of a command line that begins at this byte.
+fn word_at(line: &str, place: usize) -> Option<&str> {
+    let rest = line.get(place..)?;
+    match rest.split_once(' ') {
+        Some(("", _)) => None,
+        Some((word, _)) => Some(word),
+        None if rest.is_empty() => None,
+        None => Some(rest),
+    }
+}
+
+// What a refusal means that is a number, and the word at fault.
+fn explained<'a>(said: &str, line: &'a str) -> Option<(&'static str, Option<&'a str>)> {
+    let (kind, rest) = said.split_once(": ")?;
+    let (number, place) = match rest.split_once(" at ") {
+        Some((number, place)) => (number, place.parse::<usize>().ok()),
+        None => (rest, None),
+    };
+    let why = words_of(kind, number.parse::<u8>().ok()?)?;
+    Some((why, place.and_then(|place| word_at(line, place))))
+}
+
+/// Writes what the refusal of a command line means, in parentheses behind its text; nothing where
+/// the text says it.
+pub fn explain<E: Write>(said: &str, line: &str, errors: &mut E) -> io::Result<()> {
+    match explained(said, line) {
+        None => Ok(()),
+        Some((why, None)) => write!(errors, " ({why})"),
+        Some((why, Some(word))) => write!(errors, " ({why}: {word})"),
+    }
+}
+
+/// A command line that was refused: which one of its file, and why.
+#[derive(Clone, Copy, Debug)]
+pub struct RefusedLine<'line, 'said> {
+    /// Counted from 1.
+    pub number: usize,
+    pub line: &'line str,
+    /// The refusal's text.
+    pub said: &'said str,
+}
+
+impl fmt::Display for RefusedLine<'_, '_> {
+    fn fmt<W: fmt::Write>(&self, f: &mut fmt::Formatter<W>) -> fmt::Result {
+        let RefusedLine { number, line, said } = *self;
+        write!(f, "line {number}: {line}: {said}")?;
+        match explained(said, line) {
+            None => Ok(()),
+            Some((why, None)) => write!(f, " ({why})"),
+            Some((why, Some(word))) => write!(f, " ({why}: {word})"),
+        }
+    }
+}

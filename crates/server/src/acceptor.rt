@@ -1,0 +1,104 @@
+//! Who takes connections in.
+
+use crate::loop_handle::{Handed, LoopHandle};
+use mio::Registry;
+use mio::net::{UnixListener, UnixStream};
+use std::alloc::{AllocError, Global};
+use std::io;
+use std::io::ErrorKind;
+use std::sync::Wait;
+
+// So many descriptors are kept for connections that don't stay, so that a command finds its way
+// where the system grants no more.
+const SPARES: usize = 8;
+
+// So many connections are taken in before those that are there have their turn.
+const MOST: usize = 16;
+
+/// Takes connections in as they come, and hands the kth to loop k modulo the number of loops.
+#[derive(Drop)]
+pub struct Acceptor {
+    listener: UnixListener,
+    count: usize,
+    // Other owners of the loop's registry: what is let go is the descriptor.
+    registry: Registry,
+    spares: Vec<Registry>,
+    /// More connections may wait.
+    pub has_more: bool,
+    /// Connections wait that couldn't be taken in.
+    pub is_stuck: bool,
+}
+
+impl Acceptor {
+    pub fn new(
+        alloc: Global,
+        listener: UnixListener,
+        registry: Registry,
+    ) -> Result<Acceptor, AllocError> {
+        Ok(Acceptor {
+            listener,
+            count: 0,
+            registry,
+            spares: Vec::with_capacity(alloc, SPARES)?,
+            has_more: false,
+            is_stuck: false,
+        })
+    }
+
+    // Keeps as many descriptors as it is to, where the system grants them.
+    fn keep_spares(&mut self) {
+        for _ in self.spares.len()..SPARES {
+            let Ok(spare) = self.registry.try_clone() else {
+                return;
+            };
+            let _ = self.spares.push(spare);
+        }
+    }
+
+    /// Takes in those that wait, at most so many that others have their turn. Where the system
+    /// refuses, a kept descriptor serves; where none is left, it tries again later.
+    pub fn accept(&mut self, rt: &impl Wait, loops: &[LoopHandle]) -> io::Result<()> {
+        self.has_more = false;
+        self.is_stuck = false;
+        self.keep_spares();
+        for _ in 0..MOST {
+            let is_extra = self.spares.len() < SPARES;
+            match self.listener.accept() {
+                Ok((stream, _)) => self.hand(rt, loops, stream, is_extra)?,
+                Err(error) => match error.kind() {
+                    ErrorKind::WouldBlock => return Ok(()),
+                    ErrorKind::Interrupted | ErrorKind::ConnectionAborted => {}
+                    _ if self.spares.pop().is_some() => {}
+                    _ => {
+                        self.is_stuck = true;
+                        return Ok(());
+                    }
+                },
+            }
+        }
+        self.has_more = true;
+        Ok(())
+    }
+
+    // Without memory the connection is closed.
+    fn hand(
+        &mut self,
+        rt: &impl Wait,
+        loops: &[LoopHandle],
+        stream: UnixStream,
+        is_extra: bool,
+    ) -> io::Result<()> {
+        if self.count >= loops.len() {
+            self.count = 0;
+        }
+        let Some(loop_handle) = loops.get(self.count) else {
+            return Ok(());
+        };
+        self.count += 1;
+        let handed = Handed { stream, is_extra };
+        if loop_handle.handed.lock(rt).push_back(handed).is_ok() {
+            loop_handle.wake()?;
+        }
+        Ok(())
+    }
+}

@@ -1,0 +1,69 @@
+//! The file of the owner's first commands, and what is told of it.
+
+use crate::fault::ServeFault;
+use refusal_words::RefusedLine;
+use setup_lines::{SetupFault, SetupLine, read_setup};
+use std::alloc::Global;
+use std::fs::Files;
+use std::{fs, str};
+
+/// A setup: where its file is, and what it has.
+#[derive(Drop)]
+pub struct Setup<'a> {
+    path: &'a str,
+    pub file: Vec<u8>,
+}
+
+// The text of the line of this number.
+fn text_of<'a>(lines: &[SetupLine<'a>], number: usize) -> &'a str {
+    match lines.iter().find(|line| line.number == number) {
+        Some(line) => line.text,
+        None => "",
+    }
+}
+
+impl<'a> Setup<'a> {
+    /// The setup of a file; one without lines where none is named.
+    pub fn read<R: Files + AllocGlobal>(
+        rt: &R,
+        path: Option<&'a str>,
+    ) -> Result<Setup<'a>, ServeFault> {
+        let alloc = rt.alloc();
+        let Some(path) = path else {
+            return Ok(Setup {
+                path: "",
+                file: Vec::new(alloc),
+            });
+        };
+        match fs::read(rt, path) {
+            Ok(file) => Ok(Setup { path, file }),
+            Err(error) => Err(ServeFault::Setup(format!(in alloc; "{path}: {error}")?)),
+        }
+    }
+
+    /// That a line can be no command.
+    pub fn wrong(&self, alloc: Global, fault: SetupFault) -> ServeFault {
+        let path = self.path;
+        match format!(in alloc; "{path}: {fault}") {
+            Ok(told) if fault != SetupFault::NoMemory => ServeFault::Setup(told),
+            _ => ServeFault::NoMemory,
+        }
+    }
+
+    /// That the line of this number was refused, with this text.
+    pub fn refused(&self, alloc: Global, number: usize, said: &[u8]) -> ServeFault {
+        let path = self.path;
+        let Ok(lines) = read_setup(alloc, &self.file) else {
+            return ServeFault::NoMemory;
+        };
+        let line = RefusedLine {
+            number,
+            line: text_of(&lines, number),
+            said: str::from_utf8(said).unwrap_or(""),
+        };
+        match format!(in alloc; "{path}: {line}") {
+            Ok(told) => ServeFault::Setup(told),
+            Err(_) => ServeFault::NoMemory,
+        }
+    }
+}

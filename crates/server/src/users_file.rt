@@ -1,0 +1,146 @@
+//! The users' file, which is read anew when it has changed.
+
+use crate::fault::ServeFault;
+use crate::log::Log;
+use acl::UserId;
+use server_turn::Users;
+use std::alloc::Global;
+use std::fmt::{Display, Formatter};
+use std::fs::Metadata;
+use std::os::unix::fs::MetadataExt;
+use std::rt::HostRuntime;
+use std::sync::{Mutex, Wait};
+use std::time::Clock;
+use std::{fmt, fs};
+
+// Modes of a file: those of its group and of all others.
+const OTHERS_READ: u32 = 0o044;
+
+const OTHERS_WRITE: u32 = 0o022;
+
+const OTHER_OWNER: &str = "the users' file has another owner: who may connect stays as it was";
+
+// Why the users stay.
+#[derive(Drop)]
+struct Stays(ServeFault);
+
+impl Display for Stays {
+    fn fmt<W: fmt::Write>(&self, f: &mut Formatter<W>) -> fmt::Result {
+        write!(f, "{}: who may connect stays as it was", self.0)
+    }
+}
+
+/// What tells that a file isn't the one that was read.
+#[derive(Clone, Copy, Debug, PartialEq, Eq)]
+pub struct Stamp {
+    file: (u64, u64),
+    size: u64,
+    written: (i64, i64),
+    changed: (i64, i64),
+    mode: u32,
+}
+
+impl Stamp {
+    fn of(found: &Metadata) -> Stamp {
+        Stamp {
+            file: (found.dev(), found.ino()),
+            size: found.size(),
+            written: (found.mtime(), found.mtime_nsec()),
+            changed: (found.ctime(), found.ctime_nsec()),
+            mode: found.mode(),
+        }
+    }
+
+    /// Whether others may read the file.
+    pub fn is_open(&self) -> bool {
+        self.mode & OTHERS_READ != 0
+    }
+}
+
+/// What is to be looked at, where who may connect may have changed.
+pub trait UsersSource {
+    /// The users, or why they can't be had, unless all is as it was seen last; then nothing.
+    fn look(&self, seen: &mut Option<Stamp>) -> Option<Result<Users, ServeFault>>;
+}
+
+/// A file of users.
+#[derive(Clone, Copy)]
+pub struct UsersFile<'p> {
+    pub files: HostRuntime,
+    pub alloc: Global,
+    pub path: &'p str,
+}
+
+impl UsersFile<'_> {
+    /// Reads the users of a file, which others mustn't write.
+    pub fn read(&self) -> Result<(Users, Stamp), ServeFault> {
+        let found = fs::metadata(&self.files, self.path).map_err(ServeFault::NoFile)?;
+        let stamp = Stamp::of(&found);
+        if stamp.mode & OTHERS_WRITE != 0 {
+            return Err(ServeFault::Writable(String::from_str(self.alloc, self.path)?));
+        }
+        let file = fs::read(&(self.files, self.alloc), self.path).map_err(ServeFault::NoFile)?;
+        Ok((Users::read(self.alloc, &file)?, stamp))
+    }
+}
+
+impl UsersSource for UsersFile<'_> {
+    fn look(&self, seen: &mut Option<Stamp>) -> Option<Result<Users, ServeFault>> {
+        let found = fs::metadata(&self.files, self.path).ok();
+        let found = found.map(|found| Stamp::of(&found));
+        if found == *seen {
+            return None;
+        }
+        *seen = found;
+        match self.read() {
+            Ok((users, _)) => Some(Ok(users)),
+            Err(fault) => Some(Err(fault)),
+        }
+    }
+}
+
+/// Of which users' file it was told how it was read.
+#[derive(Drop)]
+pub struct Told {
+    stamp: Mutex<Option<Stamp>>,
+}
+
+impl Told {
+    /// The file that was read at first.
+    pub fn new(stamp: Stamp) -> Told {
+        Told {
+            stamp: Mutex::new(Some(stamp)),
+        }
+    }
+
+    fn is_new(&self, rt: &impl Wait, stamp: Option<Stamp>) -> bool {
+        let mut told = self.stamp.lock(rt);
+        std::mem::replace(&mut *told, stamp) != stamp
+    }
+
+    /// The users of a file that has changed, where it is sound and has this owner. Otherwise they
+    /// stay, and what is wrong with the file is told once.
+    pub fn take<R: Clock + Wait>(
+        &self,
+        rt: &R,
+        log: &Log,
+        seen: &mut Option<Stamp>,
+        owner: UserId,
+        found: Result<Users, ServeFault>,
+    ) -> Option<Users> {
+        let is_new = self.is_new(rt, *seen);
+        match found {
+            Ok(users) if users.owner() == owner => {
+                if is_new {
+                    log.put(rt, &"the users' file is read anew");
+                }
+                return Some(users);
+            }
+            Ok(_) if is_new => log.put(rt, &OTHER_OWNER),
+            Err(ServeFault::NoMemory) => *seen = None,
+            Err(fault) if is_new => log.put(rt, &Stays(fault)),
+            _ => {}
+        }
+        None
+    }
+}

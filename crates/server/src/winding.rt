@@ -1,0 +1,47 @@
+//! How a loop ends.
+
+use crate::turns::wait;
+use crate::wired::Wired;
+use mio::{Events, Poll};
+use server_loop::{End, Gate, Loop, SharedSession};
+use std::io;
+use std::sync::Wait;
+use std::sync::ledger::Ledger as Roll;
+use std::time::{Clock, Duration};
+
+// The peers have so many milliseconds to read that the server ends.
+const TIME: u64 = 2_000;
+
+// They are looked at after so many milliseconds, or when something comes.
+const PAUSE: u64 = 20;
+
+// Without a clock they are looked at so often.
+const PAUSES: u64 = 100;
+
+fn is_late<R: Clock>(rt: &R, began: Option<Duration>, pauses: u64) -> bool {
+    match (began, rt.monotonic()) {
+        (Some(began), Ok(now)) => now.saturating_sub(began) >= Duration::from_millis(TIME),
+        _ => pauses >= PAUSES,
+    }
+}
+
+/// The peers are told of the end, and get some time to read it, whatever comes meanwhile.
+pub fn wind_up<L: Roll, G: Gate + Drop, R: Clock + Wait>(
+    rt: &R,
+    session: &SharedSession<L>,
+    poll: &mut Poll,
+    events: &mut Events,
+    own: &mut Loop<Wired, G, L>,
+    end: End,
+) -> io::Result<()> {
+    let began = rt.monotonic().ok();
+    own.peers.finish(rt, session, end);
+    for pauses in 0..u64::MAX {
+        if own.peers.is_empty() || is_late(rt, began, pauses) {
+            return Ok(());
+        }
+        wait(poll, events, Some(Duration::from_millis(PAUSE)))?;
+        own.peers.finish(rt, session, end);
+    }
+    Ok(())
+}

@@ -1,0 +1,76 @@
+//! A connection that a loop waits for.
+
+use mio::net::UnixStream;
+use mio::{Interest, Registry, Token};
+use std::io;
+use std::io::{ErrorKind, Read, Write};
+
+/// A connection whose loop is woken when there is something to read, and only while a write would
+/// wait also when it takes bytes again.
+#[derive(Drop)]
+pub struct Wired<'a> {
+    stream: UnixStream,
+    registry: &'a Registry,
+    token: Token,
+    awaits_room: bool,
+}
+
+impl<'a> Wired<'a> {
+    pub fn new(
+        registry: &'a Registry,
+        token: Token,
+        mut stream: UnixStream,
+    ) -> io::Result<Wired<'a>> {
+        registry.register(&mut stream, token, Interest::READABLE)?;
+        Ok(Wired {
+            stream,
+            registry,
+            token,
+            awaits_room: false,
+        })
+    }
+
+    fn await_room(&mut self, awaits_room: bool) -> io::Result<()> {
+        if self.awaits_room == awaits_room {
+            return Ok(());
+        }
+        let interest = if awaits_room {
+            Interest::READABLE | Interest::WRITABLE
+        } else {
+            Interest::READABLE
+        };
+        self.registry
+            .reregister(&mut self.stream, self.token, interest)?;
+        self.awaits_room = awaits_room;
+        Ok(())
+    }
+}
+
+impl Read for Wired<'_> {
+    fn read(&mut self, buf: &mut [u8]) -> io::Result<usize> {
+        self.stream.read(buf)
+    }
+}
+
+impl Write for Wired<'_> {
+    fn write(&mut self, buf: &[u8]) -> io::Result<usize> {
+        match self.stream.write(buf) {
+            Ok(count) => {
+                if count == buf.len() {
+                    self.await_room(false)?;
+                }
+                Ok(count)
+            }
+            Err(error) => {
+                if error.kind() == ErrorKind::WouldBlock {
+                    self.await_room(true)?;
+                }
+                Err(error)
+            }
+        }
+    }
+
+    fn flush(&mut self) -> io::Result<()> {
+        Ok(())
+    }
+}

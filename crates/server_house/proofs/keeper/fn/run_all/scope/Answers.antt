@@ -1,8 +1,0 @@
-use denote.Param.Send.{sendable}
-use Rattle.std.proofs.Crossing.{crosses}
-use Rattle.hub.proofs.Seat.TheSendSync as seat
-use Rattle.server_house.proofs.Crossing.{kept_sync}
-use Rattle.server_house.proofs.keeper.fn.run_all.scope.Goals as goal
-
-pub spawn-started-requires-send-F : goal.spawn-started-requires-send-F
-spawn-started-requires-send-F g c κs within = search (kept_sync, seat.the_send, sendable, crosses) depth 60

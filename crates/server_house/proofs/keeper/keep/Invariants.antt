@@ -1,4 +1,0 @@
-use Rattle.server_house.proofs.keeper.keep.Given as goal
-
-abbrev pub ghosts-keep_as : goal.ghosts-keep_as
-ghosts-keep_as g a = record { name = a.blank.name; parts = a.blank.parts }

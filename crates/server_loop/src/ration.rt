@@ -1,0 +1,55 @@
+//! How many entries of the trail a user may cause.
+
+use acl::UserId;
+use std::alloc::{AllocError, Global};
+use std::time::Duration;
+
+// In the long run a user causes at most so many entries a second, by all loops together.
+const A_SECOND: u64 = 1_000;
+
+// So many more come at once, by each loop.
+const BURST: u32 = 8_192;
+
+const MICROS: u64 = 1_000_000;
+
+// Until when the entries that a user caused would take, one at a time.
+#[derive(Clone, Copy, Debug)]
+struct Ration {
+    user: UserId,
+    until: Duration,
+}
+
+/// What is left to the users who were let in.
+#[derive(Drop)]
+pub struct Rations {
+    list: Vec<Ration>,
+    // The time of one entry.
+    period: Duration,
+    burst: Duration,
+}
+
+impl Rations {
+    /// The rations of one of so many loops.
+    pub fn new(alloc: Global, loops: usize) -> Rations {
+        let period = Duration::from_micros((MICROS / A_SECOND).saturating_mul(loops as u64));
+        Rations {
+            list: Vec::new(alloc),
+            period,
+            burst: period.saturating_mul(BURST),
+        }
+    }
+
+    /// Whether a user may cause one more entry now, which is then counted.
+    pub fn takes(&mut self, user: UserId, now: Duration) -> Result<bool, AllocError> {
+        let until = now.saturating_add(self.period);
+        let Some(ration) = self.list.iter_mut().find(|ration| ration.user == user) else {
+            self.list.push(Ration { user, until })?;
+            return Ok(true);
+        };
+        if ration.until.saturating_sub(now) > self.burst {
+            return Ok(false);
+        }
+        ration.until = ration.until.max(now).saturating_add(self.period);
+        Ok(true)
+    }
+}

@@ -1,0 +1,185 @@
+//! One connection.
+
+use crate::frames::gone_frame;
+use crate::inbox::Inbox;
+use crate::news::{Guest, News};
+use acl::UserId;
+use attach_proto::{Reader, Side, Why};
+use server_turn::Turn;
+use session_model::Event;
+use std::alloc::{AllocError, Global};
+use std::time::Duration;
+
+/// How many seconds a connection has for its first message, and one that was told to go to read
+/// that.
+const PATIENCE: u64 = 10;
+
+/// What a connection is to the session, where windows and clients are named by their serials.
+#[derive(Clone, Copy, Debug, PartialEq, Eq)]
+pub enum Role {
+    Stranger,
+    Client(u32),
+    Window(u32),
+}
+
+impl Role {
+    /// The event by which it leaves the session.
+    pub fn parting<'a>(self) -> Option<Event<'a>> {
+        match self {
+            Role::Stranger => None,
+            Role::Client(client) => Some(Event::Detach { client }),
+            Role::Window(window) => Some(Event::Closed { window }),
+        }
+    }
+}
+
+/// How far a connection is on its way.
+#[derive(Clone, Copy, Debug, PartialEq, Eq)]
+pub enum Stage {
+    Open,
+    /// It asked to go, and isn't read any more.
+    Leaving,
+    /// Its last frame was put.
+    Ending,
+    /// Its last frame was put, and it is closed once it takes no more.
+    Cut,
+    /// Nothing is read or written any more.
+    Closed,
+}
+
+/// One connection.
+#[derive(Drop)]
+pub struct Peer<S> {
+    pub stream: Option<S>,
+    pub reader: Reader,
+    pub turn: Turn,
+    pub role: Role,
+    /// What the session is to be told that left.
+    pub leaves: Role,
+    pub stage: Stage,
+    /// Which connection of its loop it is.
+    pub number: u64,
+    /// Who it is, once that is known.
+    pub user: Option<UserId>,
+    /// It was taken in though no more are to stay.
+    pub is_extra: bool,
+    /// There may be something to read.
+    pub has_more: bool,
+    /// Its other end was closed.
+    pub has_hung_up: bool,
+    pub inbox: Inbox,
+    /// What it asked for waits until its user may cause more entries.
+    pub is_held: bool,
+    /// Whom it brought, as long as it is there.
+    pub guest: Option<Guest>,
+    // Why it was told to go.
+    why: Option<Why>,
+    // When it began to be waited for.
+    awaited: Option<Duration>,
+}
+
+impl<S: Drop> Peer<S> {
+    /// The connection of this number, which may have sent something. The bytes of its GONE are
+    /// reserved.
+    pub fn new(
+        alloc: Global,
+        stream: S,
+        number: u64,
+        is_extra: bool,
+    ) -> Result<Peer<S>, AllocError> {
+        Ok(Peer {
+            stream: Some(stream),
+            reader: Reader::new(alloc, Side::Server),
+            turn: Turn::new(alloc)?,
+            role: Role::Stranger,
+            leaves: Role::Stranger,
+            stage: Stage::Open,
+            number,
+            user: None,
+            is_extra,
+            has_more: true,
+            has_hung_up: false,
+            inbox: Inbox::new(Vec::new(alloc)),
+            is_held: false,
+            guest: None,
+            why: None,
+            awaited: None,
+        })
+    }
+
+    /// Puts its last frame, which takes no memory.
+    pub fn end(&mut self, why: Why) {
+        self.turn.end(gone_frame(why));
+        self.why = Some(why);
+        self.stage = Stage::Ending;
+        self.awaited = None;
+    }
+
+    /// Its role ends: the session is to be told.
+    pub fn leave(&mut self) {
+        if self.role != Role::Stranger {
+            self.leaves = self.role;
+            self.role = Role::Stranger;
+        }
+    }
+
+    /// Gives it up, with what it wasn't sent.
+    pub fn close(&mut self) {
+        self.stream = None;
+        self.stage = Stage::Closed;
+        self.leave();
+    }
+
+    /// Whether it is still sent what the session says.
+    pub fn listens(&self) -> bool {
+        self.stage == Stage::Open || self.stage == Stage::Leaving
+    }
+
+    /// What is to be told of it, once it goes.
+    pub fn farewell(&mut self) -> Option<News> {
+        if self.listens() {
+            return None;
+        }
+        let guest = self.guest.take()?;
+        Some(News::Went(guest, self.why))
+    }
+
+    /// Whether its first message didn't come, or wasn't done yet.
+    pub fn is_new(&self) -> bool {
+        self.role == Role::Stranger && self.stage == Stage::Open
+    }
+
+    /// Whether something is to be done with it, though no event will tell of it.
+    pub fn is_due(&self) -> bool {
+        let has_work = self.has_more || !self.inbox.is_empty();
+        has_work && self.stage == Stage::Open && !self.is_held
+    }
+
+    /// Whether it is waited for: for its first message, or until it has read its last.
+    pub fn is_awaited(&self) -> bool {
+        match self.stage {
+            Stage::Open => self.role == Role::Stranger && self.inbox.is_empty(),
+            Stage::Ending => true,
+            Stage::Leaving | Stage::Cut | Stage::Closed => false,
+        }
+    }
+
+    /// Whether it was waited for long enough.
+    pub fn is_overdue(&mut self, now: Duration) -> bool {
+        if !self.is_awaited() {
+            return false;
+        }
+        match self.awaited {
+            Some(since) => now.saturating_sub(since) >= Duration::from_secs(PATIENCE),
+            None => {
+                self.awaited = Some(now);
+                false
+            }
+        }
+    }
+
+    /// Whether nothing is left to do with it.
+    pub fn is_done(&self) -> bool {
+        self.stage == Stage::Closed && self.leaves == Role::Stranger
+    }
+}

@@ -1,0 +1,53 @@
+//! What the owner commands before anybody connects.
+
+use crate::loop_body::LoopsFault;
+use crate::shared_session::SharedSession;
+use hub::Seat;
+use session_model::Event;
+use setup_lines::{SetupLine, read_setup};
+use std::alloc::Global;
+use std::sync::Wait;
+use std::sync::ledger::Ledger as Roll;
+
+// Submits a line as a Command of the owner. There is no peer to which it could do something.
+fn give<L: Roll, R: Wait>(
+    rt: &R,
+    alloc: Global,
+    shared: &SharedSession<L>,
+    seat: &mut Seat<L>,
+    line: &SetupLine,
+) -> Result<(), LoopsFault> {
+    let event = Event::Command {
+        user: shared.users.owner(),
+        window: None,
+        line: line.text.as_bytes(),
+    };
+    // Memory may lack, or the trail is full: it takes some four million lines.
+    let answer = match shared.hub.submit(rt, seat, event) {
+        Ok(answer) => answer,
+        Err(_) => return Err(LoopsFault::NoMemory),
+    };
+    match answer.reply() {
+        Ok(_) => Ok(()),
+        Err(refusal) => {
+            let mut said = Vec::new(alloc);
+            refusal.text(&mut said)?;
+            Err(LoopsFault::Refused(line.number, said))
+        }
+    }
+}
+
+/// Submits the lines of a setup's file, up to the first one that is refused.
+pub fn set_up<L: Roll, R: Wait>(
+    rt: &R,
+    alloc: Global,
+    shared: &SharedSession<L>,
+    seat: &mut Seat<L>,
+    file: &[u8],
+) -> Result<(), LoopsFault> {
+    let setup = read_setup(alloc, file)?;
+    for line in &setup {
+        give(rt, alloc, shared, seat, line)?;
+    }
+    Ok(())
+}

@@ -1,0 +1,81 @@
+//! Reads and writes of one connection.
+
+use crate::peer::{Peer, Stage};
+use std::io::{ErrorKind, Read, Write};
+
+/// What a read came to.
+#[derive(Clone, Copy, Debug, PartialEq, Eq)]
+pub enum Came {
+    /// As much as fits.
+    Much,
+    Some,
+    /// There is nothing for now.
+    Nothing,
+    /// The connection ended.
+    End,
+}
+
+impl<S: Read + Write + Drop> Peer<S> {
+    // Adds the messages that are whole with these bytes, which the next read is to follow if it
+    // has more.
+    fn feed(&mut self, bytes: &[u8], has_more: bool) {
+        let is_read = self.reader.feed(bytes, &mut self.inbox.messages).is_ok();
+        self.inbox.messages.reverse();
+        self.inbox.is_broken = !is_read;
+        self.has_more = is_read && has_more;
+    }
+
+    /// Reads once, where all that was read before is done. Where less came than fits, nothing is
+    /// left for now, unless the other end was closed: then an end comes behind it.
+    pub fn read(&mut self, buffer: &mut [u8]) -> Came {
+        let Some(stream) = &mut self.stream else {
+            return Came::Nothing;
+        };
+        self.has_more = false;
+        match stream.read(buffer) {
+            Ok(0) => Came::End,
+            Ok(count) => {
+                let is_much = count == buffer.len();
+                self.feed(&buffer[..count], is_much || self.has_hung_up);
+                if is_much { Came::Much } else { Came::Some }
+            }
+            Err(error) => match error.kind() {
+                ErrorKind::WouldBlock => Came::Nothing,
+                ErrorKind::Interrupted => {
+                    self.has_more = true;
+                    Came::Some
+                }
+                _ => Came::End,
+            },
+        }
+    }
+
+    /// Writes what waits, until the connection takes no more for now. One that fails is given up.
+    pub fn write(&mut self) {
+        for _ in 0..u64::MAX {
+            let Some(stream) = &mut self.stream else {
+                return;
+            };
+            if self.turn.unsent() == 0 {
+                if self.stage == Stage::Ending || self.stage == Stage::Cut {
+                    self.close();
+                }
+                return;
+            }
+            match self.turn.send(stream) {
+                Ok(0) => self.close(),
+                Ok(_) => {}
+                Err(error) => match error.kind() {
+                    ErrorKind::WouldBlock => {
+                        if self.stage == Stage::Cut {
+                            self.close();
+                        }
+                        return;
+                    }
+                    ErrorKind::Interrupted => {}
+                    _ => self.close(),
+                },
+            }
+        }
+    }
+}

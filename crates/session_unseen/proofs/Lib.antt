@@ -1,0 +1,16 @@
+pub mod Cutting
+pub mod Finding
+pub mod Checking
+pub mod Rows
+pub mod Outcomes
+pub mod Keying
+pub mod Viewing
+pub mod Hiding
+pub mod Drawing
+pub mod Stepping
+pub mod Walking
+pub mod Unseeing
+pub mod Watching
+pub mod Spectating
+pub mod Granting
+pub mod Spectators

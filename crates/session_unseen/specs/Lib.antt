@@ -1,0 +1,4 @@
+pub mod Hidden
+pub mod Observed
+pub mod Unseen
+pub mod Watching

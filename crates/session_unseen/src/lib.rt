@@ -1,0 +1,27 @@
+//! What is unseen, by the definitions of a session's run alone: to a user, output of windows that he
+//! is not shown; to others, what one does who only watches. Each function here is a law: its contract
+//! says what holds of every run or step.
+#![tactic(auto)]
+
+ghost use Rattle.session_unseen.specs.Unseen.{HiddenOutputIsUnseen};
+ghost use Rattle.session_unseen.specs.Watching.{SpectatorsLeaveOthers};
+
+/// Output of a window that a user didn't open and that no later draw of a client of his shows while
+/// he may read it is hidden from him: of two runs that differ only in such output, he observes the
+/// same. These are the views of his clients at each draw, and whether anything was delivered; the
+/// replies to his events; what his clients are told, and that they go; and what windows that he
+/// opened are typed, their sizes, and that they are closed.
+pub fn hidden_output_is_unseen()
+    ensures { HiddenOutputIsUnseen }
+{}
+
+/// Who may write nowhere, and has x on detach, select, next, prev, other, split, focus, remove,
+/// only, scrollview, windows and displays at most, changes nothing that others have: each step of
+/// his leaves windows with their contents, others' clients, rights, locks and the mode as they are,
+/// and each of its effects is for a client of his.
+pub fn spectators_leave_others()
+    ensures { SpectatorsLeaveOthers }
+{
+    session_guests::holders_stay();
+    session_guests::locks_are_taken();
+}

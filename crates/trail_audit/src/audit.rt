@@ -1,0 +1,90 @@
+//! The audit of a trail's lines, one after another.
+
+ghost use Rattle.std.specs.Prelude.{◌≡◌, List, [], IfOk};
+ghost use Rattle.acl.specs.declared.edition.Edition.{Edition};
+ghost use Rattle.acl.specs.declared.user_id.UserId.{UserId};
+ghost use Rattle.hub_trail.specs.Trails.{Entry};
+ghost use Rattle.hub_trail.specs.Legal.{acts_after};
+ghost use Rattle.hub_replay.specs.Following.{StandsAfter};
+ghost use Rattle.trail_audit.specs.Reading.{HasRead, Tells};
+
+use crate::fault::Wrong;
+use acl::{Edition, UserId};
+use hub_check::Judge;
+use hub_replay::Replay;
+use std::alloc::{AllocError, Global};
+use trail_lines::{Unread, read_line};
+
+/// Reads the lines of entries, one after another, and judges them. It keeps tables of rights, locks
+/// and clients, and no entry.
+pub struct Audit {
+    alloc: Global,
+    judge: Judge,
+    /// How many entries were read.
+    next: u64,
+}
+
+impl Drop for Audit {
+    fn drop(self) {
+        let Audit {
+            alloc: _,
+            judge: _,
+            next: _,
+        } = self;
+    }
+}
+
+impl Audit {
+    /// No line so far.
+    pub fn new(alloc: Global, edition: Edition, owner: UserId) -> Result<Audit, AllocError>
+        ensures { IfOk result (λ audit. HasRead audit edition owner []) }
+    {
+        let judge = Judge::new(alloc, edition, owner)?;
+        Ok(Audit {
+            alloc,
+            judge,
+            next: 0,
+        })
+    }
+
+    /// How many entries were read.
+    pub fn count(&self) -> u64
+        ensures { result ≡ self.now.next }
+    {
+        self.next
+    }
+
+    /// Takes the line of the next entry, without its line feed. Behind an `Err` the audit stands
+    /// for nothing more.
+    pub fn take(&mut self, line: &[u8]) -> Result<(), Wrong>
+        ensures { (edition : Edition) (owner : UserId) (entries : List Entry) →
+            HasRead self.old edition owner entries →
+            Tells result self.old self.new line.now edition owner entries }
+    {
+        let said = match read_line(self.alloc, line) {
+            Ok(said) => said,
+            Err(Unread::Malformed) => return Err(Wrong::NoEntry),
+            Err(Unread::NoMemory) => return Err(Wrong::NoMemory),
+        };
+        if said.place != self.next {
+            return Err(Wrong::OtherPlace);
+        }
+        let Some(next) = self.next.checked_add(1) else {
+            return Err(Wrong::NoMemory);
+        };
+        if !self.judge.take(&said.entry)? {
+            return Err(Wrong::Illegal);
+        }
+        self.next = next;
+        Ok(())
+    }
+
+    /// Rights, locks and clients after the entries so far.
+    pub fn replay(&self) -> &Replay
+        ensures { (edition : Edition) (owner : UserId) (entries : List Entry) →
+            HasRead self.now edition owner entries →
+            StandsAfter result.now edition owner (acts_after [] entries) }
+    {
+        self.judge.replay()
+    }
+}

@@ -1,0 +1,108 @@
+//! The last line of a trail's file.
+
+ghost use Rattle.std.specs.Prelude.{◌≡◌, ◌++◌, OnOk};
+ghost use Rattle.trail_lines.specs.Unreadable.{Gives};
+ghost use Rattle.trail_audit.specs.Heading.{cause_text, cause_in, end_text};
+ghost use Rattle.trail_audit.specs.Heading.{end_fields, read_end};
+
+use line_fields::cut;
+use session_model::push_decimal;
+use std::alloc::{AllocError, Global};
+use trail_lines::{Unread, u64_at};
+
+/// Why a trail ends.
+#[derive(Clone, Copy, PartialEq, Eq, Debug)]
+pub enum Cause {
+    /// The session was quit.
+    Quit,
+    /// The trail has as many entries as one may have.
+    Full,
+    /// The disk took no more.
+    Disk,
+    /// Memory was refused.
+    Memory,
+    /// The script ended that was played.
+    Script,
+}
+
+/// What the last line says.
+#[derive(Clone, Copy, PartialEq, Eq, Debug)]
+pub struct Ended {
+    /// How many entries stand before it.
+    pub entries: u64,
+    /// When, in milliseconds since 1970.
+    pub ms: u64,
+    pub cause: Cause,
+}
+
+impl Cause {
+    /// The word of the cause.
+    pub fn word(self) -> &'static [u8]
+        ensures { result.now ≡ cause_text self }
+    {
+        match self {
+            Cause::Quit => b"quit",
+            Cause::Full => b"full",
+            Cause::Disk => b"disk",
+            Cause::Memory => b"memory",
+            Cause::Script => b"script",
+        }
+    }
+}
+
+/// The cause of a word.
+fn cause_in(word: &[u8]) -> Option<Cause>
+    ensures { result ≡ cause_in word.now }
+{
+    if word == b"quit".as_slice() {
+        Some(Cause::Quit)
+    } else if word == b"full".as_slice() {
+        Some(Cause::Full)
+    } else if word == b"disk".as_slice() {
+        Some(Cause::Disk)
+    } else if word == b"memory".as_slice() {
+        Some(Cause::Memory)
+    } else if word == b"script".as_slice() {
+        Some(Cause::Script)
+    } else {
+        None
+    }
+}
+
+/// Appends the last line, without a line feed.
+pub fn print_end(ended: &Ended, out: &mut Vec<u8>) -> Result<(), AllocError>
+    ensures { OnOk result (out.new.items ≡ out.old.items ++ end_text ended.now) }
+{
+    out.extend_from_slice(b"end ")?;
+    push_decimal(ended.entries, out)?;
+    out.extend_from_slice(b" ")?;
+    push_decimal(ended.ms, out)?;
+    out.extend_from_slice(b" ")?;
+    out.extend_from_slice(ended.cause.word())
+}
+
+/// The fields of a last line, in whatever spelling.
+#[tactic(auto, unfolding(crate::specs::Heading::end_fields))]
+fn end_fields(line: &[u8]) -> Option<Ended>
+    ensures { result ≡ end_fields line.now }
+{
+    let (_, rest) = cut(line, b' ')?;
+    let (entries, rest) = u64_at(rest, b' ')?;
+    let (ms, cause) = u64_at(rest, b' ')?;
+    let cause = cause_in(cause)?;
+    Some(Ended { entries, ms, cause })
+}
+
+/// What a last line says, which has no line feed: Malformed where nothing is printed so.
+#[tactic(auto, unfolding(crate::specs::Heading::read_end))]
+pub fn read_end(alloc: Global, line: &[u8]) -> Result<Ended, Unread>
+    ensures { Gives (λ ended. ended) result (read_end line.now) }
+{
+    let ended = end_fields(line).ok_or(Unread::Malformed)?;
+    let mut printed = Vec::new(alloc);
+    print_end(&ended, &mut printed)?;
+    if printed.as_slice() != line {
+        return Err(Unread::Malformed);
+    }
+    Ok(ended)
+}

@@ -1,0 +1,104 @@
+//! The first line of a trail's file.
+
+ghost use Rattle.std.specs.Prelude.{◌≡◌, ◌++◌, OnOk};
+ghost use Rattle.trail_lines.specs.Unreadable.{Gives};
+ghost use Rattle.trail_audit.specs.Heading.{edition_in, form_text, header_text};
+ghost use Rattle.trail_audit.specs.Heading.{header_fields, read_header};
+
+use acl::{Edition, UserId};
+use line_fields::{cut, read_u64};
+use session_model::{Bytes, push_decimal};
+use std::alloc::{AllocError, Global};
+use trail_lines::{Unread, user_at};
+
+/// What the first line says. It is the writer's word: who reads it knows the owner or doesn't.
+#[derive(Debug)]
+pub struct Header {
+    pub edition: Edition,
+    pub owner: UserId,
+    /// What wrote the file: a word.
+    pub version: Bytes,
+    /// When, in milliseconds since 1970.
+    pub ms: u64,
+}
+
+impl Drop for Header {
+    fn drop(self) {
+        let Header {
+            edition: _,
+            owner: _,
+            version: _,
+            ms: _,
+        } = self;
+    }
+}
+
+/// The edition of a digit.
+fn edition_in(word: &[u8]) -> Option<Edition>
+    ensures { result ≡ edition_in word.now }
+{
+    if word == b"1".as_slice() {
+        Some(Edition::First)
+    } else if word == b"2".as_slice() {
+        Some(Edition::Second)
+    } else {
+        None
+    }
+}
+
+/// What a first line begins with, by its edition of groups.
+fn form_text(edition: Edition) -> &'static [u8]
+    ensures { result.now ≡ form_text edition }
+{
+    match edition {
+        Edition::First => b"mux-trail 1 1 ",
+        Edition::Second => b"mux-trail 1 2 ",
+    }
+}
+
+/// Appends the first line, without a line feed.
+pub fn print_header(header: &Header, out: &mut Vec<u8>) -> Result<(), AllocError>
+    ensures { OnOk result (out.new.items ≡ out.old.items ++ header_text header.now) }
+{
+    out.extend_from_slice(form_text(header.edition))?;
+    out.extend_from_slice(header.owner.as_bytes())?;
+    out.extend_from_slice(b" ")?;
+    out.extend_from_slice(header.version.as_slice())?;
+    out.extend_from_slice(b" ")?;
+    push_decimal(header.ms, out)
+}
+
+/// The fields of a first line, in whatever spelling.
+#[tactic(auto, unfolding(crate::specs::Heading::header_fields))]
+fn header_fields(alloc: Global, line: &[u8]) -> Result<Header, Unread>
+    ensures { Gives (λ header. header) result (header_fields line.now) }
+{
+    let (_, rest) = cut(line, b' ').ok_or(Unread::Malformed)?;
+    let (_, rest) = cut(rest, b' ').ok_or(Unread::Malformed)?;
+    let (edition, rest) = cut(rest, b' ').ok_or(Unread::Malformed)?;
+    let edition = edition_in(edition).ok_or(Unread::Malformed)?;
+    let (owner, rest) = user_at(rest, b' ').ok_or(Unread::Malformed)?;
+    let (version, ms) = cut(rest, b' ').ok_or(Unread::Malformed)?;
+    let ms = read_u64(ms).ok_or(Unread::Malformed)?;
+    let version = Bytes::of(alloc, version)?;
+    Ok(Header {
+        edition,
+        owner,
+        version,
+        ms,
+    })
+}
+
+/// What a first line says, which has no line feed: Malformed where nothing is printed so.
+#[tactic(auto, unfolding(crate::specs::Heading::read_header))]
+pub fn read_header(alloc: Global, line: &[u8]) -> Result<Header, Unread>
+    ensures { Gives (λ header. header) result (read_header line.now) }
+{
+    let header = header_fields(alloc, line)?;
+    let mut printed = Vec::new(alloc);
+    print_header(&header, &mut printed)?;
+    if printed.as_slice() != line {
+        return Err(Unread::Malformed);
+    }
+    Ok(header)
+}

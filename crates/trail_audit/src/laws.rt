@@ -1,0 +1,16 @@
+//! Laws of the definitions. Each function here does nothing; its contract says what holds.
+
+ghost use Rattle.trail_audit.specs.Heading.{ReadsEnds, ReadsHeaders};
+ghost use Rattle.trail_audit.specs.Reading.{NoRunIsBad, ReadIsLegal};
+
+/// First and last lines that were printed are read.
+pub fn headings_are_read()
+    ensures headers { ReadsHeaders }
+    ensures ends { ReadsEnds }
+{}
+
+/// Entries that an audit has read are legal; and no run has a trail with an entry that isn't good.
+pub fn read_is_legal()
+    ensures legal { ReadIsLegal }
+    ensures runs { NoRunIsBad }
+{}

@@ -1,0 +1,18 @@
+//! A trail's file: its first line, its entries, its last line; whether it is legal.
+#![tactic(auto)]
+
+pub mod audit;
+pub mod ending;
+pub mod fault;
+pub mod halt;
+pub mod header;
+mod laws;
+mod lines;
+
+pub use audit::Audit;
+pub use ending::{Cause, Ended, print_end, read_end};
+pub use fault::Wrong;
+pub use halt::{Halt, read_entries};
+pub use header::{Header, print_header, read_header};
+pub use laws::{headings_are_read, read_is_legal};
+pub use lines::{Came, next_line};

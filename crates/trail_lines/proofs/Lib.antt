@@ -1,0 +1,5 @@
+pub mod Printing
+pub mod Reading
+pub mod Again
+pub mod Replied
+pub mod Told

@@ -1,0 +1,7 @@
+use Rattle.std.proofs.Common.{◌≡◌, ◌++◌, take}
+use Rattle.std.specs.List.{flat_map}
+use Rattle.trail_lines.specs.Entries.{done_text}
+use Rattle.trail_lines.proofs.entries.push_acts.Given as goal
+
+abbrev pub invariant-loop-act : goal.invariant-loop-act
+invariant-loop-act l = l.out.items ≡ l.fn.out.items ++ flat_map done_text (take l.act-index l.acts)

@@ -1,0 +1,7 @@
+use Rattle.std.proofs.Common.{◌≡◌, ◌++◌, take}
+use Rattle.std.specs.List.{flat_map}
+use Rattle.trail_lines.specs.Entries.{checked_text}
+use Rattle.trail_lines.proofs.entries.push_verdicts.Given as goal
+
+abbrev pub invariant-loop-verdict : goal.invariant-loop-verdict
+invariant-loop-verdict l = l.out.items ≡ l.fn.out.items ++ flat_map checked_text (take l.verdict-index l.verdicts)

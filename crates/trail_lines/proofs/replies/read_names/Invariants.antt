@@ -1,0 +1,12 @@
+use Rattle.std.proofs.Common.{◌≡◌, [], length}
+use Rattle.std.specs.Prelude.{option_copied}
+use Rattle.line_fields.specs.Cutting.{words, words_behind}
+use Rattle.trail_lines.specs.Parts.{comma}
+use Rattle.trail_lines.specs.Replies.{leaders_of}
+use Rattle.trail_lines.proofs.replies.read_names.Given as goal
+
+abbrev pub invariant-names : goal.invariant-names
+invariant-names l = leaders_of (words_behind comma (option_copied l.rest)) l.leaders ≡ leaders_of (words comma l.fn.word) []
+
+abbrev pub decreases-names : goal.decreases-names
+decreases-names l = length (words_behind comma (option_copied l.rest))

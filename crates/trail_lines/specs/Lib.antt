@@ -1,0 +1,7 @@
+pub mod Parts
+pub mod Acts
+pub mod Replies
+pub mod Events
+pub mod Entries
+pub mod Sayable
+pub mod Unreadable

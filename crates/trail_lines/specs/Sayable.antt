@@ -1,0 +1,115 @@
+-- What a line can say: users by their names, numbers of their sizes, leaders once each.
+use Rattle.std.specs.Prelude.{◌≡◌, ◌<◌, ◌^◌, ℕ, true, false, List, [], ◌∷◌, ◌++◌, length, Option}
+use Rattle.std.specs.Prelude.{Some, None, Ok, Err}
+use Rattle.std.specs.List.{AllByRecursion}
+use Rattle.std.specs.Str.{is_utf8}
+use Rattle.acl.specs.declared.act.Act.{Act}
+use Rattle.acl.specs.declared.act.Act.TheVariants as act
+use Rattle.acl.specs.declared.act.Object.{Object}
+use Rattle.acl.specs.declared.act.Object.TheVariants as object
+use Rattle.acl.specs.declared.user_id.UserId.{UserId}
+use Rattle.acl.specs.History.{among}
+use Rattle.acl.specs.Names.{name_of, named_by}
+use Rattle.session_model.specs.declared.refusal.Denied.{Denied}
+use Rattle.session_model.specs.declared.refusal.Denied.TheVariants as denied
+use Rattle.session_model.specs.declared.refusal.Refusal.{Refusal}
+use Rattle.session_model.specs.declared.refusal.Refusal.TheVariants as refusal
+use Rattle.session_model.specs.declared.verdict.Verdict.{Verdict}
+use Rattle.session_model.specs.declared.verdict.Verdict.TheVariants as verdict
+use Rattle.hub_trail.specs.declared.kept.Kept.{Kept}
+use Rattle.hub_trail.specs.declared.kept.Kept.TheVariants as kept
+use Rattle.hub_trail.specs.Trails.{Ending, Entry}
+use Rattle.trail_lines.specs.Entries.{Said, line_of, read_line}
+
+-- a user whom his name names
+abbrev pub IsNamed : UserId → Type 0
+IsNamed user = named_by (name_of user) ≡ Some user
+
+abbrev pub IsNamedIfAny : Option UserId → Type 0
+IsNamedIfAny None = Unit {0}
+IsNamedIfAny (Some user) = IsNamed user
+
+abbrev pub IsSerial : ℕ → Type 0
+IsSerial n = n < 2 ^ 32
+
+abbrev pub IsObject : Object → Type 0
+IsObject (object.Window w) = IsSerial w
+IsObject (object.Command c) = Unit {0}
+
+abbrev pub IsAct : Act → Type 0
+IsAct (act.Known u) = IsNamed u
+IsAct (act.Gone u) = IsNamed u
+IsAct (act.Set u b o value) = IsNamed u × IsObject o
+IsAct (act.Grouped u leader) = IsNamed u × IsNamedIfAny leader
+IsAct (act.Masked by u b value) = IsNamed by × IsNamed u
+IsAct (act.Preset p b value) = Unit {0}
+IsAct (act.Opened by w) = IsNamed by × IsSerial w
+IsAct (act.Closed w) = IsSerial w
+IsAct (act.Attached c u) = IsSerial c × IsNamed u
+IsAct (act.Parted c) = IsSerial c
+IsAct (act.Entered u w) = IsNamed u × IsSerial w
+IsAct (act.Left u w) = IsNamed u × IsSerial w
+IsAct (act.Mode by w m) = IsNamed by × IsSerial w
+IsAct (act.Default m) = Unit {0}
+
+abbrev pub IsVerdict : Verdict → Type 0
+IsVerdict (verdict.Right u b o answer) = IsNamed u × IsObject o
+IsVerdict (verdict.Lock u w held) = IsNamed u × IsSerial w × IsNamedIfAny held
+
+-- at most eight leaders, each once
+abbrev pub AreLeaders : List UserId → List UserId → Type 0
+AreLeaders before [] = Unit {0}
+AreLeaders before (u ∷ leaders) =
+    IsNamed u × (among before u ≡ false) × (length before < 8)
+    × AreLeaders (before ++ u ∷ []) leaders
+
+abbrev pub IsDenied : Denied → Type 0
+IsDenied (denied.Window serial number) = IsSerial serial × (number < 2 ^ 8)
+IsDenied (denied.Command c) = Unit {0}
+
+abbrev pub IsRefusal : Refusal → Type 0
+IsRefusal (refusal.EntryDenied d) = IsNamed d.user × IsDenied d.on × AreLeaders [] d.leaders
+IsRefusal (refusal.LockDenied d) = IsSerial d.serial × (d.number < 2 ^ 8) × IsNamed d.holder
+IsRefusal (refusal.Line f) = f.place < 2 ^ 64
+IsRefusal r = Unit {0}
+
+abbrev pub IsReply : Ending → Type 0
+IsReply (Ok f) = (f.taken < 2 ^ 64) × IsSerial f.made × (f.number < 2 ^ 8)
+IsReply (Err r) = IsRefusal r
+
+abbrev pub AreBytes : List ℕ → Type 0
+AreBytes bytes = AllByRecursion (λ byte. byte < 256) bytes
+
+abbrev pub IsNumberIfAny : Option ℕ → Type 0
+IsNumberIfAny None = Unit {0}
+IsNumberIfAny (Some number) = number < 2 ^ 8
+
+abbrev pub IsEvent : Kept → Type 0
+IsEvent (kept.Attach user rows columns) = IsNamed user × (rows < 2 ^ 16) × (columns < 2 ^ 16)
+IsEvent (kept.Detach client) = IsSerial client
+IsEvent (kept.Keys client) = IsSerial client
+IsEvent (kept.Command user window line) = IsNamed user × IsNumberIfAny window × AreBytes line
+IsEvent (kept.Open user rows columns keep title) =
+    IsNamed user × (rows < 2 ^ 16) × (columns < 2 ^ 16) × (keep < 2 ^ 16) × AreBytes title
+    × (is_utf8 title ≡ true)
+IsEvent (kept.Closed window) = IsSerial window
+
+pub record IsEntry (e : Entry) : Type 0 where
+  pub event : IsEvent e.event
+  pub verdicts : AllByRecursion IsVerdict e.verdicts
+  pub acts : AllByRecursion IsAct e.acts
+  pub reply : IsReply e.reply
+
+-- a place, a time and an entry that a line can say
+abbrev pub IsSayable : Said → Type 0
+IsSayable x = (x.0 < 2 ^ 64) × (x.1 < 2 ^ 64) × IsEntry x.2
+
+-- ---- laws
+
+-- what was printed is read
+abbrev pub ReadsPrinted : Type 0
+ReadsPrinted = (x : Said) → IsSayable x → read_line (line_of x) ≡ Some x
+
+-- what is read is spelled so: each entry has one line
+abbrev pub IsSpelledSo : Type 0
+IsSpelledSo = (line : List ℕ) (x : Said) → read_line line ≡ Some x → line ≡ line_of x

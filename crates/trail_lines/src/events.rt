@@ -1,0 +1,259 @@
+//! The fields of an event, each ended by one blank.
+
+ghost use Rattle.std.specs.Prelude.{◌≡◌, ◌++◌, [], OnOk, decimal, option_copied, option_map};
+ghost use Rattle.acl.specs.Names.{name_of};
+ghost use Rattle.session_model.specs.Trace.{happening};
+ghost use Rattle.hub_trail.specs.Filing.{kept_of};
+ghost use Rattle.hub_record.specs.Stored.{kept_lent};
+ghost use Rattle.trail_lines.specs.Parts.{blank, field};
+ghost use Rattle.trail_lines.specs.Events.{text_field, text_in, title_of, window_text, window_in};
+ghost use Rattle.trail_lines.specs.Events.{event_then, attach_at, detach_at, keys_at, command_at};
+ghost use Rattle.trail_lines.specs.Events.{shape_at, open_at, closed_at, event_by, event_at};
+ghost use Rattle.trail_lines.specs.Unreadable.{Gives};
+
+use crate::parts::{push_name, push_number, u16_at, u32_at, user_at};
+use crate::unread::Unread;
+use acl::UserId;
+use hub_record::{KeptEvent, KeptRef};
+use line_fields::{cut, push_escaped, read_u8, unescape};
+use session_model::Event;
+use std::alloc::{AllocError, Global};
+use std::str;
+
+/// Appends a number and a blank.
+fn push_count(number: u64, out: &mut Vec<u8>) -> Result<(), AllocError>
+    ensures { OnOk result (out.new.items ≡ out.old.items ++ field blank (decimal number) []) }
+{
+    push_number(number, out)?;
+    out.extend_from_slice(b" ")
+}
+
+/// Appends a user and a blank.
+fn push_user(user: UserId, out: &mut Vec<u8>) -> Result<(), AllocError>
+    ensures { OnOk result (out.new.items ≡ out.old.items ++ field blank (name_of user) []) }
+{
+    push_name(user, out)?;
+    out.extend_from_slice(b" ")
+}
+
+/// Appends a window's number, or `-` for none, and a blank.
+fn push_window(window: Option<u8>, out: &mut Vec<u8>) -> Result<(), AllocError>
+    ensures { OnOk result (out.new.items ≡ out.old.items ++ field blank (window_text window) []) }
+{
+    match window {
+        Some(number) => push_count(u64::from(number), out),
+        None => out.extend_from_slice(b"- "),
+    }
+}
+
+/// Appends a text and a blank.
+fn push_text(bytes: &[u8], out: &mut Vec<u8>) -> Result<(), AllocError>
+    ensures { OnOk result (out.new.items ≡ out.old.items ++ field blank (text_field bytes.now) []) }
+{
+    out.extend_from_slice(b".")?;
+    push_escaped(0x21, bytes, out)?;
+    out.extend_from_slice(b" ")
+}
+
+/// Appends a size: lines and columns.
+fn push_size(rows: u16, cols: u16, out: &mut Vec<u8>) -> Result<(), AllocError>
+    ensures { OnOk result (out.new.items
+        ≡ out.old.items ++ field blank (decimal rows) (field blank (decimal cols) [])) }
+{
+    push_count(u64::from(rows), out)?;
+    push_count(u64::from(cols), out)
+}
+
+/// Appends an event's fields.
+pub fn push_event(event: KeptRef<'_>, out: &mut Vec<u8>) -> Result<(), AllocError>
+    ensures { OnOk result (out.new.items
+        ≡ out.old.items ++ event_then (kept_lent event.entry) []) }
+{
+    match event {
+        KeptRef::Attach { user, rows, cols } => {
+            out.extend_from_slice(b"attach ")?;
+            push_user(user, out)?;
+            push_size(rows, cols, out)
+        }
+        KeptRef::Detach { client } => {
+            out.extend_from_slice(b"detach ")?;
+            push_count(u64::from(client), out)
+        }
+        KeptRef::Keys { client } => {
+            out.extend_from_slice(b"keys ")?;
+            push_count(u64::from(client), out)
+        }
+        KeptRef::Command { user, window, line } => {
+            out.extend_from_slice(b"command ")?;
+            push_user(user, out)?;
+            push_window(window, out)?;
+            push_text(line, out)
+        }
+        KeptRef::Open {
+            user,
+            rows,
+            cols,
+            keep,
+            title,
+        } => {
+            out.extend_from_slice(b"open ")?;
+            push_user(user, out)?;
+            push_size(rows, cols, out)?;
+            push_count(u64::from(keep), out)?;
+            push_text(title, out)
+        }
+        KeptRef::Closed { window } => {
+            out.extend_from_slice(b"closed ")?;
+            push_count(u64::from(window), out)
+        }
+    }
+}
+
+/// The bytes of a text.
+fn read_text(alloc: Global, word: &[u8]) -> Result<Vec<u8>, Unread>
+    ensures { Gives (λ text. text.items) result (text_in word.now) }
+{
+    let [_, escaped @ ..] = word else {
+        return Err(Unread::Malformed);
+    };
+    let mut text = Vec::new(alloc);
+    if !unescape(escaped, &mut text)? {
+        return Err(Unread::Malformed);
+    }
+    Ok(text)
+}
+
+/// The number of a command's window, or `-` for none.
+fn read_window(word: &[u8]) -> Option<Option<u8>>
+    ensures { result ≡ window_in word.now }
+{
+    if word == b"-".as_slice() {
+        return Some(None);
+    }
+    Some(Some(read_u8(word)?))
+}
+
+/// What is kept of an event.
+fn keep(alloc: Global, event: Event<'_>) -> Result<KeptEvent, Unread>
+    ensures { Gives (λ kept. kept) result (kept_of (happening event.entry)) }
+{
+    KeptEvent::of(alloc, event)?.ok_or(Unread::Malformed)
+}
+
+/// `USER ROWS COLS`
+fn attach_at(alloc: Global, bytes: &[u8]) -> Result<(KeptEvent, &[u8]), Unread>
+    ensures { Gives (λ p. (p.0, p.1.now)) result (attach_at bytes.now) }
+{
+    let (user, rest) = user_at(bytes, b' ').ok_or(Unread::Malformed)?;
+    let (rows, rest) = u16_at(rest, b' ').ok_or(Unread::Malformed)?;
+    let (cols, rest) = u16_at(rest, b' ').ok_or(Unread::Malformed)?;
+    Ok((keep(alloc, Event::Attach { user, rows, cols })?, rest))
+}
+
+/// `CLIENT`
+fn detach_at(alloc: Global, bytes: &[u8]) -> Result<(KeptEvent, &[u8]), Unread>
+    ensures { Gives (λ p. (p.0, p.1.now)) result (detach_at bytes.now) }
+{
+    let (client, rest) = u32_at(bytes, b' ').ok_or(Unread::Malformed)?;
+    Ok((keep(alloc, Event::Detach { client })?, rest))
+}
+
+/// `CLIENT`
+fn keys_at(alloc: Global, bytes: &[u8]) -> Result<(KeptEvent, &[u8]), Unread>
+    ensures { Gives (λ p. (p.0, p.1.now)) result (keys_at bytes.now) }
+{
+    let (client, rest) = u32_at(bytes, b' ').ok_or(Unread::Malformed)?;
+    let event = Event::Keys { client, bytes: &[] };
+    Ok((keep(alloc, event)?, rest))
+}
+
+/// `USER NUMBER TEXT`
+fn command_at(alloc: Global, bytes: &[u8]) -> Result<(KeptEvent, &[u8]), Unread>
+    ensures { Gives (λ p. (p.0, p.1.now)) result (command_at bytes.now) }
+{
+    let (user, rest) = user_at(bytes, b' ').ok_or(Unread::Malformed)?;
+    let (window, rest) = cut(rest, b' ').ok_or(Unread::Malformed)?;
+    let window = read_window(window).ok_or(Unread::Malformed)?;
+    let (line, rest) = cut(rest, b' ').ok_or(Unread::Malformed)?;
+    let line = read_text(alloc, line)?;
+    let event = Event::Command {
+        user,
+        window,
+        line: line.as_slice(),
+    };
+    Ok((keep(alloc, event)?, rest))
+}
+
+/// The title that the bytes are, if they are UTF-8.
+fn title_of(bytes: &[u8]) -> Option<&str>
+    ensures { option_copied result ≡ title_of bytes.now }
+{
+    str::from_utf8(bytes).ok()
+}
+
+/// The size of a window, and how many lines are kept of it.
+fn shape_at(bytes: &[u8]) -> Option<((u16, u16, u16), &[u8])>
+    ensures { option_map (λ p. (p.0, p.1.now)) result ≡ shape_at bytes.now }
+{
+    let (rows, rest) = u16_at(bytes, b' ')?;
+    let (cols, rest) = u16_at(rest, b' ')?;
+    let (keep, rest) = u16_at(rest, b' ')?;
+    Some(((rows, cols, keep), rest))
+}
+
+/// `USER ROWS COLS KEEP TEXT`
+fn open_at(alloc: Global, bytes: &[u8]) -> Result<(KeptEvent, &[u8]), Unread>
+    ensures { Gives (λ p. (p.0, p.1.now)) result (open_at bytes.now) }
+{
+    let (user, rest) = user_at(bytes, b' ').ok_or(Unread::Malformed)?;
+    let ((rows, cols, keep_lines), rest) = shape_at(rest).ok_or(Unread::Malformed)?;
+    let (title, rest) = cut(rest, b' ').ok_or(Unread::Malformed)?;
+    let title = read_text(alloc, title)?;
+    let title = title_of(title.as_slice()).ok_or(Unread::Malformed)?;
+    let event = Event::Open {
+        user,
+        rows,
+        cols,
+        keep: keep_lines,
+        title,
+    };
+    Ok((keep(alloc, event)?, rest))
+}
+
+/// `WINDOW`
+fn closed_at(alloc: Global, bytes: &[u8]) -> Result<(KeptEvent, &[u8]), Unread>
+    ensures { Gives (λ p. (p.0, p.1.now)) result (closed_at bytes.now) }
+{
+    let (window, rest) = u32_at(bytes, b' ').ok_or(Unread::Malformed)?;
+    Ok((keep(alloc, Event::Closed { window })?, rest))
+}
+
+/// The event of a word whose fields stand behind it.
+fn event_by<'a>(alloc: Global, word: &[u8], rest: &'a [u8]) -> Result<(KeptEvent, &'a [u8]), Unread>
+    ensures { Gives (λ p. (p.0, p.1.now)) result (event_by word.now rest.now) }
+{
+    if word == b"keys".as_slice() {
+        keys_at(alloc, rest)
+    } else if word == b"command".as_slice() {
+        command_at(alloc, rest)
+    } else if word == b"attach".as_slice() {
+        attach_at(alloc, rest)
+    } else if word == b"detach".as_slice() {
+        detach_at(alloc, rest)
+    } else if word == b"open".as_slice() {
+        open_at(alloc, rest)
+    } else if word == b"closed".as_slice() {
+        closed_at(alloc, rest)
+    } else {
+        Err(Unread::Malformed)
+    }
+}
+
+/// An event, and what stands behind its fields.
+#[tactic(auto, unfolding(crate::specs::Events::event_at))]
+pub fn event_at(alloc: Global, bytes: &[u8]) -> Result<(KeptEvent, &[u8]), Unread>
+    ensures { Gives (λ p. (p.0, p.1.now)) result (event_at bytes.now) }
+{
+    let (word, rest) = cut(bytes, b' ').ok_or(Unread::Malformed)?;
+    event_by(alloc, word, rest)
+}

@@ -1,0 +1,23 @@
+//! The lines of a trail's file: each entry has one spelling, which is printed and read.
+#![tactic(auto)]
+
+pub mod acts;
+pub mod entries;
+mod events;
+mod parts;
+mod replies;
+pub mod unread;
+mod verdicts;
+
+ghost use Rattle.trail_lines.specs.Sayable.{IsSpelledSo, ReadsPrinted};
+
+pub use entries::{Line, print_line, read_line};
+pub use parts::{u64_at, user_at};
+pub use unread::Unread;
+
+/// Laws of lines: what was printed is read, for every entry that can be said; and a line that is
+/// read is spelled as its entry is printed, so that each entry has one line.
+pub fn lines_are_read()
+    ensures again { ReadsPrinted }
+    ensures spelled { IsSpelledSo }
+{}

@@ -1,0 +1,328 @@
+#!/usr/bin/env python3
+"""A server under strain: peers that stop reading, strangers that say nothing, servers that start at once, its end.
+
+tests/outside/strain.py [--muxd PATH] prints a line for each check, and ends with status 1 if one failed.
+"""
+
+import argparse
+import os
+import resource
+import select
+import socket
+import stat
+import subprocess
+import sys
+import tempfile
+import threading
+import time
+from pathlib import Path
+
+OWNER, TOKEN = b"own", b"0" * 64
+GONE_FAULT = b"g\0\1\6"
+WORDS = None
+failed = 0
+
+
+def check(name, is_so, said=""):
+    global failed
+    print(f"{'ok     ' if is_so else 'FAILED '} {name}{'' if is_so or not said else f': {said}'}", flush=True)
+    failed += not is_so
+
+
+def two(number):
+    return number.to_bytes(2, "big")
+
+
+def frame(kind, payload):
+    return kind + two(len(payload)) + payload
+
+
+def attach():
+    return frame(b"A", two(24) + two(80) + TOKEN + OWNER)
+
+
+def window():
+    return frame(b"W", two(24) + two(80) + two(0) + TOKEN + bytes([len(OWNER)]) + OWNER + b"sh")
+
+
+def command(line):
+    return frame(b"C", b"\xff" + TOKEN + bytes([len(OWNER)]) + OWNER + line)
+
+
+class Server:
+    """A server in a folder of its own, perhaps with so many descriptors."""
+
+    def __init__(self, loops=2, descriptors=None):
+        self.folder = tempfile.TemporaryDirectory()
+        self.path = f"{self.folder.name}/socket"
+        self.users = Path(self.folder.name, "users")
+        self.users.write_bytes(OWNER + b" " + TOKEN + b"\n")
+        self.users.chmod(0o600)
+        self.errors = open(f"{self.folder.name}/errors", "w+b")
+        limit = (lambda: resource.setrlimit(resource.RLIMIT_NOFILE, (descriptors, descriptors))) if descriptors else None
+        self.program = subprocess.Popen(
+            [WORDS.muxd, "--socket", self.path, "--users", self.users, "--loops", str(loops)],
+            stdout=subprocess.PIPE, stderr=self.errors, preexec_fn=limit)
+        assert self.program.stdout.readline() == b"muxd: ready\n", "the server isn't ready"
+
+    def __enter__(self):
+        return self
+
+    def __exit__(self, *_):
+        self.program.kill()
+        self.program.wait()
+        self.program.stdout.close()
+        self.errors.close()
+        self.folder.cleanup()
+
+    def connect(self, first=b"", wait=20):
+        it = socket.socket(socket.AF_UNIX)
+        it.settimeout(wait)
+        it.connect(self.path)
+        if first:
+            it.sendall(first)
+        return it
+
+    def give(self, line, wait=20):
+        """What a command is answered, to the end of its connection."""
+        it = self.connect(command(line), wait)
+        try:
+            return all_of(it)
+        finally:
+            it.close()
+
+    def ends_within(self, seconds):
+        try:
+            return self.program.wait(seconds)
+        except subprocess.TimeoutExpired:
+            return None
+
+
+def all_of(it):
+    """All that comes, to the end."""
+    data = b""
+    try:
+        while piece := it.recv(65536):
+            data += piece
+    except (ConnectionError, TimeoutError):
+        pass
+    return data
+
+
+def has_come(it, seconds):
+    return bool(select.select([it], [], [], seconds)[0])
+
+
+def welcome(it):
+    data = b""
+    while len(data) < 4:
+        data += it.recv(4 - len(data))
+    return data[:1] == b"y"
+
+
+def dead_window():
+    """A window whose program stops reading is given up, and its client shows that without another event."""
+    with Server(loops=1) as server:
+        shell = server.connect(window())
+        client = server.connect(attach())
+        assert welcome(shell) and welcome(client)
+        while has_come(client, 1):
+            client.recv(65536)
+        ended = select.poll()
+        ended.register(shell, select.POLLHUP)
+        for _ in range(400):
+            client.sendall(frame(b"K", b"x" * 8192))
+            if ended.poll(20):
+                break
+            while has_come(client, 0):
+                client.recv(65536)
+        check("a window that doesn't read is given up", bool(ended.poll(0)))
+        drawn = b""
+        while has_come(client, 0.5):
+            drawn += client.recv(65536)
+        check("its client is drawn at once", b"d" in drawn)
+
+
+def ends_behind_frames():
+    """What was sent before an end is done."""
+    with Server() as server:
+        shell = server.connect(window())
+        assert welcome(shell)
+        for letter in (b"a", b"b", b"c", b"d"):
+            client = server.connect(attach())
+            assert welcome(client)
+            # What is sent to a closed connection is a fault of it: the first draw is to be over.
+            while has_come(client, 0.5):
+                client.recv(65536)
+            client.sendall(frame(b"K", letter))
+            client.close()
+        typed = b""
+        while has_come(shell, 1):
+            typed += shell.recv(65536)
+        check("keys before an end arrive", sorted(typed[3::4]) == sorted(b"abcd"), str(typed))
+        check("and their clients are gone", server.give(b"displays") == b"y\0\1\0s\0\0g\0\1\0", "")
+
+
+def strangers():
+    with Server() as server:
+        first = [server.connect() for _ in range(44)]
+        others = [server.connect() for _ in range(256)]
+        has_come(first[-1], 5)
+        time.sleep(0.2)
+        gone = sum(has_come(it, 0) and all_of(it) == GONE_FAULT for it in first)
+        left = sum(not has_come(it, 0) for it in others)
+        check("of 300 strangers the first 44 go", (gone, left) == (44, 256), f"{gone} went, {left} stay")
+        check("the owner is answered", server.give(b"windows").endswith(b"g\0\1\0"))
+        begin = time.time()
+        check("the others are told to go", all(all_of(it) == GONE_FAULT for it in others))
+        took = time.time() - begin
+        check("when 10 seconds are over", 8 < took < 13, f"{took:.1f} s")
+
+
+def few_descriptors():
+    with Server(descriptors=64) as server:
+        crowd = []
+        for _ in range(2000):
+            it = socket.socket(socket.AF_UNIX)
+            it.setblocking(False)
+            try:
+                it.connect(server.path)
+            except BlockingIOError:
+                time.sleep(0.01)
+            crowd.append(it)
+        check("beside 2,000 strangers and 64 descriptors a command is done",
+              server.give(b"windows").endswith(b"g\0\1\0"))
+        for it in crowd:
+            it.close()
+        clients, refused = [], b""
+        for _ in range(64):
+            it = server.connect(attach())
+            it.settimeout(5)
+            if not welcome(it):
+                refused = all_of(it)
+                break
+            clients.append(it)
+        check("a client for which no descriptor is left is told so",
+              b"no room for more connections" in refused, f"{len(clients)} clients, {refused!r}")
+        check("and a command is done all the same", server.give(b"windows").endswith(b"g\0\1\0"))
+        check("quit too", server.give(b"quit").endswith(b"g\0\1\0") and server.ends_within(5) == 0)
+
+
+def winding_up():
+    with Server() as server:
+        deaf = server.connect(window())
+        client = server.connect(attach())
+        assert welcome(deaf) and welcome(client)
+        for _ in range(60):
+            client.sendall(frame(b"K", b"x" * 8192))
+        stop = threading.Event()
+
+        def knock():
+            while not stop.wait(0.019):
+                try:
+                    server.connect().close()
+                except OSError:
+                    pass
+
+        knocker = threading.Thread(target=knock)
+        knocker.start()
+        time.sleep(0.2)
+        begin = time.time()
+        server.give(b"quit")
+        status = server.ends_within(30)
+        took = time.time() - begin
+        stop.set()
+        knocker.join()
+        check("winding up ends, though somebody connects and one doesn't read", status == 0 and took < 2.6,
+              f"{took:.1f} s, status {status}")
+
+
+def at_once():
+    with tempfile.TemporaryDirectory() as folder:
+        users = Path(folder, "users")
+        users.write_bytes(OWNER + b" " + TOKEN + b"\n")
+        users.chmod(0o600)
+        path = f"{folder}/socket"
+        wrong, told = [], 0
+        for _ in range(WORDS.tries):
+            stale = socket.socket(socket.AF_UNIX)
+            if not os.path.exists(path):
+                stale.bind(path)
+            stale.close()
+            words = [WORDS.muxd, "--socket", path, "--users", users]
+            programs = [subprocess.Popen(words, stdout=subprocess.PIPE, stderr=subprocess.PIPE) for _ in range(3)]
+            lines = [it.stdout.readline() for it in programs]
+            ready = [it for it, line in zip(programs, lines) if line == b"muxd: ready\n"]
+            for it in programs:
+                if it not in ready:
+                    told += b"a server listens there" in it.communicate()[1] and it.returncode == 1
+            if len(ready) != 1 or not stat.S_ISSOCK(os.stat(path).st_mode):
+                wrong.append(len(ready))
+            for it in ready:
+                it.kill()
+                it.communicate()
+        check(f"of three servers at once over a stale socket one serves, {WORDS.tries} times", not wrong, str(wrong))
+        check("and the two others say why", told == 2 * WORDS.tries, f"{told}")
+        os.remove(path)
+        hung = socket.socket(socket.AF_UNIX)
+        hung.bind(path)
+        hung.listen(0)
+        waiting = []
+        for _ in range(4):
+            it = socket.socket(socket.AF_UNIX)
+            it.setblocking(False)
+            try:
+                it.connect(path)
+            except BlockingIOError:
+                pass
+            waiting.append(it)
+        try:
+            late = subprocess.run(words, capture_output=True, timeout=5)
+            check("one that hangs with a full backlog is there",
+                  late.returncode == 1 and b"a server listens there" in late.stderr, str(late.stderr))
+        except subprocess.TimeoutExpired:
+            check("one that hangs with a full backlog is there", False, "the probe hangs")
+
+
+def one_who_floods():
+    """One user's entries have a rate in the long run; his keys wait, and nobody is cut off."""
+    with Server() as server:
+        shell = server.connect(window())
+        client = server.connect(attach())
+        assert welcome(shell) and welcome(client)
+        client.setblocking(False)
+        shell.setblocking(False)
+        many = frame(b"K", b"x") * 2000
+        typed, begin = 0, time.time()
+        while time.time() - begin < 20:
+            _, write, _ = select.select([], [client], [], 0)
+            if write:
+                try:
+                    client.send(many)
+                except BlockingIOError:
+                    pass
+            if has_come(shell, 0.01):
+                typed += shell.recv(1 << 20).count(b"x")
+            if has_come(client, 0):
+                client.recv(1 << 20)
+        most = 8_300 + 500 * 22
+        check("a user's keys have a rate", 8_000 < typed < most, f"{typed}")
+        begin = time.time()
+        answer = server.give(b"windows")
+        check("and his command is answered", answer.endswith(b"g\0\1\0") and time.time() - begin < 2)
+
+
+def main():
+    global WORDS
+    top = Path(__file__).resolve().parent.parent.parent
+    reader = argparse.ArgumentParser(description=__doc__)
+    reader.add_argument("--muxd", default=os.environ.get("MUXD", str(top / "bin/muxd")), help="the server's program")
+    reader.add_argument("--tries", type=int, default=100, help="how often servers are started at once")
+    WORDS = reader.parse_args()
+    for play in (dead_window, ends_behind_frames, winding_up, at_once, one_who_floods, few_descriptors, strangers):
+        play()
+    sys.exit(1 if failed else 0)
+
+
+if __name__ == "__main__":
+    main()
