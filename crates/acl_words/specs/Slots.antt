@@ -25,7 +25,8 @@ filled [] = 0
 filled (None ∷ slots) = filled slots
 filled (Some w ∷ slots) = filled slots + 1
 
--- just these windows stand in the slots, and at most so many
+-- just these windows stand in the slots, and at most so many; that there are 40 is said here, since
+-- how long an array in a private field is isn't known to a proof of another crate
 pub record SlotsStandFor (slots : List (Option ℕ)) (is_open : ℕ → Bool) (count : ℕ) : Type 0 where
   pub shown : (w : ℕ) → is_some (slot_of slots w) ≡ is_open w
   pub few : filled slots ≤ count

@@ -7,6 +7,8 @@ use crate::fields::{Bytes, Text, Token};
 use crate::kind::Kind;
 use crate::why::Why;
 
+// No `==`: its fields keep capacities that no contract sees, and a comparison is derived only where a
+// value gives the fields back.
 /// What is sent in one frame.
 #[derive(Debug, Drop)]
 pub enum Message {

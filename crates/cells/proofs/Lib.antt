@@ -10,3 +10,5 @@ pub mod Runs
 pub mod Used
 pub mod OverBlanks
 pub mod Looks
+pub mod Wides
+pub mod WideRuns

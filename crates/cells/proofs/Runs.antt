@@ -12,7 +12,7 @@ use Rattle.cells.proofs.Pages.{page_from-edited, IsPage-page_from}
 use Rattle.cells.proofs.Putting.{outside_is, settled_new, length-narrow_cells, narrow_at, run_is}
 
 -- the cells that a cut leaves
-cut_elsewhere : (c : ℕ) (cells : List Cell) (k : ℕ) → (k ≡ c → ⊥) → (k ≡ c - 1 → ⊥) → cell_at (cut_of c cells) k ≡ cell_at cells k
+pub cut_elsewhere : (c : ℕ) (cells : List Cell) (k : ℕ) → (k ≡ c → ⊥) → (k ≡ c - 1 → ⊥) → cell_at (cut_of c cells) k ≡ cell_at cells k
 cut_elsewhere c cells k n m = go (is_right (cell_at cells c).shape)
   where
     go : (b : Bool) → cell_at (cond b (set (set cells (c - 1) blank) c blank) cells) k ≡ cell_at cells k
@@ -20,10 +20,10 @@ cut_elsewhere c cells k n m = go (is_right (cell_at cells c).shape)
     go false = refl
 
 -- what stands behind a cut
-abbrev uncut : Cell → Cell
+abbrev pub uncut : Cell → Cell
 uncut cell = cond (is_right cell.shape) blank cell
 
-cut_behind : (c : ℕ) (cells : List Cell) → c < length cells → cell_at (cut_of c cells) c ≡ uncut (cell_at cells c)
+pub cut_behind : (c : ℕ) (cells : List Cell) → c < length cells → cell_at (cut_of c cells) c ≡ uncut (cell_at cells c)
 cut_behind c cells h = go (is_right (cell_at cells c).shape)
   where
     go : (b : Bool) → cell_at (cond b (set (set cells (c - 1) blank) c blank) cells) c ≡ cond b blank (cell_at cells c)

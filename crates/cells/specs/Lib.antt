@@ -5,3 +5,4 @@ pub mod Resizing
 pub mod Glyph
 pub mod Unlike
 pub mod Look
+pub mod Wide

@@ -1,10 +1,11 @@
 //! Edits of a line's cells.
 
-ghost use Rattle.std.specs.Prelude.{◌≡◌, ◌+◌, ◌-◌, ◌<◌, ◌≤◌, length, replicate, [], ◌∷◌, false};
+ghost use Rattle.std.specs.Prelude.{◌≡◌, ◌+◌, ◌*◌, ◌-◌, ◌<◌, ◌≤◌, length, replicate, [], ◌∷◌, false};
 ghost use Rattle.std.specs.List.{copy_within};
 ghost use Rattle.cells.specs.Line.{cells_from, cells_spliced, IsPaired, cut_of, blank};
 ghost use Rattle.cells.specs.Line.{unprotected_erased, fresh_at, narrow_cell, narrow_cells};
-ghost use Rattle.cells.specs.Line.{IsBlankFrom, plain};
+ghost use Rattle.cells.specs.Line.{IsBlankFrom, plain, left_cell, right_cell};
+ghost use Rattle.cells.specs.Wide.{wide_cells};
 
 use crate::cell::{Cell, Rendition, Shape};
 
@@ -179,6 +180,42 @@ pub fn put_letters(
         cell.character = letters[column];
         cells[at + column] = cell;
     }
+}
+
+/// Puts a run of characters of width 2 in place of twice as many old cells.
+pub fn put_wide_run(
+    cells: &mut [Cell],
+    at: usize,
+    characters: &[char],
+    rendition: Rendition,
+    is_protected: bool,
+)
+    requires paired { IsPaired cells.old }
+    requires room { at + 2 * length characters.now ≤ length cells.old }
+    ensures { cells.new ≡ cells_spliced at (wide_cells characters.now rendition is_protected)
+        (at + 2 * length characters.now) cells.old }
+{
+    if characters.is_empty() {
+        return;
+    }
+    cut(cells, at);
+    cut(cells, at + 2 * characters.len());
+    let (left, right) = space_halves(rendition, is_protected);
+    for place in 0..characters.len() {
+        let character = characters[place];
+        cells[at + 2 * place] = Cell { character, ..left };
+        cells[at + (2 * place + 1)] = Cell { character, ..right };
+    }
+}
+
+/// The halves of a wide space, made apart as `space_cell`.
+#[inline(never)]
+fn space_halves(rendition: Rendition, is_protected: bool) -> (Cell, Cell)
+    ensures left { result.0 ≡ left_cell 0x20 rendition is_protected }
+    ensures right { result.1 ≡ right_cell 0x20 rendition is_protected }
+{
+    let left = Cell::left(' ', rendition, is_protected);
+    (left, Cell::right(' ', rendition, is_protected))
 }
 
 /// Puts a run of characters of width 1, without rendition or protection, in place of as many blanks

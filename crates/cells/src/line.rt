@@ -1,10 +1,11 @@
 //! A line of cells.
 
-ghost use Rattle.std.specs.Prelude.{◌≡◌, ◌+◌, ◌-◌, ◌<◌, ◌≤◌, min, [], ◌∷◌, length, replicate, IfOk};
+ghost use Rattle.std.specs.Prelude.{◌≡◌, ◌+◌, ◌*◌, ◌-◌, ◌<◌, ◌≤◌, min, [], ◌∷◌, length, replicate, IfOk};
 ghost use Rattle.std.specs.Prelude.{slice_set};
 ghost use Rattle.cells.specs.Line.{cells_from, cells_spliced, cell_at, marked, IsPaired};
 ghost use Rattle.cells.specs.Line.{IsBlankFrom, blank, unprotected_erased, narrow_cell};
 ghost use Rattle.cells.specs.Line.{narrow_cells};
+ghost use Rattle.cells.specs.Wide.{wide_cells};
 ghost use Rattle.cells.specs.Resizing.{line_resized};
 
 use crate::cell::{Cell, Rendition, Shape};
@@ -213,6 +214,29 @@ impl Line {
             is_protected,
         );
         self.used = self.used.max(at + letters.len());
+    }
+
+    /// Puts a run of characters of width 2 in place of twice as many old cells. What is torn at either
+    /// end becomes blank.
+    pub fn put_wide_run(
+        &mut self,
+        at: usize,
+        characters: &[char],
+        rendition: Rendition,
+        is_protected: bool,
+    )
+        requires room { at + 2 * length characters.now ≤ length self.old }
+        ensures { self.new ≡ cells_spliced at (wide_cells characters.now rendition is_protected)
+            (at + 2 * length characters.now) self.old }
+    {
+        edits::put_wide_run(
+            self.cells.as_mut_slice(),
+            at,
+            characters,
+            rendition,
+            is_protected,
+        );
+        self.used = self.used.max(at + 2 * characters.len());
     }
 
     /// Erases the cells from `from` on and below `end`, but for protected ones.

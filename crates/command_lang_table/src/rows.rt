@@ -46,6 +46,7 @@ pub struct Entry {
     pub needs: Needs,
 }
 
+// Tuples: a constant of a struct that holds a reference can't be cited by the definitions.
 /// The rows, in the order of `CommandName` (GNU Screen manual). `scrollview`, the three words of
 /// writelock and the limits of numbers are this project's own.
 pub const ROWS: [(&str, Option<&str>, Words, Needs); CommandName::COUNT] = [

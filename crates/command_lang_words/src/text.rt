@@ -1,4 +1,5 @@
-//! The text of a word. Contracts see it as its bytes in UTF-8.
+//! The text of a word. Contracts see it as its bytes in UTF-8, while the grammar is over characters: so
+//! no lemma cuts a text between bytes.
 
 ghost use Rattle.std.specs.Prelude.{◌≡◌, IfOk};
 ghost use Rattle.std.specs.String.{string_bytes};

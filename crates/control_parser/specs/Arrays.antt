@@ -1,4 +1,5 @@
--- A list at the front of a fixed array, whose rest is 0.
+-- A list at the front of a fixed array, whose rest is 0.  The lemmas stand here and not in proofs/,
+-- since a Model cites them, and its ghost imports take nothing from a crate's own proofs.
 use Rattle.std.specs.Prelude.{◌≡◌, ℕ, ◌-◌, ◌≤◌, List, ◌++◌, length, take, drop, replicate}
 use Rattle.std.proofs.Common.{take-append-drop, length-take-le, ap, ◌∙◌, sym, subst}
 

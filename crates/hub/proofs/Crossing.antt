@@ -1,4 +1,5 @@
 -- Threads may share a hub, and hand back its seats: what lies under its lock may go to another thread.
+-- Type by type: the search for the whole at once ends at a limit.
 use denote.RattleType.{RattleType}
 use denote.Param.Send.{IsSend, IsSync, view_send}
 use denote.Param.SendFields.{declared_send, declared_sync}

@@ -29,6 +29,8 @@ pub enum Mode {
     Prompt,
 }
 
+// `copied`, and not `Copy`: contracts see only those bytes of its array that are in use, and `Copy`
+// would want a view that forgets nothing.
 /// Reads the keys of one client, one by one, without memory, however they are cut.
 #[derive(Drop)]
 pub struct KeyReader {

@@ -3,4 +3,5 @@
 
 mod ring;
 
-pub use ring::{NoMemory, Ring};
+pub use ring::Ring;
+pub use std::alloc::AllocError as NoMemory;

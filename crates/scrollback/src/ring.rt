@@ -11,14 +11,8 @@ ghost use Rattle.scrollback.specs.Kept.{ContinuesResized};
 
 use cells::{Cell, Line};
 use circular_buffer::HeapCircularBuffer;
-use std::alloc::{AllocError, Global};
+use std::alloc::{AllocError as NoMemory, Global};
 use std::marker::Model;
-use thiserror::Error;
-
-/// An allocation was refused.
-#[derive(Clone, Copy, Debug, PartialEq, Eq, Error)]
-#[error("out of memory")]
-pub struct NoMemory;
 
 /// The last `keep` of the lines that it took in, all of one width. All its lines are made with it:
 /// taking one in takes no memory.
@@ -47,7 +41,7 @@ fn blank_lines(
     alloc: Global,
     keep: usize,
     cols: usize,
-) -> Result<HeapCircularBuffer<Line>, AllocError>
+) -> Result<HeapCircularBuffer<Line>, NoMemory>
     ensures { IfOk result
         (λ lines. lines ≡ buffer_of (replicate keep (replicate cols blank)) keep) }
 {
@@ -64,7 +58,7 @@ fn append_resized(
     buffer: &mut HeapCircularBuffer<Line>,
     lines: &[Line],
     cols: usize,
-) -> Result<(), AllocError>
+) -> Result<(), NoMemory>
     requires { length buffer.old.items + length lines.now ≤ buffer.old.capacity }
     ensures { OnOk result (buffer.new
         ≡ buffer_of (buffer.old.items ++ map (line_resized cols) lines.now) buffer.old.capacity) }
@@ -80,7 +74,7 @@ fn resized_buffer(
     alloc: Global,
     lines: &HeapCircularBuffer<Line>,
     cols: usize,
-) -> Result<HeapCircularBuffer<Line>, AllocError>
+) -> Result<HeapCircularBuffer<Line>, NoMemory>
     requires { length lines.now.items ≡ lines.now.capacity }
     ensures { IfOk result (λ resized. resized
         ≡ buffer_of (map (line_resized cols) lines.now.items) lines.now.capacity) }
@@ -98,15 +92,12 @@ impl Ring {
         ensures value { IfOk result (λ ring. ring ≡ no_lines keep cols) }
         ensures stands { IfOk result (λ ring. StandsFor ring []) }
     {
-        match blank_lines(alloc, keep, cols) {
-            Ok(lines) => Ok(Ring {
-                alloc,
-                lines,
-                count: 0,
-                cols,
-            }),
-            Err(_) => Err(NoMemory),
-        }
+        Ok(Ring {
+            alloc,
+            lines: blank_lines(alloc, keep, cols)?,
+            count: 0,
+            cols,
+        })
     }
 
     /// The number of lines that it has: those that it took in, or `keep` where they are more.
@@ -159,13 +150,8 @@ impl Ring {
         ensures stands { OnOk result (ContinuesResized self.old self.new cols) }
         ensures err { OnErr result (self.new ≡ self.old) }
     {
-        match resized_buffer(self.alloc, &self.lines, cols) {
-            Ok(lines) => {
-                self.lines = lines;
-                self.cols = cols;
-                Ok(())
-            }
-            Err(_) => Err(NoMemory),
-        }
+        self.lines = resized_buffer(self.alloc, &self.lines, cols)?;
+        self.cols = cols;
+        Ok(())
     }
 }

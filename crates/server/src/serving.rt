@@ -25,6 +25,8 @@ use std::sync::{OnceLock, Wait};
 use std::thread::Threads;
 use std::time::Clock;
 
+// The users' file is read by the concrete runtime: of a generic one, a bound with associated types
+// (`Files`) isn't known in other threads.
 /// What a server stands on beside its handles.
 #[derive(Clone, Copy)]
 pub struct Host<G> {

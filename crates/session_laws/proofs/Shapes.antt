@@ -1,4 +1,5 @@
 -- What kind of deed each command does: one row a command. A fact of deeds is proved once a kind.
+-- What only one command does names it by an equation: a match on the command would want each again.
 use Rattle.std.proofs.Common.{◌≡◌, ℕ, ◌-◌, true, false, not, List, [], ◌∷◌, ◌++◌, Option, Some, None, Ok, Err, refl, ap}
 use Rattle.std.specs.Prelude.{◌==◌, slice_get, codes}
 use Rattle.std.specs.Option.{option_map, option_map_or, option_and_then}

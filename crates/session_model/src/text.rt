@@ -138,6 +138,7 @@ fn push_refusal(refusal: &Refusal, out: &mut Vec<u8>) -> Result<(), AllocError>
     }
 }
 
+// Here beside the type: a method can't stand in another crate.
 impl Refusal {
     /// Appends the text that names the cause. After an `Err` nothing has changed.
     pub fn text(&self, out: &mut Vec<u8>) -> Result<(), AllocError>

@@ -21,6 +21,8 @@ pub trait Serial {
         ensures { result ≡ serial_of self.now };
 }
 
+// No `reserve`: what a list has room for is no part of its value. A row is pushed, and taken back
+// where a later growth is refused.
 /// Rows, in the order in which they came. Contracts see them as a list.
 #[derive(Drop)]
 pub struct Rows<R> {

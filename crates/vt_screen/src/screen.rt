@@ -24,6 +24,8 @@ use terminal_model::{MAX_KEEP, Modes, Report};
 use vt_screen_actions::{acts_of, plain_escape_action};
 use vt_screen_rows::{Display, prints_ascii};
 
+// Around `Display`, whose rows are methods of another crate: an invariant there would have to be
+// shown after each field that a row sets.
 /// The screen of a VT220: its page with all that control functions change, and its scrollback.
 /// Lines and columns count from 0. Only `new` and changes of size take memory.
 #[derive(Drop)]

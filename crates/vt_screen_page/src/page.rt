@@ -1,8 +1,9 @@
 //! The page of a screen.
 
-ghost use Rattle.std.specs.Prelude.{◌≡◌, ℕ, ◌+◌, ◌-◌, ◌<◌, ◌≤◌, ◌↔◌, [], ◌∷◌, length, replicate};
+ghost use Rattle.std.specs.Prelude.{◌≡◌, ℕ, ◌+◌, ◌*◌, ◌-◌, ◌<◌, ◌≤◌, ◌↔◌, [], ◌∷◌, length, replicate};
 ghost use Rattle.std.specs.Prelude.{IfOk, OnOk, OnErr, Err, IsTrue, slice_index};
 ghost use Rattle.cells.specs.Line.{blank, unprotected_erased, narrow_cells};
+ghost use Rattle.cells.specs.Wide.{wide_cells};
 ghost use Rattle.cells.specs.Page.{IsGrid, IsGridSize, line_at, page_from, page_marked};
 ghost use Rattle.cells.specs.Page.{page_spliced, edited};
 ghost use Rattle.cells.specs.Moves.{scrolled_up, scrolled_down, erased_lines, filled};
@@ -196,6 +197,27 @@ impl Page {
     {
         let place = self.places[line];
         self.stored[place].put_letters(at, letters, rendition, is_protected);
+    }
+
+    /// Puts a run of characters of width 2 into a line, in place of twice as many old cells. What is
+    /// torn at either end becomes blank.
+    pub fn put_wide_run(
+        &mut self,
+        line: usize,
+        at: usize,
+        characters: &[char],
+        rendition: Rendition,
+        is_protected: bool,
+    )
+        requires line_inside { line < length self.old.lines }
+        requires room { at + 2 * length characters.now ≤ length (line_at self.old.lines line) }
+        ensures lines { self.new.lines
+            ≡ page_spliced line at (wide_cells characters.now rendition is_protected)
+            (at + 2 * length characters.now) self.old.lines }
+        ensures places { self.new.places ≡ self.old.places }
+    {
+        let place = self.places[line];
+        self.stored[place].put_wide_run(at, characters, rendition, is_protected);
     }
 
     /// Erases the cells of a line from `from` on and below `end`, but for protected ones.

@@ -31,6 +31,7 @@ pub fn turn(places: &mut [usize], top: usize, bottom: usize, count: usize)
     rotate(&mut places[top..bottom + 1], count);
 }
 
+// The library's `rotate_left` clears 4 KB of room each time.
 /// Lets the first `count` of some places come last: turned round in two parts, and then as a whole.
 fn rotate(places: &mut [usize], count: usize)
     requires { count ≤ length places.old }

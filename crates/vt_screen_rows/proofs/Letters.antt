@@ -198,7 +198,7 @@ letter_drawn c low high other = ap (λ (w : Option ℕ). drawn_as w c) (to_300 c
 beyond_graphic : (c : ℕ) → 0xA0 ≤ c → is_graphic (Code c) ≡ true
 beyond_graphic c low = grind (arith, nat_tests)
 
-beyond_mapped : (s : Shifts) (c : ℕ) → 0xA0 ≤ c → mapped s (Code c) ≡ Some c
+pub beyond_mapped : (s : Shifts) (c : ℕ) → 0xA0 ≤ c → mapped s (Code c) ≡ Some c
 unfolding mapped
 beyond_mapped s c low =
     let set : is_position c ≡ false = grind (arith, nat_tests) in

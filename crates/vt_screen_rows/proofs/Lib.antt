@@ -6,3 +6,4 @@ pub mod SizeLemmas
 pub mod RunLemmas
 pub mod RunPlaces
 pub mod Letters
+pub mod WideRuns

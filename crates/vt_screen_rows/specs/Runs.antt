@@ -1,14 +1,16 @@
 -- Characters that are put one behind another with one edit.
-use Rattle.std.specs.Prelude.{◌≡◌, ℕ, ◌+◌, ◌-◌, false, List, length, map, None}
+use Rattle.std.specs.Prelude.{◌≡◌, ℕ, ◌+◌, ◌*◌, ◌-◌, ◌<◌, ◌≤◌, false, List, length, map, None}
+use Rattle.std.specs.Prelude.{slice_index}
 use Rattle.charsets.specs.declared.sets.CharacterSet.TheVariants.{Ascii}
 use Rattle.charsets.specs.declared.unit.Unit.TheVariants.{Code}
 use Rattle.charsets.specs.Shifts.{set_at}
 use Rattle.cells.specs.Line.{spliced, narrow_cells}
+use Rattle.cells.specs.Wide.{wide_cells}
 use Rattle.terminal_model.specs.declared.action.Action.{Action}
 use Rattle.terminal_model.specs.declared.action.Action.TheVariants.{Print}
 use Rattle.terminal_model.specs.declared.state.State.{State}
 use Rattle.terminal_model.specs.Screen.{Screen}
-use Rattle.terminal_model.specs.Table.{advanced, line_edited}
+use Rattle.terminal_model.specs.Table.{advanced, columns_of, drawn, line_edited}
 
 -- characters are printed, one after another
 abbrev pub prints : List ℕ → List Action
@@ -35,5 +37,27 @@ run_placed characters x =
       page = line_edited s
           (spliced s.column (narrow_cells characters s.rendition s.is_protecting)
           (s.column + length characters) s.columns)
+          x.page;
+    }
+
+-- a character of two columns, in no set
+pub record IsWide (character : ℕ) : Type 0 where
+  pub beyond : 0xA0 ≤ character
+  pub columns : columns_of character ≡ 2
+  pub drawn : drawn character ≡ character
+
+abbrev pub AreWide : List ℕ → Type 0
+AreWide characters = (k : ℕ) → k < length characters → IsWide (slice_index characters k)
+
+-- characters of width 2 take the places of twice as many cells from the cursor on, which goes behind
+-- the last of them
+abbrev pub wides_placed : List ℕ → Screen → Screen
+wides_placed characters x =
+    let s : State = x.state in
+    record x {
+      state = advanced (record s { column = s.column + (2 * length characters - 2) }) 2;
+      page = line_edited s
+          (spliced s.column (wide_cells characters s.rendition s.is_protecting)
+          (s.column + 2 * length characters) s.columns)
           x.page;
     }

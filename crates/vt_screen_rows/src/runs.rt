@@ -1,16 +1,19 @@
 //! Runs of characters.
 
-ghost use Rattle.std.specs.Prelude.{◌≡◌, ◌↔◌, ◌+◌, ◌<◌, ◌≤◌, true, length, take, IsTrue};
+ghost use Rattle.std.specs.Prelude.{◌≡◌, ◌↔◌, ℕ, ◌+◌, ◌*◌, ◌<◌, ◌≤◌, true, false, length, take};
+ghost use Rattle.std.specs.Prelude.{IsTrue, slice_index};
 ghost use Rattle.std.specs.List.{list_all};
 ghost use Rattle.charsets.specs.Shifts.{set_at};
 ghost use Rattle.charsets.specs.Units.{is_letter, is_plain};
 ghost use Rattle.vt_screen_rows.specs.Acting.{ActsByAll, MovesLinesByAll};
 ghost use Rattle.vt_screen_rows.specs.Displays.{IsFit, screen_of};
 ghost use Rattle.vt_screen_rows.specs.Runs.{PrintsAscii, TakesRuns, prints, run_placed};
+ghost use Rattle.vt_screen_rows.specs.Runs.{IsWide, wides_placed};
 
 use crate::display::Display;
 use charsets::{CharacterSet, Place, Shifts, Unit};
 use terminal_model::State;
+use unicode_width::UnicodeWidthChar;
 use vt_screen_state::advance;
 
 impl Display {
@@ -57,9 +60,66 @@ impl Display {
         ensures fit { IsFit self.new }
         ensures places { MovesLinesByAll self.old (prints characters.now) self.new }
     {
-        for character in characters {
-            self.print_code(*character);
+        let mut printed = 0;
+        while printed < characters.len() {
+            printed += self.print_some_characters(&characters[printed..]);
         }
+    }
+
+    /// Prints the first one of some characters, or as many wide ones as have room in a line, and
+    /// gives how many.
+    fn print_some_characters(&mut self, characters: &[char]) -> usize
+        requires fit { IsFit self.old }
+        requires some { 0 < length characters.now }
+        ensures screen { ActsByAll self.old (prints (take result characters.now)) self.new }
+        ensures fit { IsFit self.new }
+        ensures places { MovesLinesByAll self.old (prints (take result characters.now)) self.new }
+        ensures some { 0 < result }
+        ensures few { result ≤ length characters.now }
+    {
+        let count = self.wide_count(characters);
+        if count == 0 {
+            self.print_code(characters[0]);
+            return 1;
+        }
+        self.place_wide_run(&characters[..count]);
+        count
+    }
+
+    /// How many wide characters at the front have room in the cursor's line, where they can be put in
+    /// it as they are.
+    fn wide_count(&self, characters: &[char]) -> usize
+        requires { IsFit self.now }
+        ensures runs { 0 < result → TakesRuns self.now.state }
+        ensures settled { 0 < result → self.now.state.is_wrap_pending ≡ false }
+        ensures wide { (k : ℕ) → k < result → IsWide (slice_index characters.now k) }
+        ensures few { result ≤ length characters.now }
+        ensures room { self.now.state.column + 2 * result ≤ self.now.state.columns }
+    {
+        if !takes_runs(&self.state) || self.state.is_wrap_pending {
+            return 0;
+        }
+        wide_front(characters, (self.state.columns - self.state.column) / 2)
+    }
+
+    /// Puts characters of width 2 in the cursor's line, in place of twice as many old cells.
+    fn place_wide_run(&mut self, characters: &[char])
+        requires fit { IsFit self.old }
+        requires some { 0 < length characters.now }
+        requires room { self.old.state.column + 2 * length characters.now ≤ self.old.state.columns }
+        ensures screen { screen_of self.new ≡ wides_placed characters.now (screen_of self.old) }
+        ensures width { self.new.ring.columns ≡ self.old.ring.columns }
+        ensures places { self.new.page.places ≡ self.old.page.places }
+    {
+        self.page.put_wide_run(
+            self.state.line,
+            self.state.column,
+            characters,
+            self.state.rendition,
+            self.state.is_protecting,
+        );
+        self.state.column += 2 * characters.len() - 2;
+        advance(&mut self.state, 2);
     }
 
     /// Prints letters, one after another.
@@ -137,6 +197,33 @@ impl Display {
         self.state.column += codes.len() - 1;
         advance(&mut self.state, 1);
     }
+}
+
+/// How many characters at the front are wide, at most so many.
+fn wide_front(characters: &[char], most: usize) -> usize
+    ensures wide { (k : ℕ) → k < result → IsWide (slice_index characters.now k) }
+    ensures few { result ≤ length characters.now }
+    ensures most { result ≤ most }
+{
+    let most = most.min(characters.len());
+    let mut count = 0;
+    while count < most {
+        if !is_wide(characters[count]) {
+            return count;
+        }
+        count += 1;
+    }
+    count
+}
+
+/// Whether a character takes two columns, and goes through no set.
+#[inline(always)]
+#[tactic(auto, // its columns, and what is drawn
+unfolding(terminal_model::specs::Table::columns_of, terminal_model::specs::Table::drawn))]
+fn is_wide(character: char) -> bool
+    ensures { IsTrue result → IsWide character }
+{
+    '\u{A0}' <= character && character.width() == Some(2)
 }
 
 /// Whether 20 to 7E stand for themselves: GL is ASCII, and no single shift waits.

@@ -1,7 +1,7 @@
 use Rattle.std.proofs.Common.{◌≡◌, ℕ, zero, suc, ◌<◌, List, [], ◌∷◌, length, get_or, set, refl, sym, ap, ◌∙◌, subst, arith}
 use Rattle.std.proofs.lemmas.List.{length-set}
 use Rattle.cells.specs.declared.cell.Cell.{Cell}
-use Rattle.cells.specs.Page.{line_at, page_from}
+use Rattle.cells.specs.Page.{line_at}
 use Rattle.cells.specs.Moves.{scrolled_up}
 use Rattle.vt_screen_page.specs.Store.{IsStore, lines_in_order}
 use Rattle.vt_screen_page.proofs.Stored.{line_at-lines_in_order}

@@ -1,7 +1,7 @@
 use Rattle.std.proofs.Common.{◌≡◌, ℕ, ◌<◌, List, length, get_or, sym, ap, ◌∙◌, subst}
 use Rattle.std.proofs.lemmas.List.{get_or_default}
 use Rattle.cells.specs.declared.cell.Cell.{Cell}
-use Rattle.vt_screen_page.specs.Store.{Placed, lines_in_order}
+use Rattle.vt_screen_page.specs.Store.{Placed}
 use Rattle.vt_screen_page.proofs.Stored.{length-lines_in_order}
 use Rattle.vt_screen_page.proofs.page.Page.place.Goals as goal
 

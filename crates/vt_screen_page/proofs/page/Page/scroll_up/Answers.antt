@@ -1,5 +1,5 @@
 use Rattle.std.proofs.lemmas.List.{take_at}
-use Rattle.std.proofs.Common.{◌+◌, ◌-◌, length, drop, ℕ, List, ap, ◌∙◌}
+use Rattle.std.proofs.Common.{length, drop, ℕ, List, ap, ◌∙◌}
 use Rattle.cells.specs.declared.cell.Cell.{Cell}
 use Rattle.cells.specs.Page.{page_from}
 use Rattle.cells.specs.Moves.{scrolled_up}
