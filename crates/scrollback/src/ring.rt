@@ -150,7 +150,8 @@ impl Ring {
         ensures stands { OnOk result (ContinuesResized self.old self.new cols) }
         ensures err { OnErr result (self.new ≡ self.old) }
     {
-        self.lines = resized_buffer(self.alloc, &self.lines, cols)?;
+        let lines = resized_buffer(self.alloc, &self.lines, cols)?;
+        self.lines = lines;
         self.cols = cols;
         Ok(())
     }
