@@ -59,6 +59,17 @@ fn blank_lines(alloc: Global, rows: usize, cols: usize) -> Result<Vec<Line>, All
     Ok(lines)
 }
 
+/// Copies of lines.
+fn copied_lines(alloc: Global, lines: &[Line]) -> Result<Vec<Line>, AllocError>
+    ensures { IfOk result (λ copies. copies.items ≡ lines.now) }
+{
+    let mut copies = Vec::with_capacity(alloc, lines.len())?;
+    for line in lines {
+        copies.push(line.copied(alloc)?)?;
+    }
+    Ok(copies)
+}
+
 /// Whether a grid may have this size.
 fn is_size(rows: usize, cols: usize) -> bool
     ensures { IsTrue result ↔ IsGridSize rows cols }
@@ -80,6 +91,15 @@ impl Grid {
             Ok(lines) => Ok(Grid { lines }),
             Err(_) => Err(GridFault::NoMemory),
         }
+    }
+
+    /// A grid of the same cells.
+    pub fn copied(&self, alloc: Global) -> Result<Grid, AllocError>
+        ensures { IfOk result (λ grid. grid ≡ self.now) }
+    {
+        Ok(Grid {
+            lines: copied_lines(alloc, self.lines.as_slice())?,
+        })
     }
 
     /// The number of its lines.

@@ -101,6 +101,18 @@ impl Line {
         }
     }
 
+    /// A line of the same cells.
+    pub fn copied(&self, alloc: Global) -> Result<Line, AllocError>
+        ensures { IfOk result (λ line. line ≡ self.now) }
+    {
+        let mut cells = Vec::with_capacity(alloc, self.cells.len())?;
+        cells.extend_from_slice(self.cells.as_slice())?;
+        Ok(Line {
+            cells,
+            used: self.used,
+        })
+    }
+
     /// The number of its cells.
     pub fn width(&self) -> usize
         ensures { result ≡ length self.now }

@@ -1,5 +1,5 @@
 -- What a frame does to each terminal that agrees with a shadow.
-use Rattle.std.specs.Prelude.{◌≡◌, ℕ, true, false, List, [], ◌++◌, length}
+use Rattle.std.specs.Prelude.{◌≡◌, ◌⊎◌, ℕ, true, false, List, [], ◌++◌, length}
 use Rattle.std.specs.Prelude.{Option, Some, None, IfSome, IfNone}
 use Rattle.cells.specs.Line.{plain}
 use Rattle.cells.specs.Page.{line_at, IsGrid}
@@ -128,3 +128,29 @@ SkipsKnown old v new frame = IfNone frame (DrawsNothing old v new)
 -- Where there is a frame, the view had to be drawn, it draws that, and that is known then.
 abbrev pub FrameDraws : Knowledge → View → Knowledge → Option Bytes → Type 0
 FrameDraws old v new frame = IfSome frame (λ bytes. DrawsFrame old v new bytes.items)
+
+-- ---- where a frame is appended
+
+-- the terminal is known to show the view: nothing is appended, and nothing changes
+pub record AppendsNothing (old : Knowledge) (v : View) (new : Knowledge) (before after : List ℕ)
+    : Type 0 where
+  pub known : IsKnown old.known v
+  pub same : new ≡ old
+  pub bytes : after ≡ before
+
+-- the view has to be drawn: what is appended draws it, and the terminal is known to show it then
+pub record AppendsFrame (old : Knowledge) (v : View) (new : Knowledge) (before after : List ℕ)
+    : Type 0 where
+  pub frame : List ℕ
+  pub appended : after ≡ before ++ frame
+  pub draws : DrawsFrame old v new frame
+
+-- either of the two
+abbrev pub Appends : Knowledge → View → Knowledge → List ℕ → List ℕ → Type 0
+Appends old v new before after =
+    AppendsNothing old v new before after ⊎ AppendsFrame old v new before after
+
+-- the terminal has the size that it had
+pub record KeepsTerminalSize (old new : Knowledge) : Type 0 where
+  pub rows : new.rows ≡ old.rows
+  pub columns : new.columns ≡ old.columns

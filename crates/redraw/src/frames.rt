@@ -5,7 +5,7 @@ ghost use Rattle.std.specs.Prelude.{is_some};
 ghost use Rattle.view.specs.View.{HasSize, KeepsSize, place_of};
 ghost use Rattle.view.specs.Drawable.{IsDrawable};
 ghost use Rattle.redraw.specs.Frames.{pen_of, FirstBytes, DrawsNext, IsNeeded, BytesDraw};
-ghost use Rattle.redraw.specs.Frames.{SkipsKnown, FrameDraws};
+ghost use Rattle.redraw.specs.Frames.{SkipsKnown, FrameDraws, Appends, KeepsTerminalSize};
 ghost use Rattle.redraw.specs.Shadow.{AreAlikeAbove, IsKnown, NeedsDraw};
 
 use crate::painting::paint;
@@ -110,7 +110,11 @@ pub fn needs_draw(shadow: &Shadow, view: &View) -> bool
 /// shadow's size, and that agrees with the shadow then: it keeps the view. They are discreet and
 /// spare, and begin with the reset exactly where the shadow is unknown. There are none, and the
 /// shadow stays, exactly where it is known to show the same. After an `Err` nothing has changed.
-pub fn frame(alloc: Global, shadow: &mut Shadow, view: View) -> Result<Option<Vec<u8>>, AllocError>
+pub fn frame_keeping(
+    alloc: Global,
+    shadow: &mut Shadow,
+    view: View,
+) -> Result<Option<Vec<u8>>, AllocError>
     requires size { HasSize shadow.old.rows shadow.old.columns view }
     ensures needless { IfOk result (λ frame. SkipsKnown shadow.old view shadow.new frame) }
     ensures drawn { IfOk result (λ frame. FrameDraws shadow.old view shadow.new frame) }
@@ -121,4 +125,30 @@ pub fn frame(alloc: Global, shadow: &mut Shadow, view: View) -> Result<Option<Ve
     };
     shadow.known = Some(view);
     Ok(Some(bytes))
+}
+
+/// Appends the bytes that lead each terminal that agrees with the shadow to one that shows the view,
+/// of the shadow's size, and that agrees with the shadow then: it keeps a copy of the view. They are
+/// those of `frame_keeping`. Exactly where the shadow is known to show the same, nothing is appended
+/// and nothing changes. After an `Err` nothing has changed.
+pub fn frame(
+    alloc: Global,
+    shadow: &mut Shadow,
+    view: &View,
+    out: &mut Vec<u8>,
+) -> Result<(), AllocError>
+    requires size { HasSize shadow.old.rows shadow.old.columns view.now }
+    ensures draws { OnOk result
+        (Appends shadow.old view.now shadow.new out.old.items out.new.items) }
+    ensures size { OnOk result (KeepsTerminalSize shadow.old shadow.new) }
+    ensures err { OnErr result
+        ((shadow.new ≡ shadow.old) × (out.new.items ≡ out.old.items)) }
+{
+    let Some(bytes) = draw(alloc, shadow, view)? else {
+        return Ok(());
+    };
+    let known = view.copied(alloc)?;
+    out.extend_from_slice(bytes.as_slice())?;
+    shadow.known = Some(known);
+    Ok(())
 }

@@ -2,7 +2,7 @@
 
 use crate::refusals::view_of;
 use cells::{Cell, Colour, Rendition};
-use redraw::{Shadow, frame};
+use redraw::{Shadow, frame_keeping};
 use std::alloc::Global;
 use std::process::Abort;
 use std::test::Fail;
@@ -62,10 +62,10 @@ fn letters(a: char, first: Rendition, b: char, second: Rendition) -> [Cell; 2] {
 /// The bytes of a frame from two cells to others.
 fn frame_between(alloc: Global, from: &[Cell], to: &[Cell]) -> Result<Vec<u8>, Fail> {
     let mut shadow = Shadow::unknown(4, 20);
-    let Some(_first) = frame(alloc, &mut shadow, view_of(alloc, from)?)? else {
+    let Some(_first) = frame_keeping(alloc, &mut shadow, view_of(alloc, from)?)? else {
         return Err(Fail::from("no frame"));
     };
-    match frame(alloc, &mut shadow, view_of(alloc, to)?)? {
+    match frame_keeping(alloc, &mut shadow, view_of(alloc, to)?)? {
         Some(bytes) => Ok(bytes),
         None => Err(Fail::from("no frame")),
     }

@@ -5,7 +5,7 @@ ghost use Rattle.view.specs.View.{HasSize};
 
 use Text::{Blank, Letters, Scattered};
 use cells::{Cell, Rendition};
-use redraw::{Shadow, frame};
+use redraw::{Shadow, frame_keeping};
 use regions::{Rect, Rects};
 use std::alloc::{AllocError, Global};
 use std::test::Fail;
@@ -187,11 +187,11 @@ impl Page {
 fn count_between(alloc: Global, from: Option<Page>, to: Page) -> Result<usize, Fail> {
     let mut shadow = Shadow::unknown(24, 80);
     if let Some(from) = from {
-        let Some(_first) = frame(alloc, &mut shadow, from.view(alloc)?)? else {
+        let Some(_first) = frame_keeping(alloc, &mut shadow, from.view(alloc)?)? else {
             return Err(Fail::from("no frame"));
         };
     }
-    match frame(alloc, &mut shadow, to.view(alloc)?)? {
+    match frame_keeping(alloc, &mut shadow, to.view(alloc)?)? {
         Some(bytes) => Ok(bytes.len()),
         None => Ok(0),
     }

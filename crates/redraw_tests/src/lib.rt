@@ -3,6 +3,8 @@
 #![tactic(auto)]
 
 #[cfg(test)]
+mod appended;
+#[cfg(test)]
 mod colours;
 #[cfg(test)]
 mod lengths;

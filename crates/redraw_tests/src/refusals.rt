@@ -6,14 +6,14 @@ ghost use Rattle.std.specs.Prelude.{◌≡◌, OnOk, IfOk};
 ghost use Rattle.view.specs.View.{HasSize};
 
 use cells::{Cell, Rendition};
-use redraw::{Shadow, frame};
+use redraw::{Shadow, frame_keeping};
 use regions::Rects;
 use std::alloc::{AllocError, Global};
 use std::process::Abort;
 use std::test::Fail;
 use view::{Contents, KeyModes, Pane, View, compose};
 
-const LETTERS: [Cell; 3] = [
+pub const LETTERS: [Cell; 3] = [
     Cell::BLANK,
     Cell {
         character: 'h',
@@ -70,9 +70,9 @@ fn frame_at_last(
     ensures columns { OnOk result (shadow.new.columns ≡ 20) }
 {
     let view = view_at_last(alloc, cells)?;
-    let drawn = match frame(alloc, shadow, view) {
+    let drawn = match frame_keeping(alloc, shadow, view) {
         Ok(drawn) => drawn,
-        Err(_) => frame(alloc, shadow, view_at_last(alloc, cells)?)?,
+        Err(_) => frame_keeping(alloc, shadow, view_at_last(alloc, cells)?)?,
     };
     match drawn {
         Some(bytes) => Ok(Some(bytes)),

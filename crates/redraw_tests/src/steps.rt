@@ -5,7 +5,7 @@ ghost use Rattle.view.specs.View.{HasSize};
 
 use crate::stage::{COLS, Dice, ROWS, Stage, read, shows, terminal_in_some_state};
 use emulator::Emulator;
-use redraw::{Shadow, frame};
+use redraw::{Shadow, frame_keeping};
 use std::alloc::Global;
 use std::process::Abort;
 use std::test::Fail;
@@ -24,7 +24,7 @@ fn draw(
     ensures rows { OnOk result (shadow.new.rows ≡ shadow.old.rows) }
     ensures columns { OnOk result (shadow.new.columns ≡ shadow.old.columns) }
 {
-    let Some(bytes) = frame(alloc, shadow, view)? else {
+    let Some(bytes) = frame_keeping(alloc, shadow, view)? else {
         return Ok(false);
     };
     read(terminal, alloc, &bytes)?;

@@ -19,7 +19,7 @@ ghost use Rattle.view.specs.Drawable.{IsDrawable};
 use crate::client::Client;
 use acl::UserId;
 use keys::KeyReader;
-use redraw::frame;
+use redraw::frame_keeping;
 use regions::{RegionFault, Shown, Way};
 use session_model::{Bytes, Effect, Message};
 use session_rows::Rows;
@@ -264,7 +264,7 @@ impl Clients {
         let Some(client) = self.rows.get_mut(serial) else {
             return Ok(None);
         };
-        frame(alloc, &mut client.shadow, view)
+        frame_keeping(alloc, &mut client.shadow, view)
     }
 
     /// What is said to each client.

@@ -5,7 +5,7 @@ ghost use Rattle.cells.specs.Line.{IsPaired};
 ghost use Rattle.cells.specs.Page.{IsGrid, IsGridSize, line_at};
 
 use cells::{Cell, Grid, GridFault};
-use std::alloc::Global;
+use std::alloc::{AllocError, Global};
 use std::marker::Model;
 
 /// Where the cursor is shown. Lines and columns count from 0.
@@ -67,6 +67,24 @@ impl View {
             cursor: Cursor::Hidden,
             modes: KeyModes::NORMAL,
         })
+    }
+
+    /// A view that is the same.
+    pub fn copied(&self, alloc: Global) -> Result<View, AllocError>
+        ensures { IfOk result (λ v. v ≡ self.now) }
+    {
+        Ok(View {
+            grid: self.grid.copied(alloc)?,
+            cursor: self.cursor,
+            modes: self.modes,
+        })
+    }
+
+    /// Its page.
+    pub fn grid(&self) -> &Grid
+        ensures { result.now ≡ self.now.page }
+    {
+        &self.grid
     }
 
     /// The number of its rows.

@@ -1,4 +1,5 @@
 pub mod Answering
 pub mod Callers
 pub mod Nearest
+pub mod Rows
 pub mod Writings

@@ -42,6 +42,7 @@ pub fn is_window_size(rows: u16, cols: u16, keep: u16) -> bool
 impl Window {
     ghost use Rattle.session_model.specs.declared.refusal.Refusal.TheVariants.{NoMemory};
     ghost use Rattle.windows.specs.Standing.{WindowStands, new_row};
+    ghost use Rattle.windows.specs.Rows.{KeepsName};
     ghost use Rattle.windows.specs.Showing.{AreLines, Shows};
     ghost use Rattle.windows.specs.Writing.{Writes, Retitles, Resizes, HasFed};
 
@@ -77,6 +78,7 @@ impl Window {
     pub(crate) fn feed_all(&mut self, bytes: &[u8], out: &mut Vec<u8>) -> Result<(), Refusal>
         ensures ok { OnOk result (HasFed self.old bytes.now out.old.items out.new.items self.new) }
         ensures err { IfErr result (λ refusal. refusal ≡ NoMemory) }
+        ensures name { KeepsName self.old self.new }
         ensures window { OnErr result (self.new ≡ self.old) }
         ensures reports { OnErr result (out.new.items ≡ out.old.items) }
     {
@@ -93,6 +95,7 @@ impl Window {
     /// Takes another size. A refusal leaves all as it was.
     pub(crate) fn resize(&mut self, rows: u16, cols: u16) -> Result<(), Refusal>
         ensures answer { Resizes rows cols self.old result self.new }
+        ensures name { KeepsName self.old self.new }
         ensures err { OnErr result (self.new ≡ self.old) }
     {
         if !is_window_size(rows, cols, 0) {
@@ -107,6 +110,7 @@ impl Window {
     /// Takes another title. A refusal leaves all as it was.
     pub(crate) fn retitle(&mut self, alloc: Global, title: &str) -> Result<(), Refusal>
         ensures answer { Retitles title.now self.old result self.new }
+        ensures name { KeepsName self.old self.new }
         ensures err { OnErr result (self.new ≡ self.old) }
     {
         if !is_title(title) {
@@ -118,21 +122,24 @@ impl Window {
 
     /// Erases its page and goes home.
     pub(crate) fn clear(&mut self)
-        ensures { Writes Clear self.old self.new }
+        ensures writes { Writes Clear self.old self.new }
+        ensures name { KeepsName self.old self.new }
     {
         self.emulator.clear();
     }
 
     /// Takes all starting values.
     pub(crate) fn reset(&mut self)
-        ensures { Writes Reset self.old self.new }
+        ensures writes { Writes Reset self.old self.new }
+        ensures name { KeepsName self.old self.new }
     {
         self.emulator.reset();
     }
 
     /// Reads in a coding from here on.
     pub(crate) fn encode(&mut self, coding: Coding)
-        ensures { Writes (Encoding coding) self.old self.new }
+        ensures writes { Writes (Encoding coding) self.old self.new }
+        ensures name { KeepsName self.old self.new }
     {
         self.emulator.set_encoding(coding);
     }

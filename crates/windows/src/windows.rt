@@ -1,6 +1,6 @@
 //! The open windows.
 
-ghost use Rattle.std.specs.Prelude.{◌≡◌, ◌∷◌, ◌++◌, [], List, Some, length, option_copied};
+ghost use Rattle.std.specs.Prelude.{◌≡◌, ◌∷◌, ◌++◌, [], true, List, Some, length, option_copied};
 ghost use Rattle.std.specs.Prelude.{IfOk, IfSome, OnOk, OnErr};
 ghost use Rattle.terminal_model.specs.Writing.{Clear, Reset, Encoding};
 
@@ -14,7 +14,7 @@ use session_rows::Rows;
 use std::alloc::Global;
 use std::marker::Model;
 
-/// The open windows, by rising serials.
+/// The open windows, by rising serials. No two have one number.
 pub struct Windows {
     rows: Rows<Window>,
 }
@@ -32,6 +32,10 @@ impl Model for Windows {
     ghost Value = { List Window };
 
     ghost view = { λ w. w.rows };
+
+    ghost use Rattle.windows.specs.Rows.{AreRows};
+
+    ghost invariant = { λ w. AreRows w.rows };
 }
 
 impl Windows {
@@ -44,6 +48,8 @@ impl Windows {
     ghost use Rattle.windows.specs.Standing.{renumbered, closed};
     ghost use Rattle.windows.specs.Asking.{FindsAfter, FindsBefore, Opens, IsFree, IsOneMore};
     ghost use Rattle.windows.specs.Asking.{IsNumberFor, Reports};
+    ghost use Rattle.windows.specs.Among.{first_free, is_above};
+    ghost use Rattle.windows.specs.Rows.{AreRows, ChangesRow, WritesRow, AddsRow};
 
     /// No window.
     pub fn new(alloc: Global) -> Windows
@@ -71,6 +77,7 @@ impl Windows {
     pub fn get(&self, serial: u32) -> Option<&Window>
         ensures row { option_copied result ≡ row_of (λ (w : Window). w.serial) self.now serial }
         ensures finds { Finds (at_serial serial) self.now (option_copied result) }
+        ensures rows { AreRows self.now }
     {
         self.rows.get(serial)
     }
@@ -129,9 +136,12 @@ impl Windows {
     fn number_for(&self, serial: u32) -> Option<u8>
         ensures number { IsNumberFor serial self.now result }
         ensures free { IfSome result (IsFree self.now) }
+        ensures first { IfSome result (λ number. first_free self.now ≡ Some number) }
+        ensures above { IfSome result (λ number. is_above serial self.now ≡ true) }
     {
-        if is_above(self.rows.as_slice(), serial) {
-            self.free_number()
+        let rows = self.rows.as_slice();
+        if is_above(rows, serial) {
+            first_free(rows)
         } else {
             None
         }
@@ -152,6 +162,7 @@ impl Windows {
     ) -> Result<u8, Refusal>
         ensures answer { Opens serial rows cols keep title.now self.old result self.new }
         ensures number { IfOk result (IsFree self.old) }
+        ensures row { IfOk result (λ number. AddsRow serial number self.old self.new) }
         ensures last { OnOk result (IsOneMore self.old self.new) }
         ensures err { OnErr result (self.new ≡ self.old) }
     {
@@ -198,6 +209,7 @@ impl Windows {
     /// Gives the window of a serial another number, unless another window has it.
     pub fn renumber(&mut self, serial: u32, number: u8) -> Result<(), Refusal>
         ensures answer { Answers (renumbered serial number) self.old result self.new }
+        ensures alone { ChangesRow serial self.old self.new }
         ensures err { OnErr result (self.new ≡ self.old) }
     {
         let is_taken = is_taken(self.rows.as_slice(), serial, number);
@@ -214,6 +226,7 @@ impl Windows {
     /// Gives the window of a serial another title. A refusal leaves all as it was.
     pub fn retitle(&mut self, alloc: Global, serial: u32, title: &str) -> Result<(), Refusal>
         ensures answer { AnswersIfRoom (retitled_in serial title.now) self.old result self.new }
+        ensures alone { WritesRow serial self.old self.new }
         ensures err { OnErr result (self.new ≡ self.old) }
     {
         let Some(window) = self.rows.get_mut(serial) else {
@@ -226,6 +239,7 @@ impl Windows {
     /// as it was.
     pub fn feed_all(&mut self, serial: u32, bytes: &[u8], out: &mut Vec<u8>) -> Result<(), Refusal>
         ensures answer { AnswersIfRoom (fed_in serial bytes.now) self.old result self.new }
+        ensures alone { WritesRow serial self.old self.new }
         ensures reports { Reports serial bytes.now self.old result out.old.items out.new.items }
         ensures err { OnErr result ((self.new ≡ self.old) × (out.new.items ≡ out.old.items)) }
     {
@@ -238,6 +252,7 @@ impl Windows {
     /// Gives the window of a serial another size. A refusal leaves all as it was.
     pub fn resize(&mut self, serial: u32, rows: u16, cols: u16) -> Result<(), Refusal>
         ensures answer { AnswersIfRoom (resized_in serial rows cols) self.old result self.new }
+        ensures alone { WritesRow serial self.old self.new }
         ensures err { OnErr result (self.new ≡ self.old) }
     {
         let Some(window) = self.rows.get_mut(serial) else {
@@ -249,6 +264,7 @@ impl Windows {
     /// Erases the page of the window of a serial, and goes home there.
     pub fn clear(&mut self, serial: u32) -> Result<(), Refusal>
         ensures answer { Answers (written_in serial Clear) self.old result self.new }
+        ensures alone { WritesRow serial self.old self.new }
         ensures err { OnErr result (self.new ≡ self.old) }
     {
         let Some(window) = self.rows.get_mut(serial) else {
@@ -261,6 +277,7 @@ impl Windows {
     /// Gives the window of a serial all starting values.
     pub fn reset(&mut self, serial: u32) -> Result<(), Refusal>
         ensures answer { Answers (written_in serial Reset) self.old result self.new }
+        ensures alone { WritesRow serial self.old self.new }
         ensures err { OnErr result (self.new ≡ self.old) }
     {
         let Some(window) = self.rows.get_mut(serial) else {
@@ -273,6 +290,7 @@ impl Windows {
     /// Has the window of a serial read in a coding from here on.
     pub fn encode(&mut self, serial: u32, coding: Coding) -> Result<(), Refusal>
         ensures answer { Answers (written_in serial (Encoding coding)) self.old result self.new }
+        ensures alone { WritesRow serial self.old self.new }
         ensures err { OnErr result (self.new ≡ self.old) }
     {
         let Some(window) = self.rows.get_mut(serial) else {

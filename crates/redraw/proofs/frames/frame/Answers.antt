@@ -1,21 +1,34 @@
-use Rattle.std.proofs.Common.{subst, ap, []}
+use Rattle.std.proofs.Common.{◌≡◌, ◌++◌, refl, subst, ap, ◌∙◌, [], inl, inr}
 use Rattle.std.specs.Prelude.{Some}
-use Rattle.std.proofs.lemmas.Option.{MatchOption-at_some}
+use Rattle.std.proofs.lemmas.Option.{MatchOption-at_some, MatchOption-at_none}
 use Rattle.cells.specs.Page.{IsGrid}
 use Rattle.terminal_model.specs.Shows.{View}
 use Rattle.view.specs.Drawable.{IsDrawable}
-use Rattle.redraw.specs.Shadow.{Knowledge, NeedsDraw}
+use Rattle.redraw.specs.Shadow.{Knowledge, NeedsDraw, IsKnown}
 use Rattle.redraw.specs.Frames.{CanBeShown, DrawsBytes}
 use Rattle.redraw.proofs.Ends.{redraws}
 use Rattle.redraw.proofs.frames.frame.Goals as goal
 
-pub returns-clause-drawn : goal.returns-clause-drawn
-returns-clause-drawn c =
-    let v : View = c.args.view in
+pub returns-clause-draws : goal.returns-clause-draws
+returns-clause-draws c =
+    let v : View = c.args.view.now in
     let k : Knowledge = c.args.shadow.now in
-    let grid : IsGrid v.page = subst IsGrid (ap (λ (w : View). w.page) c.view.view_is) c.view.invariant.grid in record {
-      needed = MatchOption-at_some _ (λ _. NeedsDraw k.known v) c.in-Some.bytes c.in-Some.is c.in_ok-bytes.ensures.needed;
-      redraws = λ od nd. redraws k.rows k.columns k.known v c.in-Some.bytes.items c.requires.size grid
-          (MatchOption-at_some _ (λ bytes. CanBeShown k.known → IsDrawable v → DrawsBytes k.known v [] bytes.items) c.in-Some.bytes c.in-Some.is c.in_ok-bytes.ensures.drawn od nd);
-      known = ap (λ (s : Knowledge). record s { known = Some v }) c.shadow.view_is;
-    }
+    let same : c.in_ok-known.known ≡ v = c.in_ok-known.ensures in
+    let grid : IsGrid v.page = subst IsGrid (ap (λ (w : View). w.page) (c.known.view_is ∙ same)) c.known.invariant.grid in inr (record {
+      frame = c.in-Some.bytes.items;
+      appended = c.in_ok-extend_from_slice.ensures.items ∙ ap (λ xs. c.args.out.now.items ++ xs) c.as_slice.ensures.value;
+      draws = record {
+        needed = MatchOption-at_some _ (λ _. NeedsDraw k.known v) c.in-Some.bytes c.in-Some.is c.in_ok-bytes.ensures.needed;
+        redraws = λ od nd. redraws k.rows k.columns k.known v c.in-Some.bytes.items c.requires.size grid
+            (MatchOption-at_some _ (λ bytes. CanBeShown k.known → IsDrawable v → DrawsBytes k.known v [] bytes.items) c.in-Some.bytes c.in-Some.is c.in_ok-bytes.ensures.drawn od nd);
+        known = ap (λ (s : Knowledge). record s { known = Some c.in_ok-known.known }) c.shadow.view_is
+            ∙ ap (λ (w : View). record k { known = Some w }) same;
+      };
+    })
+
+pub returns-in_default-clause-draws : goal.returns-in_default-clause-draws
+returns-in_default-clause-draws c = inl (record {
+  known = MatchOption-at_none (IsKnown c.args.shadow.now.known c.args.view.now) _ c.in_default.is c.in_ok-bytes.ensures.needless;
+  same = refl;
+  bytes = refl;
+})

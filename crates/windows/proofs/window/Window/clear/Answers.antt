@@ -3,5 +3,5 @@ use Rattle.terminal_model.specs.Writing.{Clear}
 use Rattle.windows.proofs.Writings.{stands_written}
 use Rattle.windows.proofs.window.Window.clear.Goals as goal
 
-pub returns : goal.returns
-returns c = λ m st. stands_written m c.args.self.now c.clear.new.self Clear tt st (c.clear.ensures (terminal_of m) st.stands)
+pub returns-clause-writes : goal.returns-clause-writes
+returns-clause-writes c = λ m st. stands_written m c.args.self.now c.clear.new.self Clear tt st (c.clear.ensures (terminal_of m) st.stands)

@@ -1,7 +1,9 @@
-use Rattle.std.proofs.Common.{◌≡◌, ◌∙◌, sym, ap, List, Some, None, filter, not}
+use Rattle.std.proofs.Common.{◌≡◌, ◌∙◌, sym, ap, subst, List, Some, None, filter, not}
 use Rattle.std.specs.Prelude.{◌==◌, option_copied}
 use Rattle.session_model.specs.Tables.{row_of}
 use Rattle.windows.specs.declared.window.Window.{Window}
+use Rattle.windows.specs.Rows.{AreRows}
+use Rattle.windows.proofs.Rows.{rows_kept}
 use Rattle.windows.proofs.Answering.{own, one_closed, none_closed}
 use Rattle.windows.proofs.windows.Windows.close.Goals as goal
 
@@ -16,3 +18,6 @@ returns-clause-answer c =
     let at : row_of own c.args.self.now c.args.serial ≡ Some c.in-Some._window.now =
     ap (λ (ws : List Window). row_of own ws c.args.serial) (sym c.self.view_is) ∙ sym c.get.ensures ∙ ap option_copied c.in-Some.is in
     one_closed (tt {0}) c.args.self.now c.remove.new.self c.args.serial _ at (c.remove.ensures ∙ ap (λ (ws : List Window). filter (λ (v : Window). not (own v == c.args.serial)) ws) c.self.view_is)
+
+pub invariant_of-self : goal.invariant_of-self
+invariant_of-self c = subst AreRows (sym c.remove.ensures) (rows_kept (λ (v : Window). not (own v == c.args.serial)) c.self.inside.rows c.self.invariant)

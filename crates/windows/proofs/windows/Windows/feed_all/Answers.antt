@@ -1,3 +1,6 @@
+use Rattle.std.proofs.Common.{subst}
+use Rattle.windows.specs.Rows.{AreRows}
+use Rattle.windows.proofs.Rows.{row_writes, rows_written}
 use Rattle.terminal_model.specs.Writing.{Output}
 use Rattle.windows.specs.declared.window.Window.{Window}
 use Rattle.windows.specs.Standing.{written}
@@ -31,3 +34,19 @@ returns-clause-err c =
     both_stay _ _ _ c.feed_all.result
     (row_stays c.args.self.now (c.get_mut.follows.lender made) c.args.serial (written (Output c.args.bytes.now)) c.in-Some.window.now made at c.feed_all.result put c.feed_all.ensures.window)
     c.feed_all.ensures.reports
+
+pub returns-clause-alone : goal.returns-clause-alone
+returns-clause-alone c =
+    let made : Window = c.feed_all.new.self in
+    let at = lent c.get_mut.result c.in-Some.window c.self.inside.rows c.args.self.now c.args.serial c.in-Some.is c.get_mut.ensures.value c.self.view_is in
+    let put = put_back c.get_mut.result c.in-Some.window c.self.inside.rows c.args.self.now (c.get_mut.follows.lender made) c.args.serial made c.in-Some.is (c.get_mut.follows.holds made) c.self.view_is in
+    row_writes c.args.self.now (c.get_mut.follows.lender made) c.args.serial c.in-Some.window.now made at put c.feed_all.ensures.name
+
+pub invariant_of-self-2 : goal.invariant_of-self-2
+invariant_of-self-2 c =
+    let made : Window = c.feed_all.new.self in
+    let at = lent c.get_mut.result c.in-Some.window c.self.inside.rows c.args.self.now c.args.serial c.in-Some.is c.get_mut.ensures.value c.self.view_is in
+    let put = put_back c.get_mut.result c.in-Some.window c.self.inside.rows c.args.self.now (c.get_mut.follows.lender made) c.args.serial made c.in-Some.is (c.get_mut.follows.holds made) c.self.view_is in
+    rows_written c.args.self.now (c.get_mut.follows.lender made) c.args.serial
+    (row_writes c.args.self.now (c.get_mut.follows.lender made) c.args.serial c.in-Some.window.now made at put c.feed_all.ensures.name)
+    (subst AreRows c.self.view_is c.self.invariant)

@@ -1,7 +1,9 @@
-use Rattle.std.proofs.Common.{◌≡◌, ◌∙◌, sym, ap, true, List, ◌∷◌, ◌++◌, []}
+use Rattle.std.proofs.Common.{◌≡◌, ◌∙◌, sym, ap, subst, true, List, ◌∷◌, ◌++◌, []}
 use Rattle.session_model.specs.Events.{is_window_size}
 use Rattle.session_model.specs.Naming.{is_title}
 use Rattle.windows.specs.declared.window.Window.{Window}
+use Rattle.windows.specs.Rows.{AreRows}
+use Rattle.windows.proofs.Rows.{small_free, rows_added}
 use Rattle.windows.proofs.Answering.{one_opened}
 use Rattle.windows.proofs.windows.Windows.open.Goals as goal
 
@@ -15,3 +17,18 @@ returns-clause-answer c =
 
 pub returns-clause-last : goal.returns-clause-last
 returns-clause-last c = (c.in_ok-window.window, c.in_ok-push.ensures.ok ∙ ap (λ (ws : List Window). ws ++ c.in_ok-window.window ∷ []) c.self.view_is)
+
+pub returns-clause-row : goal.returns-clause-row
+returns-clause-row c = record {
+  window = c.in_ok-window.window;
+  serial_is = c.in_ok-window.ensures.ok.serial_is;
+  number_is = c.in_ok-window.ensures.ok.number_is;
+  small = small_free c.args.self.now c.in-Some.number c.in-Some.ensures.first;
+  last = c.in_ok-push.ensures.ok ∙ ap (λ (ws : List Window). ws ++ c.in_ok-window.window ∷ []) c.self.view_is;
+}
+
+pub invariant_of-self-2 : goal.invariant_of-self-2
+invariant_of-self-2 c =
+    subst AreRows (sym (c.in_ok-push.ensures.ok ∙ ap (λ (ws : List Window). ws ++ c.in_ok-window.window ∷ []) c.self.view_is))
+    (rows_added c.args.self.now c.in_ok-window.window c.args.serial c.in-Some.number c.in-Some.ensures.above c.in-Some.ensures.first
+    c.in_ok-window.ensures.ok.serial_is c.in_ok-window.ensures.ok.number_is (subst AreRows c.self.view_is c.self.invariant))

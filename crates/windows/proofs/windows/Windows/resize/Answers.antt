@@ -1,3 +1,6 @@
+use Rattle.std.proofs.Common.{subst}
+use Rattle.windows.specs.Rows.{AreRows}
+use Rattle.windows.proofs.Rows.{row_writes, rows_written}
 use Rattle.windows.specs.declared.window.Window.{Window}
 use Rattle.windows.specs.Standing.{resized}
 use Rattle.windows.proofs.Answering.{lent, not_lent, put_back, row_became, row_stays, missing_if_room}
@@ -21,3 +24,19 @@ returns-clause-err c =
     let at = lent c.get_mut.result c.in-Some.window c.self.inside.rows c.args.self.now c.args.serial c.in-Some.is c.get_mut.ensures.value c.self.view_is in
     let put = put_back c.get_mut.result c.in-Some.window c.self.inside.rows c.args.self.now (c.get_mut.follows.lender made) c.args.serial made c.in-Some.is (c.get_mut.follows.holds made) c.self.view_is in
     row_stays c.args.self.now (c.get_mut.follows.lender made) c.args.serial (resized c.args.rows c.args.cols) c.in-Some.window.now made at c.resize.result put c.resize.ensures.err
+
+pub returns-clause-alone : goal.returns-clause-alone
+returns-clause-alone c =
+    let made : Window = c.resize.new.self in
+    let at = lent c.get_mut.result c.in-Some.window c.self.inside.rows c.args.self.now c.args.serial c.in-Some.is c.get_mut.ensures.value c.self.view_is in
+    let put = put_back c.get_mut.result c.in-Some.window c.self.inside.rows c.args.self.now (c.get_mut.follows.lender made) c.args.serial made c.in-Some.is (c.get_mut.follows.holds made) c.self.view_is in
+    row_writes c.args.self.now (c.get_mut.follows.lender made) c.args.serial c.in-Some.window.now made at put c.resize.ensures.name
+
+pub invariant_of-self-2 : goal.invariant_of-self-2
+invariant_of-self-2 c =
+    let made : Window = c.resize.new.self in
+    let at = lent c.get_mut.result c.in-Some.window c.self.inside.rows c.args.self.now c.args.serial c.in-Some.is c.get_mut.ensures.value c.self.view_is in
+    let put = put_back c.get_mut.result c.in-Some.window c.self.inside.rows c.args.self.now (c.get_mut.follows.lender made) c.args.serial made c.in-Some.is (c.get_mut.follows.holds made) c.self.view_is in
+    rows_written c.args.self.now (c.get_mut.follows.lender made) c.args.serial
+    (row_writes c.args.self.now (c.get_mut.follows.lender made) c.args.serial c.in-Some.window.now made at put c.resize.ensures.name)
+    (subst AreRows c.self.view_is c.self.invariant)
