@@ -8,6 +8,7 @@ use Rattle.cells.specs.declared.cell.Rendition.{Rendition}
 use Rattle.cells.specs.declared.cell.Shape.{Shape}
 use Rattle.cells.specs.declared.cell.Shape.TheVariants.{Narrow, Left, Right}
 use Rattle.cells.specs.Line.{blank, cell_at, is_left, is_right, IsPaired, Source, Fresh, Old, taken, are_halves, kept, settled, source_before, source_after, cells_from, cut_of, spliced, fresh_at, right_follows, narrow_cell, narrow_cells}
+use Rattle.cells.specs.Put.{IsPut, AreNarrow}
 use Rattle.cells.specs.Resizing.{line_resized}
 use Rattle.cells.proofs.Settling.{cell_at_past, true≢false, settled_at, cells_from-is, after_inside, after_last, length-cut_of, length-cells_from, cell_at-cells_from, IsPaired-cells_from, and_false}
 use Rattle.cells.proofs.Pages.{cells_from-old}
@@ -245,6 +246,17 @@ put_next at fresh old count line so_far inside = record {
       (λ (ne : j ≡ count → ⊥). get_or-set_other line (at + count) (at + j) (fresh_at fresh count) blank (omega arith) ∙ so_far.new j (omega arith))
       (cases_eq j count);
 }
+
+-- cells of width 1 need nothing beside them
+whole_narrow : (fresh : List Cell) (j : ℕ) → (cell_at fresh j).shape ≡ Narrow → fresh_at fresh j ≡ cell_at fresh j
+whole_narrow fresh j narrow = ap (λ s. kept s (cell_at fresh j) (is_left (cell_at fresh j).shape && is_right (cell_at fresh (suc j)).shape) (right_follows fresh j)) narrow
+
+pub put_narrow_is : (at : ℕ) (fresh cells line : List Cell) → at + length fresh ≤ length cells → 0 < length fresh → IsPaired cells → length (cut_of (at + length fresh) (cut_of at cells)) ≡ length cells
+    → IsPut at fresh (cut_of (at + length fresh) (cut_of at cells)) line → AreNarrow fresh → line ≡ cells_from (spliced at fresh (at + length fresh) (length cells)) cells
+put_narrow_is at fresh cells line room some paired same is narrow =
+    put_is at fresh cells room some paired line (is.width ∙ same)
+    (λ k h. ⊎_elim (λ a. is.front k a) (λ b. is.rest k b) h)
+    (λ j h. is.placed j h ∙ sym (whole_narrow fresh j (narrow j (omega arith) h)))
 
 -- a cell that keeps its shape
 pub IsPaired-set : (cells : List Cell) (column : ℕ) (cell : Cell) → cell.shape ≡ (cell_at cells column).shape → IsPaired cells → IsPaired (set cells column cell)

@@ -5,4 +5,5 @@ pub mod Resizing
 pub mod Glyph
 pub mod Unlike
 pub mod Look
+pub mod Put
 pub mod Wide

@@ -264,7 +264,7 @@ impl Cell {
 // Sums of digits in the order of the fields, of which the compiler makes loads of whole words. One
 // word of all eight bytes was dearer: its bounds are proved of a copy alone.
 /// Whether both are one cell, without marks. Most that look alike are, and few comparisons tell.
-fn is_same_bare(a: &Cell, b: &Cell) -> bool
+pub(crate) fn is_same_bare(a: &Cell, b: &Cell) -> bool
     ensures { IsTrue result → unprotected a.now ≡ unprotected b.now }
 {
     a.character == b.character

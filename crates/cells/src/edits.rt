@@ -1,10 +1,12 @@
 //! Edits of a line's cells.
 
 ghost use Rattle.std.specs.Prelude.{◌≡◌, ◌+◌, ◌*◌, ◌-◌, ◌<◌, ◌≤◌, length, replicate, [], ◌∷◌, false};
+ghost use Rattle.std.specs.Prelude.{IsTrue};
 ghost use Rattle.std.specs.List.{copy_within};
 ghost use Rattle.cells.specs.Line.{cells_from, cells_spliced, IsPaired, cut_of, blank};
 ghost use Rattle.cells.specs.Line.{unprotected_erased, fresh_at, narrow_cell, narrow_cells};
 ghost use Rattle.cells.specs.Line.{IsBlankFrom, plain, left_cell, right_cell};
+ghost use Rattle.cells.specs.Put.{AreNarrow, AreNarrowIn, IsPut};
 ghost use Rattle.cells.specs.Wide.{wide_cells};
 
 use crate::cell::{Cell, Rendition, Shape};
@@ -118,9 +120,53 @@ pub fn put(cells: &mut [Cell], at: usize, fresh: &[Cell])
     }
     cut(cells, at);
     cut(cells, at + fresh.len());
+    if are_narrow(fresh) {
+        copy_over(cells, at, fresh);
+        return;
+    }
     for column in 0..fresh.len() {
         cells[at + column] = settled_fresh(fresh, column);
     }
+}
+
+/// Whether all cells are of width 1. They are looked at eight at a time.
+fn are_narrow(cells: &[Cell]) -> bool
+    ensures { IsTrue result → AreNarrow cells.now }
+{
+    let eights = cells.len() / 8;
+    for eight in 0..eights {
+        if !are_eight_narrow(cells, 8 * eight) {
+            return false;
+        }
+    }
+    for column in 8 * eights..cells.len() {
+        if !cells[column].is_narrow() {
+            return false;
+        }
+    }
+    true
+}
+
+/// Whether eight cells are of width 1.
+fn are_eight_narrow(cells: &[Cell], from: usize) -> bool
+    requires { from + 8 ≤ length cells.now }
+    ensures { IsTrue result → AreNarrowIn cells.now from (from + 8) }
+{
+    for place in 0..8 {
+        if !cells[from + place].is_narrow() {
+            return false;
+        }
+    }
+    true
+}
+
+/// Copies cells of width 1 over as many old ones.
+fn copy_over(cells: &mut [Cell], at: usize, fresh: &[Cell])
+    requires room { at + length fresh.now ≤ length cells.old }
+    requires narrow { AreNarrow fresh.now }
+    ensures { IsPut at fresh.now cells.old cells.new }
+{
+    cells[at..at + fresh.len()].copy_from_slice(fresh);
 }
 
 /// Puts a run of characters of width 1 in place of as many old cells: `codes` has their code

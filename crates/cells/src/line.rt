@@ -16,6 +16,18 @@ use std::marker::Model;
 /// As many blanks as a line of a page has at most: they are copied at once.
 static BLANKS: [Cell; 300] = [Cell::BLANK; 300];
 
+/// So many blanks.
+fn blanks(alloc: Global, width: usize) -> Result<Vec<Cell>, AllocError>
+    ensures { IfOk result (λ cells. cells.items ≡ replicate width blank) }
+{
+    if width > BLANKS.len() {
+        return vec![in alloc; Cell::BLANK; width];
+    }
+    let mut cells = Vec::with_capacity(alloc, width)?;
+    cells.extend_from_slice(&BLANKS[..width])?;
+    Ok(cells)
+}
+
 /// Makes every cell a blank, where those from `used` on are blank already.
 fn clear_used(cells: &mut [Cell], used: usize)
     requires inside { used ≤ length cells.old }
@@ -87,7 +99,7 @@ impl Line {
     pub fn blank(alloc: Global, width: usize) -> Result<Line, AllocError>
         ensures { IfOk result (λ line. line ≡ replicate width blank) }
     {
-        let cells = vec![in alloc; Cell::BLANK; width]?;
+        let cells = blanks(alloc, width)?;
         Ok(Line { cells, used: 0 })
     }
 

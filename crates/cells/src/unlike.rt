@@ -1,9 +1,10 @@
 //! Where two lines look different.
 
-ghost use Rattle.std.specs.Prelude.{◌≡◌, ◌≤◌, length, IfSome, IfNone};
+ghost use Rattle.std.specs.Prelude.{◌≡◌, ◌≤◌, ◌+◌, length, IfSome, IfNone, IsTrue};
 ghost use Rattle.cells.specs.Unlike.{IsNextUnlike, IsFirstUnlike, IsEndOfUnlike, AreAlikeFrom};
+ghost use Rattle.cells.specs.Unlike.{AreAlikeIn};
 
-use crate::cell::Cell;
+use crate::cell::{Cell, is_same_bare};
 
 /// The first run of columns, not below `from`, in which two lines look different, protection aside:
 /// its first column, and the first one after that in which they look alike, or their width.
@@ -22,12 +23,45 @@ fn first_unlike(a: &[Cell], b: &[Cell], from: usize) -> Option<usize>
     ensures found { IfSome result (λ start. IsFirstUnlike a.now b.now from start) }
     ensures none { IfNone result (AreAlikeFrom a.now b.now from) }
 {
-    for column in from..a.len() {
+    for column in same_end(a, b, from)..a.len() {
         if !a[column].is_like(&b[column]) {
             return Some(column);
         }
     }
     None
+}
+
+/// A column up to which the lines look alike from another one on. The cells are compared eight at a
+/// time and by words: it ends at the first eight that differ or have marks. It is compiled by
+/// itself, so that a turn of its loop moves nothing about.
+#[inline(never)]
+fn same_end(a: &[Cell], b: &[Cell], from: usize) -> usize
+    requires { length a.now ≡ length b.now }
+    ensures from_on { from ≤ result }
+    ensures alike { AreAlikeIn a.now b.now from result }
+{
+    let eights = a.len().saturating_sub(from) / 8;
+    for eight in 0..eights {
+        let column = from + 8 * eight;
+        if !are_eight_same(a, b, column) {
+            return column;
+        }
+    }
+    from + 8 * eights
+}
+
+/// Whether eight cells are the same in both lines, without marks.
+fn are_eight_same(a: &[Cell], b: &[Cell], from: usize) -> bool
+    requires same_width { length a.now ≡ length b.now }
+    requires inside { from + 8 ≤ length a.now }
+    ensures { IsTrue result → AreAlikeIn a.now b.now from (from + 8) }
+{
+    for place in 0..8 {
+        if !is_same_bare(&a[from + place], &b[from + place]) {
+            return false;
+        }
+    }
+    true
 }
 
 /// The first column, not below `start`, in which the lines look alike, or their width.

@@ -25,7 +25,7 @@ const BEHIND_LETTERS: u8 = 0xCC;
 const LETTERS: usize = 64;
 
 /// The same of other characters.
-const CHARACTERS: usize = 16;
+const CHARACTERS: usize = 64;
 
 impl Emulator {
     /// Where nothing has begun, reads all that stands whole at the front of some bytes and isn't

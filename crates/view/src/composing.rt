@@ -71,8 +71,9 @@ impl View {
         ensures lays { OnOk result (LaysBox rect is_focused (part_of pane.now) self.old self.new) }
         ensures characters { OnOk result (0 < rect.rows → HasScalarCaption (part_of pane.now)) }
     {
+        let mut cells = Vec::with_capacity(alloc, rect.cols as usize)?;
         for row in 0..rect.rows {
-            let cells = box_row(alloc, rect, pane, is_focused, row)?;
+            box_row(rect, pane, is_focused, row, &mut cells)?;
             self.put_row(rect, row, &cells);
         }
         Ok(())

@@ -1,8 +1,10 @@
 //! Rows of a region: the lines of its window, and its caption.
 
-ghost use Rattle.std.specs.Prelude.{◌≡◌, ◌<◌, ◌+◌, IfOk, OnOk, length, chars, string_bytes};
+ghost use Rattle.std.specs.Prelude.{◌≡◌, ◌<◌, ◌+◌, ℕ, IfOk, OnOk, length, chars, string_bytes};
+ghost use Rattle.std.specs.Prelude.{false};
 ghost use Rattle.view.specs.Rows.{IsRow, whole_cell, cut_cell};
 ghost use Rattle.view.specs.Rows.{IsWindowRow, IsPartRow, IsCaptionRow, IsBoxRow};
+ghost use Rattle.cells.specs.Line.{cell_at};
 ghost use Rattle.view.specs.Granted.{part_of, window_of, line_cell, shown_cell as shown_cell_of};
 ghost use Rattle.view.specs.Granted.{first_shown as first_shown_of, caption_text as caption_of};
 ghost use Rattle.view.specs.Composing.{HasScalarCaption};
@@ -38,6 +40,32 @@ fn shown_cell(cell: Cell, is_inverted: bool) -> Cell
     }
 }
 
+/// Makes cells of a window those that a view has.
+fn show_cells(cells: &mut [Cell], is_inverted: bool)
+    ensures width { length cells.new ≡ length cells.old }
+    ensures shown { (column : ℕ) → column < length cells.old
+        → cell_at cells.new column ≡ shown_cell_of is_inverted (cell_at cells.old column) }
+{
+    if is_inverted {
+        for column in 0..cells.len() {
+            cells[column] = shown_cell(cells[column], true);
+        }
+    } else {
+        unprotect(cells);
+    }
+}
+
+/// Takes the protection from cells.
+fn unprotect(cells: &mut [Cell])
+    ensures width { length cells.new ≡ length cells.old }
+    ensures shown { (column : ℕ) → column < length cells.old
+        → cell_at cells.new column ≡ shown_cell_of false (cell_at cells.old column) }
+{
+    for column in 0..cells.len() {
+        cells[column].is_protected = false;
+    }
+}
+
 /// The first of the lines that so many rows show, so that the cursor's is among them.
 pub(crate) fn first_shown(contents: &Contents, rows: usize) -> usize
     ensures { result ≡ first_shown_of rows (window_of contents.now).cursor }
@@ -50,21 +78,19 @@ pub(crate) fn first_shown(contents: &Contents, rows: usize) -> usize
 
 /// The cells of a line in so many columns, wherever they end, and blanks behind it.
 fn whole_row(
-    alloc: Global,
     line: &[Cell],
     cols: usize,
     is_inverted: bool,
-) -> Result<Vec<Cell>, AllocError>
-    ensures { IfOk result (λ row. IsRow (whole_cell is_inverted line.now) cols row.items) }
+    row: &mut Vec<Cell>,
+) -> Result<(), AllocError>
+    ensures { OnOk result (IsRow (whole_cell is_inverted line.now) cols row.new.items) }
 {
     let kept = line.len().min(cols);
-    let mut row = Vec::with_capacity(alloc, cols)?;
+    row.clear();
     row.extend_from_slice(&line[..kept])?;
-    for column in 0..kept {
-        row[column] = shown_cell(row[column], is_inverted);
-    }
+    show_cells(row.as_mut_slice(), is_inverted);
     row.resize(cols, Cell::BLANK)?;
-    Ok(row)
+    Ok(())
 }
 
 /// Puts a blank in place of half a wide character in the last column.
@@ -79,48 +105,49 @@ fn cut_end(row: &mut [Cell])
 
 /// The cells of a line in so many columns.
 fn line_row(
-    alloc: Global,
     line: &[Cell],
     cols: usize,
     is_inverted: bool,
-) -> Result<Vec<Cell>, AllocError>
-    ensures { IfOk result (λ row. IsRow (line_cell is_inverted line.now cols) cols row.items) }
+    row: &mut Vec<Cell>,
+) -> Result<(), AllocError>
+    ensures { OnOk result (IsRow (line_cell is_inverted line.now cols) cols row.new.items) }
 {
-    let mut row = whole_row(alloc, line, cols, is_inverted)?;
-    cut_end(&mut row);
-    Ok(row)
+    whole_row(line, cols, is_inverted, row)?;
+    cut_end(row.as_mut_slice());
+    Ok(())
 }
 
 /// What a row of so many shows of a window.
 fn window_row(
-    alloc: Global,
     contents: &Contents,
     rows: usize,
     cols: usize,
     row: usize,
-) -> Result<Vec<Cell>, AllocError>
-    ensures { IfOk result (λ r. IsWindowRow (window_of contents.now) rows cols row r.items) }
+    cells: &mut Vec<Cell>,
+) -> Result<(), AllocError>
+    ensures { OnOk result
+        (IsWindowRow (window_of contents.now) rows cols row cells.new.items) }
 {
     let place = first_shown(contents, rows).saturating_add(row);
     match contents.lines.get(place) {
-        Some(line) => line_row(alloc, line, cols, contents.is_inverted),
-        None => line_row(alloc, &[], cols, contents.is_inverted),
+        Some(line) => line_row(line, cols, contents.is_inverted, cells),
+        None => line_row(&[], cols, contents.is_inverted, cells),
     }
 }
 
 /// A row of a region, above its caption.
 fn part_row(
-    alloc: Global,
     pane: &Pane,
     rows: usize,
     cols: usize,
     row: usize,
-) -> Result<Vec<Cell>, AllocError>
-    ensures { IfOk result (λ r. IsPartRow (part_of pane.now) rows cols row r.items) }
+    cells: &mut Vec<Cell>,
+) -> Result<(), AllocError>
+    ensures { OnOk result (IsPartRow (part_of pane.now) rows cols row cells.new.items) }
 {
     match pane {
-        Pane::Readable(contents) => window_row(alloc, contents, rows, cols, row),
-        _ => line_row(alloc, &[], cols, false),
+        Pane::Readable(contents) => window_row(contents, rows, cols, row, cells),
+        _ => line_row(&[], cols, false, cells),
     }
 }
 
@@ -160,22 +187,24 @@ fn caption_row(
     text_row(alloc, text.as_str(), cols, rendition)
 }
 
-/// A row of a region's box: of its window, or its caption.
+/// A row of a region's box: of its window, or its caption. It takes the place of some cells, so that
+/// rows are made one after another without an allocation each.
 pub(crate) fn box_row(
-    alloc: Global,
     rect: Rect,
     pane: &Pane,
     is_focused: bool,
     row: u16,
-) -> Result<Vec<Cell>, AllocError>
+    cells: &mut Vec<Cell>,
+) -> Result<(), AllocError>
     requires { row < rect.rows }
-    ensures row { IfOk result (λ r. IsBoxRow rect is_focused (part_of pane.now) row r.items) }
+    ensures row { OnOk result (IsBoxRow rect is_focused (part_of pane.now) row cells.new.items) }
     ensures characters { OnOk result (row + 1 ≡ rect.rows → HasScalarCaption (part_of pane.now)) }
 {
     let cols = rect.cols as usize;
     if row + 1 == rect.rows {
-        caption_row(alloc, pane, cols, is_focused)
-    } else {
-        part_row(alloc, pane, rect.rows as usize - 1, cols, row as usize)
+        let alloc = *cells.allocator();
+        *cells = caption_row(alloc, pane, cols, is_focused)?;
+        return Ok(());
     }
+    part_row(pane, rect.rows as usize - 1, cols, row as usize, cells)
 }

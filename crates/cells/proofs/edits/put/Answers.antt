@@ -1,9 +1,10 @@
 use Rattle.std.proofs.Common.{◌≡◌, ◌+◌, ◌<◌, length, slice_set, sym, ap, ◌∙◌, subst, arith}
 use Rattle.std.proofs.lemmas.Bool.Decides.{nat_tests}
 use Rattle.cells.specs.Line.{IsPaired, cut_of}
+use Rattle.cells.specs.Put.{IsPut}
 use Rattle.cells.proofs.Cutting.{IsPaired-cut_of}
 use Rattle.cells.proofs.Settling.{length-cut_of}
-use Rattle.cells.proofs.Putting.{put_none, put_is, put_next, IsPutSoFar}
+use Rattle.cells.proofs.Putting.{put_none, put_is, put_next, put_narrow_is, IsPutSoFar}
 use Rattle.cells.proofs.edits.put.Goals as goal
 
 pub returns-then-is_empty : goal.returns-then-is_empty
@@ -13,6 +14,14 @@ returns-then-is_empty c =
 
 pub cut-requires-2 : goal.cut-requires-2
 cut-requires-2 c = record { paired = subst IsPaired (sym c.cut.ensures) (IsPaired-cut_of c.args.at c.args.cells.now c.requires.paired) }
+
+pub returns-then-are_narrow : goal.returns-then-are_narrow
+returns-then-are_narrow c =
+    let same : length c.cut-2.new.cells ≡ length c.args.cells.now = ap length c.cut-2.ensures ∙ length-cut_of _ c.cut.new.cells ∙ ap length c.cut.ensures ∙ length-cut_of c.args.at c.args.cells.now in
+    let twice : c.cut-2.new.cells ≡ cut_of (c.args.at + length c.args.fresh.now) (cut_of c.args.at c.args.cells.now) = c.cut-2.ensures ∙ ap (cut_of (c.args.at + length c.args.fresh.now)) c.cut.ensures in
+    let some : 0 < length c.args.fresh.now = grind (arith, nat_tests, c.if-is_empty.false, c.is_empty.ensures) in
+    put_narrow_is c.args.at c.args.fresh.now c.args.cells.now c.copy_over.new.cells c.requires.room some c.requires.paired (ap length (sym twice) ∙ same)
+    (subst (λ x. IsPut c.args.at c.args.fresh.now x c.copy_over.new.cells) twice c.copy_over.ensures) (c.are_narrow.ensures c.if-are_narrow.true)
 
 pub loop-column-preserved : goal.loop-column-preserved
 loop-column-preserved c =

@@ -1,0 +1,10 @@
+use Rattle.std.proofs.Common.{◌≡◌, ◌<◌, ◌≤◌, ℕ, true}
+use Rattle.cells.specs.Line.{cell_at}
+use Rattle.view.specs.Granted.{shown_cell}
+use Rattle.view.proofs.region_rows.show_cells.Given as goal
+
+abbrev pub invariant-loop-column : goal.invariant-loop-column
+invariant-loop-column l = record {
+  shown : (c : ℕ) → c < l.column → cell_at l.cells c ≡ shown_cell true (cell_at l.fn.cells c);
+  same : (c : ℕ) → l.column ≤ c → cell_at l.cells c ≡ cell_at l.fn.cells c;
+}
