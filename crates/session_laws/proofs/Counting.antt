@@ -6,20 +6,18 @@ use Rattle.command_lang.specs.fault.ParseFault.{ParseFault}
 use Rattle.keys.specs.Grammar.{Item, typed, bound, line}
 use Rattle.terminal_model.specs.Reading.{reads}
 use Rattle.session_model.specs.declared.event.Effect.{Effect}
-use Rattle.session_model.specs.declared.event.Effect.TheVariants.{Input, Deliver}
+use Rattle.session_model.specs.declared.event.Effect.TheVariants.{Deliver}
 use Rattle.session_model.specs.declared.event.Reason.TheVariants as reason
-use Rattle.session_model.specs.declared.check.Check.TheVariants.{Must as must}
 use Rattle.session_model.specs.declared.refusal.Refusal.{Refusal}
-use Rattle.session_model.specs.declared.refusal.Refusal.TheVariants.{BadSize}
-use Rattle.session_model.specs.Trace.{EventValue, Attach, Detach, Keys, Command, Resize, Open, Output, Closed, Draw, Entry}
+use Rattle.session_model.specs.Trace.{EventValue, Detach, Keys, Command, Output, Closed, Draw, Entry}
 use Rattle.session_model.specs.Tables.{Tables, Window, Client, window_at, client_at, with_client, focused, focused_window, is_known}
 use Rattle.session_model.specs.Terminals.{terminal_of}
 use Rattle.session_model.specs.Lines.{Caller, caller_of, line_caller, read_line}
-use Rattle.session_model.specs.Checks.{checks, first_fault, verdicts, typing_checks}
+use Rattle.session_model.specs.Checks.{checks, first_fault, typing_checks}
 use Rattle.session_model.specs.Deeds.{Deed, Answer, changing, parts, closes}
 use Rattle.session_model.specs.Commands.{does}
 use Rattle.session_model.specs.Keying.{typed_bytes, command_item, taken, step_items}
-use Rattle.session_model.specs.Events.{types, says_why, input_in, ordered, keyed, with_listed, message_of, reading, unsaid, outcome, keys_outcome, refused, finished, done, where_passed, Outcome, attach_checks, open_checks, is_client_size, resized, reply_of, attaches, new_client, opens, new_window, outputs}
+use Rattle.session_model.specs.Events.{types, says_why, input_in, ordered, keyed, with_listed, message_of, reading, unsaid, outcome, keys_outcome, finished, done, Outcome, outputs}
 use Rattle.session_model.specs.Events as events
 use Rattle.session_model.specs.Run.{IsStep, HasEffects, IsDraw, DrawsWhereNeeded}
 use Rattle.session_model.specs.Sound.{AreSound}
@@ -107,8 +105,6 @@ keys_few t client bytes c is =
 -- ---- events
 
 few : (t : Tables) (event : EventValue) → AreSound t → Few t (outcome t event)
-few t (Attach user rows columns) s =
-    outcomes.passed (Few t) t (verdicts t (attach_checks t user rows columns)) (first_fault t (attach_checks t user rows columns)) (reply_of 0 t.next_client 0 None) (attaches t (new_client t user rows columns)) (λ r is. none_few t) (λ is. none_few t)
 few t (Detach client) s =
     outcomes.found (Few t) t (λ c. finished t [] done (parts (λ d. d.serial == client) reason.Detached t)) (client_at t client) (none_few t)
     (λ c is. deed_few t (parts (λ d. d.serial == client) reason.Detached t) (only_parts t (λ p. p.0 == client) reason.Detached))
@@ -118,19 +114,13 @@ few t (Command user number bytes) s =
     outcomes.by_line (Few t) t (line_caller t user number) (is_known t user) (read_line bytes) (λ vs f. none_few t)
     (λ c d known read passes is. deed_few t d (deed_moves t (does t (line_caller t user number) c) d is
     (moves t (line_caller t user number) (λ w at. line_row t number w (differ t.windows t.next_window s.windows_rise) at) c)))
-few t (Resize client rows columns) s =
-    outcomes.found (Few t) t (λ c. where_passed t (must (is_client_size rows columns) BadSize ∷ []) done (changing (with_client t (resized rows columns c)))) (client_at t client) (none_few t)
-    (λ c is. outcomes.passed (Few t) t (verdicts t (must (is_client_size rows columns) BadSize ∷ [])) (first_fault t (must (is_client_size rows columns) BadSize ∷ [])) done (changing (with_client t (resized rows columns c))) (λ r at. none_few t) (λ at. none_few t))
-few t (Open user rows columns keep title) s =
-    let v : Window = new_window t rows columns keep title in
-    outcomes.passed (Few t) t (verdicts t (open_checks t user rows columns keep title)) (first_fault t (open_checks t user rows columns keep title)) (reply_of 0 v.serial v.number None) (opens t user v) (λ r is. none_few t) (λ is. none_few t)
 few t (Output window bytes) s =
     outcomes.found (Few t) t (λ v. finished t [] done (outputs t v bytes)) (window_at t window) (none_few t)
     (λ v is. let le : length (outputs t v bytes).effects ≤ 1 = input_few v.serial (reads (terminal_of v) bytes).reports (length (reads (terminal_of v) bytes).reports == 0) in omega (arith, le))
 few t (Closed window) s =
     outcomes.found (Few t) t (λ v. finished t [] done (closes (λ x. x.serial == window) reason.Detached t)) (window_at t window) (none_few t)
     (λ v is. deed_few t (closes (λ x. x.serial == window) reason.Detached t) (closes_moves t (λ n. n == window) reason.Detached))
-few t (Draw client) s = outcomes.found (Few t) t (λ c. finished t [] done (changing t)) (client_at t client) (none_few t) (λ c is. none_few t)
+few t event s = subst (λ (es : List Effect). IsFew t (length es)) (sym (outcomes.quiet t event refl)) (none_few t)
 
 drawn_few : (t : Tables) (effects : List Effect) (o : Option Client) → MatchOption o (effects ≡ []) (IsDraw t effects) → length effects ≤ 1
 drawn_few t effects None is = let e : length effects ≡ 0 = ap length is in omega (arith, e)

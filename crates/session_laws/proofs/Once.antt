@@ -14,19 +14,17 @@ use Rattle.terminal_model.specs.Reading.{reads}
 use Rattle.session_model.specs.declared.event.Effect.{Effect}
 use Rattle.session_model.specs.declared.event.Effect.TheVariants.{Input, Deliver, Say, GoneWindow, GoneClient}
 use Rattle.session_model.specs.declared.event.Reason.TheVariants as reason
-use Rattle.session_model.specs.declared.check.Check.TheVariants.{Must as must}
 use Rattle.session_model.specs.declared.message.Message.{Message}
 use Rattle.session_model.specs.declared.refusal.Refusal.{Refusal}
-use Rattle.session_model.specs.declared.refusal.Refusal.TheVariants.{BadSize}
-use Rattle.session_model.specs.Trace.{EventValue, Attach, Detach, Keys, Command, Resize, Open, Output, Closed, Draw, Entry}
+use Rattle.session_model.specs.Trace.{EventValue, Detach, Keys, Command, Output, Closed, Draw, Entry}
 use Rattle.session_model.specs.Tables.{Tables, Window, Client, window_at, client_at, with_client, focused_window, is_known}
 use Rattle.session_model.specs.Terminals.{terminal_of}
 use Rattle.session_model.specs.Lines.{Caller, caller_of, line_caller, read_line}
-use Rattle.session_model.specs.Checks.{checks, first_fault, verdicts, typing_checks}
+use Rattle.session_model.specs.Checks.{checks, first_fault, typing_checks}
 use Rattle.session_model.specs.Deeds.{Deed, Answer, changing, parts, closes, tells}
 use Rattle.session_model.specs.Commands.{does}
 use Rattle.session_model.specs.Keying.{typed_bytes, command_item, taken, step_items}
-use Rattle.session_model.specs.Events.{types, says_why, input_in, ordered, keyed, with_listed, message_of, reading, unsaid, says_same, outcome, keys_outcome, refused, finished, done, where_passed, Outcome, attach_checks, open_checks, is_client_size, resized, reply_of, attaches, new_client, opens, new_window, outputs}
+use Rattle.session_model.specs.Events.{types, says_why, input_in, ordered, keyed, with_listed, message_of, reading, unsaid, says_same, outcome, keys_outcome, finished, done, Outcome, outputs}
 use Rattle.session_model.specs.Events as events
 use Rattle.session_model.specs.Run.{IsStep, HasEffects, IsDraw, DrawsWhereNeeded}
 use Rattle.session_model.specs.Sound.{Rises, AreSound, client_serials}
@@ -232,25 +230,17 @@ abbrev Once : Outcome → Type 0
 Once o = AreSaidOnce o.effects
 
 once : (t : Tables) (event : EventValue) → AreSound t → Once (outcome t event)
-once t (Attach user rows columns) s =
-    outcomes.passed Once t (verdicts t (attach_checks t user rows columns)) (first_fault t (attach_checks t user rows columns)) (reply_of 0 t.next_client 0 None) (attaches t (new_client t user rows columns)) (λ r is. tt) (λ is. tt)
 once t (Detach client) s =
     outcomes.found Once t (λ c. finished t [] done (parts (λ d. d.serial == client) reason.Detached t)) (client_at t client) tt (λ c is. gone_clients (filter (λ (d : Client). d.serial == client) t.clients))
 once t (Keys client bytes) s = outcomes.found Once t (λ c. keys_outcome t c (take (taken c.keys bytes) bytes)) (client_at t client) tt (λ c is. keys_once t client bytes c is s)
 once t (Command user number bytes) s =
     outcomes.by_line Once t (line_caller t user number) (is_known t user) (read_line bytes) (λ vs f. tt)
     (λ c d known read passes is. deed_once (does t (line_caller t user number) c) d is (says_once t (line_caller t user number) c s.clients_rise))
-once t (Resize client rows columns) s =
-    outcomes.found Once t (λ c. where_passed t (must (is_client_size rows columns) BadSize ∷ []) done (changing (with_client t (resized rows columns c)))) (client_at t client) tt
-    (λ c is. outcomes.passed Once t (verdicts t (must (is_client_size rows columns) BadSize ∷ [])) (first_fault t (must (is_client_size rows columns) BadSize ∷ [])) done (changing (with_client t (resized rows columns c))) (λ r at. tt) (λ at. tt))
-once t (Open user rows columns keep title) s =
-    let v : Window = new_window t rows columns keep title in
-    outcomes.passed Once t (verdicts t (open_checks t user rows columns keep title)) (first_fault t (open_checks t user rows columns keep title)) (reply_of 0 v.serial v.number None) (opens t user v) (λ r is. tt) (λ is. tt)
 once t (Output window bytes) s =
     outcomes.found Once t (λ v. finished t [] done (outputs t v bytes)) (window_at t window) tt (λ v is. input_once v.serial (reads (terminal_of v) bytes).reports (length (reads (terminal_of v) bytes).reports == 0))
 once t (Closed window) s =
     outcomes.found Once t (λ v. finished t [] done (closes (λ x. x.serial == window) reason.Detached t)) (window_at t window) tt (λ v is. gone_windows (filter (λ (x : Window). x.serial == window) t.windows))
-once t (Draw client) s = outcomes.found Once t (λ c. finished t [] done (changing t)) (client_at t client) tt (λ c is. tt)
+once t event s = subst AreSaidOnce (sym (outcomes.quiet t event refl)) tt
 
 drawn_once : (t : Tables) (effects : List Effect) (o : Option Client) → MatchOption o (effects ≡ []) (IsDraw t effects) → AreSaidOnce effects
 drawn_once t effects None is = subst AreSaidOnce (sym is) tt

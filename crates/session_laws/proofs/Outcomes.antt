@@ -81,3 +81,49 @@ ends t (Open user rows columns keep title) =
 ends t (Output window bytes) = found (Ends t) t (λ v. finished t [] done (outputs t v bytes)) (window_at t window) (refuses _ NoWindow) (λ v is. does_it _ _ (outputs t v bytes))
 ends t (Closed window) = found (Ends t) t (λ (v : Window). finished t [] done (closes (λ x. x.serial == window) reason.Detached t)) (window_at t window) (refuses _ NoWindow) (λ v is. does_it _ _ (closes (λ x. x.serial == window) reason.Detached t))
 ends t (Draw client) = found (Ends t) t (λ (c : Client). finished t [] done (changing t)) (client_at t client) (refuses _ NoWindow) (λ c is. does_it _ _ (changing t))
+
+-- ---- events of which no effect comes
+
+abbrev pub is_quiet : EventValue → Bool
+is_quiet (Detach client) = false
+is_quiet (Keys client bytes) = false
+is_quiet (Command user number bytes) = false
+is_quiet (Output window bytes) = false
+is_quiet (Closed window) = false
+is_quiet event = true
+
+abbrev MakesNone : Outcome → Type 0
+MakesNone o = o.effects ≡ []
+
+pub quiet : (t : Tables) (event : EventValue) → is_quiet event ≡ true → (outcome t event).effects ≡ []
+quiet t (Attach user rows columns) is =
+    passed MakesNone t (verdicts t (attach_checks t user rows columns)) (first_fault t (attach_checks t user rows columns)) (reply_of 0 t.next_client 0 None) (attaches t (new_client t user rows columns)) (λ r at. refl) (λ at. refl)
+quiet t (Resize client rows columns) is =
+    let cs : List Check = must (is_client_size rows columns) BadSize ∷ [] in
+    found MakesNone t (λ c. where_passed t cs done (changing (with_client t (resized rows columns c)))) (client_at t client) refl
+    (λ c at. passed MakesNone t (verdicts t cs) (first_fault t cs) done (changing (with_client t (resized rows columns c))) (λ r on. refl) (λ on. refl))
+quiet t (Open user rows columns keep title) is =
+    let v : Window = new_window t rows columns keep title in
+    passed MakesNone t (verdicts t (open_checks t user rows columns keep title)) (first_fault t (open_checks t user rows columns keep title)) (reply_of 0 v.serial v.number None) (opens t user v) (λ r at. refl) (λ at. refl)
+quiet t (Draw client) is = found MakesNone t (λ (c : Client). finished t [] done (changing t)) (client_at t client) refl (λ c at. refl)
+quiet t event is = absurd (cc (is))
+
+-- and which leave the windows as they are
+abbrev pub leaves_windows : EventValue → Bool
+leaves_windows (Attach user rows columns) = true
+leaves_windows (Detach client) = true
+leaves_windows (Resize client rows columns) = true
+leaves_windows (Draw client) = true
+leaves_windows event = false
+
+pub same_windows : (t : Tables) (event : EventValue) → leaves_windows event ≡ true → (outcome t event).tables.windows ≡ t.windows
+same_windows t (Attach user rows columns) is =
+    passed (λ o. o.tables.windows ≡ t.windows) t (verdicts t (attach_checks t user rows columns)) (first_fault t (attach_checks t user rows columns)) (reply_of 0 t.next_client 0 None) (attaches t (new_client t user rows columns)) (λ r at. refl) (λ at. refl)
+same_windows t (Detach client) is =
+    found (λ o. o.tables.windows ≡ t.windows) t (λ (c : Client). finished t [] done (parts (λ d. d.serial == client) reason.Detached t)) (client_at t client) refl (λ c at. refl)
+same_windows t (Resize client rows columns) is =
+    let cs : List Check = must (is_client_size rows columns) BadSize ∷ [] in
+    found (λ o. o.tables.windows ≡ t.windows) t (λ c. where_passed t cs done (changing (with_client t (resized rows columns c)))) (client_at t client) refl
+    (λ c at. passed (λ o. o.tables.windows ≡ t.windows) t (verdicts t cs) (first_fault t cs) done (changing (with_client t (resized rows columns c))) (λ r on. refl) (λ on. refl))
+same_windows t (Draw client) is = found (λ o. o.tables.windows ≡ t.windows) t (λ (c : Client). finished t [] done (changing t)) (client_at t client) refl (λ c at. refl)
+same_windows t event is = absurd (cc (is))

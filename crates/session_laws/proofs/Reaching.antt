@@ -18,12 +18,11 @@ use Rattle.session_model.specs.declared.event.Effect.{Effect}
 use Rattle.session_model.specs.declared.event.Effect.TheVariants.{Input, Deliver}
 use Rattle.session_model.specs.declared.event.Reason.TheVariants as reason
 use Rattle.session_model.specs.declared.refusal.Refusal.{Refusal}
-use Rattle.session_model.specs.declared.refusal.Refusal.TheVariants.{NoWindow, UnknownUser, BadSize}
+use Rattle.session_model.specs.declared.refusal.Refusal.TheVariants.{NoWindow, UnknownUser}
 use Rattle.session_model.specs.declared.message.Message.{Message}
 use Rattle.session_model.specs.declared.message.Message.TheVariants.{Text}
-use Rattle.session_model.specs.declared.check.Check.TheVariants.{Must as must}
 use Rattle.session_laws.proofs.Quiet as quiet
-use Rattle.session_laws.proofs.Inputs.{append_nil, inputs_append, inputs_unsaid, answer_inputs, answered_inputs, keyed_inputs, passed_inputs}
+use Rattle.session_laws.proofs.Inputs.{append_nil, inputs_append, inputs_unsaid, answer_inputs, answered_inputs, keyed_inputs}
 use Rattle.session_model.specs.Checks.{checks, first_fault, verdicts, typing_checks}
 use Rattle.session_model.specs.Commands.{does, ruling}
 use Rattle.session_model.specs.Deeds.{Deed, Answer, given, changing, input_of, hearing, parts}
@@ -31,9 +30,7 @@ use Rattle.session_model.specs.Deeds.{closes}
 use Rattle.session_model.specs.Denials.{entry_denial}
 use Rattle.session_model.specs.Events.{types, says, told, ordered, by_line, line_ruling, reading}
 use Rattle.session_model.specs.Events.{message_of, commanded, keys_outcome, refused, Outcome}
-use Rattle.session_model.specs.Events.{attach_checks, open_checks, unsaid, finished, outputs, done}
-use Rattle.session_model.specs.Events.{where_passed, is_client_size, resized, attaches, new_client}
-use Rattle.session_model.specs.Events.{opens, new_window, reply_of}
+use Rattle.session_model.specs.Events.{unsaid, finished, outputs, done}
 use Rattle.session_model.specs.Given.{all_typed, stuffed, with_order, order_in, ok_of, Typed}
 use Rattle.session_model.specs.Given.{typed_by_client}
 use Rattle.session_model.specs.Keying.{typed_bytes, command_item, taken, step_items}
@@ -45,8 +42,9 @@ use Rattle.session_model.specs.Tables.{is_known, Tables, Window, Client, row_of,
 use Rattle.session_model.specs.Tables.{client_at, with_client, focused_window}
 use Rattle.session_model.specs.Terminals.{terminal_of}
 use Rattle.session_model.specs.Texts.{text_of}
-use Rattle.session_model.specs.Trace.{EventValue, Attach, Detach, Keys, Command, Resize, Open}
+use Rattle.session_model.specs.Trace.{EventValue, Detach, Keys, Command}
 use Rattle.session_model.specs.Trace.{Output, Closed, Draw}
+use Rattle.session_laws.proofs.Outcomes as outcomes
 
 -- ---- typed bytes of a client
 
@@ -207,7 +205,6 @@ output_reach t at bytes w (Some v) is =
 
 pub reach : (t : Tables) (event : EventValue) (effects : List Effect) → HasEffects t event effects → (w : ℕ)
     → inputs effects w ≡ flat_map (reaching t w) (all_typed t event) ++ reporting t event w
-reach t (Attach user rows columns) effects is w = ap (λ es. inputs es w) is ∙ passed_inputs t (first_fault t (attach_checks t user rows columns)) (verdicts t (attach_checks t user rows columns)) (reply_of 0 t.next_client 0 None) (attaches t (new_client t user rows columns)) w refl
 reach t (Detach client) effects is w = ap (λ es. inputs es w) is ∙ on (client_at t client) where
   on : (o : Option Client) → inputs (elim o as (λ _. Outcome) [ None ↦ refused t [] NoWindow | Some c ↦ finished t [] done (parts (λ d. d.serial == client) reason.Detached t) ]).effects w ≡ []
   on None = refl
@@ -222,11 +219,6 @@ reach t (Command user number bytes) effects is w = ap (λ es. inputs es w) is �
       ≡ flat_map (reaching t w) (flat_map (λ g. stuffed t g g.order) (if b then with_order (line_caller t user number) (ok_of (read_line bytes)) else [])) ++ []
   on true = command_reach t (line_caller t user number) (read_line bytes) w ∙ sym (append_nil _)
   on false = refl
-reach t (Resize client rows columns) effects is w = ap (λ es. inputs es w) is ∙ on (client_at t client) where
-  on : (o : Option Client) → inputs (elim o as (λ _. Outcome) [ None ↦ refused t [] NoWindow | Some c ↦ where_passed t (must (is_client_size rows columns) BadSize ∷ []) done (changing (with_client t (resized rows columns c))) ]).effects w ≡ []
-  on None = refl
-  on (Some c) = passed_inputs t (first_fault t (must (is_client_size rows columns) BadSize ∷ [])) (verdicts t (must (is_client_size rows columns) BadSize ∷ [])) done (changing (with_client t (resized rows columns c))) w refl
-reach t (Open user rows columns keep title) effects is w = ap (λ es. inputs es w) is ∙ let v : Window = new_window t rows columns keep title in passed_inputs t (first_fault t (open_checks t user rows columns keep title)) (verdicts t (open_checks t user rows columns keep title)) (reply_of 0 v.serial v.number None) (opens t user v) w refl
 reach t (Output at bytes) effects is w = ap (λ es. inputs es w) is ∙ output_reach t at bytes w (window_at t at) refl
 reach t (Closed window) effects is w = ap (λ es. inputs es w) is ∙ on (window_at t window) where
   on : (o : Option Window) → inputs (elim o as (λ _. Outcome) [ None ↦ refused t [] NoWindow | Some v ↦ finished t [] done (closes (λ x. x.serial == window) reason.Detached t) ]).effects w ≡ []
@@ -236,3 +228,4 @@ reach t (Draw client) effects is w = on (client_at t client) is where
   on : (o : Option Client) → MatchOption o (effects ≡ []) (IsDraw t effects) → inputs effects w ≡ []
   on None is = ap (λ es. inputs es w) is
   on (Some c) is = drawn_inputs t effects c w is
+reach t event effects is w = ap (λ es. inputs es w) (is ∙ outcomes.quiet t event refl)

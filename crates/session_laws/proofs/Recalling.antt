@@ -14,13 +14,12 @@ use Rattle.terminal_model.specs.Writing as written
 use Rattle.session_model.specs.declared.event.Effect.{Effect}
 use Rattle.session_model.specs.declared.event.Effect.TheVariants.{Input, Deliver}
 use Rattle.session_model.specs.declared.event.Reason.TheVariants as reason
-use Rattle.session_model.specs.declared.check.Check.TheVariants.{Must as must}
 use Rattle.session_model.specs.declared.message.Message.{Message}
 use Rattle.session_model.specs.declared.message.Message.TheVariants.{Text}
 use Rattle.session_model.specs.declared.refusal.Refusal.{Refusal}
-use Rattle.session_model.specs.declared.refusal.Refusal.TheVariants.{NoWindow, UnknownUser, BadSize, Line}
+use Rattle.session_model.specs.declared.refusal.Refusal.TheVariants.{NoWindow, UnknownUser, Line}
 use Rattle.session_model.specs.declared.verdict.Verdict.{Verdict}
-use Rattle.session_model.specs.Trace.{EventValue, Attach, Detach, Keys, Command, Resize, Open, Output, Closed, Draw, Reply, Entry, Trace}
+use Rattle.session_model.specs.Trace.{EventValue, Attach, Detach, Keys, Command, Open, Output, Closed, Draw, Reply, Entry, Trace}
 use Rattle.session_model.specs.Tables.{Tables, Window, Client, fresh, window_at, client_at, with_client, focused, focused_window, is_known}
 use Rattle.session_model.specs.Texts.{text_of}
 use Rattle.session_model.specs.Terminals.{terminal_of}
@@ -29,7 +28,7 @@ use Rattle.session_model.specs.Checks.{checks, first_fault, verdicts, typing_che
 use Rattle.session_model.specs.Deeds.{Deed, Answer, changing, parts, closes}
 use Rattle.session_model.specs.Commands.{does}
 use Rattle.session_model.specs.Keying.{taken, step_items, typed_bytes, command_item}
-use Rattle.session_model.specs.Events.{outcome, Outcome, refused, finished, done, where_passed, attach_checks, attaches, new_client, open_checks, opens, new_window, reply_of, is_client_size, resized, outputs, reading, types, says, told, ordered, keyed, with_listed, message_of, unsaid, keys_outcome, commanded, line_ruling, answered, by_line}
+use Rattle.session_model.specs.Events.{outcome, Outcome, refused, finished, done, attach_checks, attaches, new_client, open_checks, opens, new_window, reply_of, outputs, reading, types, says, told, ordered, keyed, with_listed, message_of, unsaid, keys_outcome, commanded, line_ruling, answered, by_line}
 use Rattle.session_model.specs.Promises.{SomeOf}
 use Rattle.session_model.specs.Given.{with_order, order_in, ok_of}
 use Rattle.session_model.specs.Run.{HasEffects, IsDraw, DrawsWhereNeeded, drawn, drawn_on, after, IsStep, IsRun, IsRunFrom, tables_from, tables_of}
@@ -164,10 +163,10 @@ InOutcome t event o = Wrote t (λ n. step_writing t event o.reply o.effects n) o
 still : (t : Tables) → Wrote t (λ n. []) t.windows
 still t = kept_wrote t (λ n. []) t.windows (λ n. refl) (kept_same t.windows)
 
+unwritten : (t : Tables) (o : Outcome) → o.effects ≡ [] → o.tables.windows ≡ t.windows → Wrote t (λ n. sizes_of o.effects n) o.tables.windows
+unwritten t o none same = subst (λ ws. Wrote t (λ n. sizes_of o.effects n) ws) (sym same) (subst (λ (es : List Effect). Wrote t (λ n. sizes_of es n) t.windows) (sym none) (still t))
+
 outcome_wrote : (t : Tables) (event : EventValue) → AreSound t → InOutcome t event (outcome t event)
-outcome_wrote t (Attach user rows columns) s =
-    outcomes.passed (InOutcome t (Attach user rows columns)) t (verdicts t (attach_checks t user rows columns)) (first_fault t (attach_checks t user rows columns)) (reply_of 0 t.next_client 0 None) (attaches t (new_client t user rows columns))
-    (λ r is. still t) (λ is. still t)
 outcome_wrote t (Detach client) s =
     outcomes.found (InOutcome t (Detach client)) t (λ c. finished t [] done (parts (λ d. d.serial == client) reason.Detached t)) (client_at t client) (still t)
     (λ c is. kept_wrote t _ t.windows (sizes_gone reason.Detached (filter (λ (d : Client). d.serial == client) t.clients)) (kept_same t.windows))
@@ -179,10 +178,6 @@ outcome_wrote t (Keys client bytes) s = on (client_at t client) refl where
       alike t (λ n. flat_map (given_writing t n) (with_order (caller_of t c) (order_in (command_item (step_items c bytes)))) ++ sizes_of o.effects n) _ o.tables.windows
       (λ n. ap (λ gs. flat_map (given_writing t n) gs ++ sizes_of o.effects n) (keys_given t client bytes c is)) (keys_wrote t client bytes c is s)
 outcome_wrote t (Command user number bytes) s = line_wrote t user number (is_known t user) (read_line bytes) s
-outcome_wrote t (Resize client rows columns) s =
-    outcomes.found (InOutcome t (Resize client rows columns)) t (λ c. where_passed t (must (is_client_size rows columns) BadSize ∷ []) done (changing (with_client t (resized rows columns c)))) (client_at t client) (still t)
-    (λ c is. outcomes.passed (InOutcome t (Resize client rows columns)) t (verdicts t (must (is_client_size rows columns) BadSize ∷ [])) (first_fault t (must (is_client_size rows columns) BadSize ∷ [])) done (changing (with_client t (resized rows columns c)))
-    (λ r at. still t) (λ at. still t))
 outcome_wrote t (Open user rows columns keep title) s =
     let v : Window = new_window t rows columns keep title in
     outcomes.passed (InOutcome t (Open user rows columns keep title)) t (verdicts t (open_checks t user rows columns keep title)) (first_fault t (open_checks t user rows columns keep title)) (reply_of 0 v.serial v.number None) (opens t user v)
@@ -197,8 +192,7 @@ outcome_wrote t (Output window bytes) s =
 outcome_wrote t (Closed window) s =
     outcomes.found (InOutcome t (Closed window)) t (λ v. finished t [] done (closes (λ x. x.serial == window) reason.Detached t)) (window_at t window) (still t)
     (λ v is. kept_wrote t _ _ (sizes_closed reason.Detached (filter (λ (x : Window). x.serial == window) t.windows)) (kept_fewer (λ (x : Window). not (x.serial == window)) t.windows))
-outcome_wrote t (Draw client) s =
-    outcomes.found (InOutcome t (Draw client)) t (λ c. finished t [] done (changing t)) (client_at t client) (still t) (λ c is. still t)
+outcome_wrote t event s = unwritten t (outcome t event) (outcomes.quiet t event refl) (outcomes.same_windows t event refl)
 
 -- ---- steps
 

@@ -196,14 +196,7 @@ step_rows t (Draw client) effects s is =
     let w : Tables = (outcome t (Draw client)).tables in
     subst (λ (o : Option Client). Rows t (Draw client) (outcome t (Draw client)).reply effects (drawn_on o effects w).clients) (sym (ap (λ cs. row_of (λ (c : Client). c.serial) cs client) (quiet_draw t client)))
     (drawn_rows t w client effects (outcome t (Draw client)).reply (client_at t client) (quiet_draw t client) refl s is)
-step_rows t (Attach user rows columns) effects s is = rows_of t effects s (Attach user rows columns) refl (none_of t (Attach user rows columns) effects refl is)
-step_rows t (Detach client) effects s is = rows_of t effects s (Detach client) refl (none_of t (Detach client) effects refl is)
-step_rows t (Keys client bytes) effects s is = rows_of t effects s (Keys client bytes) refl (none_of t (Keys client bytes) effects refl is)
-step_rows t (Command user number bytes) effects s is = rows_of t effects s (Command user number bytes) refl (none_of t (Command user number bytes) effects refl is)
-step_rows t (Resize client rows columns) effects s is = rows_of t effects s (Resize client rows columns) refl (none_of t (Resize client rows columns) effects refl is)
-step_rows t (Open user rows columns keep title) effects s is = rows_of t effects s (Open user rows columns keep title) refl (none_of t (Open user rows columns keep title) effects refl is)
-step_rows t (Output window bytes) effects s is = rows_of t effects s (Output window bytes) refl (none_of t (Output window bytes) effects refl is)
-step_rows t (Closed window) effects s is = rows_of t effects s (Closed window) refl (none_of t (Closed window) effects refl is)
+step_rows t event effects s is = rows_of t effects s event refl (none_of t event effects refl is)
 
 -- ---- serials that weren't given
 
@@ -223,14 +216,7 @@ above_unread t (Keys client bytes) n s le =
     outcomes.found (λ o. keys_read (Keys client bytes) o.reply n ≡ []) t (λ c. keys_outcome t c (take (taken c.keys bytes) bytes)) (client_at t client) refl
     (λ c is. let lt : client < t.next_client = subst (λ m. m < t.next_client) (row_serial (λ (r : Client). r.serial) t.clients client c is) (row_below t.clients t.next_client client c s.clients_rise is) in
     ap (λ (b : Bool). if b then take (length (take (taken c.keys bytes) bytes)) bytes else []) (below_off client n t.next_client lt le))
-above_unread t (Attach user rows columns) n s le = refl
-above_unread t (Detach client) n s le = refl
-above_unread t (Command user number bytes) n s le = refl
-above_unread t (Resize client rows columns) n s le = refl
-above_unread t (Open user rows columns keep title) n s le = refl
-above_unread t (Output window bytes) n s le = refl
-above_unread t (Closed window) n s le = refl
-above_unread t (Draw client) n s le = refl
+above_unread t event n s le = refl
 
 drawn_above : (t : Tables) (client n : ℕ) (effects : List Effect) (o : Option Client) → client_at t client ≡ o → AreSound t → t.next_client ≤ n → MatchOption o (effects ≡ []) (IsDraw t effects) → deliveries effects n ≡ []
 drawn_above t client n effects None at s le is = ap (λ es. deliveries es n) is
@@ -245,14 +231,7 @@ drawn_above t client n effects (Some c) at s le is = on effects is.drawn where
 
 above_none : (t : Tables) (event : EventValue) (effects : List Effect) (n : ℕ) → AreSound t → t.next_client ≤ n → HasEffects t event effects → deliveries effects n ≡ []
 above_none t (Draw client) effects n s le is = drawn_above t client n effects (client_at t client) refl s le is
-above_none t (Attach user rows columns) effects n s le is = none_of t (Attach user rows columns) effects refl is n
-above_none t (Detach client) effects n s le is = none_of t (Detach client) effects refl is n
-above_none t (Keys client bytes) effects n s le is = none_of t (Keys client bytes) effects refl is n
-above_none t (Command user number bytes) effects n s le is = none_of t (Command user number bytes) effects refl is n
-above_none t (Resize client rows columns) effects n s le is = none_of t (Resize client rows columns) effects refl is n
-above_none t (Open user rows columns keep title) effects n s le is = none_of t (Open user rows columns keep title) effects refl is n
-above_none t (Output window bytes) effects n s le is = none_of t (Output window bytes) effects refl is n
-above_none t (Closed window) effects n s le is = none_of t (Closed window) effects refl is n
+above_none t event effects n s le is = none_of t event effects refl is n
 
 -- ---- serials that come next
 
@@ -265,13 +244,7 @@ next_grows t (Attach user rows columns) s =
 next_grows t (Open user rows columns keep title) s =
     let v : Window = new_window t rows columns keep title in
     outcomes.passed (λ o. t.next_client ≤ o.tables.next_client) t (verdicts t (open_checks t user rows columns keep title)) (first_fault t (open_checks t user rows columns keep title)) (reply_of 0 v.serial v.number None) (opens t user v) (λ r is. omega arith) (λ is. omega arith)
-next_grows t (Detach client) s = same_next _ _ (moving t (Detach client) s refl).next_client
-next_grows t (Keys client bytes) s = same_next _ _ (moving t (Keys client bytes) s refl).next_client
-next_grows t (Command user number bytes) s = same_next _ _ (moving t (Command user number bytes) s refl).next_client
-next_grows t (Resize client rows columns) s = same_next _ _ (moving t (Resize client rows columns) s refl).next_client
-next_grows t (Output window bytes) s = same_next _ _ (moving t (Output window bytes) s refl).next_client
-next_grows t (Closed window) s = same_next _ _ (moving t (Closed window) s refl).next_client
-next_grows t (Draw client) s = same_next _ _ (moving t (Draw client) s refl).next_client
+next_grows t event s = same_next _ _ (moving t event s refl).next_client
 
 drawn_next : (o : Option Client) (effects : List Effect) (v : Tables) → (drawn_on o effects v).next_client ≡ v.next_client
 drawn_next None effects v = refl

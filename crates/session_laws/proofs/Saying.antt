@@ -13,20 +13,19 @@ use Rattle.session_model.specs.declared.event.Effect.TheVariants.{Input, Deliver
 use Rattle.session_model.specs.declared.event.Reason.TheVariants as reason
 use Rattle.session_model.specs.declared.message.Message.{Message}
 use Rattle.session_model.specs.declared.refusal.Refusal.{Refusal}
-use Rattle.session_model.specs.declared.refusal.Refusal.TheVariants.{NoWindow, BadSize, Line}
-use Rattle.session_model.specs.declared.check.Check.TheVariants.{Must as must}
-use Rattle.session_model.specs.Trace.{EventValue, Attach, Detach, Keys, Command, Resize, Open, Output, Closed, Draw, Reply, Entry}
+use Rattle.session_model.specs.declared.refusal.Refusal.TheVariants.{Line}
+use Rattle.session_model.specs.Trace.{EventValue, Detach, Keys, Command, Output, Closed, Draw, Reply, Entry}
 use Rattle.session_model.specs.Tables.{Tables, Window, Client, window_at, client_at, with_client, focused_window, is_known}
 use Rattle.session_model.specs.Terminals.{terminal_of}
 use Rattle.session_model.specs.Texts.{text_of}
 use Rattle.session_model.specs.Lines.{Caller, caller_of, line_caller, read_line}
-use Rattle.session_model.specs.Checks.{checks, first_fault, verdicts, typing_checks}
+use Rattle.session_model.specs.Checks.{checks, first_fault, typing_checks}
 use Rattle.session_model.specs.Deeds.{Answer, Deed, changing, parts, closes}
 use Rattle.session_model.specs.Commands.{does}
 use Rattle.session_model.specs.Keying.{typed_bytes, command_item, taken, step_items}
-use Rattle.session_model.specs.Events.{types, says_why, input_in, ordered, message_of, keyed, with_listed, reading, outcome, keys_outcome, refused, finished, done, where_passed, Outcome}
+use Rattle.session_model.specs.Events.{types, says_why, input_in, ordered, message_of, keyed, with_listed, reading, outcome, keys_outcome, refused, finished, done}
 use Rattle.session_model.specs.Events as events
-use Rattle.session_model.specs.Events.{attach_checks, open_checks, unsaid, is_client_size, resized, reply_of, attaches, new_client, opens, new_window, outputs}
+use Rattle.session_model.specs.Events.{unsaid, outputs}
 use Rattle.session_model.specs.Granted.{granted_view}
 use Rattle.session_model.specs.Framed.{IsFrame}
 use Rattle.session_model.specs.Run.{IsStep, HasEffects, IsDraw, DrawsWhereNeeded}
@@ -198,9 +197,6 @@ input_fits t at bytes rs w true same = tt
 input_fits t at bytes rs w false same = ((same, tt, tt), tt)
 
 pub fits : (t : Tables) (event : EventValue) → AllByRecursion (Fits t event) (outcome t event).effects
-fits t (Attach user rows columns) =
-    outcomes.passed (λ o. AllByRecursion (Fits t (Attach user rows columns)) o.effects) t (verdicts t (attach_checks t user rows columns)) (first_fault t (attach_checks t user rows columns))
-    (reply_of 0 t.next_client 0 None) (attaches t (new_client t user rows columns)) (λ r is. tt) (λ is. tt)
 fits t (Detach client) =
     outcomes.found (λ o. AllByRecursion (Fits t (Detach client)) o.effects) t (λ c. finished t [] done (parts (λ d. d.serial == client) reason.Detached t)) (client_at t client) tt
     (λ c is. all_map (Fits t (Detach client)) (λ (d : Client). GoneClient d.serial reason.Detached) (filter (λ (d : Client). d.serial == client) t.clients)
@@ -210,13 +206,6 @@ fits t (Detach client) =
 fits t (Keys client bytes) =
     outcomes.found (λ o. AllByRecursion (Fits t (Keys client bytes)) o.effects) t (λ c. keys_outcome t c (take (taken c.keys bytes) bytes)) (client_at t client) tt (λ c is. keys_fits t client bytes c is)
 fits t (Command user number bytes) = command_fits t user number bytes
-fits t (Resize client rows columns) =
-    outcomes.found (λ o. AllByRecursion (Fits t (Resize client rows columns)) o.effects) t (λ c. where_passed t (must (is_client_size rows columns) BadSize ∷ []) done (changing (with_client t (resized rows columns c)))) (client_at t client) tt
-    (λ c is. outcomes.passed (λ o. AllByRecursion (Fits t (Resize client rows columns)) o.effects) t (verdicts t (must (is_client_size rows columns) BadSize ∷ [])) (first_fault t (must (is_client_size rows columns) BadSize ∷ [])) done (changing (with_client t (resized rows columns c))) (λ r is. tt) (λ is. tt))
-fits t (Open user rows columns keep title) =
-    let v : Window = new_window t rows columns keep title in
-    outcomes.passed (λ o. AllByRecursion (Fits t (Open user rows columns keep title)) o.effects) t (verdicts t (open_checks t user rows columns keep title)) (first_fault t (open_checks t user rows columns keep title))
-    (reply_of 0 v.serial v.number None) (opens t user v) (λ r is. tt) (λ is. tt)
 fits t (Output window bytes) =
     outcomes.found (λ o. AllByRecursion (Fits t (Output window bytes)) o.effects) t (λ v. finished t [] done (outputs t v bytes)) (window_at t window) tt
     (λ v is. input_fits t window bytes (reads (terminal_of v) bytes).reports v.serial (length (reads (terminal_of v) bytes).reports == 0) (row_serial (λ (x : Window). x.serial) t.windows window v is))
@@ -226,7 +215,7 @@ fits t (Closed window) =
     (all_passed (λ (x : Window). Fits t (Closed window) (GoneWindow x.serial reason.Detached)) (λ (x : Window). x.serial == window) t.windows
     (all_of (λ (x : Window). (x.serial == window) ≡ true → Fits t (Closed window) (GoneWindow x.serial reason.Detached)) t.windows
     (λ x same. (ap (λ n. GoneWindow n reason.Detached) (equal x.serial window same), tt, tt)))))
-fits t (Draw client) = outcomes.found (λ o. AllByRecursion (Fits t (Draw client)) o.effects) t (λ c. finished t [] done (changing t)) (client_at t client) tt (λ c is. tt)
+fits t event = subst (λ es. AllByRecursion (Fits t event) es) (sym (outcomes.quiet t event refl)) tt
 
 drawn_fits : (t : Tables) (client : ℕ) (effects : List Effect) (o : Option Client) → client_at t client ≡ o → MatchOption o (effects ≡ []) (IsDraw t effects) → AllByRecursion (Fits t (Draw client)) effects
 drawn_fits t client effects None at is = subst (λ es. AllByRecursion (Fits t (Draw client)) es) (sym is) tt
