@@ -4,6 +4,7 @@ use Rattle.std.specs.Prelude.{Option, Some, None}
 use Rattle.std.specs.List.{list_all}
 use Rattle.std.specs.Char.{is_ascii_digit}
 use Rattle.std.specs.Str.Parse.{digits_value}
+use Rattle.line_fields.specs.Cutting.{◌>>=◌, cut}
 
 -- one decimal digit or more
 unfoldable pub is_number : List ℕ → Bool
@@ -14,3 +15,10 @@ unfoldable pub number_below : ℕ → List ℕ → Option ℕ
 number_below limit word =
     if is_number word && nat_lt (digits_value 10 word) limit then Some (digits_value 10 word)
     else None
+
+-- a number that a separator ends, and what stands behind it
+abbrev pub number_at : ℕ → ℕ → List ℕ → Option (ℕ × List ℕ)
+number_at limit separator bytes = do
+  parts ← cut separator bytes
+  number ← number_below limit parts.0
+  Some (number, parts.1)

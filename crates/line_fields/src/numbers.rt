@@ -1,10 +1,11 @@
 //! Numbers in decimal digits.
 
-ghost use Rattle.std.specs.Prelude.{◌≡◌, ◌^◌, false, true, MatchOption};
+ghost use Rattle.std.specs.Prelude.{◌≡◌, ◌^◌, false, true, MatchOption, option_map};
 ghost use Rattle.std.specs.List.{list_all};
 ghost use Rattle.std.specs.Char.{is_ascii_digit};
-ghost use Rattle.line_fields.specs.Numbers.{is_number, number_below};
+ghost use Rattle.line_fields.specs.Numbers.{is_number, number_below, number_at};
 
+use crate::cutting::cut;
 use std::str;
 
 /// Whether a word has no byte but decimal digits.
@@ -59,4 +60,40 @@ pub fn read_u8(word: &[u8]) -> Option<u8>
     ensures { result ≡ number_below (2 ^ 8) word.now }
 {
     digits_of(word)?.parse().ok()
+}
+
+/// A number of 64 bits that a separator ends, and what stands behind it.
+pub fn u64_at(bytes: &[u8], separator: u8) -> Option<(u64, &[u8])>
+    ensures { option_map (λ p. (p.0, p.1.now)) result
+        ≡ number_at (2 ^ 64) separator bytes.now }
+{
+    let (word, rest) = cut(bytes, separator)?;
+    Some((read_u64(word)?, rest))
+}
+
+/// One of 32 bits.
+pub fn u32_at(bytes: &[u8], separator: u8) -> Option<(u32, &[u8])>
+    ensures { option_map (λ p. (p.0, p.1.now)) result
+        ≡ number_at (2 ^ 32) separator bytes.now }
+{
+    let (word, rest) = cut(bytes, separator)?;
+    Some((read_u32(word)?, rest))
+}
+
+/// One of 16 bits.
+pub fn u16_at(bytes: &[u8], separator: u8) -> Option<(u16, &[u8])>
+    ensures { option_map (λ p. (p.0, p.1.now)) result
+        ≡ number_at (2 ^ 16) separator bytes.now }
+{
+    let (word, rest) = cut(bytes, separator)?;
+    Some((read_u16(word)?, rest))
+}
+
+/// One of 8 bits.
+pub fn u8_at(bytes: &[u8], separator: u8) -> Option<(u8, &[u8])>
+    ensures { option_map (λ p. (p.0, p.1.now)) result
+        ≡ number_at (2 ^ 8) separator bytes.now }
+{
+    let (word, rest) = cut(bytes, separator)?;
+    Some((read_u8(word)?, rest))
 }

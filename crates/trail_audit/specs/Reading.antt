@@ -10,7 +10,8 @@ use Rattle.hub_trail.specs.Trails.{Entry}
 use Rattle.hub_trail.specs.Legal.{AreLegal}
 use Rattle.hub_trail.specs.Judging.{IsBadAt}
 use Rattle.hub_check.specs.Judges.{HasJudged}
-use Rattle.trail_lines.specs.Entries.{Said, read_line}
+use Rattle.trail_lines.specs.declared.entries.Line.{Line}
+use Rattle.trail_lines.specs.Entries.{read_line, said}
 use Rattle.trail_audit.specs.declared.audit.Audit.{Audit}
 use Rattle.trail_audit.specs.declared.fault.Wrong.{Wrong}
 use Rattle.trail_audit.specs.declared.fault.Wrong.TheVariants as wrong
@@ -27,11 +28,11 @@ pub record IsLineOf (line : List ℕ) (place : ℕ) (e : Entry) : Type 0 where
   pub is : read_line line ≡ Some (place, ms, e)
 
 -- the line says the next entry, which is good too
-pub record Takes (old new : Audit) (line : List ℕ) (edition : Edition) (owner : UserId)
+pub record Takes (l : Line) (new : Audit) (line : List ℕ) (edition : Edition) (owner : UserId)
     (entries : List Entry) : Type 0 where
-  pub entry : Entry
-  pub line_of : IsLineOf line (length entries) entry
-  pub read : HasRead new edition owner (entries ++ entry ∷ [])
+  pub is : read_line line ≡ Some (said l)
+  pub place_is : l.place ≡ length entries
+  pub read : HasRead new edition owner (entries ++ l.entry ∷ [])
 
 -- the line says the next entry, which isn't good, whatever comes behind it
 pub record IsIllegal (line : List ℕ) (edition : Edition) (owner : UserId) (entries : List Entry)
@@ -55,10 +56,9 @@ IsWrong wrong.Illegal line edition owner entries = IsIllegal line edition owner 
 IsWrong wrong.NoMemory line edition owner entries = Unit {0}
 
 -- what is told of the next line
-abbrev pub Tells : Result (Unit {0}) Wrong → Audit → Audit → List ℕ → Edition → UserId
-    → List Entry → Type 0
-Tells (Ok x) old new line edition owner entries = Takes old new line edition owner entries
-Tells (Err w) old new line edition owner entries = IsWrong w line edition owner entries
+abbrev pub Tells : Result Line Wrong → Audit → List ℕ → Edition → UserId → List Entry → Type 0
+Tells (Ok l) new line edition owner entries = Takes l new line edition owner entries
+Tells (Err w) new line edition owner entries = IsWrong w line edition owner entries
 
 -- ---- laws
 

@@ -13,7 +13,7 @@ use acl::{Edition, UserId};
 use hub_check::Judge;
 use hub_replay::Replay;
 use std::alloc::{AllocError, Global};
-use trail_lines::{Unread, read_line};
+use trail_lines::{Line, Unread, read_line};
 
 /// Reads the lines of entries, one after another, and judges them. It keeps tables of rights, locks
 /// and clients, and no entry.
@@ -54,12 +54,12 @@ impl Audit {
         self.next
     }
 
-    /// Takes the line of the next entry, without its line feed. Behind an `Err` the audit stands
-    /// for nothing more.
-    pub fn take(&mut self, line: &[u8]) -> Result<(), Wrong>
+    /// Takes the line of the next entry, without its line feed, and answers what it says. Behind an
+    /// `Err` the audit stands for nothing more.
+    pub fn take(&mut self, line: &[u8]) -> Result<Line, Wrong>
         ensures { (edition : Edition) (owner : UserId) (entries : List Entry) →
             HasRead self.old edition owner entries →
-            Tells result self.old self.new line.now edition owner entries }
+            Tells result self.new line.now edition owner entries }
     {
         let said = match read_line(self.alloc, line) {
             Ok(said) => said,
@@ -76,7 +76,7 @@ impl Audit {
             return Err(Wrong::Illegal);
         }
         self.next = next;
-        Ok(())
+        Ok(said)
     }
 
     /// Rights, locks and clients after the entries so far.

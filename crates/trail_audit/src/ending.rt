@@ -5,10 +5,10 @@ ghost use Rattle.trail_lines.specs.Unreadable.{Gives};
 ghost use Rattle.trail_audit.specs.Heading.{cause_text, cause_in, end_text};
 ghost use Rattle.trail_audit.specs.Heading.{end_fields, read_end};
 
-use line_fields::cut;
+use line_fields::{cut, u64_at};
 use session_model::push_decimal;
 use std::alloc::{AllocError, Global};
-use trail_lines::{Unread, u64_at};
+use trail_lines::Unread;
 
 /// Why a trail ends.
 #[derive(Clone, Copy, PartialEq, Eq, Debug)]

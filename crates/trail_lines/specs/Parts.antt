@@ -35,19 +35,13 @@ comma = 0x2C
 abbrev pub field : ℕ → List ℕ → List ℕ → List ℕ
 field separator word rest = word ++ separator ∷ rest
 
--- ---- users and numbers in front of others
+-- ---- users in front of others
 
 abbrev pub user_at : ℕ → List ℕ → Option (UserId × List ℕ)
 user_at separator bytes = do
   parts ← cut separator bytes
   user ← named_by parts.0
   Some (user, parts.1)
-
-abbrev pub number_at : ℕ → ℕ → List ℕ → Option (ℕ × List ℕ)
-number_at limit separator bytes = do
-  parts ← cut separator bytes
-  number ← number_below limit parts.0
-  Some (number, parts.1)
 
 -- ---- a user, or nobody
 

@@ -7,11 +7,12 @@ ghost use Rattle.trail_lines.specs.Acts.{user_and_serial, set_in, grouped_in, ma
 ghost use Rattle.trail_lines.specs.Acts.{preset_act_in, attached_in, mode_act_in, rest_in, act_in};
 
 use crate::parts::{
-    push_change, push_mode, push_name, push_number, push_object, push_preset, push_user,
-    read_change, read_mode, read_object, read_preset, read_user, u32_at, user_at,
+    push_change, push_mode, push_name, push_object, push_preset, push_user, read_change, read_mode,
+    read_object, read_preset, read_user, user_at,
 };
 use acl::{Act, UserId};
-use line_fields::{cut, read_u32};
+use line_fields::{cut, read_u32, u32_at};
+use session_model::push_decimal;
 use std::alloc::AllocError;
 
 /// The kind of an act.
@@ -113,7 +114,7 @@ fn push_serial(user: UserId, serial: u32, out: &mut Vec<u8>) -> Result<(), Alloc
 {
     push_name(user, out)?;
     out.extend_from_slice(b":")?;
-    push_number(u64::from(serial), out)
+    push_decimal(u64::from(serial), out)
 }
 
 /// Appends what stands behind an act's kind.
@@ -158,13 +159,13 @@ fn push_rest(act: &Act, out: &mut Vec<u8>) -> Result<(), AllocError>
             push_change(bit, value, out)
         }
         Act::Opened { by, window } => push_serial(by, window, out),
-        Act::Closed { window } => push_number(u64::from(window), out),
+        Act::Closed { window } => push_decimal(u64::from(window), out),
         Act::Attached { client, user } => {
-            push_number(u64::from(client), out)?;
+            push_decimal(u64::from(client), out)?;
             out.extend_from_slice(b":")?;
             push_name(user, out)
         }
-        Act::Parted { client } => push_number(u64::from(client), out),
+        Act::Parted { client } => push_decimal(u64::from(client), out),
         Act::Entered { user, window } => push_serial(user, window, out),
         Act::Left { user, window } => push_serial(user, window, out),
         Act::Mode { by, window, mode } => {

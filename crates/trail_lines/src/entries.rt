@@ -11,33 +11,22 @@ ghost use Rattle.trail_lines.specs.Unreadable.{Gives};
 
 use crate::acts::{push_act, read_act};
 use crate::events::{event_at, push_event};
-use crate::parts::{push_number, u64_at};
 use crate::replies::{push_reply, read_reply};
 use crate::unread::Unread;
 use crate::verdicts::{push_verdict, read_verdict};
 use acl::Act;
 use hub_record::{Filed, KeptReply};
 use hub_trail::Ending;
-use line_fields::next_word;
-use session_model::{Done, Refusal, Reply, Verdict};
+use line_fields::{next_word, u64_at};
+use session_model::{Done, Refusal, Reply, Verdict, push_decimal};
 use std::alloc::{AllocError, Global};
 
 /// An entry, its place in the trail and its time, in milliseconds since 1970.
-#[derive(Debug)]
+#[derive(Debug, Drop)]
 pub struct Line {
     pub place: u64,
     pub ms: u64,
     pub entry: Filed,
-}
-
-impl Drop for Line {
-    fn drop(self) {
-        let Line {
-            place: _,
-            ms: _,
-            entry: _,
-        } = self;
-    }
 }
 
 /// What stands behind a reply: a check, or an act.
@@ -89,9 +78,9 @@ fn push_tail(entry: &Filed, out: &mut Vec<u8>) -> Result<(), AllocError>
 fn push_line(place: u64, ms: u64, entry: &Filed, out: &mut Vec<u8>) -> Result<(), AllocError>
     ensures { OnOk result (out.new.items ≡ out.old.items ++ line_of (place, ms, entry.now)) }
 {
-    push_number(place, out)?;
+    push_decimal(place, out)?;
     out.extend_from_slice(b" ")?;
-    push_number(ms, out)?;
+    push_decimal(ms, out)?;
     out.extend_from_slice(b" ")?;
     push_event(entry.event().get(), out)?;
     push_tail(entry, out)

@@ -11,12 +11,12 @@ ghost use Rattle.trail_lines.specs.Events.{event_then, attach_at, detach_at, key
 ghost use Rattle.trail_lines.specs.Events.{shape_at, open_at, closed_at, event_by, event_at};
 ghost use Rattle.trail_lines.specs.Unreadable.{Gives};
 
-use crate::parts::{push_name, push_number, u16_at, u32_at, user_at};
+use crate::parts::{push_name, user_at};
 use crate::unread::Unread;
 use acl::UserId;
 use hub_record::{KeptEvent, KeptRef};
-use line_fields::{cut, push_escaped, read_u8, unescape};
-use session_model::Event;
+use line_fields::{cut, push_escaped, read_u8, u16_at, u32_at, unescape};
+use session_model::{Event, push_decimal};
 use std::alloc::{AllocError, Global};
 use std::str;
 
@@ -24,7 +24,7 @@ use std::str;
 fn push_count(number: u64, out: &mut Vec<u8>) -> Result<(), AllocError>
     ensures { OnOk result (out.new.items ≡ out.old.items ++ field blank (decimal number) []) }
 {
-    push_number(number, out)?;
+    push_decimal(number, out)?;
     out.extend_from_slice(b" ")
 }
 

@@ -12,7 +12,7 @@ mod verdicts;
 ghost use Rattle.trail_lines.specs.Sayable.{IsSpelledSo, ReadsPrinted};
 
 pub use entries::{Line, print_line, read_line};
-pub use parts::{u64_at, user_at};
+pub use parts::user_at;
 pub use unread::Unread;
 
 /// Laws of lines: what was printed is read, for every entry that can be said; and a line that is

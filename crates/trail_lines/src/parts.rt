@@ -1,16 +1,16 @@
 //! The parts of a word: users, numbers, bits, objects, modes.
 
-ghost use Rattle.std.specs.Prelude.{◌≡◌, ◌++◌, ◌^◌, ◌∷◌, [], OnOk, decimal, option_map};
+ghost use Rattle.std.specs.Prelude.{◌≡◌, ◌++◌, OnOk, option_map};
 ghost use Rattle.acl.specs.Names.{name_of};
 ghost use Rattle.acl.specs.declared.act.Object.TheVariants.{Command};
-ghost use Rattle.trail_lines.specs.Parts.{user_at, number_at, user_text, user_in, sign, mark};
+ghost use Rattle.trail_lines.specs.Parts.{user_at, user_text, user_in, sign, mark};
 ghost use Rattle.trail_lines.specs.Parts.{change_text, value_of, bit_of, bit_in, change_in};
 ghost use Rattle.trail_lines.specs.Parts.{object_text, command_in, object_in, mode_text};
 ghost use Rattle.trail_lines.specs.Parts.{mode_in, preset_text, preset_in};
 
 use acl::{Bit, BitChange, CommandName, LockMode, Object, PresetKind, UserId};
 use command_lang::name_text;
-use line_fields::{cut, read_u8, read_u16, read_u32, read_u64};
+use line_fields::{cut, read_u32};
 use session_model::push_decimal;
 use std::alloc::AllocError;
 
@@ -20,49 +20,6 @@ pub fn user_at(bytes: &[u8], separator: u8) -> Option<(UserId, &[u8])>
 {
     let (word, rest) = cut(bytes, separator)?;
     Some((UserId::of(word)?, rest))
-}
-
-/// A number of 64 bits that a separator ends, and what stands behind it.
-pub fn u64_at(bytes: &[u8], separator: u8) -> Option<(u64, &[u8])>
-    ensures { option_map (λ p. (p.0, p.1.now)) result
-        ≡ number_at (2 ^ 64) separator bytes.now }
-{
-    let (word, rest) = cut(bytes, separator)?;
-    Some((read_u64(word)?, rest))
-}
-
-/// One of 32 bits.
-pub fn u32_at(bytes: &[u8], separator: u8) -> Option<(u32, &[u8])>
-    ensures { option_map (λ p. (p.0, p.1.now)) result
-        ≡ number_at (2 ^ 32) separator bytes.now }
-{
-    let (word, rest) = cut(bytes, separator)?;
-    Some((read_u32(word)?, rest))
-}
-
-/// One of 16 bits.
-pub fn u16_at(bytes: &[u8], separator: u8) -> Option<(u16, &[u8])>
-    ensures { option_map (λ p. (p.0, p.1.now)) result
-        ≡ number_at (2 ^ 16) separator bytes.now }
-{
-    let (word, rest) = cut(bytes, separator)?;
-    Some((read_u16(word)?, rest))
-}
-
-/// One of 8 bits.
-pub fn u8_at(bytes: &[u8], separator: u8) -> Option<(u8, &[u8])>
-    ensures { option_map (λ p. (p.0, p.1.now)) result
-        ≡ number_at (2 ^ 8) separator bytes.now }
-{
-    let (word, rest) = cut(bytes, separator)?;
-    Some((read_u8(word)?, rest))
-}
-
-/// Appends a number in decimal.
-pub fn push_number(number: u64, out: &mut Vec<u8>) -> Result<(), AllocError>
-    ensures { OnOk result (out.new.items ≡ out.old.items ++ decimal number) }
-{
-    push_decimal(number, out)
 }
 
 /// Appends a user's name.
@@ -169,7 +126,7 @@ pub fn push_object(object: Object, out: &mut Vec<u8>) -> Result<(), AllocError>
     ensures { OnOk result (out.new.items ≡ out.old.items ++ object_text object) }
 {
     match object {
-        Object::Window(window) => push_number(u64::from(window), out),
+        Object::Window(window) => push_decimal(u64::from(window), out),
         Object::Command(command) => push_command(command, out),
     }
 }

@@ -13,16 +13,13 @@ ghost use Rattle.trail_lines.specs.Replies.{acl_fault, windows_fault, regions_fa
 ghost use Rattle.trail_lines.specs.Replies.{line_in, why_text, plain_in, caused_in, why_in};
 ghost use Rattle.trail_lines.specs.Replies.{reply_text, finished_in, reply_in};
 
-use crate::parts::{
-    mark, push_command, push_name, push_number, read_bit, read_object, u8_at, u32_at, u64_at,
-    user_at,
-};
+use crate::parts::{mark, push_command, push_name, read_bit, read_object, user_at};
 use acl::{AclFault, Edition, Leaders, Object, UserId};
 use command_lang::{FaultKind, ParseFault};
 use hub_trail::{Ending, Finished};
-use line_fields::{cut, next_word, read_u8, read_u64};
+use line_fields::{cut, next_word, read_u8, read_u64, u8_at, u32_at, u64_at};
 use regions::RegionFault;
-use session_model::{Denied, EntryDenied, LockDenied, Refusal, WindowsFault};
+use session_model::{Denied, EntryDenied, LockDenied, Refusal, WindowsFault, push_decimal};
 use std::alloc::AllocError;
 
 /// Appends names, each behind a comma.
@@ -87,9 +84,9 @@ fn push_denied(on: Denied, out: &mut Vec<u8>) -> Result<(), AllocError>
 {
     match on {
         Denied::Window { serial, number } => {
-            push_number(u64::from(serial), out)?;
+            push_decimal(u64::from(serial), out)?;
             out.extend_from_slice(b":")?;
-            push_number(u64::from(number), out)?;
+            push_decimal(u64::from(number), out)?;
             out.extend_from_slice(b":")
         }
         Denied::Command(command) => {
@@ -237,9 +234,9 @@ fn push_lock_denied(denied: &LockDenied, out: &mut Vec<u8>) -> Result<(), AllocE
     ensures { OnOk result (out.new.items ≡ out.old.items ++ why_text (refusal.LockDenied denied.now)) }
 {
     out.extend_from_slice(b"lock:")?;
-    push_number(u64::from(denied.serial), out)?;
+    push_decimal(u64::from(denied.serial), out)?;
     out.extend_from_slice(b":")?;
-    push_number(u64::from(denied.number), out)?;
+    push_decimal(u64::from(denied.number), out)?;
     out.extend_from_slice(b":")?;
     push_name(denied.holder, out)
 }
@@ -249,9 +246,9 @@ fn push_line_fault(fault: ParseFault, out: &mut Vec<u8>) -> Result<(), AllocErro
     ensures { OnOk result (out.new.items ≡ out.old.items ++ why_text (refusal.Line fault)) }
 {
     out.extend_from_slice(b"line:")?;
-    push_number(u64::from(fault.number()), out)?;
+    push_decimal(u64::from(fault.number()), out)?;
     out.extend_from_slice(b":")?;
-    push_number(fault.place() as u64, out)
+    push_decimal(fault.place() as u64, out)
 }
 
 /// Appends why a step was refused.
@@ -269,16 +266,16 @@ fn push_why(refusal: &Refusal, out: &mut Vec<u8>) -> Result<(), AllocError>
         Refusal::BadSize => out.extend_from_slice(b"size"),
         Refusal::Acl(fault) => {
             out.extend_from_slice(b"acl:")?;
-            push_number(u64::from(fault.number()), out)
+            push_decimal(u64::from(fault.number()), out)
         }
         Refusal::Windows(fault) => {
             out.extend_from_slice(b"windows:")?;
-            push_number(u64::from(fault.number()), out)
+            push_decimal(u64::from(fault.number()), out)
         }
         Refusal::Line(fault) => push_line_fault(*fault, out),
         Refusal::Regions(fault) => {
             out.extend_from_slice(b"regions:")?;
-            push_number(u64::from(fault.number()), out)
+            push_decimal(u64::from(fault.number()), out)
         }
     }
 }
@@ -344,11 +341,11 @@ pub fn push_reply(reply: &Ending, out: &mut Vec<u8>) -> Result<(), AllocError>
     match reply {
         Ok(finished) => {
             out.extend_from_slice(b"ok:")?;
-            push_number(finished.taken as u64, out)?;
+            push_decimal(finished.taken as u64, out)?;
             out.extend_from_slice(b":")?;
-            push_number(u64::from(finished.made), out)?;
+            push_decimal(u64::from(finished.made), out)?;
             out.extend_from_slice(b":")?;
-            push_number(u64::from(finished.number), out)
+            push_decimal(u64::from(finished.number), out)
         }
         Err(refusal) => {
             out.extend_from_slice(b"no:")?;

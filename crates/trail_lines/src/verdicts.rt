@@ -4,12 +4,11 @@ ghost use Rattle.std.specs.Prelude.{◌≡◌, ◌++◌, OnOk};
 ghost use Rattle.trail_lines.specs.Acts.{verdict_text, lock_in, right_in, verdict_in};
 
 use crate::parts::{
-    push_change, push_name, push_number, push_object, push_user, read_change, read_object,
-    read_user, u32_at, user_at,
+    push_change, push_name, push_object, push_user, read_change, read_object, read_user, user_at,
 };
 use acl::UserId;
-use line_fields::cut;
-use session_model::Verdict;
+use line_fields::{cut, u32_at};
+use session_model::{Verdict, push_decimal};
 use std::alloc::AllocError;
 
 /// Appends a verdict.
@@ -36,7 +35,7 @@ pub fn push_verdict(verdict: &Verdict, out: &mut Vec<u8>) -> Result<(), AllocErr
         } => {
             push_name(user, out)?;
             out.extend_from_slice(b":lock:")?;
-            push_number(u64::from(window), out)?;
+            push_decimal(u64::from(window), out)?;
             out.extend_from_slice(b":")?;
             push_user(holder, out)
         }

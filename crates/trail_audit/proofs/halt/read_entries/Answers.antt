@@ -10,4 +10,4 @@ pub loop-number-preserved : goal.loop-number-preserved
 loop-number-preserved g c = λ edition owner fresh.
     let read = c.loop-number.invariant edition owner fresh in
     let next = c.in_default.ensures edition owner read.0 read.1 in
-    (read.0 ++ next.entry ∷ [], next.read)
+    (read.0 ++ c.in_default.field-0.entry ∷ [], next.read)

@@ -1,0 +1,6 @@
+pub mod Marks
+pub mod Deciding
+pub mod Leading
+pub mod Windows
+pub mod Seeing
+pub mod Watching

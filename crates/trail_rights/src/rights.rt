@@ -1,0 +1,57 @@
+//! Rights and locks after the acts of a history.
+
+ghost use Rattle.std.specs.Prelude.{◌≡◌, true, IfSome};
+ghost use Rattle.acl.specs.declared.edition.Edition.{Edition};
+ghost use Rattle.acl.specs.declared.user_id.UserId.{UserId};
+ghost use Rattle.acl.specs.History.{History, may, there};
+ghost use Rattle.writelock.specs.Holding.{holder};
+ghost use Rattle.hub_replay.specs.Following.{StandsAfter};
+
+use acl::{Bit, Object, UserId};
+use hub_replay::Replay;
+use session_model::Verdict;
+
+/// Whether the user has the bit on the object, which is there.
+pub fn may(replay: &Replay, user: UserId, bit: Bit, object: Object) -> bool
+    ensures { (edition : Edition) (owner : UserId) (h : History) →
+        StandsAfter replay.now edition owner h → there h object ≡ true →
+        result ≡ may edition owner h user bit object }
+{
+    replay.is_true(Verdict::Right {
+        user,
+        bit,
+        object,
+        answer: true,
+    })
+}
+
+/// Whether the lock of the window is held so.
+fn is_held(replay: &Replay, user: UserId, window: u32, held: Option<UserId>) -> bool
+    ensures { (edition : Edition) (owner : UserId) (h : History) →
+        StandsAfter replay.now edition owner h → result ≡ true →
+        held ≡ holder edition owner h window }
+{
+    replay.is_true(Verdict::Lock {
+        user,
+        window,
+        holder: held,
+    })
+}
+
+/// Who holds the lock of the window, or nobody, where that is a known user.
+pub fn holder(replay: &Replay, owner: UserId, window: u32) -> Option<Option<UserId>>
+    ensures { (edition : Edition) (owner : UserId) (h : History) →
+        StandsAfter replay.now edition owner h →
+        IfSome result (λ held. held ≡ holder edition owner h window) }
+{
+    if is_held(replay, owner, window, None) {
+        return Some(None);
+    }
+    for place in 0..replay.user_count() {
+        let user = replay.user_at(place);
+        if is_held(replay, owner, window, user) {
+            return Some(user);
+        }
+    }
+    None
+}

@@ -1,0 +1,94 @@
+//! The reading of a file's entries, of which the acts are seen.
+
+ghost use Rattle.std.specs.Prelude.{◌≡◌, List, [], IfOk};
+ghost use Rattle.acl.specs.declared.edition.Edition.{Edition};
+ghost use Rattle.acl.specs.declared.user_id.UserId.{UserId};
+ghost use Rattle.trail_lines.specs.Entries.{Said};
+ghost use Rattle.trail_audit.specs.Reading.{HasRead};
+ghost use Rattle.trail_rights.specs.Seeing.{HasSeen};
+ghost use Rattle.trail_rights.specs.Watching.{HasWatched, StandsAtEnd, TellsNext};
+
+use crate::sight::Sight;
+use std::io::{self, BufRead};
+use trail_audit::{Audit, Came, Halt, Wrong, next_line};
+
+/// Reads the lines of entries, judges them, and sees their acts.
+#[derive(Drop)]
+pub struct Watch {
+    audit: Audit,
+    sight: Sight,
+}
+
+/// Whether a line begins as a last one does.
+fn is_last(line: &[u8]) -> bool {
+    line.starts_with(b"end ")
+}
+
+impl Watch {
+    /// No line so far.
+    pub fn new(audit: Audit, sight: Sight) -> Watch
+        ensures { (edition : Edition) (owner : UserId) → HasRead audit edition owner [] →
+            HasSeen sight edition owner [] → HasWatched result edition owner [] }
+    {
+        Watch { audit, sight }
+    }
+
+    /// What was read.
+    pub fn audit(&self) -> &Audit
+        ensures { result.now ≡ self.now.audit }
+    {
+        &self.audit
+    }
+
+    /// What was seen.
+    pub fn sight(&self) -> &Sight
+        ensures { result.now ≡ self.now.sight }
+    {
+        &self.sight
+    }
+
+    /// Takes the line of the next entry, without its line feed. Behind an `Err` it stands for
+    /// nothing more.
+    pub fn take(&mut self, line: &[u8]) -> Result<(), Wrong>
+        ensures { (edition : Edition) (owner : UserId) (said : List Said) →
+            HasWatched self.old edition owner said →
+            TellsNext result self.new line.now edition owner said }
+    {
+        let said = self.audit.take(line)?;
+        self.sight.take(&said)?;
+        Ok(())
+    }
+}
+
+/// Reads the entries of a reader, the first of which stands in line 2, as far as the entry of the
+/// place `last`. What halts it stands in `line`.
+pub fn watch_entries<R: BufRead>(
+    watch: &mut Watch,
+    reader: &mut R,
+    line: &mut Vec<u8>,
+    last: u64,
+) -> io::Result<Halt>
+    ensures { (edition : Edition) (owner : UserId) → HasWatched watch.old edition owner [] →
+        IfOk result (λ halt. StandsAtEnd halt watch.new edition owner) }
+{
+    for number in 2..u64::MAX {
+        if watch.audit.count() > last {
+            return Ok(Halt::Nothing);
+        }
+        match next_line(reader, line)? {
+            Came::Whole => {}
+            Came::Torn => return Ok(Halt::Torn),
+            Came::Nothing => return Ok(Halt::Nothing),
+        }
+        if is_last(line.as_slice()) {
+            return Ok(Halt::Last { line: number });
+        }
+        if let Err(wrong) = watch.take(line.as_slice()) {
+            return Ok(Halt::Stopped {
+                line: number,
+                wrong,
+            });
+        }
+    }
+    Ok(Halt::Nothing)
+}
