@@ -1,4 +1,5 @@
-"""Prints how fast a server is: keys, echoes, output for many clients, memory, and what it does when idle.
+"""Prints how fast a server is: keys, echoes, output for many clients, memory, what it keeps of each step, and what it
+does when idle.
 
 python3 bench/server.py --muxd PATH [--loops N]. The server is started in a temporary folder, anew for each
 measure; all peers are sockets of this one process, so the times have its own share in them.
@@ -23,7 +24,7 @@ GUEST = b"bob"
 ROWS, COLS = 24, 80
 LONGEST = 8192
 MB = 1_000_000
-ATTACH, WINDOW, COMMAND, KEYS, OUTPUT = b"A", b"W", b"C", b"K", b"O"
+ATTACH, WINDOW, COMMAND, KEYS, OUTPUT, DETACH = b"A", b"W", b"C", b"K", b"O", b"D"
 WELCOME, DRAW, INPUT, GONE = b"y", b"d", b"i", b"g"
 
 
@@ -268,6 +269,35 @@ def at_rest(words, clients, idle):
         return server.memory(), (server.seconds() - before) * 1000
 
 
+def command_once(server):
+    peer = Peer(server.path, command(b"displays"))
+    peer.until(GONE)
+    peer.socket.close()
+
+
+def attach_once(server):
+    client = Peer(server.path, attach())
+    client.send(frame(DETACH, b""))
+    client.until(GONE)
+    client.socket.close()
+
+
+def type_once(server):
+    server.clients[0].send(frame(KEYS, b"x"))
+    server.window.until(INPUT)
+
+
+def bytes_kept(words, once, steps=5000):
+    """By how many bytes a step the server's memory grows, behind as many steps that came before."""
+    with Server(words, 1) as server:
+        for _ in range(steps):
+            once(server)
+        before = server.memory()
+        for _ in range(steps):
+            once(server)
+        return (server.memory() - before) * MB / steps
+
+
 def row(name, value, unit, asked=""):
     print(f"{name:52}{value:>10} {unit:4}{asked}", flush=True)
 
@@ -313,6 +343,9 @@ def main():
         memory, used = at_rest(words, clients, words.idle)
         row(f"memory, {clients} clients, 2,000 kept lines", f"{memory:.1f}", "MB", asked)
         row(f"  processor time of {words.idle:g} idle seconds", f"{used:.2f}", "ms")
+    for name, once, asked in (("a command that lists", command_once, 250), ("an attach and its detach", attach_once, 700),
+                              ("a key", type_once, 240)):
+        row(f"memory kept for {name}", f"{bytes_kept(words, once):.0f}", "B", f"asked: at most {asked}")
 
 
 if __name__ == "__main__":
