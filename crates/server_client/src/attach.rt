@@ -5,6 +5,7 @@ use crate::opening::{Opened, Way, number, open};
 use crate::refusals::explain;
 use crate::showing::show;
 use crate::standing::{Intake, Outlet, Shared, Standing};
+use crate::watching::stand_in;
 use attach_proto::{Reader, Side, Why};
 use clap::ArgMatches;
 use server_words::{of_client, tell};
@@ -61,26 +62,34 @@ fn shared_of<R: Net + Files<File = File> + AllocGlobal, I: Drop, O: Drop>(
             bytes: Vec::new(alloc),
             sizes: Vec::new(alloc),
             is_writing: false,
+            writings: 0,
+            is_watched: false,
             end: None,
             input: None,
             has_dropped: false,
         }),
         news: Condvar::new(),
+        begun: Condvar::new(),
     })
 }
 
-// Starts a thread that reads the socket and writes. Of two, one reads on while the other's writing
-// waits.
+// Starts a thread that reads the socket and writes, or one that does so only while the writing of
+// the first takes long.
 fn start_showing<
-    R: Threads + Wait + AllocGlobal + Copy + Send + 'static,
+    R: Threads + Wait + Clock + AllocGlobal + Copy + Send + 'static,
     I: Read + Send + Drop + 'static,
     O: Write + Send + Drop + 'static,
->(rt: &R, shared: &Arc<Shared<I, O>, Global>) -> Result<(), ClientFault> {
+>(rt: &R, shared: &Arc<Shared<I, O>, Global>, stands_in: bool) -> Result<(), ClientFault> {
     let theirs = Arc::try_clone(shared)?;
     let rt_there = *rt;
     let started = thread::spawn(rt, move || {
         let rt = rt_there;
-        if let Err(fault) = show(&rt, &theirs) {
+        let shown = if stands_in {
+            stand_in(&rt, &theirs)
+        } else {
+            show(&rt, &theirs)
+        };
+        if let Err(fault) = shown {
             theirs.end(&rt, Err(fault));
         }
     });
@@ -139,9 +148,9 @@ fn run<
 >(rt: &R, way: Way, matches: &ArgMatches, input: I, output: O) -> Result<Ending, ClientFault> {
     let _kept = fill_closed(rt)?;
     let shared = Arc::new(rt.alloc(), shared_of(rt, way, matches, input, output)?)?;
-    start_showing(rt, &shared)?;
+    start_showing(rt, &shared, false)?;
     if way == Way::Window {
-        start_showing(rt, &shared)?;
+        start_showing(rt, &shared, true)?;
     }
     Ok(wait_for_end(rt, &shared))
 }

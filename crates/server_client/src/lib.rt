@@ -8,5 +8,6 @@ mod refusals;
 mod sending;
 mod showing;
 mod standing;
+mod watching;
 
 pub use attach::client;

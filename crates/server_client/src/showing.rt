@@ -168,11 +168,22 @@ fn waiting<R: Wait + AllocGlobal, I, O>(
     }
     if standing.bytes.is_empty() && standing.sizes.is_empty() {
         standing.is_writing = false;
+        let has_ended = standing.end.is_some();
+        drop(standing);
+        if has_ended {
+            shared.news.notify_all();
+        }
         return None;
     }
     standing.is_writing = true;
+    standing.writings = standing.writings.wrapping_add(1);
+    let is_watched = mem::replace(&mut standing.is_watched, true);
     let bytes = mem::replace(&mut standing.bytes, Vec::new(rt.alloc()));
     let sizes = mem::replace(&mut standing.sizes, Vec::new(rt.alloc()));
+    drop(standing);
+    if !is_watched {
+        shared.begun.notify_all();
+    }
     Some((bytes, sizes))
 }
 
@@ -195,11 +206,35 @@ fn write_waiting<R: Wait + AllocGlobal, I, O: Write>(
         outlet.output.write_all(&bytes)?;
         outlet.output.flush()?;
     }
-    shared.news.notify_all();
     Ok(())
 }
 
-/// Reads and writes, in turn with the other threads that do so, until the peer ends.
+/// Reads the socket once, and writes what that brings. The answer is whether to go on.
+pub fn pass_on<
+    R: Threads + Wait + AllocGlobal + Copy + Send + 'static,
+    I: Read + Send + Drop + 'static,
+    O: Write + Send + Drop + 'static,
+>(rt: &R, shared: &Arc<Shared<I, O>, Global>, buffer: &mut [u8]) -> Result<bool, ClientFault> {
+    let end = match read_once(rt, shared, buffer)? {
+        Came::Some => {
+            write_waiting(rt, shared)?;
+            return Ok(true);
+        }
+        Came::End(end) => end,
+        Came::Nothing => return Ok(false),
+    };
+    // Nobody waits for a window's program for long: it may read no more.
+    if shared.way == Way::Window {
+        shared.end(rt, end);
+        write_waiting(rt, shared)?;
+    } else {
+        write_waiting(rt, shared)?;
+        shared.end(rt, end);
+    }
+    Ok(false)
+}
+
+/// Reads and writes until the peer ends.
 pub fn show<
     R: Threads + Wait + AllocGlobal + Copy + Send + 'static,
     I: Read + Send + Drop + 'static,
@@ -207,22 +242,9 @@ pub fn show<
 >(rt: &R, shared: &Arc<Shared<I, O>, Global>) -> Result<(), ClientFault> {
     let mut buffer = vec![in rt.alloc(); 0; LONGEST]?;
     for _ in rt.forever() {
-        let end = match read_once(rt, shared, buffer.as_mut_slice())? {
-            Came::Some => {
-                write_waiting(rt, shared)?;
-                continue;
-            }
-            Came::End(end) => end,
-            Came::Nothing => break,
-        };
-        // Nobody waits for a window's program for long: it may read no more.
-        if shared.way == Way::Window {
-            shared.end(rt, end);
-            return write_waiting(rt, shared);
+        if !pass_on(rt, shared, buffer.as_mut_slice())? {
+            break;
         }
-        write_waiting(rt, shared)?;
-        shared.end(rt, end);
-        break;
     }
     Ok(())
 }

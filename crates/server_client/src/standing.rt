@@ -18,6 +18,10 @@ pub struct Standing {
     pub sizes: Vec<u8>,
     /// A thread writes, and takes what waits before it stops.
     pub is_writing: bool,
+    /// How many writings began.
+    pub writings: u64,
+    /// Another thread looks from time to time whether a writing takes long.
+    pub is_watched: bool,
     pub end: Option<Result<Why, ClientFault>>,
     /// Why the input ended before its end.
     pub input: Option<ClientFault>,
@@ -58,8 +62,10 @@ pub struct Shared<I, O> {
     pub intake: Mutex<Intake<I>>,
     pub outlet: Mutex<Outlet<O>>,
     pub standing: Mutex<Standing>,
-    /// The peer ended, or nothing waits to be written.
+    /// The peer ended, or, behind its end, nothing waits to be written any more.
     pub news: Condvar,
+    /// A writing begins that nobody watches, or the peer ended.
+    pub begun: Condvar,
 }
 
 impl<I, O> Shared<I, O> {
@@ -86,5 +92,6 @@ impl<I, O> Shared<I, O> {
         }
         drop(standing);
         self.news.notify_all();
+        self.begun.notify_all();
     }
 }

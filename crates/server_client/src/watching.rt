@@ -1,0 +1,92 @@
+//! A window's second thread, which reads the socket while the writing of the first takes long.
+
+use crate::fault::ClientFault;
+use crate::showing::pass_on;
+use crate::standing::Shared;
+use attach_proto::LONGEST;
+use std::alloc::Global;
+use std::io::{Read, Write};
+use std::sync::{Arc, Wait};
+use std::thread::Threads;
+use std::time::{Clock, Duration};
+
+// A writing takes long that doesn't end within so many milliseconds.
+const PERIOD: u64 = 100;
+
+// After so many periods without a writing, nothing is looked at until the next one.
+const IDLE: u32 = 20;
+
+// Waits until a writing takes long: its number. None where the peer ended.
+fn wait_for_stuck<R: Wait + Clock, I, O>(rt: &R, shared: &Shared<I, O>) -> Option<u64> {
+    let begun = &shared.begun;
+    let mut standing = shared.standing.lock(rt);
+    let mut idle = 0u32;
+    for _ in rt.forever() {
+        standing = begun.wait_while(rt, standing, |s| !s.is_watched && s.end.is_none());
+        let seen = standing.writings;
+        let period = Duration::from_millis(PERIOD);
+        standing = begun
+            .wait_timeout_while(rt, standing, period, |s| s.end.is_none())
+            .0;
+        if standing.end.is_some() {
+            return None;
+        }
+        if standing.writings != seen {
+            idle = 0;
+        } else if standing.is_writing {
+            return Some(seen);
+        } else if idle < IDLE {
+            idle += 1;
+        } else {
+            idle = 0;
+            standing.is_watched = false;
+        }
+    }
+    None
+}
+
+// Whether the writing of this number goes on.
+fn is_stuck<R: Wait, I, O>(rt: &R, shared: &Shared<I, O>, number: u64) -> bool {
+    let standing = shared.standing.lock(rt);
+    standing.is_writing && standing.writings == number
+}
+
+// Reads and writes until the writing of this number ends. The answer is whether to go on.
+fn read_on<
+    R: Threads + Wait + AllocGlobal + Copy + Send + 'static,
+    I: Read + Send + Drop + 'static,
+    O: Write + Send + Drop + 'static,
+>(
+    rt: &R,
+    shared: &Arc<Shared<I, O>, Global>,
+    number: u64,
+    buffer: &mut [u8],
+) -> Result<bool, ClientFault> {
+    for _ in rt.forever() {
+        if !pass_on(rt, shared, buffer)? {
+            return Ok(false);
+        }
+        if !is_stuck(rt, shared, number) {
+            return Ok(true);
+        }
+    }
+    Ok(false)
+}
+
+/// Reads and writes for another thread while its writing takes long, until the peer ends.
+pub fn stand_in<
+    R: Threads + Wait + Clock + AllocGlobal + Copy + Send + 'static,
+    I: Read + Send + Drop + 'static,
+    O: Write + Send + Drop + 'static,
+>(rt: &R, shared: &Arc<Shared<I, O>, Global>) -> Result<(), ClientFault> {
+    let mut buffer = vec![in rt.alloc(); 0; LONGEST]?;
+    for _ in rt.forever() {
+        let Some(number) = wait_for_stuck(rt, shared) else {
+            break;
+        };
+        if !read_on(rt, shared, number, buffer.as_mut_slice())? {
+            break;
+        }
+    }
+    Ok(())
+}
