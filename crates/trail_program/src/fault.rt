@@ -13,6 +13,10 @@ pub enum Fault {
     NoHeader(u64),
     #[error("line {0}: no line of a trail is spelled so")]
     NoLine(u64),
+    #[error("it has {0} entries")]
+    NoPlace(u64),
+    #[error("it was changed while it was read")]
+    Changed,
     #[error("out of memory")]
     NoMemory,
 }

@@ -1,10 +1,16 @@
-//! What `mux-trail` does with a trail's file: judges it, and shows it.
+//! What `mux-trail` does with a trail's file: judges it, shows it, and tells rights and reasons.
 #![tactic(auto)]
 
 mod check;
 mod fault;
+mod heading;
+mod json;
+mod pass;
 mod program;
 mod show;
+mod texts;
+mod who;
+mod why;
 mod words;
 
 pub use program::trail;

@@ -2,16 +2,21 @@
 
 use crate::check::{Finish, check_lines};
 use crate::fault::Fault;
-use crate::show::{show_lines, time_of};
-use crate::words::{owner_of, read_words};
-use acl::UserId;
-use clap::error::ErrorKind;
+use crate::heading::header_of;
+use crate::pass::{Pass, Search, read_pass};
+use crate::show::{Form, show_lines, time_of};
+use crate::texts::text_of;
+use crate::who::{users_of, write_rights};
+use crate::why::{Question, write_reasons};
+use crate::words::{Asked, asked_of, read_words};
+use acl::{Leaders, UserId};
 use clap::{ArgMatches, Error};
 use std::alloc::Global;
 use std::io::{BufRead, BufReader, Write};
 use std::rt::Files;
 use std::{fs, str};
-use trail_audit::{Audit, Came, Header, Wrong, next_line, read_header};
+use trail_audit::{Audit, Halt, Wrong};
+use trail_rights::{Decider, Led};
 
 /// The file is legal, and whole.
 const LEGAL: u8 = 0;
@@ -24,23 +29,6 @@ const TROUBLE: u8 = 2;
 
 /// The entries are legal, and no last line stands behind them.
 const UNENDED: u8 = 3;
-
-/// The first line of a file.
-fn header_of<R: BufRead>(alloc: Global, reader: &mut R) -> Result<Header, Fault> {
-    let mut line = Vec::new(alloc);
-    let Came::Whole = next_line(reader, &mut line)? else {
-        return Err(Fault::NoHeader(1));
-    };
-    match read_header(alloc, line.as_slice()) {
-        Ok(header) => Ok(header),
-        Err(_) => Err(Fault::NoHeader(1)),
-    }
-}
-
-/// A name as text.
-fn text_of(user: &UserId) -> &str {
-    str::from_utf8(user.as_bytes()).unwrap_or("?")
-}
 
 /// Writes what is wrong with an entry's line.
 fn tell_wrong<W: Write>(
@@ -124,15 +112,125 @@ fn check<R: BufRead, W: Write>(
 }
 
 /// Shows a file.
-fn show<R: BufRead, W: Write>(alloc: Global, reader: &mut R, output: &mut W) -> Result<u8, Fault> {
+fn show<R: BufRead, W: Write>(
+    alloc: Global,
+    form: Form,
+    reader: &mut R,
+    output: &mut W,
+) -> Result<u8, Fault> {
     let header = header_of(alloc, reader)?;
-    let owner = text_of(&header.owner);
-    write!(output, "owner {owner}")?;
-    if let Some(time) = time_of(header.ms) {
-        write!(output, ", begun at {time}")?;
+    if form == Form::Plain {
+        let owner = text_of(&header.owner);
+        write!(output, "owner {owner}")?;
+        if let Some(time) = time_of(header.ms) {
+            write!(output, ", begun at {time}")?;
+        }
+        writeln!(output)?;
     }
-    writeln!(output)?;
-    show_lines(alloc, reader, output)?;
+    show_lines(alloc, form, reader, output)?;
+    Ok(LEGAL)
+}
+
+/// A pass over a file as far as the entry of the place `last`, looking for what the search names.
+fn pass<R: Files + AllocGlobal>(
+    rt: &R,
+    asked: &Asked<'_>,
+    search: Search,
+    last: u64,
+) -> Result<Pass, Fault> {
+    let file = fs::open(rt, asked.path)?;
+    let mut reader = BufReader::new(rt.alloc(), file)?;
+    read_pass(rt.alloc(), asked.owner, &mut reader, search, last)
+}
+
+/// The place of the last entry that a pass is to read: what stands behind it doesn't count.
+fn last_of(pass: &Pass) -> u64 {
+    pass.watch.audit().count().saturating_sub(1)
+}
+
+/// Writes what is wrong in a file, or that it has no entry of the place asked for; nothing where
+/// all is well.
+fn tell_pass<W: Write>(
+    pass: &Pass,
+    place: Option<u64>,
+    output: &mut W,
+) -> Result<Option<u8>, Fault> {
+    let count = pass.watch.audit().count();
+    if let Halt::Stopped { line, wrong } = pass.halt {
+        let status = tell_wrong(line, wrong, count, pass.owner, output)?;
+        return Ok(Some(status));
+    }
+    match place {
+        Some(place) if place >= count => Err(Fault::NoPlace(count)),
+        _ => Ok(None),
+    }
+}
+
+/// Writes who may do what.
+fn who<R: Files + AllocGlobal, W: Write>(
+    rt: &R,
+    asked: &Asked<'_>,
+    output: &mut W,
+) -> Result<u8, Fault> {
+    let alloc = rt.alloc();
+    let last = asked.place.unwrap_or(u64::MAX);
+    let first = pass(rt, asked, Search::none(alloc), last)?;
+    if let Some(status) = tell_pass(&first, asked.place, output)? {
+        return Ok(status);
+    }
+    let mut search = Search::none(alloc);
+    for user in &users_of(alloc, first.watch.audit().replay())? {
+        search.leds.push(Led::new(*user))?;
+    }
+    let second = pass(rt, asked, search, last_of(&first))?;
+    if second.watch.audit().count() != first.watch.audit().count() {
+        return Err(Fault::Changed);
+    }
+    write_rights(alloc, &second, output)?;
+    Ok(LEGAL)
+}
+
+/// The leaders of the only user whose leaders a pass has looked for.
+fn leaders_in(pass: &Pass) -> Leaders {
+    match pass.watch.sight().leds() {
+        [led, ..] => led.leaders().unwrap_or(Leaders::none()),
+        [] => Leaders::none(),
+    }
+}
+
+/// Writes which acts decide a bit.
+fn why<R: Files + AllocGlobal, W: Write>(
+    rt: &R,
+    asked: &Asked<'_>,
+    question: Question,
+    output: &mut W,
+) -> Result<u8, Fault> {
+    let alloc = rt.alloc();
+    let mut search = Search::none(alloc);
+    search.leds.push(Led::new(question.user))?;
+    let first = pass(rt, asked, search, asked.place.unwrap_or(u64::MAX))?;
+    if let Some(status) = tell_pass(&first, asked.place, output)? {
+        return Ok(status);
+    }
+    let Question { user, bit, object } = question;
+    let leaders = leaders_in(&first);
+    let mut search = Search::none(alloc);
+    search.leds.push(Led::new(user))?;
+    let owner = first.owner;
+    search
+        .deciders
+        .push(Decider::new(owner, user, bit, object))?;
+    for leader in leaders.as_slice() {
+        search
+            .deciders
+            .push(Decider::new(owner, *leader, bit, object))?;
+    }
+    let second = pass(rt, asked, search, last_of(&first))?;
+    let counts = (first.watch.audit().count(), second.watch.audit().count());
+    if counts.0 != counts.1 || leaders_in(&second) != leaders {
+        return Err(Fault::Changed);
+    }
+    write_reasons(alloc, &second, question, output)?;
     Ok(LEGAL)
 }
 
@@ -140,15 +238,20 @@ fn show<R: BufRead, W: Write>(alloc: Global, reader: &mut R, output: &mut W) -> 
 fn run<R: Files + AllocGlobal, W: Write>(
     rt: &R,
     way: &str,
-    owner: Option<UserId>,
-    path: &str,
+    asked: &Asked<'_>,
     output: &mut W,
 ) -> Result<u8, Fault> {
-    let file = fs::open(rt, path)?;
+    if way == "who" {
+        return who(rt, asked, output);
+    }
+    if let Some(question) = asked.question {
+        return why(rt, asked, question, output);
+    }
+    let file = fs::open(rt, asked.path)?;
     let mut reader = BufReader::new(rt.alloc(), file)?;
     match way {
-        "check" => check(rt.alloc(), owner, &mut reader, output),
-        _ => show(rt.alloc(), &mut reader, output),
+        "check" => check(rt.alloc(), asked.owner, &mut reader, output),
+        _ => show(rt.alloc(), asked.form, &mut reader, output),
     }
 }
 
@@ -164,8 +267,8 @@ fn tell<W: Write, E: Write>(error: &Error, output: &mut W, errors: &mut E) -> u8
     }
 }
 
-/// What the words ask of a file.
-fn asked<R: Files + AllocGlobal, W: Write, E: Write>(
+/// Does what the words ask of a file.
+fn do_asked<R: Files + AllocGlobal, W: Write, E: Write>(
     rt: &R,
     matches: &ArgMatches,
     output: &mut W,
@@ -174,29 +277,29 @@ fn asked<R: Files + AllocGlobal, W: Write, E: Write>(
     let Some((way, words)) = matches.subcommand() else {
         return TROUBLE;
     };
-    let owner = match owner_of(words) {
-        Some(None) => {
-            let _ = writeln!(errors, "mux-trail: the owner is no name");
+    let asked = match asked_of(way, words) {
+        Ok(asked) => asked,
+        Err(mistake) => {
+            let _ = writeln!(errors, "mux-trail: {mistake}");
             return TROUBLE;
         }
-        Some(owner) => owner,
-        None => None,
     };
-    let path = words.get_str("file").unwrap_or("");
-    match run(rt, way, owner, path, output) {
+    match run(rt, way, &asked, output) {
         Ok(status) => status,
         Err(fault) => {
+            let path = asked.path;
             let _ = writeln!(errors, "mux-trail: {path}: {fault}");
             match fault {
                 Fault::NoHeader(_) | Fault::NoLine(_) => ILLEGAL,
-                Fault::Io(_) | Fault::NoMemory => TROUBLE,
+                Fault::Io(_) | Fault::NoPlace(_) | Fault::Changed | Fault::NoMemory => TROUBLE,
             }
         }
     }
 }
 
-/// `mux-trail check|show FILE`: the status is 0 for a legal file that is whole, 1 for one that isn't
-/// legal, 2 for words or a file that can't be read, 3 for legal entries without a last line.
+/// `mux-trail check|show|who|why FILE`: the status is 0 for a legal file that is whole, and for what
+/// was shown; 1 for a file that isn't legal, 2 for words or a file that can't be read, 3 for legal
+/// entries without a last line.
 pub fn trail<R: Files + AllocGlobal, W: Write, E: Write>(
     rt: &R,
     words: &[String],
@@ -207,5 +310,5 @@ pub fn trail<R: Files + AllocGlobal, W: Write, E: Write>(
         Ok(matches) => matches,
         Err(error) => return tell(&error, output, errors),
     };
-    asked(rt, &matches, output, errors)
+    do_asked(rt, &matches, output, errors)
 }

@@ -1,6 +1,7 @@
 //! A trail's lines, with times that are read.
 
 use crate::fault::Fault;
+use crate::json::{write_end, write_entry};
 use jiff::Timestamp;
 use std::alloc::Global;
 use std::io::{BufRead, Write};
@@ -36,9 +37,42 @@ fn behind_times(text: &[u8]) -> &[u8] {
     rest
 }
 
-/// Writes the lines of a reader behind the first one.
+/// How lines are shown.
+#[derive(Clone, Copy, PartialEq, Eq, Debug)]
+pub enum Form {
+    /// As the file has them, with times that are read.
+    Plain,
+    /// As objects of JSON.
+    Json,
+}
+
+/// Writes a last line, which stands in `text`.
+fn show_end<W: Write>(
+    alloc: Global,
+    form: Form,
+    text: &[u8],
+    output: &mut W,
+) -> Result<bool, Fault> {
+    let ended = match read_end(alloc, text) {
+        Ok(ended) => ended,
+        Err(Unread::NoMemory) => return Err(Fault::NoMemory),
+        Err(Unread::Malformed) => return Ok(false),
+    };
+    match form {
+        Form::Json => write_end(&ended, output)?,
+        Form::Plain => {
+            output.write_all(text)?;
+            output.write_all(b"\n")?;
+        }
+    }
+    Ok(true)
+}
+
+/// Writes the lines of a reader behind the first one, each as soon as it is read, as far as the
+/// last one.
 pub fn show_lines<R: BufRead, W: Write>(
     alloc: Global,
+    form: Form,
     reader: &mut R,
     output: &mut W,
 ) -> Result<(), Fault> {
@@ -49,16 +83,20 @@ pub fn show_lines<R: BufRead, W: Write>(
             Came::Torn | Came::Nothing => return Ok(()),
         }
         match read_line(alloc, text.as_slice()) {
-            Ok(line) => show_line(&line, text.as_slice(), output)?,
+            Ok(line) => match form {
+                Form::Plain => show_line(&line, text.as_slice(), output)?,
+                Form::Json => write_entry(&line, text.as_slice(), output)?,
+            },
             Err(Unread::NoMemory) => return Err(Fault::NoMemory),
             Err(Unread::Malformed) => {
-                if read_end(alloc, text.as_slice()).is_err() {
+                if !show_end(alloc, form, text.as_slice(), output)? {
                     return Err(Fault::NoLine(number));
                 }
-                output.write_all(text.as_slice())?;
-                output.write_all(b"\n")?;
+                output.flush()?;
+                return Ok(());
             }
         }
+        output.flush()?;
     }
     Ok(())
 }

@@ -1,0 +1,102 @@
+//! Entries as objects of JSON (RFC 8259), one a line.
+
+use crate::fault::Fault;
+use crate::show::time_of;
+use hub_record::KeptRef;
+use std::io::Write;
+use trail_audit::Ended;
+use trail_lines::Line;
+
+/// Writes bytes 20 to 7E as a string.
+fn write_string<W: Write>(bytes: &[u8], output: &mut W) -> Result<(), Fault> {
+    output.write_all(b"\"")?;
+    for byte in bytes {
+        if *byte == b'"' || *byte == b'\\' {
+            output.write_all(b"\\")?;
+        }
+        output.write_all(&[*byte])?;
+    }
+    output.write_all(b"\"")?;
+    Ok(())
+}
+
+/// Writes a time: milliseconds since 1970, and where it can be the form of RFC 3339.
+fn write_time<W: Write>(ms: u64, output: &mut W) -> Result<(), Fault> {
+    write!(output, ",\"ms\":{ms}")?;
+    if let Some(time) = time_of(ms) {
+        write!(output, ",\"time\":\"{time}\"")?;
+    }
+    Ok(())
+}
+
+/// How many words an event has.
+fn words_of(event: KeptRef<'_>) -> usize {
+    match event {
+        KeptRef::Attach { .. } | KeptRef::Command { .. } => 4,
+        KeptRef::Open { .. } => 6,
+        KeptRef::Detach { .. } | KeptRef::Keys { .. } | KeptRef::Closed { .. } => 2,
+    }
+}
+
+/// Writes the words of an event as a list.
+fn write_event<W: Write>(text: &[u8], count: usize, output: &mut W) -> Result<(), Fault> {
+    output.write_all(b",\"event\":[")?;
+    let mut is_first = true;
+    for word in text.split(|byte| *byte == b' ').skip(2).take(count) {
+        if !is_first {
+            output.write_all(b",")?;
+        }
+        is_first = false;
+        write_string(word, output)?;
+    }
+    output.write_all(b"]")?;
+    Ok(())
+}
+
+/// Writes the words behind a reply that begin with a mark as a list, without their mark.
+fn write_notes<W: Write>(text: &[u8], count: usize, mark: u8, output: &mut W) -> Result<(), Fault> {
+    output.write_all(b"[")?;
+    let mut is_first = true;
+    for word in text.split(|byte| *byte == b' ').skip(count) {
+        let [begin, rest @ ..] = word else {
+            continue;
+        };
+        if *begin != mark {
+            continue;
+        }
+        if !is_first {
+            output.write_all(b",")?;
+        }
+        is_first = false;
+        write_string(rest, output)?;
+    }
+    output.write_all(b"]")?;
+    Ok(())
+}
+
+/// Writes an entry, whose line this is.
+pub fn write_entry<W: Write>(line: &Line, text: &[u8], output: &mut W) -> Result<(), Fault> {
+    let count = words_of(line.entry.event().get());
+    write!(output, "{{\"place\":{}", line.place)?;
+    write_time(line.ms, output)?;
+    write_event(text, count, output)?;
+    output.write_all(b",\"reply\":")?;
+    let reply = text.split(|byte| *byte == b' ').nth(2 + count);
+    write_string(reply.unwrap_or(b""), output)?;
+    output.write_all(b",\"checks\":")?;
+    write_notes(text, 3 + count, b'?', output)?;
+    output.write_all(b",\"acts\":")?;
+    write_notes(text, 3 + count, b'!', output)?;
+    output.write_all(b"}\n")?;
+    Ok(())
+}
+
+/// Writes a last line.
+pub fn write_end<W: Write>(ended: &Ended, output: &mut W) -> Result<(), Fault> {
+    write!(output, "{{\"end\":{}", ended.entries)?;
+    write_time(ended.ms, output)?;
+    output.write_all(b",\"why\":")?;
+    write_string(ended.cause.word(), output)?;
+    output.write_all(b"}\n")?;
+    Ok(())
+}

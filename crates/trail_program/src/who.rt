@@ -1,0 +1,103 @@
+//! Who may do what after a file's entries.
+
+use crate::fault::Fault;
+use crate::pass::Pass;
+use crate::texts::text_of;
+use acl::{Bit, CommandName, Object, UserId};
+use command_lang::name_text;
+use hub_replay::Replay;
+use std::alloc::Global;
+use std::io::Write;
+use trail_rights::{Led, holder, may};
+
+/// The known users, the owner first.
+pub fn users_of(alloc: Global, replay: &Replay) -> Result<Vec<UserId>, Fault> {
+    let mut users = Vec::new(alloc);
+    for place in 0..replay.user_count() {
+        if let Some(user) = replay.user_at(place) {
+            users.push(user)?;
+        }
+    }
+    Ok(users)
+}
+
+/// Writes a user and his leaders.
+fn write_user<W: Write>(led: &Led, output: &mut W) -> Result<(), Fault> {
+    let user = led.user();
+    write!(output, "user {}", text_of(&user))?;
+    if let Some(leaders) = led.leaders() {
+        for leader in leaders.as_slice() {
+            write!(output, " led by {}", text_of(leader))?;
+        }
+    }
+    writeln!(output)?;
+    Ok(())
+}
+
+/// The letter of a bit that a user has, or a hyphen.
+fn letter(replay: &Replay, user: UserId, bit: Bit, object: Object) -> char {
+    if !may(replay, user, bit, object) {
+        return '-';
+    }
+    match bit {
+        Bit::Read => 'r',
+        Bit::Write => 'w',
+        Bit::Execute => 'x',
+    }
+}
+
+/// Writes a window: who holds its lock, and each user's bits.
+fn write_window<W: Write>(
+    pass: &Pass,
+    users: &[UserId],
+    window: u32,
+    output: &mut W,
+) -> Result<(), Fault> {
+    let replay = pass.watch.audit().replay();
+    write!(output, "window {window}")?;
+    match holder(replay, pass.owner, window) {
+        Some(Some(user)) => write!(output, " held by {}", text_of(&user))?,
+        Some(None) => {}
+        None => write!(output, " held by ?")?,
+    }
+    for user in users {
+        let object = Object::Window(window);
+        let name = text_of(user);
+        let read = letter(replay, *user, Bit::Read, object);
+        let write = letter(replay, *user, Bit::Write, object);
+        let execute = letter(replay, *user, Bit::Execute, object);
+        write!(output, " {name}:{read}{write}{execute}")?;
+    }
+    writeln!(output)?;
+    Ok(())
+}
+
+/// Writes the commands on which a user has x.
+fn write_commands<W: Write>(replay: &Replay, user: UserId, output: &mut W) -> Result<(), Fault> {
+    write!(output, "commands {}", text_of(&user))?;
+    for command in &CommandName::ALL {
+        if may(replay, user, Bit::Execute, Object::Command(*command)) {
+            write!(output, " {}", name_text(*command))?;
+        }
+    }
+    writeln!(output)?;
+    Ok(())
+}
+
+/// Writes users with their leaders, windows with their holders and rights, and commands.
+pub fn write_rights<W: Write>(alloc: Global, pass: &Pass, output: &mut W) -> Result<(), Fault> {
+    let count = pass.watch.audit().count();
+    writeln!(output, "entries {count}")?;
+    for led in pass.watch.sight().leds() {
+        write_user(led, output)?;
+    }
+    let replay = pass.watch.audit().replay();
+    let users = users_of(alloc, replay)?;
+    for window in pass.watch.sight().windows() {
+        write_window(pass, users.as_slice(), *window, output)?;
+    }
+    for user in &users {
+        write_commands(replay, *user, output)?;
+    }
+    Ok(())
+}
