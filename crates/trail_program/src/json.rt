@@ -76,17 +76,20 @@ fn write_notes<W: Write>(text: &[u8], count: usize, mark: u8, output: &mut W) ->
 
 /// Writes an entry, whose line this is.
 pub fn write_entry<W: Write>(line: &Line, text: &[u8], output: &mut W) -> Result<(), Fault> {
+    // Behind the place, the time and the event's words.
     let count = words_of(line.entry.event().get());
+    let reply_at = count.saturating_add(2);
+    let notes_at = reply_at.saturating_add(1);
     write!(output, "{{\"place\":{}", line.place)?;
     write_time(line.ms, output)?;
     write_event(text, count, output)?;
     output.write_all(b",\"reply\":")?;
-    let reply = text.split(|byte| *byte == b' ').nth(2 + count);
+    let reply = text.split(|byte| *byte == b' ').nth(reply_at);
     write_string(reply.unwrap_or(b""), output)?;
     output.write_all(b",\"checks\":")?;
-    write_notes(text, 3 + count, b'?', output)?;
+    write_notes(text, notes_at, b'?', output)?;
     output.write_all(b",\"acts\":")?;
-    write_notes(text, 3 + count, b'!', output)?;
+    write_notes(text, notes_at, b'!', output)?;
     output.write_all(b"}\n")?;
     Ok(())
 }
