@@ -30,56 +30,83 @@ fn frame(alloc: Global, kind: u8, piece: &[u8], times: usize) -> Result<Vec<u8>,
     Ok(bytes)
 }
 
-/// A window prints 8,000 bytes in one frame, and a client types 1,000 commands in one and then a
-/// letter; another client types a letter.
+// A window asks for its state, as output.
+const ASK: &[u8] = b"O\0\x04\x1b[5n";
+
+/// A window prints 8,000 bytes between two questions for its state, and a client types 1,000
+/// commands in one frame and then a letter; another client types a letter.
 #[derive(Drop)]
 struct Busy;
 
-impl Play for Busy {
-    /// How many turns it took until the window's program had the other client's letter, and until
-    /// it had the first one's; and whether each turn left something to do.
-    type Left = (usize, usize, bool);
+/// What came of it.
+#[derive(Drop)]
+struct Shares {
+    /// What the window's program has behind the first turn, and behind the second.
+    first: Vec<u8>,
+    second: Vec<u8>,
+    /// How many turns it took until it had the first client's letter.
+    turns: usize,
+    /// Whether each turn before left something to do.
+    is_due: bool,
+}
 
-    fn play<L: Roll, R: Wait>(
-        &mut self,
-        rt: &R,
-        stage: &mut Stage<L>,
-    ) -> Result<(usize, usize, bool), Stop> {
+impl Play for Busy {
+    type Left = Shares;
+
+    fn play<L: Roll, R: Wait>(&mut self, rt: &R, stage: &mut Stage<L>) -> Result<Shares, Stop> {
         let alloc = stage.alloc;
         let window = stage.connect(Habit::Whole, WINDOW)?;
         stage.turns(rt, 2);
         let first = stage.connect(Habit::Whole, ATTACH)?;
         let second = stage.connect(Habit::Whole, ATTACH)?;
         stage.turns(rt, 2);
+        window.send(ASK)?;
         window.send(&frame(alloc, b'O', b"y", 8_000)?)?;
+        window.send(ASK)?;
         first.send(&frame(alloc, b'K', b"\x01n", 1_000)?)?;
         first.send(b"K\0\x01a")?;
         second.send(b"K\0\x01b")?;
         stage.turns(rt, 1);
-        let (mut others, mut own, mut is_due) = (0, 0, true);
-        for turn in 1..2_000 {
+        let mut shares = Shares {
+            first: typed(alloc, &window)?,
+            second: Vec::new(alloc),
+            turns: 1,
+            is_due: true,
+        };
+        for turn in 2..2_000 {
+            shares.is_due = shares.is_due && stage.own.peers.is_due();
+            stage.quiet_turn(rt);
             let typed = typed(alloc, &window)?;
-            if others == 0 && typed.contains(&b'b') {
-                others = turn;
-            }
+            shares.turns = turn;
             if typed.contains(&b'a') {
-                own = turn;
                 break;
             }
-            is_due = is_due && stage.own.peers.is_due();
-            stage.quiet_turn(rt);
+            if turn == 2 {
+                shares.second = typed;
+            }
         }
-        Ok((others, own, is_due))
+        Ok(shares)
     }
 }
 
 #[test]
 fn nobody_waits_for_anothers_commands(rt: HostRuntime) -> Result<(), Fail> {
-    let ((others, own, is_due), _) = perform(&rt, rt.alloc(), &mut Busy)?;
-    assert_eq!(rt; others, 1, "the other's letter comes in the first turn");
+    let (shares, _) = perform(&rt, rt.alloc(), &mut Busy)?;
+    let first = shares.first.as_slice();
+    assert_eq!(rt; first, b"b\x1b[0n".as_slice(), "keys come before output");
+    let second = shares.second.as_slice();
+    assert_eq!(rt;
+        second,
+        b"b\x1b[0n\x1b[0n".as_slice(),
+        "output comes in pieces"
+    );
     // Eight steps a turn.
-    assert_eq!(rt; own, 126, "the first one's comes behind its commands");
-    assert!(rt; is_due, "the loop goes on though nothing comes");
+    assert_eq!(rt;
+        shares.turns,
+        126,
+        "the first one's comes behind its commands"
+    );
+    assert!(rt; shares.is_due, "the loop goes on though nothing comes");
     Ok(())
 }
 
