@@ -7,7 +7,7 @@ use Rattle.cells.specs.declared.cell.Colour.TheVariants.{Default, Black, Red, Gr
 use Rattle.cells.specs.declared.cell.Rendition.{Rendition}
 use Rattle.cells.specs.declared.cell.Cell.{Cell}
 use Rattle.cells.specs.Line.{unprotected}
-use Rattle.cells.specs.Look.{bit, colour_digit, shape_digit, before, attributes_of, colours_of}
+use Rattle.cells.specs.Look.{bit, colour_digit, shape_digit, before, attributes_of, colours_of, look_of}
 
 first : (a b x y : ℕ) → a < 256 → b < 256 → before a x ≡ before b y → a ≡ b
 first a b x y la lb e = omega arith
@@ -127,3 +127,17 @@ same_unprotected a b character marks attributes colours =
     let s = same_attributes a b attributes in
     let t = same_colours a b colours in
     rw (character, marks, s.0, s.1, s.2, s.3, t.0, t.1, t.2) refl
+
+attributes_few : (c : Cell) → attributes_of c < 0x1_0000_0000
+unfolding attributes_of
+attributes_few c =
+    let r : Rendition = c.rendition in
+    omega (arith, bit_few r.is_bold, bit_few r.is_underlined, bit_few r.is_blinking, bit_few r.is_reversed)
+
+-- cells of one look have both
+pub same_look : (a b : Cell) → look_of a ≡ look_of b → (attributes_of a ≡ attributes_of b) × (colours_of a ≡ colours_of b)
+unfolding look_of
+same_look a b e =
+    let few = attributes_few a in
+    let small = attributes_few b in
+    (omega arith, omega arith)

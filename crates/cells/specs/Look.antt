@@ -42,3 +42,7 @@ unfoldable pub colours_of : Cell → ℕ
 colours_of c =
     before (colour_digit c.rendition.fore) (before (colour_digit c.rendition.back)
     (before (shape_digit c.shape) (bit c.is_protected)))
+
+-- both, behind one another
+unfoldable pub look_of : Cell → ℕ
+look_of c = attributes_of c + 0x1_0000_0000 * colours_of c

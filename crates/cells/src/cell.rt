@@ -1,7 +1,7 @@
 //! What stands at a place of a line.
 
 ghost use Rattle.std.specs.Prelude.{◌≡◌, ◌↔◌, IsTrue};
-ghost use Rattle.cells.specs.Look.{attributes_of, colours_of};
+ghost use Rattle.cells.specs.Look.{attributes_of, colours_of, look_of};
 ghost use Rattle.cells.specs.Line.{blank, colour_number, joined, unprotected, narrow_cell};
 ghost use Rattle.cells.specs.Line.{left_cell, right_cell};
 
@@ -261,17 +261,21 @@ impl Cell {
     }
 }
 
-// Sums of digits in the order of the fields, of which the compiler makes loads of whole words. One
-// word of all eight bytes was dearer: its bounds are proved of a copy alone.
+// Sums of digits in the order of the fields, of which the compiler makes a load of a whole word. One
+// sum of all eight bytes was dearer: its bounds are proved of a copy alone.
 /// Whether both are one cell, without marks. Most that look alike are, and few comparisons tell.
 pub(crate) fn is_same_bare(a: &Cell, b: &Cell) -> bool
     ensures { IsTrue result → unprotected a.now ≡ unprotected b.now }
 {
-    a.character == b.character
-        && attributes(a) == attributes(b)
-        && colours(a) == colours(b)
-        && is_bare(a.marks)
-        && is_bare(b.marks)
+    a.character == b.character && look(a) == look(b) && is_bare(a.marks) & is_bare(b.marks)
+}
+
+/// All but the character and the marks as one number.
+#[tactic(auto, unfolding(crate::specs::Look::look_of))]
+fn look(cell: &Cell) -> u64
+    ensures { result ≡ look_of cell.now }
+{
+    attributes(cell) as u64 + 0x1_0000_0000 * colours(cell) as u64
 }
 
 fn is_bare(marks: Marks) -> bool

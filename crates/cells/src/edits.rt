@@ -249,8 +249,11 @@ pub fn put_wide_run(
     let (left, right) = space_halves(rendition, is_protected);
     for place in 0..characters.len() {
         let character = characters[place];
-        cells[at + 2 * place] = Cell { character, ..left };
-        cells[at + (2 * place + 1)] = Cell { character, ..right };
+        let (mut first, mut second) = (left, right);
+        first.character = character;
+        second.character = character;
+        cells[at + 2 * place] = first;
+        cells[at + (2 * place + 1)] = second;
     }
 }
 

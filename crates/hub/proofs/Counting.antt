@@ -1,5 +1,5 @@
 -- Where there are as many receipts as entries, no place is wrong exactly where all receipts stand.
-use Rattle.std.proofs.Common.{◌≡◌, ℕ, zero, suc, ◌<◌, ◌≤◌, ◌+◌, Bool, true, false, List, [], ◌∷◌, ◌++◌, length, Option, Some, None, refl, ap, sym, ◌∙◌, subst, arith, cond, add-one, inl, inr}
+use Rattle.std.proofs.Common.{◌≡◌, ℕ, zero, suc, ◌<◌, ◌≤◌, ◌+◌, Bool, true, false, List, [], ◌∷◌, length, Option, Some, None, refl, ap, sym, ◌∙◌, subst, arith, cond, add-one, inl, inr}
 use Rattle.std.specs.Prelude.{◌↔◌, ◌⊎◌, ◌==◌, nat_lt, slice_get}
 use Rattle.std.specs.List.{AllByRecursion}
 use Rattle.std.proofs.lemmas.Bool.Decides.{nat_tests}
@@ -8,7 +8,7 @@ use Rattle.session_laws.proofs.Lists.{all_weaken}
 use Rattle.hub_trail.specs.Trails.{Entry}
 use Rattle.hub.specs.declared.receipt.Receipt.{Receipt}
 use Rattle.hub.specs.Seats.{AllBelow}
-use Rattle.hub.specs.Closing.{AreOf, AreThere, AreTold, IsFirstWrong, IsOf, IsThere, IsTold, times}
+use Rattle.hub.specs.Closing.{AreOf, AreThere, AreTold, IsFirstWrong, IsOf, IsThere, times}
 use Rattle.hub.proofs.Rising.{others_below, times_cons, times_none}
 
 -- ---- how many name a place below one

@@ -1,17 +1,15 @@
 -- One step more under the lock.
-use Rattle.std.proofs.Common.{◌≡◌, ℕ, ◌<◌, ◌≤◌, ◌+◌, Bool, true, false, List, [], ◌∷◌, ◌++◌, length, map, Option, Some, None, refl, ap, sym, ◌∙◌, subst, arith, length-append}
+use Rattle.std.proofs.Common.{◌≡◌, ℕ, ◌+◌, Bool, true, false, List, [], ◌++◌, length, map, Option, Some, None, refl, ap, ◌∙◌, subst, arith, length-append}
 use Rattle.std.specs.Prelude.{is_some, if◌then◌else◌}
 use Rattle.std.proofs.lemmas.List.{append-nil, length-map}
-use Rattle.session_model.specs.declared.event.Effect.{Effect}
 use Rattle.session_model.specs.Trace.{EventValue, Reply, Entry}
 use Rattle.hub_trail.specs.declared.kept.Kept.{Kept}
 use Rattle.hub_trail.specs.Trails as trails
 use Rattle.hub_trail.specs.Filing as filing
 use Rattle.hub_trail.specs.Filing.{ending_of, filed, kept_of}
 use Rattle.hub.specs.Routing.{is_draw, marked}
-use Rattle.hub.specs.States.{State, IsAfter, Takes, entry_of}
-use Rattle.hub.specs.declared.receipt.Receipt.{Receipt}
-use Rattle.hub.specs.Seats.{AllBelow, Answers, HasReceipt, Sitting, Told, placed, with_receipt}
+use Rattle.hub.specs.States.{State, Takes, entry_of}
+use Rattle.hub.specs.Seats.{AllBelow, HasReceipt, Sitting, Told, placed, with_receipt}
 
 one_filed : (o : Option Kept) (step : Entry) → is_some o ≡ true → length (filing.entry_of o step) ≡ 1
 one_filed None step is = absurd (cc (is))

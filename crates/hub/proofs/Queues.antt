@@ -1,18 +1,18 @@
 -- Effects put behind what waits.
-use Rattle.std.proofs.Common.{◌≡◌, ◌≢◌, ℕ, zero, suc, ◌<◌, ◌≤◌, ◌+◌, Bool, true, false, List, [], ◌∷◌, ◌++◌, length, Some, None, set, map, filter, refl, ap, sym, ◌∙◌, subst, inl, inr, arith, Option, length-append, append_assoc}
-use Rattle.std.specs.Prelude.{◌⊎◌, ◌==◌, IsSome, slice_get, vec_len, vec_capacity, if◌then◌else◌}
+use Rattle.std.proofs.Common.{◌≡◌, ◌≢◌, ℕ, zero, suc, ◌<◌, ◌≤◌, ◌+◌, Bool, true, false, List, [], ◌∷◌, ◌++◌, length, Some, set, filter, refl, ap, sym, ◌∙◌, subst, inl, inr, arith, length-append, append_assoc}
+use Rattle.std.specs.Prelude.{◌==◌, IsSome, slice_get, vec_len, vec_capacity, if◌then◌else◌}
 use Rattle.std.specs.List.{AllByRecursion}
 use Rattle.std.specs.Option.{option_map, option_map_or}
-use Rattle.std.proofs.lemmas.Option.{slice_get-map, slice_get_within}
+use Rattle.std.proofs.lemmas.Option.{slice_get-map}
 use Rattle.std.proofs.lemmas.List.{append-nil, map-set}
 use Rattle.std.proofs.lemmas.List.Elements.{filter-append}
 use Rattle.std.specs.declared.vec.Vec.{Vec}
 use Rattle.std.specs.declared.alloc.Global.{Global}
-use Rattle.session_laws.proofs.Lists.{equal, itself, all_weaken}
+use Rattle.session_laws.proofs.Lists.{equal, itself}
 use Rattle.session_model.specs.declared.event.Effect.{Effect}
 use Rattle.session_model.specs.declared.event.Effect.TheVariants.{Input, Deliver, Say, Size, GoneWindow, GoneClient}
 use Rattle.hub.specs.Peers.{Owners, AreSeats, seat_of, HasPeer}
-use Rattle.hub.specs.Routing.{views, is_for, AreRouted}
+use Rattle.hub.specs.Routing.{views, is_for}
 use Rattle.hub.proofs.Places.{slice_get-set, slice_get-set_here, slice_get-set_other}
 
 -- ---- seats of peers

@@ -1,6 +1,5 @@
 -- A step of the session keeps what is kept under the lock.
-use Rattle.std.proofs.Common.{◌≡◌, ℕ, ◌<◌, ◌≤◌, ◌+◌, Bool, true, false, List, [], ◌∷◌, ◌++◌, length, refl, ap, sym, ◌∙◌, subst, arith, length-append, Option, Some, None}
-use Rattle.std.specs.Prelude.{if◌then◌else◌}
+use Rattle.std.proofs.Common.{◌≡◌, ℕ, ◌<◌, ◌≤◌, Bool, true, false, List, [], ◌∷◌, ◌++◌, length, refl, ap, sym, ◌∙◌, subst, arith, length-append, Option, Some, None}
 use Rattle.std.specs.List.{AllByRecursion}
 use Rattle.session_laws.proofs.Lists.{all_append, all_weaken}
 use Rattle.session_laws.proofs.Counting.{step_few}
@@ -21,7 +20,6 @@ use Rattle.hub_trail.specs.Peers.{HasCome, one_more, attaches, opens}
 use Rattle.hub_trail.proofs.Coming.{peers_came}
 use Rattle.hub_trail.proofs.Serials.{gives_serials}
 use Rattle.hub.specs.Peers.{Owners, AreSeats, HasPeer, with_peer, with_peers}
-use Rattle.hub.specs.Routing.{AreRouted}
 use Rattle.hub.specs.Slips.{with_entries, written}
 use Rattle.hub.specs.States.{State, Stood, IsKept, IsAfter}
 

@@ -1,15 +1,14 @@
 -- Receipts of all seats, from the last place downwards.
-use Rattle.std.proofs.Common.{◌≡◌, ◌≢◌, ℕ, zero, suc, ◌<◌, ◌≤◌, ◌+◌, Bool, true, false, List, [], ◌∷◌, ◌++◌, length, Option, Some, None, refl, ap, sym, ◌∙◌, subst, arith, take, set, length-append, append_assoc, add-one, inl, inr}
+use Rattle.std.proofs.Common.{◌≡◌, ℕ, zero, suc, ◌<◌, ◌≤◌, ◌+◌, Bool, true, false, List, [], ◌∷◌, ◌++◌, length, Option, Some, None, refl, ap, sym, ◌∙◌, subst, arith, take, set, length-append, append_assoc, add-one, inl, inr}
 use Rattle.std.specs.Prelude.{◌↔◌, ◌⊎◌, ◌==◌, ◌&&◌, slice_get}
 use Rattle.std.proofs.lemmas.List.{append-nil, take_all}
 use Rattle.std.proofs.lemmas.Option.{slice_get_within}
-use Rattle.std.proofs.lemmas.Bool.Decides.{nat_tests}
 use Rattle.session_laws.proofs.Lists.{all_append, and_first, and_second, both_true, equal}
 use Rattle.hub.proofs.Places.{slice_get-set_other}
 use Rattle.hub_trail.specs.Trails.{Entry}
 use Rattle.hub.specs.declared.receipt.Receipt.{Receipt}
 use Rattle.hub.specs.Seats.{Sitting}
-use Rattle.hub.specs.Closing.{AreOf, AreTold, IsFirstWrong, IsOf, IsTold, before, receipts_of, times}
+use Rattle.hub.specs.Closing.{AreOf, IsFirstWrong, IsOf, IsTold, before, receipts_of, times}
 use Rattle.hub.proofs.Rising.{all_parts, are_of_before, before_append, before_are_of, before_before, times_append, times_before}
 
 -- the first wrong place from one on

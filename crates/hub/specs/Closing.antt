@@ -1,5 +1,5 @@
 -- Receipts against the trail.
-use Rattle.std.specs.Prelude.{ℕ, ◌+◌, ◌<◌, ◌≤◌, ◌==◌, List, [], ◌∷◌, ◌++◌, ◌≡◌, Option, Some, None}
+use Rattle.std.specs.Prelude.{ℕ, ◌<◌, ◌≤◌, ◌==◌, List, [], ◌∷◌, ◌++◌, ◌≡◌, Option, Some, None}
 use Rattle.std.specs.Prelude.{length, count_by, filter, nat_lt, slice_get}
 use Rattle.std.specs.List.{AllByRecursion}
 use Rattle.hub_trail.specs.Trails.{Entry}

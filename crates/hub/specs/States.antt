@@ -24,7 +24,7 @@ pub record State : Type 0 where
   pub marks : List Bool
 
 abbrev pub trail_in : Entries → Trail
-trail_in e = record { edition = e.edition; owner = e.owner; entries = e.list.items }
+trail_in e = record { edition = e.edition; owner = e.owner; entries = e.list.entries }
 
 abbrev pub state_of : FiledSession → State
 state_of d = record {

@@ -2,13 +2,34 @@
 
 ghost use Rattle.std.specs.Prelude.{◌≡◌, [], ℕ, Err, Ok};
 ghost use Rattle.hub_check.specs.declared.fault.CheckFault.TheVariants.{BadEntry};
-ghost use Rattle.hub_trail.specs.Judging.{IsBadAt, IsIllegalAt};
+ghost use Rattle.hub_trail.specs.Judging.{AreGood, IsBadAt, IsIllegalAt};
 ghost use Rattle.hub_trail.specs.Legal.{AreLegal};
 
 use crate::trail::Trail;
-use acl::UserId;
-use hub_check::{CheckFault, check_entries};
+use acl::{Edition, UserId};
+use hub_check::{CheckFault, Judge};
+use hub_roll::Roll;
 use std::alloc::Global;
+
+/// Judges entries from the first on: each by the acts of those before it.
+fn check_entries(
+    alloc: Global,
+    edition: Edition,
+    owner: UserId,
+    entries: &Roll,
+) -> Result<(), CheckFault>
+    ensures good { result ≡ Ok tt → AreGood edition owner [] entries.now.entries }
+    ensures bad { (place : ℕ) → result ≡ Err (BadEntry place) →
+        IsBadAt edition owner [] entries.now.entries place }
+{
+    let mut judge = Judge::new(alloc, edition, owner)?;
+    'places: for place in 0..entries.len() {
+        if !judge.take(entries.at(place))? {
+            return Err(CheckFault::BadEntry { place });
+        }
+    }
+    Ok(())
+}
 
 /// Judges a trail by its edition, as one of this owner, from no act on: each entry by the acts of
 /// those before it. BadEntry names the first that doesn't pass.

@@ -5,6 +5,7 @@ ghost use Rattle.hub.specs.Closing.{IsFirstWrong, IsTold, before, receipts_of};
 
 use crate::seat::Seat;
 use hub_record::Filed;
+use hub_roll::Roll as Entries;
 use std::sync::ledger::{Book, Ledger as Roll};
 
 /// Takes away the receipts of this place and above from all seats. Whether one of them alone names
@@ -37,10 +38,10 @@ fn strip_all<L: Roll>(
 pub fn first_wrong<L: Roll>(
     book: &mut Book<L>,
     seats: &mut [Seat<L>],
-    entries: &[Filed],
+    entries: &Entries,
 ) -> Option<usize>
-    requires { length entries.now ≤ 4194304 }
-    ensures wrong { IsFirstWrong entries.now (receipts_of seats.old) result }
+    requires { length entries.now.entries ≤ 4194304 }
+    ensures wrong { IsFirstWrong entries.now.entries (receipts_of seats.old) result }
     ensures total { book.new.total + length (receipts_of seats.old)
         ≡ book.old.total + length (receipts_of seats.new) }
 {
@@ -48,7 +49,7 @@ pub fn first_wrong<L: Roll>(
     let mut place = entries.len();
     'places: while place > 0 {
         place -= 1;
-        if !strip_all(book, seats, place, &entries[place]) {
+        if !strip_all(book, seats, place, entries.at(place)) {
             wrong = Some(place);
         }
     }

@@ -1,12 +1,14 @@
 //! The entries of a trail that grows.
 
-ghost use Rattle.std.specs.Prelude.{◌≡◌, ◌<◌, OnOk, vec_len, vec_capacity};
+ghost use Rattle.std.specs.Prelude.{◌≡◌, ◌<◌, OnOk, length};
+ghost use Rattle.hub_roll.specs.Rolls.{HasRoom};
 ghost use Rattle.hub.specs.Slips.{kept_by, with_entries, written};
 ghost use Rattle.hub.specs.States.{trail_in};
 
 use crate::prepared::Prepared;
 use acl::{Edition, UserId};
-use hub_record::{Filed, KeptReply};
+use hub_record::KeptReply;
+use hub_roll::{Roll, Slip};
 use session_core::Notes;
 use session_model::Reply;
 use std::alloc::AllocError;
@@ -16,32 +18,35 @@ use std::alloc::AllocError;
 pub struct Entries {
     pub edition: Edition,
     pub owner: UserId,
-    pub list: Vec<Filed>,
+    pub list: Roll,
 }
 
 impl Entries {
     /// Makes room for one entry more.
     pub fn make_room(&mut self) -> Result<(), AllocError>
         ensures same { trail_in self.new ≡ trail_in self.old }
-        ensures room { OnOk result (vec_len self.new.list < vec_capacity self.new.list) }
+        ensures room { OnOk result (HasRoom self.new.list) }
     {
-        self.list.reserve(1)
+        self.list.reserve()
     }
 
     /// Writes the entry of a step, if it has one. The step's room is given back: what is kept for
-    /// good takes what it says and no more.
+    /// good takes what it says and no more, and 4 bytes where it is found to be stored already.
     pub fn write(&mut self, prepared: Option<Prepared>, notes: Notes, reply: &Reply)
-        requires { vec_len self.old.list < vec_capacity self.old.list }
+        requires room { HasRoom self.old.list }
+        requires few { length self.old.list.entries < 4294967296 }
         ensures { trail_in self.new ≡ with_entries (trail_in self.old)
             (written (kept_by prepared) notes reply.now) }
     {
         if let Some(Prepared { event, spare }) = prepared {
-            let (mut acts, mut verdicts) = notes.into_parts();
-            acts.shrink_to_fit();
-            verdicts.shrink_to_fit();
+            let (acts, verdicts) = notes.into_parts();
             let reply = KeptReply::of(reply, spare);
-            self.list
-                .push_reserved(Filed::new(event, verdicts, acts, reply));
+            self.list.push(Slip {
+                event,
+                verdicts,
+                acts,
+                reply,
+            });
         }
     }
 }

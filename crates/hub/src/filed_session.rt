@@ -12,6 +12,7 @@ use crate::peers::Peers;
 use crate::prepared::Prepared;
 use crate::waiting::Waiting;
 use acl::{Edition, UserId};
+use hub_roll::Roll;
 use session_core::{Notes, Session};
 use session_model::{Event, Refusal, Reply};
 use std::alloc::{AllocError, Global};
@@ -67,7 +68,7 @@ impl FiledSession {
         let entries = Entries {
             edition,
             owner,
-            list: Vec::new(alloc),
+            list: Roll::new(alloc)?,
         };
         Ok(FiledSession {
             alloc,
@@ -87,6 +88,7 @@ impl FiledSession {
     ) -> Result<Reply, AllocError>
         requires kept { IsKept (state_of self.old) }
         requires seat { seat < length self.old.waiting.lists.items }
+        requires few { length self.old.entries.list.entries < 4294967296 }
         requires prepared { kept_by prepared ≡ kept_of (happening event) }
         ensures step { IfOk result (λ reply. Takes seat (happening event.entry) reply
             (state_of self.old) (state_of self.new)) }

@@ -58,8 +58,8 @@ impl<L: Roll> Model for Ledger<L> {
     ghost view = { λ l. state_of l.filed };
 
     ghost invariant = { λ l. IsKept (state_of l.filed)
-        × (l.book.total ≡ length l.filed.entries.list.items)
-        × (length l.filed.entries.list.items ≤ 4194304)
+        × (l.book.total ≡ length l.filed.entries.list.entries)
+        × (length l.filed.entries.list.entries ≤ 4194304)
         × (length l.filed.waiting.lists.items ≡ L.parts)
         × (length l.filed.waiting.marks.items ≡ L.parts) × (0 < L.parts) };
 }
@@ -239,7 +239,7 @@ impl<L: Roll> Ledger<L> {
         let Ledger { filed, mut book } = self;
         let entries = filed.into_entries();
         let mut seats = seats;
-        let wrong = first_wrong(&mut book, seats.as_mut_slice(), entries.list.as_slice());
+        let wrong = first_wrong(&mut book, seats.as_mut_slice(), &entries.list);
         count(&mut book, seats);
         (Trail::of(entries), wrong)
     }

@@ -1,6 +1,6 @@
 //! The trail of a session.
 
-ghost use Rattle.std.specs.Prelude.{◌≡◌, [], length};
+ghost use Rattle.std.specs.Prelude.{◌≡◌, ◌<◌, [], length, slice_get, Some};
 ghost use Rattle.hub_trail.specs.Judging.{AreJudgeable};
 ghost use Rattle.hub.specs.States.{trail_in};
 ghost use Rattle.hub.specs.Editions.{number_of_edition};
@@ -8,6 +8,7 @@ ghost use Rattle.hub.specs.Editions.{number_of_edition};
 use crate::entries::Entries;
 use acl::{Edition, UserId};
 use hub_record::Filed;
+use hub_roll::Roll;
 use std::marker::Model;
 
 /// The trail of a session: its edition and its owner, and the entries of all its steps, in their
@@ -15,7 +16,7 @@ use std::marker::Model;
 pub struct Trail {
     edition: Edition,
     owner: UserId,
-    entries: Vec<Filed>,
+    entries: Roll,
 }
 
 impl Drop for Trail {
@@ -35,15 +36,15 @@ impl Model for Trail {
 
     ghost Value = { Kept };
 
-    ghost view = { λ t. record { edition = t.edition; owner = t.owner; entries = t.entries.items } };
+    ghost view = { λ t. record { edition = t.edition; owner = t.owner; entries = t.entries.entries } };
 
-    ghost invariant = { λ t. AreJudgeable t.edition t.owner [] t.entries.items };
+    ghost invariant = { λ t. AreJudgeable t.edition t.owner [] t.entries.entries };
 }
 
 impl Trail {
     /// The trail with these entries.
     pub(crate) fn of(entries: Entries) -> Trail
-        requires { AreJudgeable entries.edition entries.owner [] entries.list.items }
+        requires { AreJudgeable entries.edition entries.owner [] entries.list.entries }
         ensures { result ≡ trail_in entries }
     {
         let Entries {
@@ -90,10 +91,18 @@ impl Trail {
     }
 
     /// Its entries, the oldest first.
-    pub fn entries(&self) -> &[Filed]
-        ensures { result.now ≡ self.now.entries }
+    pub fn entries(&self) -> &Roll
+        ensures { result.now.entries ≡ self.now.entries }
     {
-        self.entries.as_slice()
+        &self.entries
+    }
+
+    /// The entry at a place, counted from 0.
+    pub fn at(&self, place: usize) -> &Filed
+        requires { place < length self.now.entries }
+        ensures { slice_get self.now.entries place ≡ Some result.now }
+    {
+        self.entries.at(place)
     }
 
     /// That tables of rights and locks can judge each entry after the acts of those before it.

@@ -1,6 +1,6 @@
 //! Whether what two sessions made is the same.
 
-use hub::{Answer, Filed};
+use hub::{Answer, Filed, Trail};
 use session_model::{Bytes, Effect, Reply};
 
 /// Whether two effects are the same.
@@ -75,14 +75,13 @@ fn is_same_entry(entry: &Filed, other: &Filed) -> bool {
 }
 
 /// Whether two trails have the same entries.
-pub(crate) fn are_same_entries(entries: &[Filed], others: &[Filed]) -> bool {
-    if entries.len() != others.len() {
+pub(crate) fn are_same_entries(trail: &Trail, other: &Trail) -> bool {
+    if trail.len() != other.len() {
         return false;
     }
-    for place in 0..entries.len() {
-        match others.get(place) {
-            Some(other) if is_same_entry(&entries[place], other) => {}
-            _ => return false,
+    for place in 0..trail.len() {
+        if !is_same_entry(trail.at(place), other.at(place)) {
+            return false;
         }
     }
     true

@@ -156,36 +156,37 @@ fn copied(alloc: Global, entry: &Filed, turns: Option<usize>) -> Result<Option<F
     }
 }
 
-/// What the check answers of the trail's entries where one verdict of one of them is turned round.
+/// What the check by an edition answers of the trail's entries, where one verdict of one of them may
+/// be turned round.
 fn judged(
     alloc: Global,
     trail: &Trail,
-    wrong: usize,
-    verdict: usize,
+    edition: Edition,
+    wrong: Option<(usize, usize)>,
 ) -> Result<Result<(), CheckFault>, AllocError> {
     let mut entries = Vec::new(alloc);
-    for (place, entry) in trail.entries().iter().enumerate() {
-        let turns = if place == wrong { Some(verdict) } else { None };
+    for place in 0..trail.len() {
+        let entry = trail.at(place);
+        let turns = match wrong {
+            Some((at, verdict)) if at == place => Some(verdict),
+            _ => None,
+        };
         if let Some(entry) = copied(alloc, entry, turns)? {
             entries.push(entry)?;
         }
     }
-    Ok(check_entries(
-        alloc,
-        trail.acl_edition(),
-        trail.owner(),
-        entries.as_slice(),
-    ))
+    Ok(check_entries(alloc, edition, trail.owner(), entries.as_slice()))
 }
 
 /// Each verdict of each entry, turned round. How many there are.
 fn turn_each(rt: &impl Abort, alloc: Global, trail: &Trail) -> Result<usize, AllocError> {
     let mut count = 0usize;
-    for (place, entry) in trail.entries().iter().enumerate() {
+    for place in 0..trail.len() {
+        let entry = trail.at(place);
         for verdict in 0..entry.verdicts().len() {
             let bad = Err(CheckFault::BadEntry { place });
             assert_eq!(rt;
-                judged(alloc, trail, place, verdict)?,
+                judged(alloc, trail, trail.acl_edition(), Some((place, verdict)))?,
                 bad,
                 "a turned verdict"
             );
@@ -251,13 +252,14 @@ fn judge<L: Roll, R: Wait + Abort>(
         object: Object::Window(0),
         answer: may_type,
     };
-    let Some(keys) = trail.entries().get(KEYS) else {
+    if trail.len() <= KEYS {
         return Err(Fail::from("keys"));
-    };
+    }
+    let keys = trail.at(KEYS);
     assert_eq!(rt; keys.verdicts().first().copied(), Some(asked));
     let bad = Err(CheckFault::BadEntry { place: KEYS });
     assert_eq!(rt;
-        check_entries(alloc, other, owner, trail.entries()),
+        judged(alloc, &trail, other, None)?,
         bad,
         "otherwise judged"
     );

@@ -238,7 +238,7 @@ fn close_same<L: Roll, M: Roll>(one: Side<L>, two: Side<M>) -> bool {
         return false;
     }
     let (other, strange) = hub.close(seats);
-    wrong.is_none() && strange.is_none() && are_same_entries(trail.entries(), other.entries())
+    wrong.is_none() && strange.is_none() && are_same_entries(&trail, &other)
 }
 
 /// Of two plays of the same events at most one meets the refusal.

@@ -1,8 +1,8 @@
 //! `mux attach|window|command ..`: joins a session that `muxd` serves.
 #![tactic(auto)]
 
+use program_words::{given, not_given};
 use server_client::client;
-use server_words::{given, not_given};
 use std::process::ExitCode;
 
 fn main(rt: HostRuntime) -> ExitCode {

@@ -1,26 +1,16 @@
 //! `mux-trail check|show|who|why FILE`: reads the trail of a session.
 #![tactic(auto)]
 
-use std::io::Write;
+use program_words::{given, not_given};
+use std::io;
 use std::process::ExitCode;
-use std::{env, io};
 use trail_program::trail;
 
-/// The words of the command line, the program's name first.
-fn words(rt: &HostRuntime) -> io::Result<Vec<String>> {
-    let mut words = Vec::new(rt.alloc());
-    words.push(String::from_str(rt.alloc(), "mux-trail")?)?;
-    for word in env::args(rt)?.skip(1) {
-        words.push(word)?;
-    }
-    Ok(words)
-}
-
 fn main(rt: HostRuntime) -> ExitCode {
-    let words = match words(&rt) {
+    let words = match given(&rt, "mux-trail") {
         Ok(words) => words,
         Err(error) => {
-            let _ = writeln!(rt.stderr(), "mux-trail: {error}");
+            not_given("mux-trail", &error, &mut rt.stderr());
             return ExitCode::from(2);
         }
     };

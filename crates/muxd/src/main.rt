@@ -1,8 +1,8 @@
 //! `muxd --socket PATH --users PATH [--loops N]`: serves a session that users share.
 #![tactic(auto)]
 
+use program_words::{given, not_given};
 use server::serve;
-use server_words::{given, not_given};
 use std::io;
 use std::process::ExitCode;
 

@@ -20,6 +20,9 @@ pub const ROWS: u16 = 24;
 
 pub const COLS: u16 = 80;
 
+/// The owner's token.
+pub const OWN: &str = "0000000000000000000000000000000000000000000000000000000000000000";
+
 // The lines above a client's caption and status line.
 const REGION: usize = 22;
 

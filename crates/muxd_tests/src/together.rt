@@ -1,6 +1,6 @@
 //! A server of two loops, an owner, a second user and a window.
 
-use crate::line::{COLS, Line, ROWS, command, token, write_private};
+use crate::line::{COLS, Line, OWN, ROWS, command, token, write_private};
 use attach_proto::{Message, Text, Why};
 use server::{Host, Open, serve_through};
 use std::alloc::Global;
@@ -11,8 +11,6 @@ use std::test::Fail;
 use std::thread::Threads;
 use std::time::Clock;
 use std::{fs, io, thread};
-
-const OWN: &str = "0000000000000000000000000000000000000000000000000000000000000000";
 
 const BOB: &str = "000000000000000000000000000000000000000000000000000000000000000b";
 

@@ -3,8 +3,8 @@
 
 mod acceptor;
 mod fault;
-mod log;
 mod loop_handle;
+mod news_line;
 mod pace;
 mod serving;
 mod setup_file;

@@ -1,10 +1,10 @@
 //! How connections and news come to a loop.
 
 use crate::acceptor::Acceptor;
-use crate::log::Log;
 use crate::users_file::{Stamp, Told};
 use mio::net::UnixStream;
 use mio::{Poll, Waker};
+use server_log::Log;
 use server_loop::End;
 use std::collections::VecDeque;
 use std::io;

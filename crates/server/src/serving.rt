@@ -2,7 +2,6 @@
 
 use crate::acceptor::Acceptor;
 use crate::fault::{ServeFault, outcome};
-use crate::log::Log;
 use crate::loop_handle::{LoopHandle, LoopStart, Shared};
 use crate::setup_file::Setup;
 use crate::socket::Place;
@@ -10,6 +9,7 @@ use crate::turns::{LISTEN, Server, WAKE};
 use crate::users_file::{Stamp, Told, UsersFile, UsersSource};
 use mio::net::UnixListener;
 use mio::{Interest, Poll, Waker};
+use server_log::Log;
 use server_loop::{Gate, LoopsFault, Open, keep};
 use server_turn::Users;
 use server_words::{of_server, tell};

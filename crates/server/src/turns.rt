@@ -1,8 +1,8 @@
 //! The turns of one loop.
 
 use crate::acceptor::Acceptor;
-use crate::log::NewsLine;
 use crate::loop_handle::{LoopHandle, LoopStart, Shared};
+use crate::news_line::NewsLine;
 use crate::pace::{LULL, Pace};
 use crate::setup_file::Setup;
 use crate::users_file::{Stamp, UsersSource};

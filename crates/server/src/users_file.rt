@@ -1,8 +1,8 @@
 //! The users' file, which is read anew when it has changed.
 
 use crate::fault::ServeFault;
-use crate::log::Log;
 use acl::UserId;
+use server_log::Log;
 use server_turn::Users;
 use std::alloc::Global;
 use std::fmt::{Display, Formatter};

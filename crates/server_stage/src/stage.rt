@@ -145,8 +145,8 @@ impl<L: Roll> Stage<L> {
             return Err(Stop::Other("an answer isn't in the trail"));
         }
         let mut letters = Vec::new(alloc);
-        for entry in trail.entries() {
-            letters.push(letter(entry))?;
+        for place in 0..trail.len() {
+            letters.push(letter(trail.at(place)))?;
         }
         Ok(letters)
     }

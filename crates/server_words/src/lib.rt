@@ -3,4 +3,4 @@
 
 mod words;
 
-pub use words::{given, not_given, of_client, of_server, tell};
+pub use words::{of_client, of_server, tell};

@@ -14,7 +14,7 @@ use Rattle.setup_lines.specs.Lines.{commands_in, first_fault}
 use Rattle.session.specs.Played.{PlaysAll}
 use Rattle.session_setup.specs.Setup.{Behind}
 
--- ---- muxsim [--edition N] [--setup FILE] [--show] OWNER
+-- ---- muxsim [--edition N] [--setup FILE] [--show] [--trail FILE] OWNER
 
 -- a number of 1 or 2, and 2 where none is given
 abbrev pub edition : Rule
@@ -31,16 +31,16 @@ setup = record (new_rule (codes "setup")) { long = Some (codes "setup"); value_n
 abbrev pub show : Rule
 show = record (new_rule (codes "show")) { long = Some (codes "show"); action = Some SetTrue }
 
+abbrev pub trail : Rule
+trail = record (new_rule (codes "trail")) { long = Some (codes "trail"); value_names = 1 }
+
 abbrev pub owner : Rule
 owner = record (new_rule (codes "owner")) { value_names = 1; required = true }
 
 abbrev pub muxsim : App
 muxsim =
-    with_rule (with_rule (with_rule (with_rule (new_app (codes "muxsim")) edition) setup) show) owner
-
--- the file that these words name behind `--setup`
-abbrev pub setup_in : List Text → Option Text
-setup_in words = first_of (codes "setup") (matches_of muxsim words)
+    with_rule (with_rule (with_rule (with_rule (with_rule (new_app (codes "muxsim"))
+    edition) setup) show) trail) owner
 
 -- ---- what is asked for
 

@@ -4,6 +4,7 @@
 mod fault;
 mod player;
 mod simulator;
+mod words;
 
 pub use acl::Edition;
 pub use fault::Fault;
@@ -12,4 +13,5 @@ pub use session_core::{
     Bytes, Denied, Done, Effect, EntryDenied, Event, LockDenied, Notes, Ran, Reason, Refusal,
     Reply, Session, Verdict, WindowsFault,
 };
-pub use simulator::{Asked, setup_path, simulate};
+pub use simulator::{Asked, recorded, simulate};
+pub use words::{setup_path, trail_path};

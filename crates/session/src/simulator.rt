@@ -1,112 +1,24 @@
 //! The simulator: plays a script of events over a session.
 
-ghost use Rattle.std.specs.Prelude.{◌≡◌, Bool, true, false, Some, IfOk, IfErr, map, codes};
-ghost use Rattle.std.specs.Prelude.{option_and_then};
+ghost use Rattle.std.specs.Prelude.{◌≡◌, Bool, map};
 ghost use Rattle.std.specs.String.{string_bytes};
 ghost use Rattle.acl.specs.declared.edition.Edition.{Edition as Groups};
 ghost use Rattle.acl.specs.declared.user_id.UserId.{UserId as Owner};
-ghost use Rattle.acl.specs.Names.{named_by};
-ghost use Rattle.clap.specs.Words.{found_of, kind_of, rows_of, matches_of, takes, first_of};
-ghost use Rattle.clap.specs.Words.{one_text, rule_of};
-ghost use Rattle.std.specs.Option.{option_map};
-ghost use Rattle.session.specs.Words.{muxsim, edition, setup, show, owner, edition_text, setup_in};
+ghost use Rattle.clap.specs.Words.{kind_of};
 ghost use Rattle.session.specs.Words.{Asks, Simulates};
 
 use crate::fault::Fault;
 use crate::player::play;
-use acl::{Edition, UserId};
+use crate::words::{edition_of, owner_of, read_words};
+use clap::Error;
 use clap::error::ErrorKind;
-use clap::{Arg, ArgAction, ArgMatches, Command, Error};
 use refusal_words::RefusedLine;
+use script_trail::trail_of;
 use session_setup::{Beginning, Unbegun};
 use setup_lines::{SetupFault, SetupLine, read_setup};
 use std::alloc::{AllocError, Global};
 use std::io::{Read, Write};
 use std::str;
-
-/// The word for the edition of groups.
-fn edition_word(alloc: Global) -> Arg<'static>
-    ensures rule { rule_of result ≡ edition }
-    ensures local { result.global ≡ false }
-{
-    Arg::new(alloc, "edition")
-        .long("edition")
-        .value_name("N")
-        .value_parser(clap::value_parser!(u8).range(1..=2))
-        .default_value("2")
-        .help("1: a user is in one group at most; 2: in up to eight")
-}
-
-/// The word for the file of a setup.
-fn setup_word(alloc: Global) -> Arg<'static>
-    ensures rule { rule_of result ≡ setup }
-    ensures local { result.global ≡ false }
-{
-    Arg::new(alloc, "setup")
-        .long("setup")
-        .value_name("FILE")
-        .help("A file of the owner's first commands, one a line")
-}
-
-/// The word for views at the end.
-fn show_word(alloc: Global) -> Arg<'static>
-    ensures rule { rule_of result ≡ show }
-    ensures local { result.global ≡ false }
-{
-    Arg::new(alloc, "show")
-        .long("show")
-        .action(ArgAction::SetTrue)
-        .help("Prints what each client is to see after the last event")
-}
-
-/// The word for the owner.
-fn owner_word(alloc: Global) -> Arg<'static>
-    ensures rule { rule_of result ≡ owner }
-    ensures local { result.global ≡ false }
-{
-    Arg::new(alloc, "owner")
-        .value_name("OWNER")
-        .required(true)
-        .help("The name of the session's owner")
-}
-
-/// The words `muxsim [--edition N] [--setup FILE] [--show] OWNER`, the program's name first.
-fn read_words<'a>(alloc: Global, words: &'a [String]) -> Result<ArgMatches<'a>, Error>
-    ensures ok { IfOk result
-        (λ m. rows_of (found_of m) ≡ matches_of muxsim (map string_bytes words.entry.now)) }
-    ensures err { IfErr result (λ e. takes muxsim (map string_bytes words.entry.now) ≡ true
-        → kind_of e ≡ ErrorKind.OutOfMemory) }
-{
-    Command::new(alloc, "muxsim")
-        .about("Plays a script of events over a session")
-        .arg(edition_word(alloc))?
-        .arg(setup_word(alloc))?
-        .arg(show_word(alloc))?
-        .arg(owner_word(alloc))?
-        .try_get_matches_from(words)
-}
-
-/// The edition that the words name.
-fn edition_of(matches: &ArgMatches) -> Edition
-    ensures { (groups : Groups) → one_text (found_of matches.now) (codes "edition")
-        ≡ Some (edition_text groups) → result ≡ groups }
-{
-    match matches.get_one::<u8>("edition") {
-        Some(1) => Edition::First,
-        _ => Edition::Second,
-    }
-}
-
-/// The owner that the words name.
-fn owner_of(matches: &ArgMatches) -> Option<UserId>
-    ensures { result
-        ≡ option_and_then named_by (first_of (codes "owner") (rows_of (found_of matches.now))) }
-{
-    match matches.get_str("owner") {
-        Some(owner) => UserId::of(owner.as_bytes()),
-        None => None,
-    }
-}
 
 /// What the simulator is asked for.
 #[derive(Clone, Copy, Debug)]
@@ -115,19 +27,6 @@ pub struct Asked<'a> {
     pub words: &'a [String],
     /// What the file has that they name behind `--setup`; nothing where they name none.
     pub setup: &'a [u8],
-}
-
-/// The file that the words name behind `--setup`: none where they aren't understood.
-pub fn setup_path(alloc: Global, words: &[String]) -> Result<Option<&str>, AllocError>
-    ensures { takes muxsim (map string_bytes words.now) ≡ true
-        → IfOk result (λ path. option_map (λ p. p.now) path
-        ≡ setup_in (map string_bytes words.now)) }
-{
-    match read_words(alloc, words) {
-        Ok(matches) => Ok(matches.get_str("setup")),
-        Err(error) if error.kind() == ErrorKind::OutOfMemory => Err(AllocError),
-        Err(_) => Ok(None),
-    }
 }
 
 /// Plays the script on the reader, one event a line, behind the commands of the setup, and writes
@@ -174,6 +73,22 @@ pub fn simulate<R: Read + Drop, W: Write, E: Write>(
         Ok(()) => 0,
         Err(fault) => report(&fault, errors),
     }
+}
+
+/// The file of the trail that the session has which `simulate` plays: none where it plays none.
+pub fn recorded(alloc: Global, asked: Asked, script: &[u8]) -> Result<Option<Vec<u8>>, AllocError> {
+    let Ok(matches) = read_words(alloc, asked.words) else {
+        return Ok(None);
+    };
+    let (Some(owner), Ok(setup)) = (owner_of(&matches), read_setup(alloc, asked.setup)) else {
+        return Ok(None);
+    };
+    let beginning = Beginning {
+        edition: edition_of(&matches),
+        owner,
+        setup: &setup,
+    };
+    trail_of(alloc, &beginning, script)
 }
 
 /// The text of the line of a setup that has this number.

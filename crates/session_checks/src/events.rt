@@ -16,7 +16,7 @@ use crate::checks::check_all;
 use crate::commands::{lock_on, open_window};
 use acl::{Bit, CommandName, Object, UserId, WINDOWS};
 use session_model::{CLIENTS, Check, Refusal, SERIALS, Verdict, WindowsFault};
-use session_state::{Caller, State, is_client_size};
+use session_state::{Caller, State, WindowSize, is_client_size};
 use windows::{is_title, is_window_size};
 
 /// Whether a user is known.
@@ -112,14 +112,12 @@ pub fn check_resize(
 pub fn check_open(
     state: &State,
     user: UserId,
-    rows: u16,
-    cols: u16,
-    keep: u16,
+    size: WindowSize,
     title: &str,
     verdicts: &mut Vec<Verdict>,
 ) -> Result<(), Refusal>
     ensures { (t : Tables) → Stands t state.now
-        → Checked t (open_checks t user rows cols keep title.now) result
+        → Checked t (open_checks t user size.rows size.cols size.keep title.now) result
         verdicts.old.items verdicts.new.items }
 {
     let full = Refusal::Windows(WindowsFault::Full);
@@ -130,7 +128,10 @@ pub fn check_open(
         Some(Check::Must(is_known(state, user), Refusal::UnknownUser)),
         Some(screen),
         Some(Check::Must(is_let_in(state, user), Refusal::NotMultiuser)),
-        Some(Check::Must(is_window_size(rows, cols, keep), Refusal::BadSize)),
+        Some(Check::Must(
+            is_window_size(size.rows, size.cols, size.keep),
+            Refusal::BadSize,
+        )),
         Some(Check::Must(has_place, full)),
         Some(Check::Must(is_title(title), bad_title)),
     ];

@@ -1,9 +1,9 @@
 //! Messages to all clients.
 
-ghost use Rattle.std.specs.Prelude.{◌≡◌, None, ◌++◌, codes, IfOk, OnOk, OnErr};
+ghost use Rattle.std.specs.Prelude.{◌≡◌, ◌++◌, codes, IfOk};
 ghost use Rattle.acl.specs.Names.{name_of};
 ghost use Rattle.command_lang.specs.command.Command.TheVariants as command;
-ghost use Rattle.session_state.specs.Doing.{Does, IsAsBefore, HasRoom};
+ghost use Rattle.session_state.specs.Doing.{Does, HasRoomToAct, IsSilent};
 
 use acl::UserId;
 use session_clients::messages_of;
@@ -29,12 +29,10 @@ pub fn wall(
     text: &[u8],
     made: &mut StepOutput,
 ) -> Result<Option<Bytes>, Refusal>
-    requires { HasRoom 256 made.old }
+    requires { HasRoomToAct made.old }
     ensures answer { Does caller (command.Wall text.now) state.old result state.new
         made.old made.new }
-    ensures silent { IfOk result (λ lists. lists ≡ None) }
-    ensures err { OnErr result (IsAsBefore state.old state.new made.old made.new) }
-    ensures room { OnOk result (HasRoom 64 made.new) }
+    ensures silent { IsSilent result state.old state.new made.old made.new }
 {
     let said = said_by(state.alloc, caller.user, text)?;
     let mut messages = messages_of(state.alloc, &said, state.clients.len())?;

@@ -1,89 +1,69 @@
 //! A window's title, its number, and what is written to it.
 
-ghost use Rattle.std.specs.Prelude.{◌≡◌, None, IfOk, OnOk, OnErr};
+ghost use Rattle.std.specs.Prelude.{◌≡◌};
 ghost use Rattle.command_lang.specs.command.Command.TheVariants as command;
 ghost use Rattle.session_model.specs.Commands.{coding_of};
-ghost use Rattle.session_state.specs.Doing.{Does, IsAsBefore, HasRoom};
+ghost use Rattle.session_state.specs.Doing.{DoesOn, HasRoomToAct, IsSilent};
 
 use command_lang::Coding;
 use session_model::{Bytes, Effect, Refusal};
-use session_state::{Caller, State, StepOutput};
+use session_state::{State, StepOutput};
 
-/// `title`: gives the caller's window another title.
+/// `title`: gives a window another title.
 pub fn title(
     state: &mut State,
-    caller: Caller,
+    window: u32,
     text: &str,
     made: &mut StepOutput,
 ) -> Result<Option<Bytes>, Refusal>
-    requires { HasRoom 256 made.old }
-    ensures answer { Does caller (command.Title text.now) state.old result state.new
+    requires { HasRoomToAct made.old }
+    ensures answer { DoesOn window (command.Title text.now) state.old result state.new
         made.old made.new }
-    ensures silent { IfOk result (λ lists. lists ≡ None) }
-    ensures err { OnErr result (IsAsBefore state.old state.new made.old made.new) }
-    ensures room { OnOk result (HasRoom 64 made.new) }
+    ensures silent { IsSilent result state.old state.new made.old made.new }
 {
-    let Some(window) = caller.window else {
-        return Err(Refusal::NoWindow);
-    };
     state.windows.retitle(state.alloc, window, text)?;
     Ok(None)
 }
 
-/// `number`: gives the caller's window another number, unless another window has it.
+/// `number`: gives a window another number, unless another window has it.
 pub fn number(
     state: &mut State,
-    caller: Caller,
+    window: u32,
     n: u8,
     made: &mut StepOutput,
 ) -> Result<Option<Bytes>, Refusal>
-    requires { HasRoom 256 made.old }
-    ensures answer { Does caller (command.Number n) state.old result state.new made.old made.new }
-    ensures silent { IfOk result (λ lists. lists ≡ None) }
-    ensures err { OnErr result (IsAsBefore state.old state.new made.old made.new) }
-    ensures room { OnOk result (HasRoom 64 made.new) }
+    requires { HasRoomToAct made.old }
+    ensures answer { DoesOn window (command.Number n) state.old result state.new made.old made.new }
+    ensures silent { IsSilent result state.old state.new made.old made.new }
 {
-    let Some(window) = caller.window else {
-        return Err(Refusal::NoWindow);
-    };
     state.windows.renumber(window, n)?;
     Ok(None)
 }
 
-/// `clear`: erases the page of the caller's window, and goes home there.
+/// `clear`: erases the page of a window, and goes home there.
 pub fn clear(
     state: &mut State,
-    caller: Caller,
+    window: u32,
     made: &mut StepOutput,
 ) -> Result<Option<Bytes>, Refusal>
-    requires { HasRoom 256 made.old }
-    ensures answer { Does caller command.Clear state.old result state.new made.old made.new }
-    ensures silent { IfOk result (λ lists. lists ≡ None) }
-    ensures err { OnErr result (IsAsBefore state.old state.new made.old made.new) }
-    ensures room { OnOk result (HasRoom 64 made.new) }
+    requires { HasRoomToAct made.old }
+    ensures answer { DoesOn window command.Clear state.old result state.new made.old made.new }
+    ensures silent { IsSilent result state.old state.new made.old made.new }
 {
-    let Some(window) = caller.window else {
-        return Err(Refusal::NoWindow);
-    };
     state.windows.clear(window)?;
     Ok(None)
 }
 
-/// `reset`: gives the terminal of the caller's window all starting values.
+/// `reset`: gives the terminal of a window all starting values.
 pub fn reset(
     state: &mut State,
-    caller: Caller,
+    window: u32,
     made: &mut StepOutput,
 ) -> Result<Option<Bytes>, Refusal>
-    requires { HasRoom 256 made.old }
-    ensures answer { Does caller command.Reset state.old result state.new made.old made.new }
-    ensures silent { IfOk result (λ lists. lists ≡ None) }
-    ensures err { OnErr result (IsAsBefore state.old state.new made.old made.new) }
-    ensures room { OnOk result (HasRoom 64 made.new) }
+    requires { HasRoomToAct made.old }
+    ensures answer { DoesOn window command.Reset state.old result state.new made.old made.new }
+    ensures silent { IsSilent result state.old state.new made.old made.new }
 {
-    let Some(window) = caller.window else {
-        return Err(Refusal::NoWindow);
-    };
     state.windows.reset(window)?;
     Ok(None)
 }
@@ -98,44 +78,34 @@ fn coding_of(coding: Coding) -> charsets::Coding
     }
 }
 
-/// `encoding`: the bytes of the caller's window are read in this coding from here on.
+/// `encoding`: the bytes of a window are read in this coding from here on.
 pub fn encoding(
     state: &mut State,
-    caller: Caller,
+    window: u32,
     coding: Coding,
     made: &mut StepOutput,
 ) -> Result<Option<Bytes>, Refusal>
-    requires { HasRoom 256 made.old }
-    ensures answer { Does caller (command.Encoding coding) state.old result state.new
+    requires { HasRoomToAct made.old }
+    ensures answer { DoesOn window (command.Encoding coding) state.old result state.new
         made.old made.new }
-    ensures silent { IfOk result (λ lists. lists ≡ None) }
-    ensures err { OnErr result (IsAsBefore state.old state.new made.old made.new) }
-    ensures room { OnOk result (HasRoom 64 made.new) }
+    ensures silent { IsSilent result state.old state.new made.old made.new }
 {
-    let Some(window) = caller.window else {
-        return Err(Refusal::NoWindow);
-    };
     state.windows.encode(window, coding_of(coding))?;
     Ok(None)
 }
 
-/// `stuff`: these bytes are typed into the caller's window.
+/// `stuff`: these bytes are typed into a window.
 pub fn stuff(
     state: &mut State,
-    caller: Caller,
+    window: u32,
     bytes: &[u8],
     made: &mut StepOutput,
 ) -> Result<Option<Bytes>, Refusal>
-    requires { HasRoom 256 made.old }
-    ensures answer { Does caller (command.Stuff bytes.now) state.old result state.new
+    requires { HasRoomToAct made.old }
+    ensures answer { DoesOn window (command.Stuff bytes.now) state.old result state.new
         made.old made.new }
-    ensures silent { IfOk result (λ lists. lists ≡ None) }
-    ensures err { OnErr result (IsAsBefore state.old state.new made.old made.new) }
-    ensures room { OnOk result (HasRoom 64 made.new) }
+    ensures silent { IsSilent result state.old state.new made.old made.new }
 {
-    let Some(window) = caller.window else {
-        return Err(Refusal::NoWindow);
-    };
     if bytes.is_empty() {
         return Ok(None);
     }

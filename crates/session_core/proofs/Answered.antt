@@ -1,6 +1,6 @@
 -- Deeds that were answered, and lines.
 use Rattle.std.proofs.Common.{◌≡◌, ℕ, true, false, List, [], Option, Some, None}
-use Rattle.std.proofs.Common.{Result, Ok, Err, refl, ap, sym, ◌∙◌, append-nil, inl, inr, length}
+use Rattle.std.proofs.Common.{Result, Ok, Err, refl, ap, sym, ◌∙◌, append-nil, inl, inr}
 use Rattle.std.specs.Prelude.{◌⊎◌}
 use Rattle.command_lang.specs.command.Command.{Command}
 use Rattle.command_lang.specs.fault.ParseFault.{ParseFault}

@@ -40,7 +40,7 @@ use Rattle.session_state.specs.Doing.{did}
 use Rattle.session_core.specs.Dropping.{DropsSaid}
 use Rattle.session_core.specs.Given.{given, ordered_by}
 use Rattle.session_core.specs.Obeying.{Obeyed}
-use Rattle.session_core.specs.Reads.{typing, order, keys_deed, read_of, HasEnded}
+use Rattle.session_core.specs.Reads.{typing, order, keys_deed, read_of, HasEnded, ReadFor}
 use Rattle.session_core.specs.KeyStepping.{caller_now, read_by, AreRead, AreGiven, HaveEnded}
 use Rattle.session_core.specs.Typing.{Typed, caller_by, message_after}
 use Rattle.session_core.proofs.Putting.{serial}
@@ -69,6 +69,18 @@ pub taken_counts : (c : Client) (bytes : List ℕ) (count : ℕ) → count ≡ t
     → count ≡ length (read_of c bytes)
 taken_counts c bytes count is =
     is ∙ sym (length-take-le (taken c.keys bytes) bytes (taken_few c.keys bytes))
+
+pub were_read : (t : Tables) (c : Client) (found : Option Client) (bytes : List ℕ) (count : ℕ)
+    (new : State) (before after : StepOutput) (past noted : List Verdict) → found ≡ Some c
+    → count ≡ taken c.keys bytes → HaveEnded t c (read_of c bytes) new before after past noted
+    → ReadFor t found bytes (Ok count) new before after past noted
+were_read t c found bytes count new before after past noted is count_is given =
+    subst (λ (o : Option Client). ReadFor t o bytes (Ok count) new before after past noted) (sym is)
+    (record {
+      count_is = taken_counts c bytes count count_is;
+      ended = given.ended;
+      verdicts = given.verdicts;
+    })
 
 -- ---- what they type
 

@@ -1,3 +1,4 @@
+pub mod Acting
 pub mod Answered
 pub mod Crossing
 pub mod Drawn

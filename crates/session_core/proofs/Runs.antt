@@ -7,7 +7,7 @@ use Rattle.session_model.specs.declared.event.Effect.{Effect}
 use Rattle.session_model.specs.declared.event.Event.{Event}
 use Rattle.session_model.specs.declared.event.Event.TheVariants as told
 use Rattle.session_model.specs.declared.verdict.Verdict.{Verdict}
-use Rattle.session_model.specs.Trace.{EventValue, Attach, Detach, Keys, Command, Resize, Open, Output, Closed, Draw}
+use Rattle.session_model.specs.Trace.{EventValue, Keys}
 use Rattle.session_model.specs.Trace.{happening, Reply, Entry, Trace, with_step}
 use Rattle.session_model.specs.Tables.{Tables}
 use Rattle.session_model.specs.Events.{outcome}
@@ -164,14 +164,7 @@ without_part-append part _ events = refl
 -- a part of the first event alone is one
 pub part_of : (part : ℕ) (event : EventValue) (events : List EventValue) → IsPart part (event ∷ []) → IsPart part (event ∷ events)
 part_of part (Keys client bytes) events is = is
-part_of part (Attach user rows columns) events is = is
-part_of part (Detach client) events is = is
-part_of part (Command user number line) events is = is
-part_of part (Resize client rows columns) events is = is
-part_of part (Open user rows columns keep title) events is = is
-part_of part (Output window bytes) events is = is
-part_of part (Closed window) events is = is
-part_of part (Draw client) events is = is
+part_of part _ events is = is
 
 -- a run that was stopped in an event
 pub came_to : (events : List EventValue) (taken part : ℕ) (first : EventValue) (rest : List EventValue) → taken < length events → drop taken events ≡ first ∷ rest → IsPart part (first ∷ [])

@@ -6,12 +6,13 @@ ghost use Rattle.session_model.specs.Events.{reply_of};
 ghost use Rattle.session_state.specs.Doing.{IsAsBefore};
 ghost use Rattle.session_core.specs.Stepping.{Steps};
 
+use crate::step_notes::Step;
 use acl::UserId;
 use session_checks::{check_attach, check_open, check_resize};
 use session_events::{attach, open, resize};
 use session_leaving::{Focuses, leave};
-use session_model::{Done, Refusal, Reply, Verdict};
-use session_state::{State, StepOutput};
+use session_model::{Done, Refusal, Reply};
+use session_state::{State, WindowSize};
 
 /// What is answered where nothing was read and nothing is listed: the serial of what was made, and
 /// its number.
@@ -32,18 +33,17 @@ pub(crate) fn attach_client(
     user: UserId,
     rows: u16,
     cols: u16,
-    made: &mut StepOutput,
-    verdicts: &mut Vec<Verdict>,
+    step: &mut Step,
 ) -> Reply
-    ensures step { Steps (Attach user rows cols) state.old result state.new made.old made.new
-        verdicts.old.items verdicts.new.items }
-    ensures err { OnErr result (IsAsBefore state.old state.new made.old made.new) }
+    ensures step { Steps (Attach user rows cols) state.old result state.new
+        step.old.made step.new.made step.old.verdicts.items step.new.verdicts.items }
+    ensures err { OnErr result (IsAsBefore state.old state.new step.old.made step.new.made) }
 {
     let focuses = Focuses::of(state);
-    check_attach(state, user, rows, cols, verdicts)?;
-    made.acts.reserve(256)?;
-    let client = attach(state, user, rows, cols, made)?;
-    leave(state, &focuses, made);
+    check_attach(state, user, rows, cols, &mut step.verdicts)?;
+    step.made.acts.reserve(256)?;
+    let client = attach(state, user, rows, cols, &mut step.made)?;
+    leave(state, &focuses, &mut step.made);
     Ok(made_so(client, 0))
 }
 
@@ -53,21 +53,20 @@ pub(crate) fn resize_client(
     client: u32,
     rows: u16,
     cols: u16,
-    made: &mut StepOutput,
-    verdicts: &mut Vec<Verdict>,
+    step: &mut Step,
 ) -> Reply
-    ensures step { Steps (Resize client rows cols) state.old result state.new made.old made.new
-        verdicts.old.items verdicts.new.items }
-    ensures err { OnErr result (IsAsBefore state.old state.new made.old made.new) }
+    ensures step { Steps (Resize client rows cols) state.old result state.new
+        step.old.made step.new.made step.old.verdicts.items step.new.verdicts.items }
+    ensures err { OnErr result (IsAsBefore state.old state.new step.old.made step.new.made) }
 {
     let Some(_client) = state.clients.get(client) else {
         return Err(Refusal::NoWindow);
     };
     let focuses = Focuses::of(state);
-    check_resize(state, rows, cols, verdicts)?;
-    made.acts.reserve(256)?;
-    resize(state, client, rows, cols, made);
-    leave(state, &focuses, made);
+    check_resize(state, rows, cols, &mut step.verdicts)?;
+    step.made.acts.reserve(256)?;
+    resize(state, client, rows, cols, &mut step.made);
+    leave(state, &focuses, &mut step.made);
     Ok(made_so(0, 0))
 }
 
@@ -75,21 +74,19 @@ pub(crate) fn resize_client(
 pub(crate) fn open_window(
     state: &mut State,
     user: UserId,
-    rows: u16,
-    cols: u16,
-    keep: u16,
+    size: WindowSize,
     title: &str,
-    made: &mut StepOutput,
-    verdicts: &mut Vec<Verdict>,
+    step: &mut Step,
 ) -> Reply
-    ensures step { Steps (Open user rows cols keep title.now) state.old result state.new
-        made.old made.new verdicts.old.items verdicts.new.items }
-    ensures err { OnErr result (IsAsBefore state.old state.new made.old made.new) }
+    ensures step { Steps (Open user size.rows size.cols size.keep title.now)
+        state.old result state.new step.old.made step.new.made
+        step.old.verdicts.items step.new.verdicts.items }
+    ensures err { OnErr result (IsAsBefore state.old state.new step.old.made step.new.made) }
 {
     let focuses = Focuses::of(state);
-    check_open(state, user, rows, cols, keep, title, verdicts)?;
-    made.acts.reserve(256)?;
-    let (window, number) = open(state, user, rows, cols, keep, title, made)?;
-    leave(state, &focuses, made);
+    check_open(state, user, size, title, &mut step.verdicts)?;
+    step.made.acts.reserve(256)?;
+    let (window, number) = open(state, user, size, title, &mut step.made)?;
+    leave(state, &focuses, &mut step.made);
     Ok(made_so(window, number))
 }

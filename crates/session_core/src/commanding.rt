@@ -7,12 +7,13 @@ ghost use Rattle.session_core.specs.Lines.{line_refusal, Parses, IsNumbered};
 ghost use Rattle.session_core.specs.Stepping.{Steps};
 
 use crate::orders::order;
+use crate::step_notes::Step;
 use acl::UserId;
 use command_lang::{Command, FaultKind, ParseFault, parse};
 use session_checks::is_known;
 use session_leaving::{Focuses, leave};
-use session_model::{Done, Refusal, Reply, Verdict};
-use session_state::{Caller, State, StepOutput};
+use session_model::{Done, Refusal, Reply};
+use session_state::{Caller, State};
 use std::alloc::Global;
 
 /// Why a line with a fault is refused.
@@ -50,12 +51,11 @@ pub(crate) fn give_line(
     user: UserId,
     window: Option<u8>,
     line: &[u8],
-    made: &mut StepOutput,
-    verdicts: &mut Vec<Verdict>,
+    step: &mut Step,
 ) -> Reply
-    ensures step { Steps (Given user window line.now) state.old result state.new made.old made.new
-        verdicts.old.items verdicts.new.items }
-    ensures err { OnErr result (IsAsBefore state.old state.new made.old made.new) }
+    ensures step { Steps (Given user window line.now) state.old result state.new
+        step.old.made step.new.made step.old.verdicts.items step.new.verdicts.items }
+    ensures err { OnErr result (IsAsBefore state.old state.new step.old.made step.new.made) }
 {
     if !is_known(state, user) {
         return Err(Refusal::UnknownUser);
@@ -67,8 +67,8 @@ pub(crate) fn give_line(
         client: None,
         window: window_numbered(state, window),
     };
-    let text = order(state, caller, &command, made, verdicts)?;
-    leave(state, &focuses, made);
+    let text = order(state, caller, &command, step)?;
+    leave(state, &focuses, &mut step.made);
     Ok(Done {
         taken: 0,
         made: 0,

@@ -2,7 +2,7 @@
 
 ghost use Rattle.std.specs.Prelude.{◌≡◌, Some, None, IfOk, IfErr, OnOk, OnErr};
 ghost use Rattle.session_model.specs.declared.refusal.Refusal.TheVariants.{NoMemory};
-ghost use Rattle.session_state.specs.Doing.{IsAsBefore, HasRoom};
+ghost use Rattle.session_state.specs.Doing.{HasRoomToLeave, IsAsBefore};
 ghost use Rattle.session_core.specs.Reads.{Reads};
 ghost use Rattle.session_core.specs.KeyStepping.{caller_now, IsHere, ReadsOf, ObeysRead};
 ghost use Rattle.session_core.specs.KeyStepping.{Gives, Ends};
@@ -10,13 +10,14 @@ ghost use Rattle.session_core.specs.KeyStepping.{Gives, Ends};
 use crate::dropping::drop_said;
 use crate::given::command_given;
 use crate::obeying::obey;
+use crate::step_notes::{KeyCaller, KeyOrder, Step};
 use crate::typing::type_bytes;
 use command_lang::{Command, ParseFault};
 use keys::KeyReader;
 use session_clients::{Client, read_keys};
 use session_leaving::{Focuses, leave};
-use session_model::{Bytes, Message, Refusal, Verdict};
-use session_state::{Caller, State, StepOutput};
+use session_model::{Bytes, Message, Refusal};
+use session_state::{Caller, State};
 use std::alloc::{AllocError, Global};
 
 /// What a step reads of a client's keys.
@@ -58,23 +59,22 @@ fn read(alloc: Global, reader: &mut KeyReader, bytes: &[u8]) -> Result<KeysRead,
 /// A client has read keys and says this; then it gives the command that they complete.
 fn obey_read(
     state: &mut State,
-    caller: Caller,
-    client: u32,
+    given: &KeyOrder,
     reader: &mut KeyReader,
     mut message: Message,
-    order: &Result<Command, ParseFault>,
-    made: &mut StepOutput,
-    verdicts: &mut Vec<Verdict>,
+    step: &mut Step,
 ) -> Result<(), Refusal>
-    ensures ok { OnOk result (ObeysRead caller client reader.old message order.now
-        state.old state.new made.old made.new verdicts.old.items verdicts.new.items) }
-    ensures err { IsHere client state.old
-        → OnErr result (IsAsBefore state.old state.new made.old made.new) }
+    ensures ok { OnOk result (ObeysRead given.now.by.caller given.now.by.client reader.old message
+        given.now.order state.old state.new step.old.made step.new.made
+        step.old.verdicts.items step.new.verdicts.items) }
+    ensures err { IsHere given.now.by.client state.old
+        → OnErr result (IsAsBefore state.old state.new step.old.made step.new.made) }
     ensures memory { IfErr result (λ refusal. refusal ≡ NoMemory) }
-    ensures room { OnOk result (HasRoom 64 made.new) }
+    ensures room { OnOk result (HasRoomToLeave step.new.made) }
 {
+    let client = given.by.client;
     state.clients.exchange(client, reader, &mut message);
-    match obey(state, caller, client, order, made, verdicts) {
+    match obey(state, given.by, &given.order, step) {
         Ok(()) => Ok(()),
         Err(refusal) => {
             state.clients.exchange(client, reader, &mut message);
@@ -86,33 +86,29 @@ fn obey_read(
 /// A client gives keys that complete a command: what they type, and then the command.
 fn give(
     state: &mut State,
-    caller: Caller,
-    client: u32,
+    given: &KeyOrder,
     reader: &mut KeyReader,
     typed: Bytes,
-    order: &Result<Command, ParseFault>,
-    made: &mut StepOutput,
-    verdicts: &mut Vec<Verdict>,
+    step: &mut Step,
 ) -> Result<(), Refusal>
-    ensures ok { OnOk result (Gives caller client reader.old typed (Some order.now)
-        state.old state.new made.old made.new verdicts.old.items verdicts.new.items) }
-    ensures err { IsHere client state.old
-        → OnErr result (IsAsBefore state.old state.new made.old made.new) }
+    ensures ok { OnOk result (Gives given.now.by.caller given.now.by.client reader.old typed
+        (Some given.now.order) state.old state.new step.old.made step.new.made
+        step.old.verdicts.items step.new.verdicts.items) }
+    ensures err { IsHere given.now.by.client state.old
+        → OnErr result (IsAsBefore state.old state.new step.old.made step.new.made) }
     ensures memory { IfErr result (λ refusal. refusal ≡ NoMemory) }
-    ensures room { OnOk result (HasRoom 64 made.new) }
+    ensures room { OnOk result (HasRoomToLeave step.new.made) }
 {
-    let start = made.effects.len();
-    let message = type_bytes(state, caller, client, typed, made, verdicts)?;
-    let end = made.effects.len();
-    match obey_read(
-        state, caller, client, reader, message, order, made, verdicts,
-    ) {
+    let start = step.made.effects.len();
+    let message = type_bytes(state, given.by, typed, step)?;
+    let end = step.made.effects.len();
+    match obey_read(state, given, reader, message, step) {
         Ok(()) => {
-            drop_said(&mut made.effects, start, end);
+            drop_said(&mut step.made.effects, start, end);
             Ok(())
         }
         Err(refusal) => {
-            made.effects.truncate(start);
+            step.made.effects.truncate(start);
             Err(refusal)
         }
     }
@@ -121,23 +117,21 @@ fn give(
 /// Keys that complete a command: users may leave windows by it.
 fn give_order(
     state: &mut State,
-    caller: Caller,
-    client: u32,
+    given: &KeyOrder,
     reader: &mut KeyReader,
     typed: Bytes,
-    order: &Result<Command, ParseFault>,
-    made: &mut StepOutput,
-    verdicts: &mut Vec<Verdict>,
+    step: &mut Step,
 ) -> Result<(), Refusal>
-    ensures ok { OnOk result (Ends caller client reader.old typed (Some order.now)
-        state.old state.new made.old made.new verdicts.old.items verdicts.new.items) }
-    ensures err { IsHere client state.old
-        → OnErr result (IsAsBefore state.old state.new made.old made.new) }
+    ensures ok { OnOk result (Ends given.now.by.caller given.now.by.client reader.old typed
+        (Some given.now.order) state.old state.new step.old.made step.new.made
+        step.old.verdicts.items step.new.verdicts.items) }
+    ensures err { IsHere given.now.by.client state.old
+        → OnErr result (IsAsBefore state.old state.new step.old.made step.new.made) }
     ensures memory { IfErr result (λ refusal. refusal ≡ NoMemory) }
 {
     let focuses = Focuses::of(state);
-    give(state, caller, client, reader, typed, order, made, verdicts)?;
-    leave(state, &focuses, made);
+    give(state, given, reader, typed, step)?;
+    leave(state, &focuses, &mut step.made);
     Ok(())
 }
 
@@ -145,76 +139,45 @@ fn give_order(
 /// leaves a window.
 fn give_typed(
     state: &mut State,
-    caller: Caller,
-    client: u32,
+    by: KeyCaller,
     reader: &mut KeyReader,
     typed: Bytes,
-    made: &mut StepOutput,
-    verdicts: &mut Vec<Verdict>,
+    step: &mut Step,
 ) -> Result<(), Refusal>
-    ensures ok { OnOk result (Ends caller client reader.old typed None
-        state.old state.new made.old made.new verdicts.old.items verdicts.new.items) }
-    ensures err { OnErr result (IsAsBefore state.old state.new made.old made.new) }
+    ensures ok { OnOk result (Ends by.caller by.client reader.old typed None
+        state.old state.new step.old.made step.new.made
+        step.old.verdicts.items step.new.verdicts.items) }
+    ensures err { OnErr result (IsAsBefore state.old state.new step.old.made step.new.made) }
     ensures memory { IfErr result (λ refusal. refusal ≡ NoMemory) }
 {
-    let mut message = type_bytes(state, caller, client, typed, made, verdicts)?;
-    state.clients.exchange(client, reader, &mut message);
+    let mut message = type_bytes(state, by, typed, step)?;
+    state.clients.exchange(by.client, reader, &mut message);
     Ok(())
-}
-
-/// A client gives the keys that were read.
-fn give_read(
-    state: &mut State,
-    caller: Caller,
-    client: u32,
-    reader: &mut KeyReader,
-    typed: Bytes,
-    order: &Option<Result<Command, ParseFault>>,
-    made: &mut StepOutput,
-    verdicts: &mut Vec<Verdict>,
-) -> Result<(), Refusal>
-    ensures ok { OnOk result (Ends caller client reader.old typed order.now
-        state.old state.new made.old made.new verdicts.old.items verdicts.new.items) }
-    ensures err { IsHere client state.old
-        → OnErr result (IsAsBefore state.old state.new made.old made.new) }
-    ensures memory { IfErr result (λ refusal. refusal ≡ NoMemory) }
-{
-    match order {
-        Some(order) => give_order(state, caller, client, reader, typed, order, made, verdicts),
-        None => give_typed(state, caller, client, reader, typed, made, verdicts),
-    }
 }
 
 /// A step of a client's keys: they are read up to the first one that completes a command or a line
 /// of the prompt. What they type goes to the window in focus, the command is obeyed, the client is
 /// told of what was refused, each thing once, and then users leave windows. Gives how many keys
 /// were read.
-pub fn keys(
-    state: &mut State,
-    client: u32,
-    bytes: &[u8],
-    made: &mut StepOutput,
-    verdicts: &mut Vec<Verdict>,
-) -> Result<usize, Refusal>
-    ensures answer { Reads client bytes.now state.old result state.new made.old made.new
-        verdicts.old.items verdicts.new.items }
-    ensures err { OnErr result (IsAsBefore state.old state.new made.old made.new) }
+pub fn keys(state: &mut State, client: u32, bytes: &[u8], step: &mut Step) -> Result<usize, Refusal>
+    ensures answer { Reads client bytes.now state.old result state.new
+        step.old.made step.new.made step.old.verdicts.items step.new.verdicts.items }
+    ensures err { OnErr result (IsAsBefore state.old state.new step.old.made step.new.made) }
 {
     let Some(row) = state.clients.get(client) else {
         return Err(Refusal::NoWindow);
     };
     let caller = caller_of(row);
+    let by = KeyCaller { caller, client };
     let mut reader = row.keys.copied();
-    let read = read(state.alloc, &mut reader, bytes)?;
-    give_read(
-        state,
-        caller,
-        client,
-        &mut reader,
-        read.typed,
-        &read.order,
-        made,
-        verdicts,
-    )?;
-    Ok(read.taken)
+    let KeysRead {
+        taken,
+        typed,
+        order,
+    } = read(state.alloc, &mut reader, bytes)?;
+    match order {
+        Some(order) => give_order(state, &KeyOrder { by, order }, &mut reader, typed, step)?,
+        None => give_typed(state, by, &mut reader, typed, step)?,
+    }
+    Ok(taken)
 }

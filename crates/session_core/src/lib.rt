@@ -15,6 +15,7 @@ mod programs;
 mod reading;
 mod saying;
 mod session;
+mod step_notes;
 mod taking;
 mod typing;
 

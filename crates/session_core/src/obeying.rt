@@ -1,16 +1,17 @@
 //! Commands by keys, and what their client is told of them.
 
-ghost use Rattle.std.specs.Prelude.{◌≡◌, Ok, Some, IfOk, IfErr, OnOk, OnErr};
+ghost use Rattle.std.specs.Prelude.{◌≡◌, Ok, Some, IfOk, IfErr, OnOk};
 ghost use Rattle.session_model.specs.Events.{message_of};
 ghost use Rattle.session_model.specs.declared.refusal.Refusal.TheVariants.{NoMemory};
-ghost use Rattle.session_state.specs.Doing.{IsAsBefore, HasRoom};
+ghost use Rattle.session_state.specs.Doing.{IsWhole};
 ghost use Rattle.session_core.specs.Obeying.{Obeys};
 
 use crate::orders::order;
 use crate::saying::{say, say_why, wants_memory};
+use crate::step_notes::{KeyCaller, Step};
 use command_lang::{Command, ParseFault};
-use session_model::{Bytes, Message, Refusal, Verdict};
-use session_state::{Caller, State, StepOutput};
+use session_model::{Bytes, Message, Refusal};
+use session_state::State;
 use std::alloc::{AllocError, Global};
 
 /// What a client's status line says of what a command lists: the lists of windows and of clients
@@ -28,30 +29,27 @@ fn message_of(alloc: Global, command: &Command, text: &Bytes) -> Result<Message,
 /// A client gives a command by keys, and is told what it lists, or why it is refused.
 fn obey_command(
     state: &mut State,
-    caller: Caller,
-    client: u32,
+    by: KeyCaller,
     command: &Command,
-    made: &mut StepOutput,
-    verdicts: &mut Vec<Verdict>,
+    step: &mut Step,
 ) -> Result<(), Refusal>
-    ensures ok { OnOk result (Obeys caller client (Some (Ok command.now)) state.old state.new
-        made.old made.new verdicts.old.items verdicts.new.items) }
-    ensures err { OnErr result (IsAsBefore state.old state.new made.old made.new) }
+    ensures ok { OnOk result (Obeys by.caller by.client (Some (Ok command.now)) state.old state.new
+        step.old.made step.new.made step.old.verdicts.items step.new.verdicts.items) }
     ensures memory { IfErr result (λ refusal. refusal ≡ NoMemory) }
-    ensures room { OnOk result (HasRoom 64 made.new) }
+    ensures whole { IsWhole result state.old state.new step.old.made step.new.made }
 {
-    match order(state, caller, command, made, verdicts) {
+    match order(state, by.caller, command, step) {
         Ok(None) => Ok(()),
         Ok(Some(text)) => {
             let message = message_of(state.alloc, command, &text)?;
-            say(state, client, message, text, made)
+            say(state, by.client, message, text, &mut step.made)
         }
         Err(refusal) => {
             if wants_memory(&refusal) {
                 return Err(refusal);
             }
-            made.acts.reserve(64)?;
-            say_why(state, client, refusal, made)
+            step.made.acts.reserve(64)?;
+            say_why(state, by.client, refusal, &mut step.made)
         }
     }
 }
@@ -59,23 +57,20 @@ fn obey_command(
 /// A client gives a command by keys, or a line that is none.
 pub fn obey(
     state: &mut State,
-    caller: Caller,
-    client: u32,
+    by: KeyCaller,
     order: &Result<Command, ParseFault>,
-    made: &mut StepOutput,
-    verdicts: &mut Vec<Verdict>,
+    step: &mut Step,
 ) -> Result<(), Refusal>
-    ensures ok { OnOk result (Obeys caller client (Some order.now) state.old state.new
-        made.old made.new verdicts.old.items verdicts.new.items) }
-    ensures err { OnErr result (IsAsBefore state.old state.new made.old made.new) }
+    ensures ok { OnOk result (Obeys by.caller by.client (Some order.now) state.old state.new
+        step.old.made step.new.made step.old.verdicts.items step.new.verdicts.items) }
     ensures memory { IfErr result (λ refusal. refusal ≡ NoMemory) }
-    ensures room { OnOk result (HasRoom 64 made.new) }
+    ensures whole { IsWhole result state.old state.new step.old.made step.new.made }
 {
     match order {
-        Ok(command) => obey_command(state, caller, client, command, made, verdicts),
+        Ok(command) => obey_command(state, by, command, step),
         Err(fault) => {
-            made.acts.reserve(64)?;
-            say_why(state, client, Refusal::Line(*fault), made)
+            step.made.acts.reserve(64)?;
+            say_why(state, by.client, Refusal::Line(*fault), &mut step.made)
         }
     }
 }

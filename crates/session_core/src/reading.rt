@@ -6,23 +6,18 @@ ghost use Rattle.session_state.specs.Doing.{IsAsBefore};
 ghost use Rattle.session_core.specs.Stepping.{Steps};
 
 use crate::key_step::keys;
-use session_model::{Done, Reply, Verdict};
-use session_state::{State, StepOutput};
+use crate::step_notes::Step;
+use session_model::{Done, Reply};
+use session_state::State;
 
 /// A client gives keys: they are read up to the first that completes a command or a line. Users
 /// leave windows only where there is one.
-pub(crate) fn give_keys(
-    state: &mut State,
-    client: u32,
-    bytes: &[u8],
-    made: &mut StepOutput,
-    verdicts: &mut Vec<Verdict>,
-) -> Reply
-    ensures step { Steps (Keys client bytes.now) state.old result state.new made.old made.new
-        verdicts.old.items verdicts.new.items }
-    ensures err { OnErr result (IsAsBefore state.old state.new made.old made.new) }
+pub(crate) fn give_keys(state: &mut State, client: u32, bytes: &[u8], step: &mut Step) -> Reply
+    ensures step { Steps (Keys client bytes.now) state.old result state.new
+        step.old.made step.new.made step.old.verdicts.items step.new.verdicts.items }
+    ensures err { OnErr result (IsAsBefore state.old state.new step.old.made step.new.made) }
 {
-    let taken = keys(state, client, bytes, made, verdicts)?;
+    let taken = keys(state, client, bytes, step)?;
     Ok(Done {
         taken,
         made: 0,

@@ -16,6 +16,7 @@ ghost use Rattle.session_core.specs.Headline.{HasCome, run_call, take_call, IsPa
 ghost use Rattle.session_core.specs.Headline.{read_by};
 
 use crate::notes::Notes;
+use crate::step_notes::Step;
 use crate::taking::take;
 use acl::{Edition, UserId};
 use session_clients::Client;
@@ -90,12 +91,14 @@ impl Session {
         ensures memory { result ≡ Err NoMemory → (self.new ≡ self.old)
             × (effects.new.items ≡ effects.old.items) × (notes.new ≡ notes.old) }
     {
-        let mut made = StepOutput {
+        let made = StepOutput {
             acts: Vec::new(self.alloc),
             effects: mem::replace(effects, Vec::new(self.alloc)),
         };
-        let mut verdicts = Vec::new(self.alloc);
-        let reply = take(&mut self.state, event, &mut made, &mut verdicts);
+        let verdicts = Vec::new(self.alloc);
+        let mut step = Step { made, verdicts };
+        let reply = take(&mut self.state, event, &mut step);
+        let Step { made, verdicts } = step;
         *effects = made.effects;
         if !wants_memory(&reply) {
             *notes = Notes::of(made.acts, verdicts);

@@ -12,43 +12,37 @@ use crate::drawing::draw_client;
 use crate::going::{end_window, let_go};
 use crate::programs::write;
 use crate::reading::give_keys;
-use session_model::{Event, Reply, Verdict};
-use session_state::{State, StepOutput};
+use crate::step_notes::Step;
+use session_model::{Event, Reply};
+use session_state::{State, WindowSize};
 
 /// A step of a session: its checks are made and noted, then it does what its event does, and at its
 /// end users leave the windows that none of their clients has in focus any more. Nothing is left of
-/// a step that found no memory but, in `verdicts`, what was checked.
-pub fn take(
-    state: &mut State,
-    event: Event,
-    made: &mut StepOutput,
-    verdicts: &mut Vec<Verdict>,
-) -> Reply
-    ensures step { Takes (happening event.entry) state.old result state.new made.old made.new
-        verdicts.old.items verdicts.new.items }
-    ensures memory { result ≡ Err NoMemory → IsAsBefore state.old state.new made.old made.new }
+/// a step that found no memory but what was checked.
+pub fn take(state: &mut State, event: Event, step: &mut Step) -> Reply
+    ensures step { Takes (happening event.entry) state.old result state.new
+        step.old.made step.new.made step.old.verdicts.items step.new.verdicts.items }
+    ensures memory { result ≡ Err NoMemory → IsAsBefore state.old state.new
+        step.old.made step.new.made }
 {
     match event {
-        Event::Attach { user, rows, cols } => {
-            attach_client(state, user, rows, cols, made, verdicts)
-        }
-        Event::Detach { client } => let_go(state, client, made),
-        Event::Keys { client, bytes } => give_keys(state, client, bytes, made, verdicts),
-        Event::Command { user, window, line } => {
-            give_line(state, user, window, line, made, verdicts)
-        }
-        Event::Resize { client, rows, cols } => {
-            resize_client(state, client, rows, cols, made, verdicts)
-        }
+        Event::Attach { user, rows, cols } => attach_client(state, user, rows, cols, step),
+        Event::Detach { client } => let_go(state, client, &mut step.made),
+        Event::Keys { client, bytes } => give_keys(state, client, bytes, step),
+        Event::Command { user, window, line } => give_line(state, user, window, line, step),
+        Event::Resize { client, rows, cols } => resize_client(state, client, rows, cols, step),
         Event::Open {
             user,
             rows,
             cols,
             keep,
             title,
-        } => open_window(state, user, rows, cols, keep, title, made, verdicts),
-        Event::Output { window, bytes } => write(state, window, bytes, made),
-        Event::Closed { window } => end_window(state, window, made),
-        Event::Draw { client } => draw_client(state, client, made),
+        } => {
+            let size = WindowSize { rows, cols, keep };
+            open_window(state, user, size, title, step)
+        }
+        Event::Output { window, bytes } => write(state, window, bytes, &mut step.made),
+        Event::Closed { window } => end_window(state, window, &mut step.made),
+        Event::Draw { client } => draw_client(state, client, &mut step.made),
     }
 }

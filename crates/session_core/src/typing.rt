@@ -5,9 +5,10 @@ ghost use Rattle.session_model.specs.declared.refusal.Refusal.TheVariants.{NoMem
 ghost use Rattle.session_core.specs.Typing.{Types, Grows, input_to};
 
 use crate::saying::wants_memory;
+use crate::step_notes::{KeyCaller, Step};
 use session_checks::check_typing;
-use session_model::{Bytes, Effect, Message, Refusal, Verdict};
-use session_state::{Caller, State, StepOutput};
+use session_model::{Bytes, Effect, Message, Refusal};
+use session_state::State;
 use std::alloc::AllocError;
 
 /// Bytes for a window's program.
@@ -26,25 +27,23 @@ fn put_typed(window: Option<u32>, typed: Bytes, effects: &mut Vec<Effect>) -> Re
 /// status line says then.
 pub fn type_bytes(
     state: &State,
-    caller: Caller,
-    client: u32,
+    by: KeyCaller,
     typed: Bytes,
-    made: &mut StepOutput,
-    verdicts: &mut Vec<Verdict>,
+    step: &mut Step,
 ) -> Result<Message, Refusal>
-    ensures ok { IfOk result (λ message. Types caller client typed state.now message
-        made.old made.new verdicts.old.items verdicts.new.items) }
-    ensures grows { OnOk result (Grows made.old.effects.items made.new.effects.items) }
-    ensures err { OnErr result (made.new.effects.items ≡ made.old.effects.items) }
+    ensures ok { IfOk result (λ message. Types by.caller by.client typed state.now message
+        step.old.made step.new.made step.old.verdicts.items step.new.verdicts.items) }
+    ensures grows { OnOk result (Grows step.old.made.effects.items step.new.made.effects.items) }
+    ensures err { OnErr result (step.new.made.effects.items ≡ step.old.made.effects.items) }
     ensures memory { IfErr result (λ refusal. refusal ≡ NoMemory) }
-    ensures acts { made.new.acts ≡ made.old.acts }
+    ensures acts { step.new.made.acts ≡ step.old.made.acts }
 {
     if typed.is_empty() {
         return Ok(Message::Silence);
     }
-    match check_typing(state, caller, verdicts) {
+    match check_typing(state, by.caller, &mut step.verdicts) {
         Ok(()) => {
-            put_typed(caller.window, typed, &mut made.effects)?;
+            put_typed(by.caller.window, typed, &mut step.made.effects)?;
             Ok(Message::Silence)
         }
         Err(refusal) => {
@@ -54,8 +53,8 @@ pub fn type_bytes(
             let mut text = Vec::new(state.alloc);
             refusal.text(&mut text)?;
             let message = Message::Text(Bytes::of(state.alloc, &text)?);
-            made.effects
-                .push(Effect::Say(client, Bytes::from_vec(text)))?;
+            let said = Effect::Say(by.client, Bytes::from_vec(text));
+            step.made.effects.push(said)?;
             Ok(message)
         }
     }

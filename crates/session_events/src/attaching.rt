@@ -1,13 +1,14 @@
 //! Clients that attach, and their sizes.
 
-ghost use Rattle.std.specs.Prelude.{◌≡◌, false, OnOk, OnErr};
+ghost use Rattle.std.specs.Prelude.{◌≡◌, false};
 ghost use Rattle.std.specs.Option.{option_map};
 ghost use Rattle.session_model.specs.Tables.{Tables, Window};
 ghost use Rattle.session_model.specs.Naming.{lowest};
 ghost use Rattle.session_model.specs.Deeds.{acting, entering};
 ghost use Rattle.session_model.specs.Events.{is_client_size};
 ghost use Rattle.session_state.specs.Stands.{Stands};
-ghost use Rattle.session_state.specs.Doing.{HasDone, IsAsBefore, HasRoom};
+ghost use Rattle.session_state.specs.Doing.{HasDone, IsAsBefore, IsWhole};
+ghost use Rattle.session_state.specs.Doing.{HasRoom, HasRoomToAct, HasRoomToLeave};
 ghost use Rattle.session_events.specs.Events.{IsOpenIn, Attaches, Resizes};
 
 use crate::serials::serial_from;
@@ -53,10 +54,9 @@ pub fn attach(
     cols: u16,
     made: &mut StepOutput,
 ) -> Result<u32, Refusal>
-    requires { HasRoom 256 made.old }
+    requires { HasRoomToAct made.old }
     ensures answer { Attaches user rows cols state.old result state.new made.old made.new }
-    ensures err { OnErr result (IsAsBefore state.old state.new made.old made.new) }
-    ensures room { OnOk result (HasRoom 64 made.new) }
+    ensures whole { IsWhole result state.old state.new made.old made.new }
 {
     if !is_client_size(rows, cols) {
         return Err(Refusal::BadSize);
@@ -76,11 +76,11 @@ pub fn attach(
 
 /// A client's terminal has another size, whose check has passed. No other size changes anything.
 pub fn resize(state: &mut State, client: u32, rows: u16, cols: u16, made: &mut StepOutput)
-    requires { HasRoom 256 made.old }
+    requires { HasRoomToAct made.old }
     ensures answer { Resizes client rows cols state.old state.new made.old made.new }
     ensures kept { is_client_size rows cols ≡ false
         → IsAsBefore state.old state.new made.old made.new }
-    ensures room { HasRoom 64 made.new }
+    ensures room { HasRoomToLeave made.new }
 {
     if !is_client_size(rows, cols) {
         return;

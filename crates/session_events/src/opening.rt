@@ -1,34 +1,31 @@
 //! Windows that open.
 
-ghost use Rattle.std.specs.Prelude.{OnOk, OnErr};
-ghost use Rattle.session_state.specs.Doing.{IsAsBefore, HasRoom};
+ghost use Rattle.session_state.specs.Doing.{HasRoomToAct, IsWhole};
 ghost use Rattle.session_events.specs.Events.{Opens};
 
 use crate::serials::serial_from;
 use acl::{Act, UserId};
 use session_model::{Refusal, WindowsFault};
-use session_state::{State, StepOutput};
+use session_state::{State, StepOutput, WindowSize};
 
 /// A user opens a window, whose checks have passed; it gets the next serial and the lowest number
 /// that is free. Gives both.
 pub fn open(
     state: &mut State,
     user: UserId,
-    rows: u16,
-    cols: u16,
-    keep: u16,
+    size: WindowSize,
     title: &str,
     made: &mut StepOutput,
 ) -> Result<(u32, u8), Refusal>
-    requires { HasRoom 256 made.old }
-    ensures answer { Opens user rows cols keep title.now state.old result state.new
+    requires { HasRoomToAct made.old }
+    ensures answer { Opens user size.rows size.cols size.keep title.now state.old result state.new
         made.old made.new }
-    ensures err { OnErr result (IsAsBefore state.old state.new made.old made.new) }
-    ensures room { OnOk result (HasRoom 64 made.new) }
+    ensures whole { IsWhole result state.old state.new made.old made.new }
 {
     let Some(window) = serial_from(state.next_window) else {
         return Err(Refusal::Windows(WindowsFault::Full));
     };
+    let WindowSize { rows, cols, keep } = size;
     let number = state
         .windows
         .open(state.alloc, window, rows, cols, keep, title)?;

@@ -1,7 +1,6 @@
 //! What programs of windows write.
 
-ghost use Rattle.std.specs.Prelude.{OnOk, OnErr};
-ghost use Rattle.session_state.specs.Doing.{IsAsBefore, HasRoom};
+ghost use Rattle.session_state.specs.Doing.{HasRoomToAct, IsWhole};
 ghost use Rattle.session_events.specs.Events.{Outputs};
 
 use session_model::{Bytes, Effect, Refusal};
@@ -15,10 +14,9 @@ pub fn output(
     bytes: &[u8],
     made: &mut StepOutput,
 ) -> Result<(), Refusal>
-    requires { HasRoom 256 made.old }
+    requires { HasRoomToAct made.old }
     ensures answer { Outputs window bytes.now state.old result state.new made.old made.new }
-    ensures err { OnErr result (IsAsBefore state.old state.new made.old made.new) }
-    ensures room { OnOk result (HasRoom 64 made.new) }
+    ensures whole { IsWhole result state.old state.new made.old made.new }
 {
     made.effects.reserve(1)?;
     let mut reports = Vec::new(state.alloc);

@@ -3,8 +3,7 @@
 ghost use Rattle.std.specs.Prelude.{◌≡◌};
 ghost use Rattle.session_events.specs.Events.{serial_from};
 
-/// How many serials there are.
-const SERIALS: u64 = 1 << 32;
+use session_model::SERIALS;
 
 /// The serial that comes next, unless all are given.
 pub(crate) fn serial_from(next: u64) -> Option<u32>

@@ -16,7 +16,7 @@ use Rattle.session_model.specs.Lines.{Caller}
 use Rattle.session_model.specs.Promises.{SomeOf}
 use Rattle.session_model.specs.Run.{IsStep, IsRunFrom, after, tables_from}
 use Rattle.session_model.specs.Tables.{Tables}
-use Rattle.session_model.specs.Trace.{EventValue, Command, Open, Closed, Entry}
+use Rattle.session_model.specs.Trace.{EventValue, Open, Entry}
 use Rattle.session_laws.proofs.Lists.{contradicts, all_weaken, all_append}
 use Rattle.session_guests.specs.Changing.{changes_rights, opens_window, opened_by, SameLists, SameRights, MayChangeRights, RightsAreGated}
 use Rattle.session_guests.specs.Contained.{AllSteps, AreGuests, ChangesAreTheirs, stood, AreContained}

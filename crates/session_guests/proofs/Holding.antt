@@ -28,7 +28,7 @@ use Rattle.session_model.specs.Promises.{SomeOf, IsOn}
 use Rattle.session_model.specs.Rights.{may_in, holder_in}
 use Rattle.session_model.specs.Run.{IsStep, IsRunFrom, after, tables_from}
 use Rattle.session_model.specs.Tables.{Tables, Window, Client, client_at, is_known}
-use Rattle.session_model.specs.Trace.{EventValue, Attach, Detach, Keys, Command, Resize, Open, Output, Closed, Draw, Entry}
+use Rattle.session_model.specs.Trace.{EventValue, Attach, Detach, Keys, Command, Open, Closed, Entry}
 use Rattle.session_laws.proofs.Lists.{contradicts, all_weaken, all_append}
 use Rattle.session_guests.specs.Changing.{changes_rights}
 use Rattle.session_guests.specs.Locking.{user_of, HoldersMayWrite, TakesIt}
@@ -159,25 +159,21 @@ module _ (t : Tables) (P : UserId → Type 0) where
     one (act.Left v w) is = giving.silent_one t.edition t.owner P t.acts h (act.Left v w) refl
     one a is = absurd is
 
-  keys_silent : (client : ℕ) (bytes : List ℕ) (a : Act) → IsActIn t (Keys client bytes) a → Silent a
-  keys_silent client bytes (act.Left v w) is = refl
-  keys_silent client bytes a is = absurd is
+  -- events that bring other acts than of users who leave windows
+  abbrev brings_acts : EventValue → Bool
+  brings_acts (Attach user rows columns) = true
+  brings_acts (Detach client) = true
+  brings_acts (Open user rows columns keep title) = true
+  brings_acts (Closed window) = true
+  brings_acts event = false
 
-  line_silent : (user : UserId) (number : Option ℕ) (bytes : List ℕ) (a : Act) → IsActIn t (Command user number bytes) a → Silent a
-  line_silent user number bytes (act.Left v w) is = refl
-  line_silent user number bytes a is = absurd is
-
-  resize_silent : (client rows columns : ℕ) (a : Act) → IsActIn t (Resize client rows columns) a → Silent a
-  resize_silent client rows columns (act.Left v w) is = refl
-  resize_silent client rows columns a is = absurd is
-
-  output_silent : (window : ℕ) (bytes : List ℕ) (a : Act) → IsActIn t (Output window bytes) a → Silent a
-  output_silent window bytes (act.Left v w) is = refl
-  output_silent window bytes a is = absurd is
-
-  draw_silent : (client : ℕ) (a : Act) → IsActIn t (Draw client) a → Silent a
-  draw_silent client (act.Left v w) is = refl
-  draw_silent client a is = absurd is
+  left_silent : (event : EventValue) (a : Act) → brings_acts event ≡ false → IsActIn t event a → Silent a
+  left_silent event (act.Left v w) none is = refl
+  left_silent (Attach user rows columns) a none is = absurd (cc (none))
+  left_silent (Detach client) a none is = absurd (cc (none))
+  left_silent (Open user rows columns keep title) a none is = absurd (cc (none))
+  left_silent (Closed window) a none is = absurd (cc (none))
+  left_silent event a none is = absurd is
 
   plain_gives : (event : EventValue) → ((user : UserId) → user_of t event ≡ Some user → P user) → (acts : List Act) → AllByRecursion (IsActIn t event) acts → All acts
   plain_gives (Attach user rows columns) p acts all =
@@ -185,11 +181,7 @@ module _ (t : Tables) (P : UserId → Type 0) where
   plain_gives (Open user rows columns keep title) p acts all = open_gives user rows columns keep title (p user refl) t.acts acts all
   plain_gives (Detach client) p acts all = other_silent (Detach client) (detach_silent client) acts all
   plain_gives (Closed window) p acts all = other_silent (Closed window) (closed_silent window) acts all
-  plain_gives (Keys client bytes) p acts all = other_silent (Keys client bytes) (keys_silent client bytes) acts all
-  plain_gives (Command user number bytes) p acts all = other_silent (Command user number bytes) (line_silent user number bytes) acts all
-  plain_gives (Resize client rows columns) p acts all = other_silent (Resize client rows columns) (resize_silent client rows columns) acts all
-  plain_gives (Output window bytes) p acts all = other_silent (Output window bytes) (output_silent window bytes) acts all
-  plain_gives (Draw client) p acts all = other_silent (Draw client) (draw_silent client) acts all
+  plain_gives event p acts all = other_silent event (λ a is. left_silent event a refl is) acts all
 
 -- the user of a step
 abbrev Steps_of : Tables → Entry → UserId → Type 0

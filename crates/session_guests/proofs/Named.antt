@@ -13,12 +13,10 @@ use Rattle.terminal_model.specs.Writing as written
 use Rattle.session_model.specs.declared.event.Effect.{Effect}
 use Rattle.session_model.specs.declared.event.Reason.TheVariants as reason
 use Rattle.session_model.specs.declared.verdict.Verdict.{Verdict}
-use Rattle.session_model.specs.declared.check.Check.TheVariants.{Must as must}
-use Rattle.session_model.specs.declared.refusal.Refusal.TheVariants.{BadSize}
 use Rattle.session_model.specs.Checks.{first_fault, verdicts}
 use Rattle.session_model.specs.Commands.{does}
-use Rattle.session_model.specs.Deeds.{Deed, Answer, changing, parts, closes}
-use Rattle.session_model.specs.Events.{outcome, Outcome, finished, done, reply_of, where_passed, attach_checks, attaches, new_client, open_checks, opens, new_window, is_client_size, resized, outputs}
+use Rattle.session_model.specs.Deeds.{Deed, Answer, closes}
+use Rattle.session_model.specs.Events.{outcome, Outcome, finished, done, reply_of, open_checks, opens, new_window, outputs}
 use Rattle.session_model.specs.Given.{Given, commands_of, with_order, order_in, ok_of}
 use Rattle.session_model.specs.Keying.{step_items, command_item}
 use Rattle.session_model.specs.Lines.{Caller, caller_of, line_caller, read_line}
@@ -26,8 +24,8 @@ use Rattle.session_model.specs.Promises.{SomeOf}
 use Rattle.session_model.specs.Rights.{may_in}
 use Rattle.session_model.specs.Run.{IsStep, after, drawn_on}
 use Rattle.session_model.specs.Sound.{AreFit}
-use Rattle.session_model.specs.Tables.{Tables, Window, Client, window_at, client_at, with_client, focused, is_known}
-use Rattle.session_model.specs.Trace.{EventValue, Attach, Detach, Keys, Command, Resize, Open, Output, Closed, Draw, Reply, Entry}
+use Rattle.session_model.specs.Tables.{Tables, Window, Client, window_at, client_at, focused, is_known}
+use Rattle.session_model.specs.Trace.{EventValue, Keys, Command, Open, Output, Closed, Draw, Reply, Entry}
 use Rattle.session_laws.proofs.Lists.{equal, row_serial}
 use Rattle.session_laws.proofs.Doing.{Either}
 use Rattle.session_laws.proofs.Lasting.{differ}
@@ -96,27 +94,13 @@ module _ (t : Tables) (w : ℕ) where
   abbrev SameIn : Outcome → Type 0
   SameIn o = Same o.tables
 
-  attach_same : (user : UserId) (rows columns : ℕ) → SameIn (outcome t (Attach user rows columns))
-  attach_same user rows columns =
-      outcomes.passed SameIn t (verdicts t (attach_checks t user rows columns)) (first_fault t (attach_checks t user rows columns)) (reply_of 0 t.next_client 0 None) (attaches t (new_client t user rows columns))
-      (λ r is. refl) (λ is. refl)
-
-  detach_same : (client : ℕ) → SameIn (outcome t (Detach client))
-  detach_same client = outcomes.found SameIn t (λ c. finished t [] done (parts (λ d. d.serial == client) reason.Detached t)) (client_at t client) refl (λ c at. refl)
-
-  resize_same : (client rows columns : ℕ) → SameIn (outcome t (Resize client rows columns))
-  resize_same client rows columns =
-      outcomes.found SameIn t (λ c. where_passed t (must (is_client_size rows columns) BadSize ∷ []) done (changing (with_client t (resized rows columns c)))) (client_at t client) refl
-      (λ c at. outcomes.passed SameIn t (verdicts t (must (is_client_size rows columns) BadSize ∷ [])) (first_fault t (must (is_client_size rows columns) BadSize ∷ [])) done (changing (with_client t (resized rows columns c)))
-      (λ r is. refl) (λ is. refl))
-
   output_same : (window : ℕ) (bytes : List ℕ) → SameIn (outcome t (Output window bytes))
   output_same window bytes =
       outcomes.found SameIn t (λ v. finished t [] done (outputs t v bytes)) (window_at t window) refl
       (λ v at. written_label t v (record v { writing = v.writing ++ written.Output bytes ∷ [] }) w (ap (window_at t) (row_serial serial t.windows window v at) ∙ at) refl refl)
 
-  draw_same : (client : ℕ) → SameIn (outcome t (Draw client))
-  draw_same client = outcomes.found SameIn t (λ c. finished t [] done (changing t)) (client_at t client) refl (λ c at. refl)
+  windows_same : (event : EventValue) → outcomes.leaves_windows event ≡ true → SameIn (outcome t event)
+  windows_same event leaves = ap (λ ws. label_in ws w) (outcomes.same_windows t event leaves)
 
   drawn_same : (o : Option Client) (effects : List Effect) (u : Tables) → Same u → Same (drawn_on o effects u)
   drawn_same None effects u same = same
@@ -152,13 +136,11 @@ module _ (t : Tables) (w : ℕ) where
       let e : Entry = record { event = Keys client bytes; reply = reply; acts = acts; verdicts = vs; effects = effects } in obeys_named e fit (obeys_of laws t e step refl)
   stay_by laws fit (Command user number bytes) reply acts vs effects step =
       let e : Entry = record { event = Command user number bytes; reply = reply; acts = acts; verdicts = vs; effects = effects } in obeys_named e fit (obeys_of laws t e step refl)
-  stay_by laws fit (Attach user rows columns) reply acts vs effects step = inl (attach_same user rows columns)
-  stay_by laws fit (Detach client) reply acts vs effects step = inl (detach_same client)
-  stay_by laws fit (Resize client rows columns) reply acts vs effects step = inl (resize_same client rows columns)
   stay_by laws fit (Output window bytes) reply acts vs effects step = inl (output_same window bytes)
-  stay_by laws fit (Draw client) reply acts vs effects step = inl (drawn_same (client_at (outcome t (Draw client)).tables client) effects (outcome t (Draw client)).tables (draw_same client))
+  stay_by laws fit (Draw client) reply acts vs effects step = inl (drawn_same (client_at (outcome t (Draw client)).tables client) effects (outcome t (Draw client)).tables (windows_same (Draw client) refl))
   stay_by laws fit (Open user rows columns keep title) reply acts vs effects step = open_named user rows columns keep title
   stay_by laws fit (Closed window) reply acts vs effects step = closed_named window
+  stay_by laws fit event reply acts vs effects step = inl (windows_same event refl)
 
 pub windows_stay : Below → (t : Tables) (e : Entry) → AreFit t → IsStep t e → WindowsStayIn t e
 windows_stay laws t e fit step w = stay_by t w laws fit e.event e.reply e.acts e.verdicts e.effects step

@@ -1,12 +1,12 @@
 //! Windows that are closed.
 
 ghost use Rattle.std.specs.Prelude.{◌≡◌, ◌≤◌, ◌+◌, ◌++◌, ℕ, map, length};
-ghost use Rattle.std.specs.Prelude.{vec_len, vec_capacity, IfOk, OnOk, OnErr};
+ghost use Rattle.std.specs.Prelude.{vec_len, vec_capacity, IfOk};
 ghost use Rattle.acl.specs.declared.edition.Edition.{Edition};
 ghost use Rattle.acl.specs.History.{History, followed_by};
 ghost use Rattle.acl.specs.Table.{StandsFor};
 ghost use Rattle.writelock.specs.LockTable.{LocksStandFor};
-ghost use Rattle.session_state.specs.Doing.{HasRoom, IsAsBefore};
+ghost use Rattle.session_state.specs.Doing.{IsWhole};
 ghost use Rattle.session_leaving.specs.Closing.{closing, gone_row, closed_acts};
 ghost use Rattle.session_leaving.specs.Settling.{Settles};
 
@@ -61,8 +61,7 @@ pub(crate) fn close(
     made: &mut StepOutput,
 ) -> Result<(), Refusal>
     ensures answer { Settles (closing window why) state.old result state.new made.old made.new }
-    ensures err { OnErr result (IsAsBefore state.old state.new made.old made.new) }
-    ensures room { OnOk result (HasRoom 64 made.new) }
+    ensures whole { IsWhole result state.old state.new made.old made.new }
 {
     made.acts.reserve(65)?;
     made.effects.reserve(1)?;

@@ -1,9 +1,10 @@
 //! Commands by which clients or windows go, and events of the same.
 
-ghost use Rattle.std.specs.Prelude.{◌≡◌, None, true, IfOk, IsOk, OnOk, OnErr};
+ghost use Rattle.std.specs.Prelude.{◌≡◌, true, IsOk};
 ghost use Rattle.command_lang.specs.command.Command.TheVariants as command;
 ghost use Rattle.session_model.specs.declared.event.Reason.TheVariants as reason;
-ghost use Rattle.session_state.specs.Doing.{Does, HasRoom, IsAsBefore};
+ghost use Rattle.session_state.specs.Doing.{DoesForAll, DoesBy, DoesOn, HasRoomToLeave};
+ghost use Rattle.session_state.specs.Doing.{IsSilent, IsWhole};
 ghost use Rattle.session_leaving.specs.Closing.{closing};
 ghost use Rattle.session_leaving.specs.Settling.{Settles, detaching, refusal_of};
 
@@ -11,13 +12,12 @@ use crate::closing::{close, gone_windows, note_closed};
 use crate::going::{Going, go, gone_clients, note_parted};
 use acl::{AclFault, UserId};
 use session_model::{Bytes, Reason, Refusal};
-use session_state::{Caller, State, StepOutput};
+use session_state::{State, StepOutput};
 
 /// A client goes.
 pub fn detach_client(state: &mut State, client: u32, made: &mut StepOutput) -> Result<(), Refusal>
     ensures answer { Settles (detaching client) state.old result state.new made.old made.new }
-    ensures err { OnErr result (IsAsBefore state.old state.new made.old made.new) }
-    ensures room { OnOk result (HasRoom 64 made.new) }
+    ensures whole { IsWhole result state.old state.new made.old made.new }
 {
     let Some(_client) = state.clients.get(client) else {
         return Err(Refusal::NoWindow);
@@ -30,8 +30,7 @@ pub fn detach_client(state: &mut State, client: u32, made: &mut StepOutput) -> R
 pub fn close_window(state: &mut State, window: u32, made: &mut StepOutput) -> Result<(), Refusal>
     ensures answer { Settles (closing window reason.Detached) state.old result state.new
         made.old made.new }
-    ensures err { OnErr result (IsAsBefore state.old state.new made.old made.new) }
-    ensures room { OnOk result (HasRoom 64 made.new) }
+    ensures whole { IsWhole result state.old state.new made.old made.new }
 {
     close(state, window, Reason::Detached, made)
 }
@@ -39,49 +38,29 @@ pub fn close_window(state: &mut State, window: u32, made: &mut StepOutput) -> Re
 /// `detach`: the client that asks goes.
 pub fn detach(
     state: &mut State,
-    caller: Caller,
+    client: u32,
     made: &mut StepOutput,
 ) -> Result<Option<Bytes>, Refusal>
-    ensures answer { Does caller command.Detach state.old result state.new made.old made.new }
-    ensures silent { IfOk result (λ lists. lists ≡ None) }
-    ensures err { OnErr result (IsAsBefore state.old state.new made.old made.new) }
-    ensures room { OnOk result (HasRoom 64 made.new) }
+    ensures answer { DoesBy client command.Detach state.old result state.new made.old made.new }
+    ensures silent { IsSilent result state.old state.new made.old made.new }
 {
-    let Some(client) = caller.client else {
-        return Err(Refusal::NoWindow);
-    };
     detach_client(state, client, made)?;
     Ok(None)
 }
 
 /// `kill`: the window is closed.
-pub fn kill(
-    state: &mut State,
-    caller: Caller,
-    made: &mut StepOutput,
-) -> Result<Option<Bytes>, Refusal>
-    ensures answer { Does caller command.Kill state.old result state.new made.old made.new }
-    ensures silent { IfOk result (λ lists. lists ≡ None) }
-    ensures err { OnErr result (IsAsBefore state.old state.new made.old made.new) }
-    ensures room { OnOk result (HasRoom 64 made.new) }
+pub fn kill(state: &mut State, window: u32, made: &mut StepOutput) -> Result<Option<Bytes>, Refusal>
+    ensures answer { DoesOn window command.Kill state.old result state.new made.old made.new }
+    ensures silent { IsSilent result state.old state.new made.old made.new }
 {
-    let Some(window) = caller.window else {
-        return Err(Refusal::NoWindow);
-    };
     close(state, window, Reason::Killed, made)?;
     Ok(None)
 }
 
 /// `quit`: all windows are closed, and all clients go.
-pub fn quit(
-    state: &mut State,
-    caller: Caller,
-    made: &mut StepOutput,
-) -> Result<Option<Bytes>, Refusal>
-    ensures answer { Does caller command.Quit state.old result state.new made.old made.new }
-    ensures silent { IfOk result (λ lists. lists ≡ None) }
-    ensures err { OnErr result (IsAsBefore state.old state.new made.old made.new) }
-    ensures room { OnOk result (HasRoom 64 made.new) }
+pub fn quit(state: &mut State, made: &mut StepOutput) -> Result<Option<Bytes>, Refusal>
+    ensures answer { DoesForAll command.Quit state.old result state.new made.old made.new }
+    ensures silent { IsSilent result state.old state.new made.old made.new }
 {
     let windows = state.windows.as_slice();
     let clients = state.clients.as_slice();
@@ -101,16 +80,13 @@ pub fn quit(
 /// have room.
 pub fn multiuser(
     state: &mut State,
-    caller: Caller,
     is_on: bool,
     made: &mut StepOutput,
 ) -> Result<Option<Bytes>, Refusal>
-    ensures answer { Does caller (command.Multiuser is_on) state.old result state.new
+    ensures answer { DoesForAll (command.Multiuser is_on) state.old result state.new
         made.old made.new }
-    ensures silent { IfOk result (λ lists. lists ≡ None) }
-    ensures err { OnErr result (IsAsBefore state.old state.new made.old made.new) }
-    ensures room { OnOk result (HasRoom 64 made.new) }
-    ensures memory { is_on ≡ true → HasRoom 64 made.old → IsOk result }
+    ensures silent { IsSilent result state.old state.new made.old made.new }
+    ensures memory { is_on ≡ true → HasRoomToLeave made.old → IsOk result }
 {
     if is_on {
         made.acts.reserve(64)?;
@@ -136,15 +112,12 @@ fn refusal_of(fault: AclFault) -> Refusal
 /// `acldel`: a user's clients go, and then he.
 pub fn acldel(
     state: &mut State,
-    caller: Caller,
     word: &str,
     made: &mut StepOutput,
 ) -> Result<Option<Bytes>, Refusal>
-    ensures answer { Does caller (command.Acldel word.now) state.old result state.new
+    ensures answer { DoesForAll (command.Acldel word.now) state.old result state.new
         made.old made.new }
-    ensures silent { IfOk result (λ lists. lists ≡ None) }
-    ensures err { OnErr result (IsAsBefore state.old state.new made.old made.new) }
-    ensures room { OnOk result (HasRoom 64 made.new) }
+    ensures silent { IsSilent result state.old state.new made.old made.new }
 {
     let Some(user) = UserId::of(word.as_bytes()) else {
         return Err(Refusal::Acl(AclFault::ReservedName));

@@ -2,7 +2,7 @@
 
 ghost use Rattle.std.specs.Prelude.{◌≡◌, ◌≤◌, ◌+◌, ◌++◌, ◌&&◌, ℕ, not, filter, map};
 ghost use Rattle.std.specs.Prelude.{length, reverse, vec_len, vec_capacity};
-ghost use Rattle.std.specs.Prelude.{IfOk, OnOk, OnErr};
+ghost use Rattle.std.specs.Prelude.{IfOk, OnOk};
 ghost use Rattle.std.specs.List.{list_any};
 ghost use Rattle.acl.specs.declared.edition.Edition.{Edition};
 ghost use Rattle.acl.specs.History.{History, followed_by};
@@ -10,7 +10,7 @@ ghost use Rattle.writelock.specs.Holding.{clients_of};
 ghost use Rattle.writelock.specs.LockTable.{LocksStandFor};
 ghost use Rattle.session_model.specs.Sound.{Rises};
 ghost use Rattle.session_clients.specs.Stands.{Keeps};
-ghost use Rattle.session_state.specs.Doing.{HasRoom, IsAsBefore};
+ghost use Rattle.session_state.specs.Doing.{IsWhole};
 ghost use Rattle.session_leaving.specs.Going.{goes, goes_now, gone_now, parted_now};
 ghost use Rattle.session_leaving.specs.Going.{serials_now, attached_now, is_of_now};
 ghost use Rattle.session_leaving.specs.Going.{last_of, Goes};
@@ -139,8 +139,7 @@ pub(crate) fn go(
     made: &mut StepOutput,
 ) -> Result<(), AllocError>
     ensures done { OnOk result (Goes going why state.old state.new made.old made.new) }
-    ensures err { OnErr result (IsAsBefore state.old state.new made.old made.new) }
-    ensures room { OnOk result (HasRoom 64 made.new) }
+    ensures whole { IsWhole result state.old state.new made.old made.new }
 {
     let clients = state.clients.as_slice();
     let mut gone = gone_clients(state.alloc, clients, going, why)?;

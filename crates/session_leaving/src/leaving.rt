@@ -6,7 +6,7 @@ ghost use Rattle.acl.specs.declared.edition.Edition.{Edition};
 ghost use Rattle.acl.specs.History.{History, followed_by};
 ghost use Rattle.writelock.specs.LockTable.{LocksStandFor};
 ghost use Rattle.session_model.specs.Tables.{is_window};
-ghost use Rattle.session_state.specs.Doing.{HasRoom};
+ghost use Rattle.session_state.specs.Doing.{HasRoomToLeave};
 ghost use Rattle.session_leaving.specs.Leaving.{Leaves, all_left, left_window, looks_at, shows_now};
 
 use crate::focuses::{Focus, Focuses};
@@ -89,7 +89,7 @@ fn note_left(before: &[Focus], clients: &[Client], locks: &mut Locks, acts: &mut
 /// Ends a step: whoever had a window in focus before it, by a client of his, and has it no more,
 /// has left it. These acts are noted, and the locks are told.
 pub fn leave(state: &mut State, before: &Focuses, made: &mut StepOutput)
-    requires { HasRoom 64 made.old }
+    requires { HasRoomToLeave made.old }
     ensures { Leaves before.now state.old state.new made.old made.new }
 {
     note_left(

@@ -1,22 +1,25 @@
 -- The fields of a line, from its first blank on.
-use Rattle.std.proofs.Common.{◌≡◌, ℕ, suc, ◌+◌, List, [], ◌∷◌, Option, Some, None, take, drop, ap, refl, ◌∙◌}
-use Rattle.std.specs.List.{position}
-use Rattle.session_lines.specs.Fields.{is_blank, fields}
+use Rattle.std.proofs.Common.{◌≡◌, ℕ, suc, List, [], ◌∷◌, Option, Some, None, ap, refl, sym, ◌∙◌}
+use Rattle.std.specs.Prelude.{MatchOption, option_map}
+use Rattle.std.specs.Borrow.{Bor}
+use Rattle.line_fields.specs.Cutting.{cut}
+use Rattle.session_lines.specs.Fields.{fields}
 
-abbrev fields_at : ℕ → List ℕ → Option ℕ → List (List ℕ)
-fields_at more line = elim [ None ↦ line ∷ [] | Some at ↦ take at line ∷ fields more (drop (at + 1) line) ]
+abbrev fields_at : ℕ → List ℕ → Option (List ℕ × List ℕ) → List (List ℕ)
+fields_at more line = elim [ None ↦ line ∷ [] | Some parts ↦ parts.0 ∷ fields more parts.1 ]
 
-pub fields-none : (more : ℕ) (line : List ℕ) → position is_blank line ≡ None → fields (suc more) line ≡ line ∷ []
+pub fields-cut : (more : ℕ) (line : List ℕ) (parts : Option (List ℕ × List ℕ)) → cut 0x20 line ≡ parts → fields (suc more) line ≡ fields_at more line parts
 unfolding fields
-fields-none more line h = ap (fields_at more line) h
-
-pub fields-some : (more : ℕ) (line : List ℕ) (at : ℕ) → position is_blank line ≡ Some at → fields (suc more) line ≡ take at line ∷ fields more (drop (at + 1) line)
-unfolding fields
-fields-some more line at h = ap (fields_at more line) h
+fields-cut more line parts e = ap (fields_at more line) e
 
 pub fields-zero : (line : List ℕ) → fields 0 line ≡ line ∷ []
 unfolding fields
 fields-zero line = refl
+
+pub fields-found : (r : Option (Bor (List ℕ) × Bor (List ℕ))) (line : List ℕ) → option_map (λ parts. (parts.0.now, parts.1.now)) r ≡ cut 0x20 line
+    → MatchOption r ((more : ℕ) → fields (suc more) line ≡ line ∷ []) (λ parts. (more : ℕ) → fields (suc more) line ≡ parts.0.now ∷ fields more parts.1.now)
+fields-found None line e = λ more. fields-cut more line None (sym e)
+fields-found (Some parts) line e = λ more. fields-cut more line (Some (parts.0.now, parts.1.now)) (sym e)
 
 -- ---- a line of these fields, of which the last is the rest
 

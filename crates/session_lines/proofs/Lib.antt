@@ -1,7 +1,6 @@
 mod Cutting
 mod Events
 mod Lines
-mod Numbers
 mod ReadBack
 mod Texts
 mod Words

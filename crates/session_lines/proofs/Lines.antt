@@ -1,57 +1,56 @@
 -- The line of an event is read as this event.
 use Rattle.std.proofs.Common.{◌≡◌, ℕ, ◌<◌, ◌≤◌, ◌^◌, List, [], ◌∷◌, ◌++◌, length, ap, refl, ◌∙◌, arith, append-nil}
-use Rattle.std.specs.Prelude.{Bool, true, false, cond, min, Option, Some, None, option_map, codes}
+use Rattle.std.specs.Prelude.{Bool, true, false, cond, nat_le, min, Option, Some, None, option_map, codes}
 use Rattle.std.specs.List.{list_all}
 use Rattle.std.specs.Option.{option_zip}
 use Rattle.std.specs.Char.{is_ascii_digit}
 use Rattle.std.specs.Fmt.{decimal}
 use Rattle.std.specs.Str.{is_utf8, bytes_eq}
-use Rattle.std.specs.Str.Parse.{digits_value}
 use Rattle.std.proofs.lemmas.Bool.Decides.{nat_tests}
-use Rattle.std.proofs.lemmas.Fmt.{digits_decimal, digits_value-decimal, length-decimal-le, decimal_nonempty}
+use Rattle.std.proofs.lemmas.Fmt.{length-decimal-le}
 use Rattle.acl.specs.declared.user_id.UserId.{UserId}
 use Rattle.acl.specs.Names.{is_name_byte, is_name, name_of}
 use Rattle.session_model.specs.Trace.{EventValue, Attach, Detach, Keys, Command, Resize, Open, Output, Closed, Draw}
 use Rattle.session_lines.specs.declared.kind.Kind.{Kind}
 use Rattle.session_lines.specs.declared.kind.Kind.TheVariants as kind
-use Rattle.session_lines.specs.Fields.{is_blank, fields, is_number, number_of, window_of, if_utf8, title_of}
+use Rattle.line_fields.specs.Cutting.{is_byte}
+use Rattle.line_fields.specs.Numbers.{number_below}
+use Rattle.line_fields.proofs.Digits as numbers
+use Rattle.line_fields.proofs.Words.{passing}
+use Rattle.session_lines.specs.Fields.{fields, number_of, window_of, if_utf8, title_of}
 use Rattle.session_lines.specs.Script.{word_of, kind_of, with_three, with_five, attach_in, bytes_in, command_in, resize_in, open_in, event_in, event_of_kind, event_by, event_of}
 use Rattle.session_lines.specs.Printed.{escaped}
 use Rattle.session_lines.specs.ReadBack.{IsText, IsNamed, IsNumber, IsWindow, window_field, ReadsEvents}
-use Rattle.session_lines.proofs.Numbers.{AreDigits, own}
 use Rattle.session_lines.proofs.ReadBack.{reads_texts}
-use Rattle.session_lines.proofs.Words.{IsWord, passing, first_field, last_field}
+use Rattle.session_lines.proofs.Words.{IsWord, first_field, last_field}
 
 -- ---- numbers
 
-digit_apart : (c : ℕ) → is_ascii_digit c ≡ true → is_blank c ≡ false
+digit_apart : (c : ℕ) → is_ascii_digit c ≡ true → is_byte 0x20 c ≡ false
 digit_apart c is = grind (arith, nat_tests)
 
 wide : (n : ℕ) → IsNumber n → n < 2 ^ 64
 wide n small = omega (arith, small)
 
-digits : (n : ℕ) → IsNumber n → AreDigits (decimal n)
-digits n small = digits_decimal own n (wide n small)
+digits : (n : ℕ) → IsNumber n → numbers.AreDigits (decimal n)
+digits n small = numbers.digits n (wide n small)
 
 number_word : (n : ℕ) → IsNumber n → IsWord (decimal n)
-number_word n small = passing is_ascii_digit digit_apart (decimal n) (digits n small)
+number_word n small = passing 0x20 is_ascii_digit digit_apart (decimal n) (digits n small)
 
-is_number_again : (n : ℕ) → IsNumber n → is_number (decimal n) ≡ true
-unfolding is_number
-is_number_again n small =
-    let four : length (decimal n) ≤ 4 = length-decimal-le 4 n (omega arith) (omega (arith, small)) (wide n small) in
-    let some : 0 < length (decimal n) = decimal_nonempty n (wide n small) in
-    let all : list_all is_ascii_digit (decimal n) ≡ true = digits n small in
+four : (n : ℕ) → IsNumber n → nat_le (length (decimal n)) 4 ≡ true
+four n small =
+    let short : length (decimal n) ≤ 4 = length-decimal-le 4 n (omega arith) (omega (arith, small)) (wide n small) in
     grind (arith, nat_tests)
 
 number_again : (n : ℕ) → IsNumber n → number_of (decimal n) ≡ Some n
 number_again n small =
-    ap (λ b. cond b (Some (digits_value 10 (decimal n))) None) (is_number_again n small)
-    ∙ ap Some (digits_value-decimal own n (wide n small))
+    ap (λ b. cond b (number_below (2 ^ 16) (decimal n)) None) (four n small)
+    ∙ numbers.number_again (2 ^ 16) n (omega (arith, small)) (omega arith)
 
 -- ---- windows of commands
 
-no_dash : (word : List ℕ) → AreDigits word → bytes_eq word (codes "-") ≡ false
+no_dash : (word : List ℕ) → numbers.AreDigits word → bytes_eq word (codes "-") ≡ false
 no_dash [] all = refl
 no_dash (c ∷ word) all = grind (arith, nat_tests)
 
@@ -62,7 +61,7 @@ least : (n : ℕ) → n < 256 → min n 255 ≡ n
 least n small = omega (arith, small)
 
 window_word : (window : Option ℕ) → IsWindow window → IsWord (window_field window)
-window_word None is = record { no_blanks = refl }
+window_word None is = record { free = refl }
 window_word (Some n) is = number_word n (window_number n is)
 
 window_again : (window : Option ℕ) → IsWindow window → window_of (window_field window) ≡ Some window
@@ -74,7 +73,7 @@ window_again (Some n) is =
 
 -- ---- names
 
-name_apart : (c : ℕ) → is_name_byte c ≡ true → is_blank c ≡ false
+name_apart : (c : ℕ) → is_name_byte c ≡ true → is_byte 0x20 c ≡ false
 name_apart c is = grind (arith, nat_tests)
 
 is_there : {A : Type 0} (b : Bool) (x y : A) → cond b (Some x) None ≡ Some y → b ≡ true
@@ -85,7 +84,7 @@ bytes_of_name : (word : List ℕ) → is_name word ≡ true → list_all is_name
 bytes_of_name word is = grind (arith, nat_tests)
 
 name_word : (user : UserId) → IsNamed user → IsWord (name_of user)
-name_word user named = passing is_name_byte name_apart (name_of user) (bytes_of_name (name_of user) (is_there _ _ _ named))
+name_word user named = passing 0x20 is_name_byte name_apart (name_of user) (bytes_of_name (name_of user) (is_there _ _ _ named))
 
 -- ---- titles
 
@@ -107,15 +106,15 @@ kind_again kind.Closed = refl
 kind_again kind.Draw = refl
 
 kind_word : (k : Kind) → IsWord (word_of k)
-kind_word kind.Attach = record { no_blanks = refl }
-kind_word kind.Detach = record { no_blanks = refl }
-kind_word kind.Keys = record { no_blanks = refl }
-kind_word kind.Command = record { no_blanks = refl }
-kind_word kind.Resize = record { no_blanks = refl }
-kind_word kind.Open = record { no_blanks = refl }
-kind_word kind.Output = record { no_blanks = refl }
-kind_word kind.Closed = record { no_blanks = refl }
-kind_word kind.Draw = record { no_blanks = refl }
+kind_word kind.Attach = record { free = refl }
+kind_word kind.Detach = record { free = refl }
+kind_word kind.Keys = record { free = refl }
+kind_word kind.Command = record { free = refl }
+kind_word kind.Resize = record { free = refl }
+kind_word kind.Open = record { free = refl }
+kind_word kind.Output = record { free = refl }
+kind_word kind.Closed = record { free = refl }
+kind_word kind.Draw = record { free = refl }
 
 of_kind : (k : Kind) (rest : List ℕ) → event_of (word_of k ++ 0x20 ∷ rest) ≡ event_in k rest
 unfolding fields

@@ -1,52 +1,11 @@
--- What an escaped text spells, from its first byte on.
-use Rattle.std.proofs.Common.{◌≡◌, ◌≢◌, ℕ, List, [], ◌∷◌, ◌++◌, length, ap, sym, ◌∙◌, refl, rules, arith, append_assoc, append-nil}
-use Rattle.std.specs.Prelude.{Bool, true, false, cond, Option, Some, None, option_map, option_copied, Result, Ok, Err, MatchResult}
+-- A title is read as text.
+use Rattle.std.proofs.Common.{◌≡◌, ℕ, List, ap, ◌∙◌, refl}
+use Rattle.std.specs.Prelude.{Bool, true, false, cond, Some, None, option_copied, Result, Ok, Err, MatchResult}
 use Rattle.std.specs.Borrow.{Bor}
 use Rattle.std.specs.Result.{result_ok}
 use Rattle.std.specs.Str.{IsUtf8, is_utf8}
 use Rattle.std.proofs.lemmas.Str.{IsUtf8-from_is_utf8, is_utf8-from_IsUtf8}
-use Rattle.session_lines.specs.Fields.{byte_of, put_before, spelled, if_utf8}
-
-pub spelled-nil : spelled [] ≡ Some []
-unfolding spelled
-spelled-nil = refl
-
-pub spelled-plain : (text : List ℕ) (byte : ℕ) (rest : List ℕ) → text ≡ byte ∷ rest → byte ≢ 0x5C → spelled text ≡ put_before (Some byte) (spelled rest)
-unfolding spelled
-spelled-plain text byte rest e h = rw e (search rules)
-
-pub spelled-no_high : (text : List ℕ) (byte : ℕ) (rest : List ℕ) → text ≡ byte ∷ rest → byte ≡ 0x5C → length rest ≡ 0 → spelled text ≡ None
-unfolding spelled
-spelled-no_high text byte [] e h none = rw (e, h) refl
-spelled-no_high text byte (high ∷ rest) e h none = absurd (omega arith)
-
-pub spelled-no_low : (text : List ℕ) (byte : ℕ) (rest : List ℕ) (high : ℕ) (behind : List ℕ) → text ≡ byte ∷ rest → byte ≡ 0x5C → rest ≡ high ∷ behind → length behind ≡ 0 → spelled text ≡ None
-unfolding spelled
-spelled-no_low text byte rest high [] e h f none = rw (e, h, f) refl
-spelled-no_low text byte rest high (low ∷ behind) e h f none = absurd (omega arith)
-
-pub spelled-escape : (text : List ℕ) (byte : ℕ) (rest : List ℕ) (high : ℕ) (behind : List ℕ) (low : ℕ) (last : List ℕ) → text ≡ byte ∷ rest → byte ≡ 0x5C → rest ≡ high ∷ behind → behind ≡ low ∷ last → spelled text ≡ put_before (byte_of high low) (spelled last)
-unfolding spelled
-spelled-escape text byte rest high behind low last e h f g = rw (e, h, f, g) refl
-
--- what a text spells behind bytes that were already read
-abbrev pub behind : List ℕ → Option (List ℕ) → Option (List ℕ)
-behind out bytes = option_map (λ more. out ++ more) bytes
-
-pub behind-nil : (bytes : Option (List ℕ)) → bytes ≡ behind [] bytes
-behind-nil None = refl
-behind-nil (Some bytes) = refl
-
-pub behind-push : (out : List ℕ) (byte : ℕ) (bytes : Option (List ℕ)) → behind out (put_before (Some byte) bytes) ≡ behind (out ++ byte ∷ []) bytes
-behind-push out byte None = refl
-behind-push out byte (Some bytes) = ap Some (sym (append_assoc out (byte ∷ []) bytes))
-
-pub behind-end : (out text : List ℕ) → length text ≡ 0 → behind out (spelled text) ≡ Some out
-unfolding spelled
-behind-end out [] none = ap Some (append-nil out)
-behind-end out (byte ∷ text) none = absurd (omega arith)
-
--- ---- titles
+use Rattle.session_lines.specs.Fields.{if_utf8}
 
 as_title : (bytes : List ℕ) (is : Bool) → is ≡ true → Some bytes ≡ cond is (Some bytes) None
 as_title bytes true e = refl

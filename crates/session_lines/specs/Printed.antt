@@ -1,10 +1,10 @@
 -- What effects, replies and views print.
-use Rattle.std.specs.Prelude.{ℕ, Bool, false, nat_le, not, ◌&&◌, ◌==◌, ◌+◌, ◌/◌, ◌%◌}
-use Rattle.std.specs.Prelude.{List, [], ◌∷◌, ◌++◌, if◌then◌else◌, Option, Some, None, Ok, Err}
-use Rattle.std.specs.Prelude.{codes}
+use Rattle.std.specs.Prelude.{ℕ, ◌+◌, List, [], ◌∷◌, ◌++◌, if◌then◌else◌}
+use Rattle.std.specs.Prelude.{Option, Some, None, Ok, Err, codes}
 use Rattle.std.specs.List.{flat_map}
 use Rattle.std.specs.Char.{encode_utf8}
-use Rattle.std.specs.Fmt.{decimal, digit_glyph}
+use Rattle.std.specs.Fmt.{decimal}
+use Rattle.line_fields.specs.Texts as texts
 use Rattle.cells.specs.declared.cell.Cell.{Cell}
 use Rattle.cells.specs.declared.cell.Marks.{Marks}
 use Rattle.cells.specs.declared.cell.Marks.TheVariants as marks
@@ -21,18 +21,9 @@ use Rattle.session_model.specs.Trace.{EventValue, Attach, Open, Reply}
 
 -- ---- texts
 
--- whether a byte stands for itself: 20 to 7E, but the backslash
-abbrev pub is_plain : ℕ → Bool
-is_plain byte = nat_le 0x20 byte && nat_le byte 0x7E && not (byte == 0x5C)
-
--- each other byte is a backslash and two lower-case hexadecimal digits
-abbrev pub escape : ℕ → List ℕ
-escape byte =
-    if is_plain byte then byte ∷ []
-    else 0x5C ∷ digit_glyph false (byte / 16) ∷ digit_glyph false (byte % 16) ∷ []
-
+-- in plain bytes: 20 to 7E stand for themselves, but the backslash
 abbrev pub escaped : List ℕ → List ℕ
-escaped bytes = flat_map escape bytes
+escaped bytes = texts.escaped 0x20 bytes
 
 -- a text with its line feed
 abbrev pub line : List ℕ → List ℕ

@@ -5,7 +5,8 @@ ghost use Rattle.std.specs.String.{string_bytes};
 ghost use Rattle.session_model.specs.Texts.{text_of};
 ghost use Rattle.session_model.specs.Trace.{happening};
 ghost use Rattle.view.specs.View.{place_of};
-ghost use Rattle.session_lines.specs.Printed.{is_plain, escape, escaped, line, number_of_reason};
+ghost use Rattle.line_fields.specs.Texts.{is_plain, escape};
+ghost use Rattle.session_lines.specs.Printed.{escaped, line, number_of_reason};
 ghost use Rattle.session_lines.specs.Printed.{gone_line, effect_line, text_line, done_line};
 ghost use Rattle.session_lines.specs.Printed.{reply_line, cell_text, row_line};
 ghost use Rattle.session_lines.specs.Printed.{cursor_line, view_lines};
@@ -156,14 +157,14 @@ fn push_text(bytes: &[u8], out: &mut String) -> Result<(), AllocError>
 
 /// Whether a byte stands for itself: 20 to 7E do, but the backslash doesn't.
 fn is_plain(byte: u8) -> bool
-    ensures { result ≡ is_plain byte }
+    ensures { result ≡ is_plain 0x20 byte }
 {
     (0x20..0x7F).contains(&byte) && byte != b'\\'
 }
 
 /// Appends a byte that stands for itself, or a backslash and two hexadecimal digits.
 fn push_byte(byte: u8, out: &mut String) -> Result<(), AllocError>
-    ensures { OnOk result (string_bytes out.new ≡ string_bytes out.old ++ escape byte) }
+    ensures { OnOk result (string_bytes out.new ≡ string_bytes out.old ++ escape 0x20 byte) }
 {
     if is_plain(byte) {
         return out.push(char::from(byte));

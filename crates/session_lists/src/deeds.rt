@@ -1,8 +1,8 @@
 //! What the commands of the lists do, once their checks have passed.
 
-ghost use Rattle.std.specs.Prelude.{◌≡◌, None, IfOk, OnOk, OnErr, Some};
+ghost use Rattle.std.specs.Prelude.{◌≡◌, Some};
 ghost use Rattle.command_lang.specs.command.Command.TheVariants as command;
-ghost use Rattle.session_state.specs.Doing.{Does, IsAsBefore, HasRoom};
+ghost use Rattle.session_state.specs.Doing.{Does, DoesForAll, IsSilent};
 ghost use Rattle.session_lists.specs.Asked.{answered};
 
 use crate::masks::entries_of;
@@ -30,15 +30,12 @@ fn answered(done: Result<(), AclFault>) -> Result<Option<Bytes>, Refusal>
 /// `acladd`: users become known, and get each bit on each window and command.
 pub fn acladd(
     state: &mut State,
-    caller: Caller,
     users: &Users,
     made: &mut StepOutput,
 ) -> Result<Option<Bytes>, Refusal>
-    ensures answer { Does caller (command.Acladd users.now)
+    ensures answer { DoesForAll (command.Acladd users.now)
         state.old result state.new made.old made.new }
-    ensures silent { IfOk result (λ lists. lists ≡ None) }
-    ensures err { OnErr result (IsAsBefore state.old state.new made.old made.new) }
-    ensures room { OnOk result (HasRoom 64 made.new) }
+    ensures silent { IsSilent result state.old state.new made.old made.new }
 {
     let names = names_of(state.alloc, &state.acl, users)?;
     let objects = every_object(state.alloc, &state.windows)?;
@@ -50,17 +47,14 @@ pub fn acladd(
 /// before an item that names nothing.
 pub fn aclchg(
     state: &mut State,
-    caller: Caller,
     users: &Users,
     bits: &BitList,
     list: &Texts,
     made: &mut StepOutput,
 ) -> Result<Option<Bytes>, Refusal>
-    ensures answer { Does caller (command.Aclchg users.now bits.now list.now)
+    ensures answer { DoesForAll (command.Aclchg users.now bits.now list.now)
         state.old result state.new made.old made.new }
-    ensures silent { IfOk result (λ lists. lists ≡ None) }
-    ensures err { OnErr result (IsAsBefore state.old state.new made.old made.new) }
-    ensures room { OnOk result (HasRoom 64 made.new) }
+    ensures silent { IsSilent result state.old state.new made.old made.new }
 {
     let names = names_of(state.alloc, &state.acl, users)?;
     if let Some(fault) = state.acl.change_fault(&names) {
@@ -78,16 +72,13 @@ pub fn aclchg(
 /// `aclgrp` with a leader: the user follows him, or with `none` nobody.
 pub fn aclgrp(
     state: &mut State,
-    caller: Caller,
     name: &Text,
     leader: &Leader,
     made: &mut StepOutput,
 ) -> Result<Option<Bytes>, Refusal>
-    ensures answer { Does caller (command.Aclgrp name.now (Some leader.now))
+    ensures answer { DoesForAll (command.Aclgrp name.now (Some leader.now))
         state.old result state.new made.old made.new }
-    ensures silent { IfOk result (λ lists. lists ≡ None) }
-    ensures err { OnErr result (IsAsBefore state.old state.new made.old made.new) }
-    ensures room { OnOk result (HasRoom 64 made.new) }
+    ensures silent { IsSilent result state.old state.new made.old made.new }
 {
     let (acts, locks) = (&mut made.acts, &mut state.locks);
     answered(
@@ -106,9 +97,7 @@ pub fn aclumask(
 ) -> Result<Option<Bytes>, Refusal>
     ensures answer { Does caller (command.Aclumask masks.now)
         state.old result state.new made.old made.new }
-    ensures silent { IfOk result (λ lists. lists ≡ None) }
-    ensures err { OnErr result (IsAsBefore state.old state.new made.old made.new) }
-    ensures room { OnOk result (HasRoom 64 made.new) }
+    ensures silent { IsSilent result state.old state.new made.old made.new }
 {
     let entries = entries_of(state.alloc, &state.acl, masks.as_slice())?;
     let (acts, locks) = (&mut made.acts, &mut state.locks);

@@ -1,5 +1,5 @@
 -- What a row answers, once what it looks for was found, or wasn't.
-use Rattle.std.proofs.Common.{◌≡◌, Bool, true, false, Option, Some, None, Ok, Err, refl, ap, sym, ◌∙◌, inl, inr, is_some}
+use Rattle.std.proofs.Common.{◌≡◌, ℕ, Bool, true, false, Option, Some, None, Ok, Err, refl, ap, sym, ◌∙◌, inl, inr, is_some}
 use Rattle.std.specs.Prelude.{◌⊎◌, unwrap_or, IfSome}
 use Rattle.regions.specs.declared.fault.RegionFault.{RegionFault}
 use Rattle.regions.specs.declared.fault.RegionFault.TheVariants as fault
@@ -13,8 +13,6 @@ use Rattle.session_rows.specs.Matched.{BothOrNone}
 use Rattle.session_rows.proofs.Matching.{both_back, none_back}
 use Rattle.windows.specs.declared.window.Window.{Window}
 use Rattle.windows.specs.Standing.{WindowStands}
-use Rattle.session_clients.specs.declared.client.Client.{Client}
-use Rattle.session_clients.specs.Stands.{ClientStands}
 use Rattle.session_state.specs.declared.caller.Caller.{Caller}
 use Rattle.session_state.specs.declared.step_output.StepOutput.{StepOutput}
 use Rattle.session_state.specs.declared.state.State.{State}
@@ -67,11 +65,10 @@ split_refused (Some g) d f is = elim (memory_or_not f) [
 -- ---- on the client that gives the command
 
 -- there is none
-pub no_client : (t : Tables) (k : Caller) (f : model.Client → Answer) (found : Option Client) → BothOrNone ClientStands (caller_client t (caller_in t k)) found → found ≡ None
-    → on_client t (caller_in t k) f ≡ Err NoWindow
-no_client t k f found both is = given_none (caller_client t (caller_in t k)) NoWindow f (none_back ClientStands (caller_client t (caller_in t k)) found both is)
+pub no_client : (t : Tables) (k : Caller) (f : model.Client → Answer) → caller_client t (caller_in t k) ≡ None → on_client t (caller_in t k) f ≡ Err NoWindow
+no_client t k f is = given_none (caller_client t (caller_in t k)) NoWindow f is
 
-module _ (t : Tables) (k : Caller) (c : Client) (m : model.Client) (by : Gives t k c m) where
+module _ (t : Tables) (k : Caller) (client : ℕ) (m : model.Client) (by : Gives t k client m) where
   pub on_giver : (f : model.Client → Answer) → on_client t (caller_in t k) f ≡ f m
   on_giver f = given_some (caller_client t (caller_in t k)) NoWindow f m by.is
 
@@ -81,7 +78,7 @@ module _ (t : Tables) (k : Caller) (c : Client) (m : model.Client) (by : Gives t
 
   -- a window that was looked for, and is shown
   pub shown_on : (find : model.Client → Option model.Window) (r : Refusal) (found : Option Window) (v : Window) (old new : State) (before after : StepOutput)
-      → Stands t old → AreFit t → BothOrNone WindowStands (find m) found → found ≡ Some v → IfSome (find m) (StandsAt t.windows) → Selects c.serial v.serial old new before after
+      → Stands t old → AreFit t → BothOrNone WindowStands (find m) found → found ≡ Some v → IfSome (find m) (StandsAt t.windows) → Selects client v.serial old new before after
       → Answers t (on_client t (caller_in t k) (λ d. given (find d) r (λ w. Ok (selects t d w)))) (Ok None) new before after
   shown_on find r found v old new before after st fit both is there done =
       let row = both_back WindowStands (find m) found v both is in

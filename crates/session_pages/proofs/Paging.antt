@@ -1,13 +1,13 @@
 -- A client's page changes, and its user enters the window in focus.
-use Rattle.std.proofs.Common.{◌≡◌, ℕ, List, Option, Some, None, sym, subst, append-nil}
-use Rattle.acl.specs.declared.user_id.UserId.{UserId}
+use Rattle.std.proofs.Common.{◌≡◌, ◌∙◌, ℕ, List, Option, Some, None, ap, sym, subst, append-nil}
+use Rattle.std.specs.Option.{option_and_then}
 use Rattle.regions.specs.Layouts.{Arrangement}
 use Rattle.session_model.specs.Tables as model
 use Rattle.session_model.specs.Tables.{Tables, row_of, with_row, client_at, focused, with_client, with_layout}
 use Rattle.session_model.specs.Deeds.{arranges, enters}
 use Rattle.session_model.specs.Commands.{caller_client}
 use Rattle.session_rows.specs.Matched.{BothOrNone}
-use Rattle.session_rows.proofs.Matching.{both_back}
+use Rattle.session_rows.proofs.Matching.{none_back}
 use Rattle.session_rows.proofs.Serials.{serial_is, with_same}
 use Rattle.session_clients.specs.declared.client.Client.{Client}
 use Rattle.session_clients.specs.Stands.{ClientStands, AreClients, Changes}
@@ -15,32 +15,38 @@ use Rattle.session_state.specs.declared.caller.Caller.{Caller}
 use Rattle.session_state.specs.declared.step_output.StepOutput.{StepOutput}
 use Rattle.session_state.specs.declared.state.State.{State}
 use Rattle.session_state.specs.Stands.{Stands}
-use Rattle.session_state.specs.Doing.{HasDone, caller_in}
+use Rattle.session_state.specs.Doing.{HasDone, GivesBy, caller_in}
 use Rattle.session_pages.specs.Entering.{EntersFocus, IsOpenThere}
 
 abbrev pub model_serial : model.Client → ℕ
 model_serial m = m.serial
 
--- the client that gives a command, and the row that it stands for
-pub record Gives (t : Tables) (k : Caller) (c : Client) (m : model.Client) : Type 0 where
+-- the client that gives a command, and its row
+pub record Gives (t : Tables) (k : Caller) (client : ℕ) (m : model.Client) : Type 0 where
   pub is : caller_client t (caller_in t k) ≡ Some m
-  pub stands : ClientStands m c
-  pub at : client_at t c.serial ≡ Some m
+  pub at : client_at t client ≡ Some m
 
-given_at : (t : Tables) (client : Option ℕ) (window : Option ℕ) (user : UserId) (m : model.Client) → caller_client t (caller_in t (record { user = user; client = client; window = window })) ≡ Some m → client_at t m.serial ≡ Some m
-given_at t None window user m is = absurd (cc (is))
-given_at t (Some s) window user m is = subst (λ n. client_at t n ≡ Some m) (sym (serial_is model_serial t.clients s m is)) is
-
-pub giver_there : (t : Tables) (k : Caller) (c : Client) (found : Option Client) → BothOrNone ClientStands (caller_client t (caller_in t k)) found → found ≡ Some c → (m : model.Client) × Gives t k c m
-giver_there t k c found both is =
-    let row = both_back ClientStands (caller_client t (caller_in t k)) found c both is in (
+pub giver_there : (t : Tables) (k : Caller) (client : ℕ) (s : State) → Stands t s → GivesBy client s k → (m : model.Client) × Gives t k client m
+giver_there t k client s st gives =
+    let row = gives.attached t st in (
       row.0,
       record {
-        is = row.1;
-        stands = row.2;
-        at = subst (λ n. client_at t n ≡ Some row.0) (sym row.2.serial_is) (given_at t k.client k.window k.user row.0 row.1);
+        is = ap (λ o. option_and_then (client_at t) o) gives.client_is ∙ row.1;
+        at = row.1;
       },
     )
+
+-- what a client's row stands for, where that was found
+pub row_stands : (m : model.Client) (c : Client) (o : Option model.Client) (p : Option Client) → BothOrNone ClientStands o p → o ≡ Some m → p ≡ Some c → ClientStands m c
+row_stands m c o None both at is = absurd (cc (is))
+row_stands m c None (Some y) both at is = absurd (cc (at))
+row_stands m c (Some x) (Some y) both at is =
+    subst (λ z. ClientStands m z) (let e : y ≡ c = cc (is) in e)
+    (subst (λ z. ClientStands z y) (let e : x ≡ m = cc (at) in e) both)
+
+-- it is found
+pub row_there : (m : model.Client) (o : Option model.Client) (p : Option Client) → BothOrNone ClientStands o p → o ≡ Some m → p ≡ None → ⊥
+row_there m o p both at is = let none = none_back ClientStands o p both is in absurd (cc (at, none))
 
 -- the page of a row is arranged so now
 pub arranged : (t : Tables) (s : State) (new : List Client) (serial : ℕ) (m : model.Client) (F : model.Client → Arrangement) → Stands t s → client_at t serial ≡ Some m

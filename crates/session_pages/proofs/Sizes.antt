@@ -23,6 +23,7 @@ use Rattle.windows.specs.declared.window.Window as code
 use Rattle.windows.specs.Standing.{StandFor, Answered, serial, resized, resized_in, written_to}
 use Rattle.windows.proofs.Callers.{row_done, row_refused_as}
 use Rattle.session_clients.specs.declared.client.Client.{Client}
+use Rattle.session_clients.specs.Stands.{ClientStands}
 use Rattle.session_state.specs.declared.caller.Caller.{Caller}
 use Rattle.session_state.specs.declared.step_output.StepOutput.{StepOutput}
 use Rattle.session_state.specs.declared.state.State.{State}
@@ -123,7 +124,7 @@ window_there t (Some n) found s is at = serial_at t n s (window_at t n) refl (is
 abbrev pub fit_row : Tables → Caller → Answer
 fit_row t k = on_client t (caller_in t k) (λ d. on_window t (caller_in t k) (λ v. given (focused_box d) NoWindow (fits t v)))
 
-module _ (t : Tables) (k : Caller) (c : Client) (m : model.Client) (by : Gives t k c m) (s : ℕ) (w : Window) (here : (caller_in t k).window ≡ Some w) (there : window_at t s ≡ Some w)
+module _ (t : Tables) (k : Caller) (client : ℕ) (c : Client) (m : model.Client) (by : Gives t k client m) (stands : ClientStands m c) (s : ℕ) (w : Window) (here : (caller_in t k).window ≡ Some w) (there : window_at t s ≡ Some w)
     (r : Rect) (place : focused_box m ≡ Some r) where
   abbrev rows : ℕ
   rows = r.rows - 1
@@ -133,7 +134,7 @@ module _ (t : Tables) (k : Caller) (c : Client) (m : model.Client) (by : Gives t
 
   fits_is : fit_row t k ≡ fits t w r
   fits_is =
-      on_giver t k c m by (λ d. on_window t (caller_in t k) (λ v. given (focused_box d) NoWindow (fits t v)))
+      on_giver t k client m by (λ d. on_window t (caller_in t k) (λ v. given (focused_box d) NoWindow (fits t v)))
       ∙ (given_some (caller_in t k).window NoWindow (λ v. given (focused_box m) NoWindow (fits t v)) w here ∙ given_some (focused_box m) NoWindow (fits t w) r place)
 
   pub too_small : rows < 2 → fit_row t k ≡ Err (Regions TooSmall)
@@ -141,7 +142,7 @@ module _ (t : Tables) (k : Caller) (c : Client) (m : model.Client) (by : Gives t
 
   module _ (tall : 2 ≤ rows) where
     sized : resized rows r.cols w ≡ Ok (written_to (terminal.Size rows r.cols) w)
-    sized = if_true (is_window_size rows r.cols 0) _ _ (window_sized m r by.stands.sized by.stands.room place tall)
+    sized = if_true (is_window_size rows r.cols 0) _ _ (window_sized m r stands.sized stands.room place tall)
 
     -- a window of the size is refused for want of memory alone
     pub for_memory : (why : Refusal) → (why ≡ NoMemory) ⊎ (resized_in s rows r.cols t.windows ≡ Err why) → why ≡ NoMemory

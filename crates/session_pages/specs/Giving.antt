@@ -1,5 +1,5 @@
 -- Who gives a command, and for which window.
-use Rattle.std.specs.Prelude.{ℕ, ◌≡◌, Option, Some, Result, Ok, Err}
+use Rattle.std.specs.Prelude.{ℕ, ◌≡◌, Option, Some, None, Result, Ok, Err}
 use Rattle.std.specs.Option.{option_map}
 use Rattle.regions.specs.declared.rect.Rect.{Rect}
 use Rattle.regions.specs.declared.fault.RegionFault.{RegionFault}
@@ -10,7 +10,6 @@ use Rattle.session_model.specs.Tables as model
 use Rattle.session_model.specs.Tables.{Tables}
 use Rattle.session_model.specs.Deeds.{former_of, focused_box}
 use Rattle.session_model.specs.Commands.{caller_client}
-use Rattle.session_rows.specs.Matched.{BothOrNone}
 use Rattle.session_clients.specs.declared.client.Client.{Client}
 use Rattle.session_clients.specs.Stands.{ClientStands}
 use Rattle.session_state.specs.declared.caller.Caller.{Caller}
@@ -18,10 +17,9 @@ use Rattle.session_state.specs.declared.state.State.{State}
 use Rattle.session_state.specs.Stands.{Stands}
 use Rattle.session_state.specs.Doing.{caller_in}
 
--- the client is that of the tables, or neither is there
-abbrev pub FindsGiver : Caller → State → Option Client → Type 0
-FindsGiver k s found =
-    (t : Tables) → Stands t s → BothOrNone ClientStands (caller_client t (caller_in t k)) found
+-- no client that is attached gives the command
+abbrev pub NobodyGives : Caller → State → Type 0
+NobodyGives k s = (t : Tables) → Stands t s → caller_client t (caller_in t k) ≡ None
 
 -- the number of the window, if that is open
 abbrev pub HasNumber : Caller → State → Option ℕ → Type 0

@@ -1,7 +1,7 @@
 //! Users who enter windows.
 
 ghost use Rattle.acl.specs.declared.act.Act.TheVariants as act;
-ghost use Rattle.session_state.specs.Doing.{HasRoom};
+ghost use Rattle.session_state.specs.Doing.{HasRoom, HasRoomToAct, HasRoomToLeave};
 ghost use Rattle.session_pages.specs.Entering.{Enters, EntersFocus, HasOneActMore};
 
 use acl::{Act, Bit, Object, UserId};
@@ -24,9 +24,9 @@ pub fn enter(state: &mut State, user: UserId, window: u32, made: &mut StepOutput
 
 /// A client's user enters the window in focus, if there is one, which is open.
 pub(crate) fn enter_focused(state: &mut State, client: u32, made: &mut StepOutput)
-    requires { HasRoom 256 made.old }
+    requires { HasRoomToAct made.old }
     ensures done { EntersFocus client state.old state.new made.old made.new }
-    ensures room { HasRoom 64 made.new }
+    ensures room { HasRoomToLeave made.new }
 {
     let Some(row) = state.clients.get(client) else {
         return;

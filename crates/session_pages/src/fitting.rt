@@ -1,12 +1,12 @@
 //! Windows that get the size of a region.
 
-ghost use Rattle.std.specs.Prelude.{◌≡◌, None, ◌<◌, IfOk, OnOk, OnErr};
+ghost use Rattle.std.specs.Prelude.{◌<◌, IfOk};
 ghost use Rattle.command_lang.specs.command.Command.TheVariants as command;
 ghost use Rattle.session_model.specs.Tables as model;
-ghost use Rattle.session_state.specs.Doing.{HasRoom, Does, IsAsBefore};
+ghost use Rattle.session_state.specs.Doing.{Does, GivesBy, HasRoomToAct, IsSilent};
 ghost use Rattle.session_pages.specs.Giving.{IsFocusedBox};
 
-use crate::giver::{giver, refusal_of, window_of};
+use crate::giver::{refusal_of, window_of};
 use regions::{Rect, RegionFault};
 use session_clients::Client;
 use session_model::{Bytes, Effect, Refusal};
@@ -30,21 +30,21 @@ fn focused_box(alloc: Global, client: &Client) -> Result<Rect, Refusal>
 pub fn fit(
     state: &mut State,
     caller: Caller,
+    client: u32,
     made: &mut StepOutput,
 ) -> Result<Option<Bytes>, Refusal>
-    requires { HasRoom 256 made.old }
-    ensures answer { Does caller command.Fit state.old result state.new made.old made.new }
-    ensures silent { IfOk result (λ lists. lists ≡ None) }
-    ensures err { OnErr result (IsAsBefore state.old state.new made.old made.new) }
-    ensures room { OnOk result (HasRoom 64 made.new) }
+    requires { HasRoomToAct made.old }
+    ensures answer { GivesBy client state.old caller
+        → Does caller command.Fit state.old result state.new made.old made.new }
+    ensures silent { IsSilent result state.old state.new made.old made.new }
 {
-    let Some(client) = giver(state, caller) else {
+    let Some(row) = state.clients.get(client) else {
         return Err(Refusal::NoWindow);
     };
     let Some(window) = window_of(state, caller) else {
         return Err(Refusal::NoWindow);
     };
-    let region = focused_box(state.alloc, client)?;
+    let region = focused_box(state.alloc, row)?;
     let rows = region.rows - 1;
     if rows < 2 {
         return Err(Refusal::Regions(RegionFault::TooSmall));

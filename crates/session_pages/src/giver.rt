@@ -1,18 +1,26 @@
 //! Who gives a command, and for which window.
 
-ghost use Rattle.std.specs.Prelude.{◌≡◌, option_copied};
-ghost use Rattle.session_pages.specs.Giving.{FindsGiver, FindsWindow, HasNumber, refusal_of};
+ghost use Rattle.std.specs.Prelude.{◌≡◌, IfOk, IfErr};
+ghost use Rattle.session_model.specs.declared.refusal.Refusal.TheVariants.{NoWindow};
+ghost use Rattle.session_state.specs.Doing.{GivesBy};
+ghost use Rattle.session_pages.specs.Giving.{NobodyGives, FindsWindow, HasNumber, refusal_of};
 
 use regions::RegionFault;
-use session_clients::Client;
 use session_model::Refusal;
 use session_state::{Caller, State};
 
-/// The client that gives a command, if it is attached.
-pub(crate) fn giver(state: &State, caller: Caller) -> Option<&Client>
-    ensures { FindsGiver caller state.now (option_copied result) }
+/// The client that gives a command, by its serial, if it is attached.
+pub fn client_of(state: &State, caller: Caller) -> Result<u32, Refusal>
+    ensures ok { IfOk result (λ client. GivesBy client state.now caller) }
+    ensures err { IfErr result (λ refusal. (refusal ≡ NoWindow) × NobodyGives caller state.now) }
 {
-    state.clients.get(caller.client?)
+    let Some(client) = caller.client else {
+        return Err(Refusal::NoWindow);
+    };
+    match state.clients.get(client) {
+        Some(_) => Ok(client),
+        None => Err(Refusal::NoWindow),
+    }
 }
 
 /// The number of the window that a command would act on, if it is open.

@@ -9,5 +9,6 @@ mod splitting;
 
 pub use entering::enter;
 pub use fitting::fit;
+pub use giver::client_of;
 pub use selecting::{next, other, prev, select};
 pub use splitting::{focus, only, remove, scrollview, split};

@@ -1,14 +1,15 @@
 //! Which window a client's focused region shows.
 
-ghost use Rattle.std.specs.Prelude.{◌≡◌, None, ◌≢◌, IfErr, IfOk, OnOk, OnErr};
+ghost use Rattle.std.specs.Prelude.{◌≡◌, ◌≢◌, IfErr};
 ghost use Rattle.command_lang.specs.command.Command.TheVariants as command;
 ghost use Rattle.session_model.specs.declared.refusal.Refusal.TheVariants.{NoMemory};
-ghost use Rattle.session_state.specs.Doing.{HasRoom, Does, IsAsBefore};
+ghost use Rattle.session_state.specs.Doing.{Does, DoesBy, GivesBy, IsSilent};
+ghost use Rattle.session_state.specs.Doing.{HasRoomToAct, HasRoomToLeave};
 ghost use Rattle.session_pages.specs.Giving.{IsFormer};
 ghost use Rattle.session_pages.specs.Entering.{Selects};
 
 use crate::entering::enter_focused;
-use crate::giver::{giver, number_of};
+use crate::giver::number_of;
 use regions::Shown;
 use session_clients::Client;
 use session_model::{Bytes, Refusal, WindowsFault};
@@ -16,9 +17,9 @@ use session_state::{Caller, State, StepOutput};
 
 /// A client's focused region shows an open window, and its user enters it.
 fn show(state: &mut State, client: u32, window: u32, made: &mut StepOutput)
-    requires { HasRoom 256 made.old }
+    requires { HasRoomToAct made.old }
     ensures done { Selects client window state.old state.new made.old made.new }
-    ensures room { HasRoom 64 made.new }
+    ensures room { HasRoomToLeave made.new }
 {
     let shown = Shown {
         window: Some(window),
@@ -31,22 +32,16 @@ fn show(state: &mut State, client: u32, window: u32, made: &mut StepOutput)
 /// `select`: shows the window that a word names, and its user enters it.
 pub fn select(
     state: &mut State,
-    caller: Caller,
+    client: u32,
     word: &str,
     made: &mut StepOutput,
 ) -> Result<Option<Bytes>, Refusal>
-    requires { HasRoom 256 made.old }
-    ensures answer { Does caller (command.Select word.now) state.old result state.new
+    requires { HasRoomToAct made.old }
+    ensures answer { DoesBy client (command.Select word.now) state.old result state.new
         made.old made.new }
-    ensures silent { IfOk result (λ lists. lists ≡ None) }
-    ensures err { OnErr result (IsAsBefore state.old state.new made.old made.new) }
+    ensures silent { IsSilent result state.old state.new made.old made.new }
     ensures memory { IfErr result (λ refusal. refusal ≢ NoMemory) }
-    ensures room { OnOk result (HasRoom 64 made.new) }
 {
-    let Some(client) = giver(state, caller) else {
-        return Err(Refusal::NoWindow);
-    };
-    let client = client.serial;
     let Some(window) = state.windows.by_name(word) else {
         return Err(Refusal::Windows(WindowsFault::NoSuchWindow));
     };
@@ -59,19 +54,15 @@ pub fn select(
 pub fn next(
     state: &mut State,
     caller: Caller,
+    client: u32,
     made: &mut StepOutput,
 ) -> Result<Option<Bytes>, Refusal>
-    requires { HasRoom 256 made.old }
-    ensures answer { Does caller command.Next state.old result state.new made.old made.new }
-    ensures silent { IfOk result (λ lists. lists ≡ None) }
-    ensures err { OnErr result (IsAsBefore state.old state.new made.old made.new) }
+    requires { HasRoomToAct made.old }
+    ensures answer { GivesBy client state.old caller
+        → Does caller command.Next state.old result state.new made.old made.new }
+    ensures silent { IsSilent result state.old state.new made.old made.new }
     ensures memory { IfErr result (λ refusal. refusal ≢ NoMemory) }
-    ensures room { OnOk result (HasRoom 64 made.new) }
 {
-    let Some(client) = giver(state, caller) else {
-        return Err(Refusal::NoWindow);
-    };
-    let client = client.serial;
     let from = number_of(state, caller);
     let Some(window) = state.windows.after(from) else {
         return Err(Refusal::NoWindow);
@@ -85,19 +76,15 @@ pub fn next(
 pub fn prev(
     state: &mut State,
     caller: Caller,
+    client: u32,
     made: &mut StepOutput,
 ) -> Result<Option<Bytes>, Refusal>
-    requires { HasRoom 256 made.old }
-    ensures answer { Does caller command.Prev state.old result state.new made.old made.new }
-    ensures silent { IfOk result (λ lists. lists ≡ None) }
-    ensures err { OnErr result (IsAsBefore state.old state.new made.old made.new) }
+    requires { HasRoomToAct made.old }
+    ensures answer { GivesBy client state.old caller
+        → Does caller command.Prev state.old result state.new made.old made.new }
+    ensures silent { IsSilent result state.old state.new made.old made.new }
     ensures memory { IfErr result (λ refusal. refusal ≢ NoMemory) }
-    ensures room { OnOk result (HasRoom 64 made.new) }
 {
-    let Some(client) = giver(state, caller) else {
-        return Err(Refusal::NoWindow);
-    };
-    let client = client.serial;
     let from = number_of(state, caller);
     let Some(window) = state.windows.before(from) else {
         return Err(Refusal::NoWindow);
@@ -121,23 +108,20 @@ fn former_of(client: &Client) -> Option<u32>
 /// `other`: shows the window that was shown before, while it is open.
 pub fn other(
     state: &mut State,
-    caller: Caller,
+    client: u32,
     made: &mut StepOutput,
 ) -> Result<Option<Bytes>, Refusal>
-    requires { HasRoom 256 made.old }
-    ensures answer { Does caller command.Other state.old result state.new made.old made.new }
-    ensures silent { IfOk result (λ lists. lists ≡ None) }
-    ensures err { OnErr result (IsAsBefore state.old state.new made.old made.new) }
+    requires { HasRoomToAct made.old }
+    ensures answer { DoesBy client command.Other state.old result state.new made.old made.new }
+    ensures silent { IsSilent result state.old state.new made.old made.new }
     ensures memory { IfErr result (λ refusal. refusal ≢ NoMemory) }
-    ensures room { OnOk result (HasRoom 64 made.new) }
 {
-    let Some(client) = giver(state, caller) else {
+    let Some(row) = state.clients.get(client) else {
         return Err(Refusal::NoWindow);
     };
-    let Some(former) = former_of(client) else {
+    let Some(former) = former_of(row) else {
         return Err(Refusal::NoWindow);
     };
-    let client = client.serial;
     let Some(window) = state.windows.get(former) else {
         return Err(Refusal::NoWindow);
     };

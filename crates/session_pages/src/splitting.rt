@@ -1,16 +1,16 @@
 //! How a client's page is split, and which region has the focus.
 
-ghost use Rattle.std.specs.Prelude.{◌≡◌, None, ◌≢◌, IfErr, IfOk, OnOk, OnErr};
+ghost use Rattle.std.specs.Prelude.{◌≡◌, ◌≢◌, IfErr};
 ghost use Rattle.command_lang.specs.command.Command.TheVariants as command;
 ghost use Rattle.session_model.specs.Commands.{way_of};
 ghost use Rattle.session_model.specs.declared.refusal.Refusal.TheVariants.{NoMemory};
-ghost use Rattle.session_state.specs.Doing.{HasRoom, Does, IsAsBefore};
+ghost use Rattle.session_state.specs.Doing.{DoesBy, HasRoomToAct, IsSilent};
 
 use crate::entering::enter_focused;
-use crate::giver::{giver, refusal_of};
+use crate::giver::refusal_of;
 use regions::{RegionFault, Way};
 use session_model::{Bytes, Refusal};
-use session_state::{Caller, State, StepOutput};
+use session_state::{State, StepOutput};
 
 /// Where the second half of a split goes.
 fn way_of(is_vertical: bool) -> Way
@@ -22,21 +22,15 @@ fn way_of(is_vertical: bool) -> Way
 /// `split`: splits the focused region, whose second half is empty.
 pub fn split(
     state: &mut State,
-    caller: Caller,
+    client: u32,
     is_vertical: bool,
     made: &mut StepOutput,
 ) -> Result<Option<Bytes>, Refusal>
-    requires { HasRoom 256 made.old }
-    ensures answer { Does caller (command.Split is_vertical) state.old result state.new
+    requires { HasRoomToAct made.old }
+    ensures answer { DoesBy client (command.Split is_vertical) state.old result state.new
         made.old made.new }
-    ensures silent { IfOk result (λ lists. lists ≡ None) }
-    ensures err { OnErr result (IsAsBefore state.old state.new made.old made.new) }
-    ensures room { OnOk result (HasRoom 64 made.new) }
+    ensures silent { IsSilent result state.old state.new made.old made.new }
 {
-    let Some(client) = giver(state, caller) else {
-        return Err(Refusal::NoWindow);
-    };
-    let client = client.serial;
     let way = way_of(is_vertical);
     match state.clients.split(state.alloc, client, way) {
         Ok(()) => Ok(None),
@@ -47,20 +41,14 @@ pub fn split(
 /// `focus`: gives the focus to the next region, and the user enters the window there.
 pub fn focus(
     state: &mut State,
-    caller: Caller,
+    client: u32,
     made: &mut StepOutput,
 ) -> Result<Option<Bytes>, Refusal>
-    requires { HasRoom 256 made.old }
-    ensures answer { Does caller command.Focus state.old result state.new made.old made.new }
-    ensures silent { IfOk result (λ lists. lists ≡ None) }
-    ensures err { OnErr result (IsAsBefore state.old state.new made.old made.new) }
+    requires { HasRoomToAct made.old }
+    ensures answer { DoesBy client command.Focus state.old result state.new made.old made.new }
+    ensures silent { IsSilent result state.old state.new made.old made.new }
     ensures memory { IfErr result (λ refusal. refusal ≢ NoMemory) }
-    ensures room { OnOk result (HasRoom 64 made.new) }
 {
-    let Some(client) = giver(state, caller) else {
-        return Err(Refusal::NoWindow);
-    };
-    let client = client.serial;
     state.clients.focus_next(client);
     enter_focused(state, client, made);
     Ok(None)
@@ -70,23 +58,20 @@ pub fn focus(
 /// is in focus then.
 pub fn remove(
     state: &mut State,
-    caller: Caller,
+    client: u32,
     made: &mut StepOutput,
 ) -> Result<Option<Bytes>, Refusal>
-    requires { HasRoom 256 made.old }
-    ensures answer { Does caller command.Remove state.old result state.new made.old made.new }
-    ensures silent { IfOk result (λ lists. lists ≡ None) }
-    ensures err { OnErr result (IsAsBefore state.old state.new made.old made.new) }
+    requires { HasRoomToAct made.old }
+    ensures answer { DoesBy client command.Remove state.old result state.new made.old made.new }
+    ensures silent { IsSilent result state.old state.new made.old made.new }
     ensures memory { IfErr result (λ refusal. refusal ≢ NoMemory) }
-    ensures room { OnOk result (HasRoom 64 made.new) }
 {
-    let Some(client) = giver(state, caller) else {
+    let Some(row) = state.clients.get(client) else {
         return Err(Refusal::NoWindow);
     };
-    if client.layout.shown().len() == 1 {
+    if row.layout.shown().len() == 1 {
         return Err(Refusal::Regions(RegionFault::LastRegion));
     }
-    let client = client.serial;
     if let Err(_) = state.clients.remove_region(client) {
         return Err(Refusal::Regions(RegionFault::LastRegion));
     }
@@ -95,22 +80,12 @@ pub fn remove(
 }
 
 /// `only`: keeps the focused region alone.
-pub fn only(
-    state: &mut State,
-    caller: Caller,
-    made: &mut StepOutput,
-) -> Result<Option<Bytes>, Refusal>
-    requires { HasRoom 256 made.old }
-    ensures answer { Does caller command.Only state.old result state.new made.old made.new }
-    ensures silent { IfOk result (λ lists. lists ≡ None) }
-    ensures err { OnErr result (IsAsBefore state.old state.new made.old made.new) }
+pub fn only(state: &mut State, client: u32, made: &mut StepOutput) -> Result<Option<Bytes>, Refusal>
+    requires { HasRoomToAct made.old }
+    ensures answer { DoesBy client command.Only state.old result state.new made.old made.new }
+    ensures silent { IsSilent result state.old state.new made.old made.new }
     ensures memory { IfErr result (λ refusal. refusal ≢ NoMemory) }
-    ensures room { OnOk result (HasRoom 64 made.new) }
 {
-    let Some(client) = giver(state, caller) else {
-        return Err(Refusal::NoWindow);
-    };
-    let client = client.serial;
     state.clients.only(client);
     Ok(None)
 }
@@ -118,22 +93,16 @@ pub fn only(
 /// `scrollview`: the focused region is scrolled back so many lines.
 pub fn scrollview(
     state: &mut State,
-    caller: Caller,
+    client: u32,
     back: u16,
     made: &mut StepOutput,
 ) -> Result<Option<Bytes>, Refusal>
-    requires { HasRoom 256 made.old }
-    ensures answer { Does caller (command.Scrollview back) state.old result state.new
+    requires { HasRoomToAct made.old }
+    ensures answer { DoesBy client (command.Scrollview back) state.old result state.new
         made.old made.new }
-    ensures silent { IfOk result (λ lists. lists ≡ None) }
-    ensures err { OnErr result (IsAsBefore state.old state.new made.old made.new) }
+    ensures silent { IsSilent result state.old state.new made.old made.new }
     ensures memory { IfErr result (λ refusal. refusal ≢ NoMemory) }
-    ensures room { OnOk result (HasRoom 64 made.new) }
 {
-    let Some(client) = giver(state, caller) else {
-        return Err(Refusal::NoWindow);
-    };
-    let client = client.serial;
     state.clients.scroll_back(client, back);
     Ok(None)
 }

@@ -1,12 +1,12 @@
 -- What a command does to a session's state, whichever tables that stands for.
 use Rattle.std.specs.Prelude.{ℕ, ◌≡◌, ◌⊎◌, ◌≤◌, ◌+◌, ◌++◌, List, Option, None, Result, Ok, Err}
-use Rattle.std.specs.Prelude.{vec_len, vec_capacity}
+use Rattle.std.specs.Prelude.{vec_len, vec_capacity, Some, IfOk, OnOk, OnErr}
 use Rattle.std.specs.Option.{option_and_then}
 use Rattle.acl.specs.History.{followed_by}
 use Rattle.command_lang.specs.command.Command.{Command}
 use Rattle.session_model.specs.declared.refusal.Refusal.{Refusal}
 use Rattle.session_model.specs.declared.refusal.Refusal.TheVariants.{NoMemory}
-use Rattle.session_model.specs.Tables.{Tables, window_at}
+use Rattle.session_model.specs.Tables.{Tables, Client, window_at, client_at}
 use Rattle.session_model.specs.Lines as model
 use Rattle.session_model.specs.Checks.{checks, first_fault}
 use Rattle.session_model.specs.Deeds.{Deed, Answer}
@@ -52,6 +52,32 @@ Does k c old result new before after =
     → first_fault t (checks t (caller_in t k) c) ≡ None
     → Answers t (does t (caller_in t k) c) result new before after
 
+-- the same, whoever gives it
+abbrev pub DoesForAll : Command → State → Result (Option (List ℕ)) Refusal → State →
+    StepOutput → StepOutput → Type 0
+DoesForAll c old result new before after = (k : Caller) → Does k c old result new before after
+
+-- whoever gives it for this window
+abbrev pub DoesOn : ℕ → Command → State → Result (Option (List ℕ)) Refusal → State →
+    StepOutput → StepOutput → Type 0
+DoesOn window c old result new before after =
+    (k : Caller) → k.window ≡ Some window → Does k c old result new before after
+
+-- the client is attached
+abbrev pub IsAttached : ℕ → State → Type 0
+IsAttached client s = (t : Tables) → Stands t s → (m : Client) × (client_at t client ≡ Some m)
+
+-- and the caller gives commands by it
+pub record GivesBy (client : ℕ) (s : State) (k : Caller) : Type 0 where
+  pub client_is : k.client ≡ Some client
+  pub attached : IsAttached client s
+
+-- whoever gives it by this client
+abbrev pub DoesBy : ℕ → Command → State → Result (Option (List ℕ)) Refusal → State →
+    StepOutput → StepOutput → Type 0
+DoesBy client c old result new before after =
+    (k : Caller) → GivesBy client old k → Does k c old result new before after
+
 -- nothing was done and nothing made
 pub record IsAsBefore (old new : State) (before after : StepOutput) : Type 0 where
   pub state : new ≡ old
@@ -61,3 +87,23 @@ pub record IsAsBefore (old new : State) (before after : StepOutput) : Type 0 whe
 -- so many more acts can be noted without memory
 abbrev pub HasRoom : ℕ → StepOutput → Type 0
 HasRoom n made = vec_len made.acts + n ≤ vec_capacity made.acts
+
+-- for what a command or an event does, and behind it for each client that leaves a window at the
+-- step's end
+abbrev pub HasRoomToAct : StepOutput → Type 0
+HasRoomToAct made = HasRoom 256 made
+
+abbrev pub HasRoomToLeave : StepOutput → Type 0
+HasRoomToLeave made = HasRoom 64 made
+
+-- done, and there is room to leave; or refused, and all is as before
+abbrev pub IsWhole : {A E : Type 0} → Result A E → State → State →
+    StepOutput → StepOutput → Type 0
+IsWhole result old new before after =
+    OnErr result (IsAsBefore old new before after) × OnOk result (HasRoomToLeave after)
+
+-- the same of what lists nothing
+abbrev pub IsSilent : Result (Option (List ℕ)) Refusal → State → State →
+    StepOutput → StepOutput → Type 0
+IsSilent result old new before after =
+    IfOk result (λ lists. lists ≡ None) × IsWhole result old new before after

@@ -7,6 +7,6 @@ mod state;
 mod step_output;
 
 pub use caller::Caller;
-pub use sizes::is_client_size;
+pub use sizes::{WindowSize, is_client_size};
 pub use state::State;
 pub use step_output::StepOutput;

@@ -1,7 +1,15 @@
-//! Sizes of clients' terminals.
+//! Sizes of clients' terminals and of windows.
 
 ghost use Rattle.std.specs.Prelude.{◌≡◌};
 ghost use Rattle.session_model.specs.Events.{is_client_size};
+
+/// What size a window has: lines, columns, and how many lines that left at the top it keeps.
+#[derive(Clone, Copy, PartialEq, Eq, Debug)]
+pub struct WindowSize {
+    pub rows: u16,
+    pub cols: u16,
+    pub keep: u16,
+}
 
 /// Whether a client's terminal may have so many lines and columns: 4 to 200 by 20 to 300.
 pub fn is_client_size(rows: u16, cols: u16) -> bool

@@ -8,6 +8,11 @@ use Rattle.trail_audit.specs.declared.halt.Halt.{Halt}
 use Rattle.trail_audit.specs.declared.halt.Halt.TheVariants as halt
 use Rattle.trail_audit.specs.Reading.{HasRead, IsWrong}
 
+-- no line is wrong
+abbrev pub IsEnd : Halt → Type 0
+IsEnd (halt.Stopped number w) = ⊥
+IsEnd h = Unit {0}
+
 -- entries were read that are legal
 abbrev pub IsRead : Audit → Edition → UserId → Type 0
 IsRead audit edition owner = (entries : List Entry) × HasRead audit edition owner entries

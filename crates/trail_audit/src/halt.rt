@@ -1,10 +1,10 @@
 //! The reading of a file's entries, in one pass: with memory for the tables and one line.
 
-ghost use Rattle.std.specs.Prelude.{[], IfOk};
+ghost use Rattle.std.specs.Prelude.{[], IfOk, IfSome};
 ghost use Rattle.acl.specs.declared.edition.Edition.{Edition};
 ghost use Rattle.acl.specs.declared.user_id.UserId.{UserId};
 ghost use Rattle.trail_audit.specs.Reading.{HasRead};
-ghost use Rattle.trail_audit.specs.Halting.{TellsOf};
+ghost use Rattle.trail_audit.specs.Halting.{IsEnd, TellsOf};
 
 use crate::audit::Audit;
 use crate::fault::Wrong;
@@ -24,9 +24,22 @@ pub enum Halt {
     Stopped { line: u64, wrong: Wrong },
 }
 
-/// Whether a line begins as a last one does.
-fn is_last(line: &[u8]) -> bool {
-    line.starts_with(b"end ")
+/// Reads the line of the next entry into `line`, without its line feed; it is the file's line of
+/// this number. Where there is none it says what halts the reading.
+pub fn next_entry<R: BufRead>(
+    reader: &mut R,
+    line: &mut Vec<u8>,
+    number: u64,
+) -> io::Result<Option<Halt>>
+    ensures { IfOk result (λ halt. IfSome halt (λ h. IsEnd h)) }
+{
+    let halt = match next_line(reader, line)? {
+        Came::Nothing => Halt::Nothing,
+        Came::Torn => Halt::Torn,
+        Came::Whole if line.starts_with(b"end ") => Halt::Last { line: number },
+        Came::Whole => return Ok(None),
+    };
+    Ok(Some(halt))
 }
 
 /// Reads the entries of a reader, the first of which stands in line 2. What halts it stands in
@@ -40,13 +53,8 @@ pub fn read_entries<R: BufRead>(
         IfOk result (λ halt. TellsOf halt audit.new edition owner) }
 {
     for number in 2..u64::MAX {
-        match next_line(reader, line)? {
-            Came::Whole => {}
-            Came::Torn => return Ok(Halt::Torn),
-            Came::Nothing => return Ok(Halt::Nothing),
-        }
-        if is_last(line.as_slice()) {
-            return Ok(Halt::Last { line: number });
+        if let Some(halt) = next_entry(reader, line, number)? {
+            return Ok(halt);
         }
         if let Err(wrong) = audit.take(line.as_slice()) {
             return Ok(Halt::Stopped {

@@ -12,7 +12,7 @@ mod lines;
 pub use audit::Audit;
 pub use ending::{Cause, Ended, print_end, read_end};
 pub use fault::Wrong;
-pub use halt::{Halt, read_entries};
+pub use halt::{Halt, next_entry, read_entries};
 pub use header::{Header, print_header, read_header};
 pub use laws::{headings_are_read, read_is_legal};
 pub use lines::{Came, next_line};

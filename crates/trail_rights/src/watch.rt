@@ -10,18 +10,13 @@ ghost use Rattle.trail_rights.specs.Watching.{HasWatched, StandsAtEnd, TellsNext
 
 use crate::sight::Sight;
 use std::io::{self, BufRead};
-use trail_audit::{Audit, Came, Halt, Wrong, next_line};
+use trail_audit::{Audit, Halt, Wrong, next_entry};
 
 /// Reads the lines of entries, judges them, and sees their acts.
 #[derive(Drop)]
 pub struct Watch {
     audit: Audit,
     sight: Sight,
-}
-
-/// Whether a line begins as a last one does.
-fn is_last(line: &[u8]) -> bool {
-    line.starts_with(b"end ")
 }
 
 impl Watch {
@@ -75,13 +70,8 @@ pub fn watch_entries<R: BufRead>(
         if watch.audit.count() > last {
             return Ok(Halt::Nothing);
         }
-        match next_line(reader, line)? {
-            Came::Whole => {}
-            Came::Torn => return Ok(Halt::Torn),
-            Came::Nothing => return Ok(Halt::Nothing),
-        }
-        if is_last(line.as_slice()) {
-            return Ok(Halt::Last { line: number });
+        if let Some(halt) = next_entry(reader, line, number)? {
+            return Ok(halt);
         }
         if let Err(wrong) = watch.take(line.as_slice()) {
             return Ok(Halt::Stopped {

@@ -1,6 +1,7 @@
 //! Texts of captions and of the status line.
 
-ghost use Rattle.std.specs.Prelude.{◌≡◌, ◌<◌, ◌++◌, IfOk, OnOk, chars};
+ghost use Rattle.std.specs.Prelude.{◌≡◌, ◌<◌, ◌++◌, IfOk, OnOk, chars, length};
+ghost use Rattle.cells.specs.Line.{cell_at};
 ghost use Rattle.view.specs.Texts.{visible as visible_of, uncut as uncut_of, char_cells};
 ghost use Rattle.view.specs.Texts.{text_cells as text_cells_of, text_at};
 ghost use Rattle.view.specs.Rows.{IsRow};
@@ -51,15 +52,31 @@ fn push_character(
     Ok(())
 }
 
-/// All cells of a text.
-fn text_cells(alloc: Global, text: &str, rendition: Rendition) -> Result<Vec<Cell>, AllocError>
+/// All cells of a text, which mostly has room in so many columns.
+fn text_cells(
+    alloc: Global,
+    text: &str,
+    cols: usize,
+    rendition: Rendition,
+) -> Result<Vec<Cell>, AllocError>
     ensures { IfOk result (λ cells. cells.items ≡ text_cells_of rendition (chars text.now)) }
 {
-    let mut cells = Vec::new(alloc);
+    let mut cells = Vec::with_capacity(alloc, cols)?;
     for character in text.chars() {
         push_character(&mut cells, character, rendition)?;
     }
     Ok(cells)
+}
+
+/// Puts a space in place of half a wide character in the last column.
+fn cut_end(row: &mut [Cell], space: Cell)
+    ensures { IsRow (λ column. uncut_of (length row.old) column (cell_at row.old column) space)
+        (length row.old) row.new }
+{
+    let cols = row.len();
+    if 0 < cols {
+        row[cols - 1] = uncut(row[cols - 1], cols - 1, cols, space);
+    }
 }
 
 /// The cells of a row of `cols` columns that holds this text, cut at the edge and filled with
@@ -72,12 +89,9 @@ pub(crate) fn text_row(
 ) -> Result<Vec<Cell>, AllocError>
     ensures { IfOk result (λ row. IsRow (text_at rendition (chars text.now) cols) cols row.items) }
 {
-    let cells = text_cells(alloc, text, rendition)?;
+    let mut row = text_cells(alloc, text, cols, rendition)?;
     let space = Cell::narrow(' ', rendition, false);
-    let mut row = Vec::with_capacity(alloc, cols)?;
-    for column in 0..cols {
-        let cell = cells.get(column).copied().unwrap_or(space);
-        row.push(uncut(cell, column, cols, space))?;
-    }
+    row.resize(cols, space)?;
+    cut_end(row.as_mut_slice(), space);
     Ok(row)
 }

@@ -7,3 +7,4 @@ pub mod RunLemmas
 pub mod RunPlaces
 pub mod Letters
 pub mod WideRuns
+pub mod Ideographs

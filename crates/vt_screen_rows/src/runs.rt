@@ -216,11 +216,28 @@ fn wide_front(characters: &[char], most: usize) -> usize
     count
 }
 
-/// Whether a character takes two columns, and goes through no set.
+/// Whether a character takes two columns, and goes through no set. Most are ideographs, whose width
+/// needn't be looked up.
 #[inline(always)]
+fn is_wide(character: char) -> bool
+    ensures { IsTrue result → IsWide character }
+{
+    is_ideograph(character) || is_broad(character)
+}
+
+/// Whether a character is one of U+3400 to U+9FFF, which take two columns each.
+#[inline(always)]
+fn is_ideograph(character: char) -> bool
+    ensures { IsTrue result → IsWide character }
+{
+    '\u{3400}' <= character && character < '\u{A000}'
+}
+
+/// The same as `is_wide`, by the character's width.
+#[inline(never)]
 #[tactic(auto, // its columns, and what is drawn
 unfolding(terminal_model::specs::Table::columns_of, terminal_model::specs::Table::drawn))]
-fn is_wide(character: char) -> bool
+fn is_broad(character: char) -> bool
     ensures { IsTrue result → IsWide character }
 {
     '\u{A0}' <= character && character.width() == Some(2)

@@ -2,32 +2,15 @@
 //! input.
 #![tactic(auto)]
 
-use std::io::Write;
+use program_words::{given, not_given};
+use std::io;
 use std::process::ExitCode;
-use std::{env, io};
 use vtcat_core::cat;
 
-/// The words of the command line, the program's name first.
-fn words(rt: &HostRuntime) -> io::Result<Vec<String>> {
-    let mut words = Vec::new(rt.alloc());
-    words.push(String::from_str(rt.alloc(), "vtcat")?)?;
-    for word in env::args(rt)?.skip(1) {
-        words.push(word)?;
-    }
-    Ok(words)
-}
-
 fn main(rt: HostRuntime) -> ExitCode {
-    let words = match words(&rt) {
+    let words = match given(&rt, "vtcat") {
         Ok(words) => words,
-        Err(error) if error.kind() == io::ErrorKind::InvalidData => {
-            let _ = writeln!(rt.stderr(), "vtcat: a word isn't UTF-8");
-            return ExitCode::from(2);
-        }
-        Err(error) => {
-            let _ = writeln!(rt.stderr(), "vtcat: {error}");
-            return ExitCode::FAILURE;
-        }
+        Err(error) => return ExitCode::from(not_given("vtcat", &error, &mut rt.stderr())),
     };
     let status = cat(
         rt.alloc(),

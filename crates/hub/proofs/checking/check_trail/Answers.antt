@@ -1,4 +1,4 @@
-use Rattle.std.proofs.Common.{◌≡◌, [], ℕ, List, subst, sym, ap, ◌∙◌, Ok, Err}
+use Rattle.std.proofs.Common.{◌≡◌, [], ℕ, List, subst, sym}
 use Rattle.acl.specs.declared.edition.Edition.{Edition}
 use Rattle.acl.specs.declared.user_id.UserId.{UserId}
 use Rattle.hub_trail.specs.Trails.{Entry}
@@ -18,11 +18,11 @@ illegal_for here edition user owner es entries place same is own judged bad =
     (subst (λ (x : List Entry). IsBadAt edition user [] x place) is (subst (λ (x : Edition). IsBadAt x user [] es place) same bad))
 
 pub returns-clause-legal : goal.returns-clause-legal
-returns-clause-legal c = λ ok. legal_for c.acl_edition.result c.args.trail.now.edition c.args.owner c.entries.result.now c.args.trail.now.entries c.acl_edition.ensures c.entries.ensures (c.check_entries.ensures.good ok)
+returns-clause-legal c = λ ok. legal_for c.acl_edition.result c.args.trail.now.edition c.args.owner c.entries.result.now.entries c.args.trail.now.entries c.acl_edition.ensures c.entries.ensures (c.check_entries.ensures.good ok)
 
 pub returns-clause-bad : goal.returns-clause-bad
 returns-clause-bad c = λ place own err.
-    illegal_for c.acl_edition.result c.args.trail.now.edition c.args.owner c.args.trail.now.owner c.entries.result.now c.args.trail.now.entries place c.acl_edition.ensures c.entries.ensures own c.is_judgeable.ensures (c.check_entries.ensures.bad place err)
+    illegal_for c.acl_edition.result c.args.trail.now.edition c.args.owner c.args.trail.now.owner c.entries.result.now.entries c.args.trail.now.entries place c.acl_edition.ensures c.entries.ensures own c.is_judgeable.ensures (c.check_entries.ensures.bad place err)
 
 bad_for : (here edition : Edition) (user : UserId) (es entries : List Entry) (place : ℕ) → here ≡ edition → es ≡ entries → IsBadAt here user [] es place → IsBadAt edition user [] entries place
 bad_for here edition user es entries place same is bad =
@@ -30,4 +30,4 @@ bad_for here edition user es entries place same is bad =
 
 pub returns-clause-first : goal.returns-clause-first
 returns-clause-first c = λ place err.
-    bad_for c.acl_edition.result c.args.trail.now.edition c.args.owner c.entries.result.now c.args.trail.now.entries place c.acl_edition.ensures c.entries.ensures (c.check_entries.ensures.bad place err)
+    bad_for c.acl_edition.result c.args.trail.now.edition c.args.owner c.entries.result.now.entries c.args.trail.now.entries place c.acl_edition.ensures c.entries.ensures (c.check_entries.ensures.bad place err)

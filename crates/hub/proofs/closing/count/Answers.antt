@@ -1,6 +1,5 @@
-use Rattle.std.proofs.Common.{◌≡◌, ◌+◌, ◌<◌, ℕ, length, refl, sym, ap, ◌∙◌, arith}
+use Rattle.std.proofs.Common.{◌≡◌, length, ap, arith}
 use Rattle.hub.specs.Seats.{Sitting}
-use Rattle.hub.specs.Closing.{receipts_of}
 use Rattle.hub.proofs.Tellings.{pushed}
 use Rattle.hub.proofs.closing.count.Goals as goal
 

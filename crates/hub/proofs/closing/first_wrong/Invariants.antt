@@ -5,9 +5,9 @@ use Rattle.hub.proofs.closing.first_wrong.Given as goal
 
 abbrev pub invariant-places : goal.invariant-places
 invariant-places g l = record {
-  within : l.place ≤ length l.entries;
+  within : l.place ≤ length l.entries.entries;
   same : before l.place (receipts_of l.seats) ≡ before l.place (receipts_of l.initial.seats);
-  wrong : IsWrongFrom l.entries (receipts_of l.initial.seats) l.place l.wrong;
+  wrong : IsWrongFrom l.entries.entries (receipts_of l.initial.seats) l.place l.wrong;
   total : l.book.total + length (receipts_of l.initial.seats) ≡ l.initial.book.total + length (receipts_of l.seats);
 }
 

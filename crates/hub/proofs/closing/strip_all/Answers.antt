@@ -1,4 +1,4 @@
-use Rattle.std.proofs.Common.{◌≡◌, ◌∙◌, ◌<◌, ◌≤◌, ◌+◌, ℕ, Bool, List, length, get_or, take, ap, subst, sym, refl, arith, true}
+use Rattle.std.proofs.Common.{◌≡◌, ◌∙◌, ◌<◌, ◌+◌, Bool, length, get_or, take, subst, sym, arith, true}
 use Rattle.std.specs.Prelude.{◌↔◌, ◌&&◌, slice_get, Some}
 use Rattle.std.proofs.lemmas.Option.{slice_get-get_or}
 use Rattle.hub.specs.Closing.{AreOf, receipts_of}

@@ -1,4 +1,4 @@
-use Rattle.std.proofs.Common.{◌≡◌, ◌∙◌, ◌<◌, ℕ, List, length, subst, sym, arith}
+use Rattle.std.proofs.Common.{◌∙◌, ◌<◌, List, length, subst, sym, arith}
 use Rattle.hub.specs.declared.receipt.Receipt.{Receipt}
 use Rattle.std.specs.Prelude.{vec_len}
 use Rattle.hub.specs.Seats.{AllBelow}

@@ -1,4 +1,4 @@
-use Rattle.std.proofs.Common.{◌≡◌, List, refl, subst, arith}
+use Rattle.std.proofs.Common.{List, refl, subst, arith}
 use Rattle.hub.specs.declared.receipt.Receipt.{Receipt}
 use Rattle.hub.specs.Seats.{AllBelow}
 use Rattle.hub.proofs.Rising.{not_below, some_there, strip_none, strip_one}

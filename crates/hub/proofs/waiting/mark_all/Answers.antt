@@ -1,4 +1,4 @@
-use Rattle.std.proofs.Common.{◌≡◌, ◌<◌, length, true, ℕ, refl, arith, sym, subst}
+use Rattle.std.proofs.Common.{true, arith}
 use Rattle.hub.proofs.Places.{set_more, all_true}
 use Rattle.hub.proofs.waiting.mark_all.Goals as goal
 

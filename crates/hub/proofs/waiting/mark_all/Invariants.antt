@@ -1,4 +1,4 @@
-use Rattle.std.proofs.Common.{◌≡◌, ◌<◌, length, true, ℕ, Some}
+use Rattle.std.proofs.Common.{◌≡◌, ◌<◌, true, ℕ, Some}
 use Rattle.std.specs.Prelude.{slice_get}
 use Rattle.hub.proofs.waiting.mark_all.Given as goal
 

@@ -1,6 +1,6 @@
-use Rattle.std.proofs.Common.{◌≡◌, ◌≤◌, ◌<◌, ◌+◌, ◌++◌, ◌∷◌, [], ℕ, length, map, refl, sym, ap, ◌∙◌, arith, get_or, subst, List}
+use Rattle.std.proofs.Common.{◌≡◌, ◌<◌, ◌++◌, ◌∷◌, [], length, refl, sym, ap, ◌∙◌, arith, get_or, subst, List}
 use Rattle.std.proofs.lemmas.List.{append-nil}
-use Rattle.std.specs.Prelude.{Some, IsSome, slice_get, vec_len, vec_capacity}
+use Rattle.std.specs.Prelude.{Some, IsSome}
 use Rattle.std.specs.List.{AllByRecursion}
 use Rattle.std.specs.declared.vec.Vec.{Vec}
 use Rattle.std.specs.declared.alloc.Global.{Global}
@@ -11,7 +11,7 @@ use Rattle.session_laws.proofs.Lists.{all_weaken}
 use Rattle.session_model.specs.declared.event.Effect.{Effect}
 use Rattle.hub.specs.Peers.{HasPeer, owners_of, seat_of}
 use Rattle.hub.specs.Routing.{views}
-use Rattle.hub.proofs.Queues.{Waits, seat_there, seat_within, none_waits, more_waits, room_left, append_turned}
+use Rattle.hub.proofs.Queues.{Waits, seat_there, seat_within, more_waits, room_left, append_turned}
 use Rattle.hub.proofs.waiting.route.Goals as goal
 
 nothing : (es : List Effect) → length es ≡ 0 → es ≡ []

@@ -6,7 +6,7 @@ use Rattle.session_commands.proofs.Locking.{with_locks}
 use Rattle.session_commands.proofs.locks.defwritelock.Goals as goal
 
 pub returns-clause-answer : goal.returns-clause-answer
-returns-clause-answer c = λ t st fit passed. (
+returns-clause-answer c = λ k t st fit passed. (
   acting t (act.Default c.args.mode ∷ []),
   refl,
   refl,

@@ -12,11 +12,11 @@ use Rattle.session_commands.proofs.Locking.{with_locks, lock_needs_window, lock_
 use Rattle.session_commands.proofs.locks.writelock.Goals as goal
 
 pub returns-clause-answer : goal.returns-clause-answer
-returns-clause-answer c = λ t st fit passed.
+returns-clause-answer c = λ at t st fit passed.
     let k = c.args.caller in
-    let s = c.in-Some.window in
+    let s = c.args.window in
     let needed = lock_needs_window c.args.mode in
-    let found = acted_on t k (command.Writelock c.args.mode) s c.in-Some.is needed passed in
+    let found = acted_on t k (command.Writelock c.args.mode) s at needed passed in
     let is_there : is_open t.acts s ≡ true =
     fit.agree.open_is s ∙ ap is_some found.1.row in (
       acting t (act.Mode k.user s c.args.mode ∷ []),

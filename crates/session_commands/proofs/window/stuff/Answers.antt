@@ -8,11 +8,10 @@ use Rattle.session_commands.proofs.Doing.{no_input, some_input, stuff_row}
 use Rattle.session_commands.proofs.window.stuff.Goals as goal
 
 pub returns-then-is_empty-clause-answer : goal.returns-then-is_empty-clause-answer
-returns-then-is_empty-clause-answer c = λ t st fit passed.
-    let k = c.args.caller in
-    let s = c.in-Some.window in
+returns-then-is_empty-clause-answer c = λ k at t st fit passed.
+    let s = c.args.window in
     let bytes = c.args.bytes.now in
-    let found = acted_on t k (command.Stuff bytes) s c.in-Some.is refl passed in (
+    let found = acted_on t k (command.Stuff bytes) s at refl passed in (
       record (changing t) { effects = input_of s bytes },
       stuff_row t k s found.0 bytes found.1,
       refl,
@@ -27,12 +26,11 @@ returns-then-is_empty-clause-answer c = λ t st fit passed.
     )
 
 pub returns-clause-answer : goal.returns-clause-answer
-returns-clause-answer c = λ t st fit passed.
-    let k = c.args.caller in
-    let s = c.in-Some.window in
+returns-clause-answer c = λ k at t st fit passed.
+    let s = c.args.window in
     let bytes = c.args.bytes.now in
     let before = c.args.made.now.effects.items in
-    let found = acted_on t k (command.Stuff bytes) s c.in-Some.is refl passed in (
+    let found = acted_on t k (command.Stuff bytes) s at refl passed in (
       record (changing t) { effects = input_of s bytes },
       stuff_row t k s found.0 bytes found.1,
       refl,

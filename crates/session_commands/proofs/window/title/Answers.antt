@@ -5,18 +5,18 @@ use Rattle.session_commands.proofs.Changing.{change_done, change_refused, title_
 use Rattle.session_commands.proofs.window.title.Goals as goal
 
 pub returns-clause-answer : goal.returns-clause-answer
-returns-clause-answer c = λ t st fit passed.
-    change_done t c.args.state.now c.args.caller c.in-Some.window
+returns-clause-answer c = λ k at t st fit passed.
+    change_done t c.args.state.now k c.args.window
     (command.Title c.args.text.now) (retitled c.args.text.now) (title_changes t c.args.text.now)
-    c.in-Some.is st passed c.in_ok-retitle.field-0 c.retitle.new.self c.args.made.now
+    at st passed c.in_ok-retitle.field-0 c.retitle.new.self c.args.made.now
     (c.in_ok-retitle.ensures.answer t.windows st.windows)
 
 pub returns-in_err-retitle-clause-answer : goal.returns-in_err-retitle-clause-answer
-returns-in_err-retitle-clause-answer c = λ t st fit passed.
+returns-in_err-retitle-clause-answer c = λ k at t st fit passed.
     let p = err_from_is_err_and c.from_residual.result c.from_residual.ensures.1 in
     rw (p.1, p.2)
-    (change_refused t c.args.state.now c.args.caller c.in-Some.window
+    (change_refused t c.args.state.now k c.args.window
     (command.Title c.args.text.now) (retitled c.args.text.now)
-    (title_changes t c.args.text.now) c.in-Some.is st passed c.in_err-retitle.field-0.0
+    (title_changes t c.args.text.now) at st passed c.in_err-retitle.field-0.0
     (record c.args.state.now { windows = c.retitle.new.self }) c.args.made.now
     c.args.made.now (c.in_err-retitle.ensures.answer t.windows st.windows))

@@ -11,11 +11,11 @@ use Rattle.session_core.proofs.coming.open_window.Goals as goal
 pub returns-clause-step : goal.returns-clause-step
 returns-clause-step c = λ t st fit.
     let user = c.args.user in
-    let rows = c.args.rows in
-    let cols = c.args.cols in
-    let keep = c.args.keep in
+    let rows = c.args.size.rows in
+    let cols = c.args.size.cols in
+    let keep = c.args.size.keep in
     let title = c.args.title.now in
-    let before = c.args.made.now in
+    let before = c.args.step.now.made in
     let first : StepOutput = record before { acts = c.reserve.new.self } in
     let cs : List Check = open_checks t user rows cols keep title in
     let w : Window = new_window t rows cols keep title in
@@ -24,7 +24,7 @@ returns-clause-step c = λ t st fit.
     let done = c.in_ok-window.ensures.answer t st fit passed.none in
     was_passed t cs d (outcome t (Open user rows cols keep title)) (reply_of 0 w.serial w.number None)
     (Ok c.made_so.result) c.open.new.state c.leave.new.state before first c.open.new.made
-    c.leave.new.made c.args.verdicts.now.items c.check_open.new.verdicts.items refl passed.none
+    c.leave.new.made c.args.step.now.verdicts.items c.check_open.new.verdicts.items refl passed.none
     (ap (λ (p : ℕ × ℕ). reply_of 0 p.0 p.1 None) (sym done.0) ∙ sym c.made_so.ensures)
     c.in_ok-reserve.ensures.items refl done.1
     (c.leave.ensures t d (c.of-focuses.ensures t st fit.sound) done.1.stands) passed.noted

@@ -18,7 +18,7 @@ returns-clause-step c = λ t st fit.
     let client = c.args.client in
     let rows = c.args.rows in
     let cols = c.args.cols in
-    let before = c.args.made.now in
+    let before = c.args.step.now.made in
     let first : StepOutput = record before { acts = c.reserve.new.self } in
     let row = both_back ClientStands (client_at t client) (option_copied c.get.result)
     c.in-Some._client.now (c.get.ensures.stands t.clients st.clients) (ap option_copied c.in-Some.is) in
@@ -28,7 +28,7 @@ returns-clause-step c = λ t st fit.
     let did = c.resize.ensures.answer t row.0 st fit row.1 passed.none in
     was_passed t cs (deed row.0) (outcome t (Resize client rows cols)) done (Ok c.made_so.result)
     c.resize.new.state c.leave.new.state before first c.resize.new.made c.leave.new.made
-    c.args.verdicts.now.items c.check_resize.new.verdicts.items
+    c.args.step.now.verdicts.items c.check_resize.new.verdicts.items
     (for_there t (λ (m : Client). where_passed t cs done (deed m)) (client_at t client) row.0 row.1)
     passed.none (sym c.made_so.ensures) c.in_ok-reserve.ensures.items refl did
     (c.leave.ensures t (deed row.0) (c.of-focuses.ensures t st fit.sound) did.stands) passed.noted

@@ -12,10 +12,10 @@ returns-in_err-text-clause-step c = λ t st fit.
     let user = c.args.user in
     let order = c.in_ok-command.command in
     let r = c.in_err-text.field-0.0 in
-    let before = c.args.made.now in
-    let after = c.order.new.made in
-    let past = c.args.verdicts.now.items in
-    let noted = c.order.new.verdicts.items in
+    let before = c.args.step.now.made in
+    let after = c.order.new.step.made in
+    let past = c.args.step.now.verdicts.items in
+    let noted = c.order.new.step.verdicts.items in
     let p = err_from_is_err_and c.from_residual-in_err-text.result
     c.from_residual-in_err-text.ensures.1 in
     rw (p.1, p.2)
@@ -25,17 +25,17 @@ returns-in_err-text-clause-step c = λ t st fit.
     (subst (λ (o : Option Window). Ruled t
     (ruling t (record { user = user; client = None; window = o }) order) (Err r) c.order.new.state
     before after past noted) (c.window_numbered.ensures t st fit) (c.in_err-text.ensures.ruled t st fit))
-    st c.in_err-text.ensures.err)
+    st c.in_err-text.ensures.whole.0)
 
 pub returns-clause-step : goal.returns-clause-step
 returns-clause-step c = λ t st fit.
     let user = c.args.user in
     let order = c.in_ok-command.command in
     let lists = c.in_ok-text.text in
-    let before = c.args.made.now in
-    let second = c.order.new.made in
-    let past = c.args.verdicts.now.items in
-    let noted = c.order.new.verdicts.items in
+    let before = c.args.step.now.made in
+    let second = c.order.new.step.made in
+    let past = c.args.step.now.verdicts.items in
+    let noted = c.order.new.step.verdicts.items in
     was_obeyed t user c.args.window c.args.line.now
     (sym (c.is_known.ensures t st) ∙ c.if-not-is_known.false) order c.in_ok-command.ensures lists
     (reply_of 0 0 0 lists) c.order.new.state c.leave.new.state before second c.leave.new.made past

@@ -15,7 +15,7 @@ returns-in_err-close_window-clause-step c = λ past t st fit.
     rw (p.1, p.2)
     (was_unsettled t deed (window_at t window) c.in_err-close_window.field-0.0 c.args.state.now
     c.close_window.new.state c.args.made.now c.close_window.new.made past
-    (c.in_err-close_window.ensures.answer t st fit) st c.in_err-close_window.ensures.err)
+    (c.in_err-close_window.ensures.answer t st fit) st c.in_err-close_window.ensures.whole.0)
 
 pub returns-clause-step : goal.returns-clause-step
 returns-clause-step c = λ past t st fit.

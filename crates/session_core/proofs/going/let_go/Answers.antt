@@ -15,7 +15,7 @@ returns-in_err-detach_client-clause-step c = λ past t st fit.
     rw (p.1, p.2)
     (was_unsettled t deed (client_at t client) c.in_err-detach_client.field-0.0 c.args.state.now
     c.detach_client.new.state c.args.made.now c.detach_client.new.made past
-    (c.in_err-detach_client.ensures.answer t st fit) st c.in_err-detach_client.ensures.err)
+    (c.in_err-detach_client.ensures.answer t st fit) st c.in_err-detach_client.ensures.whole.0)
 
 pub returns-clause-step : goal.returns-clause-step
 returns-clause-step c = λ past t st fit.

@@ -10,7 +10,7 @@ use Rattle.session_core.proofs.key_step.obey_read.Goals as goal
 
 pub returns-in-Ok-clause-ok : goal.returns-in-Ok-clause-ok
 returns-in-Ok-clause-ok c = λ t row keys st fit at same read.
-    let n : ℕ = c.args.client in
+    let n : ℕ = c.args.given.now.by.client in
     let there : row.serial ≡ n = serial_is serial t.clients n row at in
     let d : Client = read_by c.args.message keys row in
     c.in-Ok.ensures.ok (with_client t d) (reading keys row) d
@@ -24,7 +24,7 @@ returns-in-Ok-clause-ok c = λ t row keys st fit at same read.
 pub returns-clause-err : goal.returns-clause-err
 returns-clause-err c = λ here.
     let s : State = c.args.state.now in
-    let kept = c.in-Err.ensures.err in
+    let kept = c.in-Err.ensures.whole.0 in
     let put = c.exchange.ensures.row here.0 here.1 in
     let back : c.exchange-in-Err.new.self ≡ s.clients =
     c.exchange-in-Err.ensures.back s.clients here.0 c.args.reader.now c.args.message here.1

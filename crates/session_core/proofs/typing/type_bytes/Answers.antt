@@ -16,28 +16,28 @@ use Rattle.session_core.proofs.typing.type_bytes.Goals as goal
 
 pub returns-in_ok-put_typed-in-Ok-clause-ok : goal.returns-in_ok-put_typed-in-Ok-clause-ok
 returns-in_ok-put_typed-in-Ok-clause-ok c = λ t row st fit at same.
-    typed_through t row c.args.typed c.args.made.now _ c.args.verdicts.now.items
+    typed_through t row c.args.typed c.args.step.now.made _ c.args.step.now.verdicts.items
     c.check_typing.new.verdicts.items (sym c.is_empty.ensures ∙ c.if-is_empty.false)
     (subst (λ (k : Caller). Passed t (typing_checks k.user (caller_in t k).window)
-    c.args.verdicts.now.items c.check_typing.new.verdicts.items) same (c.in-Ok.ensures t st fit))
+    c.args.step.now.verdicts.items c.check_typing.new.verdicts.items) same (c.in-Ok.ensures t st fit))
     (c.in_ok-put_typed-in-Ok.ensures.ok
-    ∙ ap (λ (k : Caller). c.args.made.now.effects.items ++ input_to k.window c.args.typed) same)
+    ∙ ap (λ (k : Caller). c.args.step.now.made.effects.items ++ input_to k.window c.args.typed) same)
 
 pub returns-in_ok-push-in-Err-clause-ok : goal.returns-in_ok-push-in-Err-clause-ok
 returns-in_ok-push-in-Err-clause-ok c = λ t row st fit at same.
     let r = c.in-Err.refusal in
-    let past = c.args.verdicts.now.items in
+    let past = c.args.step.now.verdicts.items in
     let noted = c.check_typing.new.verdicts.items in
-    let after : StepOutput = record c.args.made.now { effects = c.push.new.self } in
+    let after : StepOutput = record c.args.step.now.made { effects = c.push.new.self } in
     let text = c.in_ok-text-in-Err.ensures.ok
     ∙ ap (λ (xs : List ℕ). xs ++ text_of r) c.new-text.ensures.items in
-    subst (λ (m : Message). Typed t row c.args.typed m c.args.made.now after past noted)
+    subst (λ (m : Message). Typed t row c.args.typed m c.args.step.now.made after past noted)
     (sym (ap Text (c.in_ok-of-in-Err.ensures ∙ c.deref.ensures.value ∙ text)))
-    (typed_refused_or t row c.args.client c.args.typed r c.args.made.now after past noted
+    (typed_refused_or t row c.args.by.client c.args.typed r c.args.step.now.made after past noted
     (sym c.is_empty.ensures ∙ c.if-is_empty.false) at
     (sym c.wants_memory.ensures ∙ c.if-wants_memory.false)
     (subst (λ (k : Caller). (r ≡ NoMemory) ⊎ Failed t (typing_checks k.user (caller_in t k).window)
     r past noted) same (c.in-Err.ensures t st fit))
     (c.in_ok-push-in-Err.ensures.items
-    ∙ ap (λ (xs : List ℕ). c.args.made.now.effects.items ++ Say c.args.client xs ∷ [])
+    ∙ ap (λ (xs : List ℕ). c.args.step.now.made.effects.items ++ Say c.args.by.client xs ∷ [])
     (c.from_vec.ensures ∙ text)))

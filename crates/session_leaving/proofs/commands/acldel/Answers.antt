@@ -15,20 +15,20 @@ use Rattle.session_leaving.proofs.Ending.{removed}
 use Rattle.session_leaving.proofs.commands.acldel.Goals as goal
 
 pub returns-in_default-clause-answer : goal.returns-in_default-clause-answer
-returns-in_default-clause-answer c = λ t st fit passed.
+returns-in_default-clause-answer c = λ k t st fit passed.
     let none : named_by c.args.word.now ≡ None = ap named_by (sym c.as_bytes.ensures.value) ∙ sym c.of.ensures.named ∙ c.in_default.is in
-    inr (removal_unnamed t (caller_in t c.args.caller) c.args.word.now none)
+    inr (removal_unnamed t (caller_in t k) c.args.word.now none)
 
 pub returns-in-Err-clause-answer : goal.returns-in-Err-clause-answer
-returns-in-Err-clause-answer c = λ t st fit passed.
+returns-in-Err-clause-answer c = λ k t st fit passed.
     let word = c.args.word.now in
     let user = c.in-Some.user in
     let named : named_by word ≡ Some user = ap named_by (sym c.as_bytes.ensures.value) ∙ sym c.of.ensures.named ∙ c.in-Some.is in
-    subst (λ r. (r ≡ NoMemory) ⊎ (does t (caller_in t c.args.caller) (command.Acldel word) ≡ Err r)) (sym c.refusal_of.ensures)
-    (removal_refused t (caller_in t c.args.caller) word user named c.in-Err.fault (c.in-Err.ensures.answer t.edition t.owner t.acts st.acl))
+    subst (λ r. (r ≡ NoMemory) ⊎ (does t (caller_in t k) (command.Acldel word) ≡ Err r)) (sym c.refusal_of.ensures)
+    (removal_refused t (caller_in t k) word user named c.in-Err.fault (c.in-Err.ensures.answer t.edition t.owner t.acts st.acl))
 
 pub returns-clause-answer : goal.returns-clause-answer
-returns-clause-answer c = λ t st fit passed.
+returns-clause-answer c = λ k t st fit passed.
     let word = c.args.word.now in
     let user = c.in-Some.user in
     let made = c.args.made.now in
@@ -36,7 +36,7 @@ returns-clause-answer c = λ t st fit passed.
     let named : named_by word ≡ Some user = ap named_by (sym c.as_bytes.ensures.value) ∙ sym c.of.ensures.named ∙ c.in-Some.is in
     let none : known_name_fault t.owner (known_users t) (Some user) ≡ None = c.in_default-remove.ensures.answer t.edition t.owner t.acts st.acl in (
       removes (Some user) t,
-      removal t (caller_in t c.args.caller) word user named none,
+      removal t (caller_in t k) word user named none,
       refl,
       removed t user c.args.state.now cs c.remove.new.self c.note_parted.new.locks c.remove.new.follower c.remove_of.new.self c.note_parted.new.acts.items
           made (record { acts = c.remove.new.acts; effects = c.append.new.self }) c.as_slice-clients.ensures st fit c.note_parted.ensures.locks

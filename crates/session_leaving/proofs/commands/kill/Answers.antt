@@ -9,14 +9,14 @@ use Rattle.session_leaving.proofs.Answering.{kill_is, refused_alike}
 use Rattle.session_leaving.proofs.commands.kill.Goals as goal
 
 pub returns-in_err-close-clause-answer : goal.returns-in_err-close-clause-answer
-returns-in_err-close-clause-answer c = λ t st fit passed.
+returns-in_err-close-clause-answer c = λ k at t st fit passed.
     let p = err_from_is_err_and c.from_residual.result c.from_residual.ensures.1 in
-    let window = c.in-Some.window in
+    let window = c.args.window in
     rw (p.1, p.2)
-    (refused_alike (closing window reason.Killed t) (does t (caller_in t c.args.caller) command.Kill) c.in_err-close.field-0.0
-    (kill_is t c.args.caller window c.in-Some.is) (c.in_err-close.ensures.answer t st fit))
+    (refused_alike (closing window reason.Killed t) (does t (caller_in t k) command.Kill) c.in_err-close.field-0.0
+    (kill_is t k window at) (c.in_err-close.ensures.answer t st fit))
 
 pub returns-clause-answer : goal.returns-clause-answer
-returns-clause-answer c = λ t st fit passed.
+returns-clause-answer c = λ k at t st fit passed.
     subst (λ a. Answers t a (Ok None) c.close.new.state c.args.made.now c.close.new.made)
-    (kill_is t c.args.caller c.in-Some.window c.in-Some.is) (c.in_ok-close.ensures.answer t st fit)
+    (kill_is t k c.args.window at) (c.in_ok-close.ensures.answer t st fit)

@@ -10,9 +10,9 @@ use Rattle.session_leaving.specs.Going.{AreAttached, goes}
 use Rattle.session_leaving.proofs.commands.multiuser.Goals as goal
 
 pub returns-then-is_on-clause-answer : goal.returns-then-is_on-clause-answer
-returns-then-is_on-clause-answer c = λ t st fit passed. (
+returns-then-is_on-clause-answer c = λ k t st fit passed. (
   changing (record t { is_multiuser = true }),
-  ap (λ b. does t (caller_in t c.args.caller) (command.Multiuser b)) c.if-is_on.true,
+  ap (λ b. does t (caller_in t k) (command.Multiuser b)) c.if-is_on.true,
   refl,
   record {
     stands = record {
@@ -30,13 +30,13 @@ returns-then-is_on-clause-answer c = λ t st fit passed. (
 )
 
 pub returns-clause-answer : goal.returns-clause-answer
-returns-clause-answer c = λ t st fit passed.
+returns-clause-answer c = λ k t st fit passed.
     let there : AreAttached t = record { rise = fit.sound.clients_rise; clients_are = fit.agree.clients_are } in
     let owner : c.owner-owner.result ≡ t.owner = c.owner-owner.ensures ∙ st.acl.owned in
     let done = subst (λ (u : UserId). HasDone t (parts (goes (AllBut u)) reason.SingleUser t) c.go.new.state c.args.made.now c.go.new.made) owner
     (c.in_ok-go.ensures.done t st there) in (
       parts (λ m. not (is_of t.owner m)) reason.SingleUser (record t { is_multiuser = false }),
-      ap (λ b. does t (caller_in t c.args.caller) (command.Multiuser b)) c.if-is_on.false,
+      ap (λ b. does t (caller_in t k) (command.Multiuser b)) c.if-is_on.false,
       refl,
       record {
         stands = record {

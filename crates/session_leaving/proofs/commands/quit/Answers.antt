@@ -9,13 +9,13 @@ use Rattle.session_leaving.proofs.commands.quit.Goals as goal
 pub note_parted-requires : goal.note_parted-requires
 note_parted-requires c = c.note_closed.ensures.room (length c.as_slice-clients.result.now) (omega (arith, c.in_ok-reserve.ensures.ok))
 
-pub returns-clause-room : goal.returns-clause-room
-returns-clause-room c =
+pub returns-clause-silent : goal.returns-clause-silent
+returns-clause-silent c =
     let room = c.note_closed.ensures.room (length c.as_slice-clients.result.now + 64) (omega (arith, c.in_ok-reserve.ensures.ok)) in
-    c.note_parted.ensures.room 64 (omega (arith, room))
+    (refl, (tt, c.note_parted.ensures.room 64 (omega (arith, room))))
 
 pub returns-clause-answer : goal.returns-clause-answer
-returns-clause-answer c = λ t st fit passed.
+returns-clause-answer c = λ k t st fit passed.
     let made = c.args.made.now in
     let ws = c.as_slice-windows.result.now in
     let cs = c.as_slice-clients.result.now in (

@@ -20,5 +20,5 @@ returns-clause-done c = λ t st there.
           ∙ ap (λ xs. made.effects.items ++ xs) (c.in_ok-gone.ensures ∙ gone_are g t.clients cs are c.args.why);
     }
 
-pub returns-clause-room : goal.returns-clause-room
-returns-clause-room c = c.note_parted.ensures.room 64 (omega (arith, c.in_ok-reserve.ensures.ok))
+pub returns-clause-whole : goal.returns-clause-whole
+returns-clause-whole c = (tt, c.note_parted.ensures.room 64 (omega (arith, c.in_ok-reserve.ensures.ok)))

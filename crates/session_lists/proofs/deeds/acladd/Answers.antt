@@ -1,4 +1,4 @@
-use Rattle.std.proofs.Common.{◌≡◌, ◌∙◌, ◌++◌, ap, subst, sym, refl, true, Some}
+use Rattle.std.proofs.Common.{rules, ◌≡◌, ◌∙◌, ◌++◌, ap, subst, sym, refl, true, Some}
 use Rattle.std.specs.List.{All}
 use Rattle.acl.specs.Commands.{change_fault, add_acts}
 use Rattle.acl.specs.History.{there}
@@ -12,7 +12,7 @@ use Rattle.session_lists.proofs.Doing.{acted, says_nothing, change_done, change_
 use Rattle.session_lists.proofs.deeds.acladd.Goals as goal
 
 pub returns-clause-answer : goal.returns-clause-answer
-returns-clause-answer c = λ t st fit passed.
+returns-clause-answer c = λ k t st fit passed.
     let names = c.deref.result.now in
     let objects = c.deref-2.result.now in
     let asked = names_of t c.args.users.now in
@@ -31,4 +31,4 @@ returns-clause-answer c = λ t st fit passed.
     refl
 
 pub returns-clause-silent : goal.returns-clause-silent
-returns-clause-silent c = says_nothing c.add.result c.answered.result c.answered.ensures
+returns-clause-silent c = (says_nothing c.add.result c.answered.result c.answered.ensures, search rules)

@@ -1,4 +1,4 @@
-use Rattle.std.proofs.Common.{◌≡◌, ◌∙◌, ap, sym, refl, None, Some, Ok, List}
+use Rattle.std.proofs.Common.{rules, ◌≡◌, ◌∙◌, ap, sym, refl, None, Some, Ok, List}
 use Rattle.std.proofs.lemmas.Result.{err_from_is_err_and}
 use Rattle.acl.specs.declared.bits.BitChange.{BitChange}
 use Rattle.acl.specs.Commands.{change_fault, change_acts}
@@ -13,7 +13,7 @@ use Rattle.session_lists.proofs.Doing.{acted, says_nothing, change_done, change_
 use Rattle.session_lists.proofs.deeds.aclchg.Goals as goal
 
 pub returns-in_err-objects-clause-answer : goal.returns-in_err-objects-clause-answer
-returns-in_err-objects-clause-answer c = λ t st fit passed.
+returns-in_err-objects-clause-answer c = λ k t st fit passed.
     let names = c.deref.result.now in
     let asked = names_of t c.args.users.now in
     let found = objects_of t c.args.list.now in
@@ -27,7 +27,7 @@ returns-in_err-objects-clause-answer c = λ t st fit passed.
     c.in_err-objects.ensures.err))
 
 pub returns-clause-answer : goal.returns-clause-answer
-returns-clause-answer c = λ t st fit passed.
+returns-clause-answer c = λ k t st fit passed.
     let names = c.deref-2.result.now in
     let objects = c.deref-3.result.now in
     let bits = c.as_slice-2.result.now in
@@ -52,4 +52,4 @@ returns-clause-answer c = λ t st fit passed.
     refl
 
 pub returns-clause-silent : goal.returns-clause-silent
-returns-clause-silent c = says_nothing c.change.result c.answered.result c.answered.ensures
+returns-clause-silent c = (says_nothing c.change.result c.answered.result c.answered.ensures, search rules)

@@ -1,4 +1,4 @@
-use Rattle.std.proofs.Common.{◌≡◌, ◌∙◌, ap, sym, refl, Option}
+use Rattle.std.proofs.Common.{rules, ◌≡◌, ◌∙◌, ap, sym, refl, Option}
 use Rattle.acl.specs.declared.user_id.UserId.{UserId}
 use Rattle.acl.specs.declared.entries.NewLeader.{NewLeader}
 use Rattle.acl.specs.Commands.{group_acts}
@@ -12,7 +12,7 @@ use Rattle.session_lists.proofs.Doing.{acted, says_nothing, unless_none, unless_
 use Rattle.session_lists.proofs.deeds.aclgrp.Goals as goal
 
 pub returns-clause-answer : goal.returns-clause-answer
-returns-clause-answer c = λ t st fit passed.
+returns-clause-answer c = λ k t st fit passed.
     let name = c.named.result in
     let leader = c.new_leader.result in
     let row : Option UserId → NewLeader → Answer = λ n l.
@@ -30,4 +30,4 @@ returns-clause-answer c = λ t st fit passed.
     refl
 
 pub returns-clause-silent : goal.returns-clause-silent
-returns-clause-silent c = says_nothing c.group.result c.answered.result c.answered.ensures
+returns-clause-silent c = (says_nothing c.group.result c.answered.result c.answered.ensures, search rules)

@@ -1,4 +1,4 @@
-use Rattle.std.proofs.Common.{◌≡◌, ◌∙◌, ap, sym, refl, List}
+use Rattle.std.proofs.Common.{rules, ◌≡◌, ◌∙◌, ap, sym, refl, List}
 use Rattle.acl.specs.declared.entries.MaskEntry.{MaskEntry}
 use Rattle.acl.specs.Commands.{mask_fault, mask_acts}
 use Rattle.session_model.specs.declared.refusal.Refusal.TheVariants.{Acl}
@@ -28,4 +28,4 @@ returns-clause-answer c = λ t st fit passed.
     refl
 
 pub returns-clause-silent : goal.returns-clause-silent
-returns-clause-silent c = says_nothing c.mask.result c.answered.result c.answered.ensures
+returns-clause-silent c = (says_nothing c.mask.result c.answered.result c.answered.ensures, search rules)

@@ -4,23 +4,20 @@ use Rattle.session_model.specs.Naming.{window_after}
 use Rattle.session_model.specs.declared.refusal.Refusal.TheVariants.{NoWindow}
 use Rattle.session_model.specs.Tables as model
 use Rattle.session_state.specs.Doing.{caller_in}
-use Rattle.session_pages.proofs.Answering.{no_client, shown_on, not_shown_on}
+use Rattle.session_pages.proofs.Answering.{shown_on, not_shown_on}
 use Rattle.session_pages.proofs.Members.{StandsAt, of_after, stand_there}
 use Rattle.session_pages.proofs.Paging.{giver_there}
 use Rattle.session_pages.proofs.selecting.next.Goals as goal
 
 pub returns-in_default-clause-answer : goal.returns-in_default-clause-answer
-returns-in_default-clause-answer c = λ t st fit free. inr (no_client t c.args.caller _ _ (c.giver.ensures t st) (ap option_copied c.in_default.is))
-
-pub returns-in_default-after-clause-answer : goal.returns-in_default-after-clause-answer
-returns-in_default-after-clause-answer c = λ t st fit free.
-    let by = giver_there t c.args.caller c.in-Some.client.now _ (c.giver.ensures t st) (ap option_copied c.in-Some.is) in
-    inr (not_shown_on t c.args.caller c.in-Some.client.now by.0 by.1 (λ (d : model.Client). window_after t.windows (caller_in t c.args.caller).window) NoWindow _
-    (c.after.ensures t.windows (caller_in t c.args.caller).window st.windows (c.number_of-from.ensures t st)) (ap option_copied c.in_default-after.is))
+returns-in_default-clause-answer c = λ gives t st fit free.
+    let by = giver_there t c.args.caller c.args.client c.args.state.now st gives in
+    inr (not_shown_on t c.args.caller c.args.client by.0 by.1 (λ (d : model.Client). window_after t.windows (caller_in t c.args.caller).window) NoWindow _
+    (c.after.ensures t.windows (caller_in t c.args.caller).window st.windows (c.number_of-from.ensures t st)) (ap option_copied c.in_default.is))
 
 pub returns-clause-answer : goal.returns-clause-answer
-returns-clause-answer c = λ t st fit free.
-    let by = giver_there t c.args.caller c.in-Some.client.now _ (c.giver.ensures t st) (ap option_copied c.in-Some.is) in
-    shown_on t c.args.caller c.in-Some.client.now by.0 by.1 (λ (d : model.Client). window_after t.windows (caller_in t c.args.caller).window) NoWindow _ c.in-Some-after.window.now c.args.state.now
-    c.show.new.state c.args.made.now c.show.new.made st fit (c.after.ensures t.windows (caller_in t c.args.caller).window st.windows (c.number_of-from.ensures t st)) (ap option_copied c.in-Some-after.is)
+returns-clause-answer c = λ gives t st fit free.
+    let by = giver_there t c.args.caller c.args.client c.args.state.now st gives in
+    shown_on t c.args.caller c.args.client by.0 by.1 (λ (d : model.Client). window_after t.windows (caller_in t c.args.caller).window) NoWindow _ c.in-Some.window.now c.args.state.now
+    c.show.new.state c.args.made.now c.show.new.made st fit (c.after.ensures t.windows (caller_in t c.args.caller).window st.windows (c.number_of-from.ensures t st)) (ap option_copied c.in-Some.is)
     (of_after (StandsAt t.windows) t.windows (caller_in t c.args.caller).window (stand_there t.windows)) c.show.ensures.done

@@ -4,23 +4,20 @@ use Rattle.session_model.specs.Naming.{window_named}
 use Rattle.session_model.specs.declared.refusal.Refusal.TheVariants.{Windows}
 use Rattle.session_model.specs.declared.refusal.WindowsFault.TheVariants.{NoSuchWindow}
 use Rattle.session_model.specs.Tables as model
-use Rattle.session_pages.proofs.Answering.{no_client, shown_on, not_shown_on}
+use Rattle.session_pages.proofs.Answering.{shown_on, not_shown_on}
 use Rattle.session_pages.proofs.Members.{StandsAt, of_named, stand_there}
 use Rattle.session_pages.proofs.Paging.{giver_there}
 use Rattle.session_pages.proofs.selecting.select.Goals as goal
 
 pub returns-in_default-clause-answer : goal.returns-in_default-clause-answer
-returns-in_default-clause-answer c = λ t st fit free. inr (no_client t c.args.caller _ _ (c.giver.ensures t st) (ap option_copied c.in_default.is))
-
-pub returns-in_default-by_name-clause-answer : goal.returns-in_default-by_name-clause-answer
-returns-in_default-by_name-clause-answer c = λ t st fit free.
-    let by = giver_there t c.args.caller c.in-Some.client.now _ (c.giver.ensures t st) (ap option_copied c.in-Some.is) in
-    inr (not_shown_on t c.args.caller c.in-Some.client.now by.0 by.1 (λ (d : model.Client). window_named t.windows c.args.word.now) (Windows NoSuchWindow) _
-    (c.by_name.ensures t.windows st.windows) (ap option_copied c.in_default-by_name.is))
+returns-in_default-clause-answer c = λ k gives t st fit free.
+    let by = giver_there t k c.args.client c.args.state.now st gives in
+    inr (not_shown_on t k c.args.client by.0 by.1 (λ (d : model.Client). window_named t.windows c.args.word.now) (Windows NoSuchWindow) _
+    (c.by_name.ensures t.windows st.windows) (ap option_copied c.in_default.is))
 
 pub returns-clause-answer : goal.returns-clause-answer
-returns-clause-answer c = λ t st fit free.
-    let by = giver_there t c.args.caller c.in-Some.client.now _ (c.giver.ensures t st) (ap option_copied c.in-Some.is) in
-    shown_on t c.args.caller c.in-Some.client.now by.0 by.1 (λ (d : model.Client). window_named t.windows c.args.word.now) (Windows NoSuchWindow) _ c.in-Some-by_name.window.now c.args.state.now
-    c.show.new.state c.args.made.now c.show.new.made st fit (c.by_name.ensures t.windows st.windows) (ap option_copied c.in-Some-by_name.is)
+returns-clause-answer c = λ k gives t st fit free.
+    let by = giver_there t k c.args.client c.args.state.now st gives in
+    shown_on t k c.args.client by.0 by.1 (λ (d : model.Client). window_named t.windows c.args.word.now) (Windows NoSuchWindow) _ c.in-Some.window.now c.args.state.now
+    c.show.new.state c.args.made.now c.show.new.made st fit (c.by_name.ensures t.windows st.windows) (ap option_copied c.in-Some.is)
     (of_named (StandsAt t.windows) t.windows c.args.word.now (stand_there t.windows)) c.show.ensures.done

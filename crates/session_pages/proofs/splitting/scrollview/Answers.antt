@@ -1,18 +1,14 @@
-use Rattle.std.proofs.Common.{ap, inr, refl}
-use Rattle.std.specs.Prelude.{option_copied}
+use Rattle.std.proofs.Common.{refl}
 use Rattle.regions.specs.Layouts.{Arrangement}
 use Rattle.session_model.specs.Tables as model
 use Rattle.session_model.specs.Deeds.{arranges, showing, shown_in_focus}
-use Rattle.session_pages.proofs.Answering.{no_client, done_on}
+use Rattle.session_pages.proofs.Answering.{done_on}
 use Rattle.session_pages.proofs.Paging.{giver_there, done_quietly}
 use Rattle.session_pages.proofs.splitting.scrollview.Goals as goal
 
-pub returns-in_default-clause-answer : goal.returns-in_default-clause-answer
-returns-in_default-clause-answer c = λ t st fit free. inr (no_client t c.args.caller _ _ (c.giver.ensures t st) (ap option_copied c.in_default.is))
-
 pub returns-clause-answer : goal.returns-clause-answer
-returns-clause-answer c = λ t st fit free.
-    let by = giver_there t c.args.caller c.in-Some.client.now _ (c.giver.ensures t st) (ap option_copied c.in-Some.is) in
+returns-clause-answer c = λ k gives t st fit free.
+    let by = giver_there t k c.args.client c.args.state.now st gives in
     let scrolled : model.Client → Arrangement = λ d. showing d (record (shown_in_focus d) { back = c.args.back }) in
-    done_on t c.args.caller c.in-Some.client.now by.0 by.1 _ (arranges t by.0 (scrolled by.0)) _ c.args.made.now c.args.made.now refl refl
-    (done_quietly t c.args.state.now c.scroll_back.new.self c.in-Some.client.now.serial by.0 scrolled c.args.made.now st by.1.at c.scroll_back.ensures)
+    done_on t k c.args.client by.0 by.1 _ (arranges t by.0 (scrolled by.0)) _ c.args.made.now c.args.made.now refl refl
+    (done_quietly t c.args.state.now c.scroll_back.new.self c.args.client by.0 scrolled c.args.made.now st by.1.at c.scroll_back.ensures)

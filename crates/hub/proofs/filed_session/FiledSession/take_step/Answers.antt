@@ -1,16 +1,16 @@
-use Rattle.std.proofs.Common.{◌≡◌, ◌<◌, ◌≤◌, ◌++◌, ℕ, List, length, map, refl, sym, ap, ◌∙◌, subst, arith, false, Bool}
+use Rattle.std.proofs.Common.{◌≡◌, ◌<◌, List, length, sym, ap, ◌∙◌, subst, false, Bool}
 use Rattle.std.specs.declared.vec.Vec.{Vec}
 use Rattle.std.specs.declared.alloc.Global.{Global}
 use Rattle.session_model.specs.declared.event.Effect.{Effect}
 use Rattle.std.specs.List.{AllByRecursion}
 use Rattle.std.proofs.lemmas.List.{length-map}
-use Rattle.session_model.specs.Trace.{happening, with_step, Trace, Entry}
-use Rattle.session_core.specs.Stands.{StandsFor, entry_of, wants_memory}
-use Rattle.hub_trail.specs.Filing.{filed, kept_of}
-use Rattle.hub.specs.Peers.{HasPeer, AreSeats, Owners, owners_of, with_peers}
+use Rattle.session_model.specs.Trace.{happening}
+use Rattle.session_core.specs.Stands.{entry_of, wants_memory}
+use Rattle.hub_trail.specs.Filing.{kept_of}
+use Rattle.hub.specs.Peers.{HasPeer, Owners, owners_of, with_peers}
 use Rattle.hub.specs.Routing.{views, marked, AreRouted}
 use Rattle.hub.specs.Slips.{with_entries, written}
-use Rattle.hub.specs.States.{IsKept, IsAfter, state_of, trail_in}
+use Rattle.hub.specs.States.{state_of, trail_in}
 use Rattle.hub.proofs.Steps.{few, peers_there, made_by, filed_is, kept_after}
 use Rattle.hub.proofs.filed_session.FiledSession.take_step.Goals as goal
 

@@ -1,4 +1,4 @@
-use Rattle.std.proofs.Common.{◌≡◌, ◌∙◌, ◌+◌, ℕ, List, length, [], ap, subst, sym, arith}
+use Rattle.std.proofs.Common.{◌≡◌, ◌∙◌, List, length, [], ap, subst, sym, arith}
 use Rattle.hub_trail.specs.Trails.{Entry, Trail}
 use Rattle.hub_trail.specs.Legal.{IsLegal}
 use Rattle.hub_trail.specs.Judging.{AreJudgeable}
@@ -13,7 +13,7 @@ use Rattle.hub.proofs.ledger.Ledger.close.Goals as goal
 
 pub of-requires : goal.of-requires
 of-requires g c =
-    subst (λ (e : Entries). AreJudgeable e.edition e.owner [] e.list.items) (sym c.into_entries-entries.ensures) (kept_judgeable (state_of c.self.inside.filed) c.self.invariant.0)
+    subst (λ (e : Entries). AreJudgeable e.edition e.owner [] e.list.entries) (sym c.into_entries-entries.ensures) (kept_judgeable (state_of c.self.inside.filed) c.self.invariant.0)
 
 pub returns-clause-trail : goal.returns-clause-trail
 returns-clause-trail g c = c.of.ensures ∙ ap trail_in c.into_entries-entries.ensures ∙ ap (λ (s : State). s.trail) c.self.view_is
@@ -34,15 +34,15 @@ returns-clause-counted g c = λ all.
     let told = merged (same ∙ all) in
     let taken = c.first_wrong-wrong.ensures.total in
     let those : length (receipts_of c.as_mut_slice.result.now) ≡ length (receipts_of old) = ap (λ (x : List Sitting). length (receipts_of x)) was in
-    let entries : length c.of.result.entries ≡ length c.self.inside.filed.entries.list.items =
+    let entries : length c.of.result.entries ≡ length c.self.inside.filed.entries.list.entries =
     ap (λ (t : Trail). length t.entries) (c.of.ensures ∙ ap trail_in c.into_entries-entries.ensures) in
     omega (arith, told, taken, those, entries, c.self.invariant.1)
 
 pub returns-clause-wrong : goal.returns-clause-wrong
 returns-clause-wrong g c =
-    let entries : c.as_slice.result.now ≡ c.of.result.entries = c.as_slice.ensures.value ∙ sym (ap (λ (t : Trail). t.entries) c.of.ensures) in
+    let entries : c.into_entries-entries.result.list.entries ≡ c.of.result.entries = sym (ap (λ (t : Trail). t.entries) c.of.ensures) in
     subst (λ (es : List Entry). IsFirstWrong es (receipts_of c.args.seats.items) c.first_wrong-wrong.result) entries
-    (subst (λ (x : List Sitting). IsFirstWrong c.as_slice.result.now (receipts_of x) c.first_wrong-wrong.result) c.as_mut_slice.ensures.value c.first_wrong-wrong.ensures.wrong)
+    (subst (λ (x : List Sitting). IsFirstWrong c.into_entries-entries.result.list.entries (receipts_of x) c.first_wrong-wrong.result) c.as_mut_slice.ensures.value c.first_wrong-wrong.ensures.wrong)
 
 pub returns-clause-none : goal.returns-clause-none
 returns-clause-none g c = λ all. none_means c.of.result.entries (receipts_of c.args.seats.items) c.first_wrong-wrong.result (returns-clause-counted g c all) (returns-clause-wrong g c)

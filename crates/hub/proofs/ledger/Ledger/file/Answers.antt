@@ -1,4 +1,4 @@
-use Rattle.std.proofs.Common.{◌≡◌, ◌∙◌, ◌<◌, ◌≤◌, ◌+◌, ℕ, List, length, ap, subst, sym, arith}
+use Rattle.std.proofs.Common.{◌∙◌, List, subst, sym, arith}
 use Rattle.std.proofs.lemmas.List.{length-map}
 use Rattle.std.specs.declared.vec.Vec.{Vec}
 use Rattle.std.specs.declared.alloc.Global.{Global}
@@ -22,7 +22,7 @@ invariant_of-self-2 g c =
     let room = c.if-place-ge-FULL.false in (
       c.take_step.ensures.kept,
       (let t = c.add.ensures.total in omega (arith, t, inv.1, more)),
-      omega (arith, more, room, c.len-place.ensures, c.self.inside.filed.entries.list.ok.0),
+      omega (arith, more, room, c.len-place.ensures),
       sym (length-map c.take_step.new.self.waiting.lists.items (λ (v : Vec Effect Global). v.items)) ∙ stay.0 ∙ length-map c.self.inside.filed.waiting.lists.items (λ (v : Vec Effect Global). v.items) ∙ inv.3,
       stay.1 ∙ inv.4,
       inv.5,

@@ -1,5 +1,5 @@
-use Rattle.std.proofs.Common.{◌≡◌, subst}
-use Rattle.hub.specs.States.{IsKept, state_of}
+use Rattle.std.proofs.Common.{subst}
+use Rattle.hub.specs.States.{IsKept}
 use Rattle.hub.proofs.Standing.{kept_legal}
 use Rattle.hub.proofs.ledger.Ledger.is_kept.Goals as goal
 

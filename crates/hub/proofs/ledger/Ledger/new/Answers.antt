@@ -1,4 +1,4 @@
-use Rattle.std.proofs.Common.{◌≡◌, ◌∙◌, ◌+◌, ℕ, ap, arith}
+use Rattle.std.proofs.Common.{ap, arith}
 use Rattle.hub.specs.Seats.{Sitting}
 use Rattle.hub.proofs.Tellings.{none_told, pushed}
 use Rattle.hub.proofs.ledger.Ledger.new.Goals as goal

@@ -1,5 +1,5 @@
-use Rattle.std.proofs.Common.{◌≡◌, ◌∙◌, ◌≤◌, ℕ, List, length, ap, subst, sym, arith, true}
-use Rattle.std.specs.Prelude.{◌↔◌, vec_len}
+use Rattle.std.proofs.Common.{◌≡◌, ◌∙◌, ◌≤◌, List, length, ap, subst, arith, true}
+use Rattle.std.specs.Prelude.{◌↔◌}
 use Rattle.hub.specs.declared.receipt.Receipt.{Receipt}
 use Rattle.hub.specs.Seats.{Sitting}
 use Rattle.hub.specs.Closing.{AreOf, before, times}

@@ -1,0 +1,62 @@
+//! What is told of who comes and goes.
+
+use acl::UserId;
+use attach_proto::Why;
+use server_loop::{Guest, News};
+use std::fmt;
+use std::fmt::{Display, Formatter};
+
+/// A user's name, as it is told.
+#[derive(Clone, Copy)]
+struct Name(UserId);
+
+impl Display for Name {
+    fn fmt<W: fmt::Write>(&self, f: &mut Formatter<W>) -> fmt::Result {
+        f.write_str(str::from_utf8(self.0.as_bytes()).unwrap_or("?"))
+    }
+}
+
+/// A guest, as it is told.
+#[derive(Clone, Copy)]
+struct Named(Guest);
+
+impl Display for Named {
+    fn fmt<W: fmt::Write>(&self, f: &mut Formatter<W>) -> fmt::Result {
+        match self.0 {
+            Guest::Client(user, serial) => write!(f, "client {serial} of {}", Name(user)),
+            Guest::Window(user, number) => write!(f, "window {number} of {}", Name(user)),
+        }
+    }
+}
+
+fn cause(why: Option<Why>) -> &'static str {
+    match why {
+        None => "its connection ended",
+        Some(Why::Detached) => "detached",
+        Some(Why::Removed) => "its user was removed",
+        Some(Why::SingleUser) => "the session is single-user",
+        Some(Why::Killed) => "killed",
+        Some(Why::Quit) => "quit",
+        Some(Why::TooFarBehind) => "too far behind",
+        Some(Why::Fault) => "a fault",
+        Some(Why::TrailFull) => "the trail is full",
+    }
+}
+
+/// News, as it is told.
+#[derive(Clone, Copy)]
+pub struct NewsLine(pub News);
+
+impl Display for NewsLine {
+    fn fmt<W: fmt::Write>(&self, f: &mut Formatter<W>) -> fmt::Result {
+        match self.0 {
+            News::Came(guest) => write!(f, "{} came", Named(guest)),
+            News::Went(guest, why) => write!(f, "{} went: {}", Named(guest), cause(why)),
+            News::Done(user) => write!(f, "a command of {}", Name(user)),
+            News::Refused(user) => write!(f, "a command of {} was refused", Name(user)),
+            News::WrongToken(count) => write!(f, "unknown user or wrong token: {count} by now"),
+            News::Misfit => write!(f, "a connection sent no first message"),
+            News::Filled(percent) => write!(f, "the trail is full to {percent} percent"),
+        }
+    }
+}

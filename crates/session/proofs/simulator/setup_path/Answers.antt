@@ -1,9 +1,0 @@
-use Rattle.std.proofs.Common.{ap, ◌∙◌}
-use Rattle.std.specs.Prelude.{codes}
-use Rattle.clap.specs.Words.{found_of, first_of}
-use Rattle.clap.proofs.WalkLemmas.{first_value-rows}
-use Rattle.session.proofs.simulator.setup_path.Goals as goal
-
-pub returns-in-Ok : goal.returns-in-Ok
-returns-in-Ok c = λ takes.
-    c.get_str.ensures ∙ (first_value-rows (found_of c.in-Ok.matches) (codes "setup") ∙ ap (λ r. first_of (codes "setup") r) c.in-Ok.ensures.ok)
