@@ -10,10 +10,11 @@ use std::sync::Wait;
 use std::sync::atomic::{AtomicU64, Ordering};
 use std::test::Fail;
 use std::thread::Threads;
-use std::time::Clock;
+use std::time::{Clock, Duration};
 use std::{fs, io, thread};
 
-const YIELDS: usize = 100_000;
+// So many milliseconds the call that comes first is held at most.
+const WAIT: usize = 30_000;
 
 /// What a server is begun with, and what the gates of its loops share.
 #[derive(Drop)]
@@ -96,6 +97,7 @@ struct Held {
 /// answered.
 #[derive(Clone, Copy)]
 struct Latch<'a> {
+    runtime: HostRuntime,
     held: &'a Held,
     is_first: bool,
 }
@@ -109,7 +111,7 @@ impl Gate for Latch<'_> {
         if self.held.begun.fetch_add(1, Ordering::SeqCst) != 0 {
             return;
         }
-        for _ in 0..YIELDS {
+        for _ in 0..WAIT {
             let theirs = if self.is_first {
                 self.held.second.load(Ordering::SeqCst)
             } else {
@@ -118,7 +120,7 @@ impl Gate for Latch<'_> {
             if theirs != 0 {
                 return;
             }
-            thread::yield_now();
+            thread::sleep(&self.runtime, Duration::from_millis(1));
         }
         self.held.missed.fetch_add(1, Ordering::SeqCst);
     }
@@ -168,6 +170,7 @@ fn no_loop_waits_for_anothers_turn(rt: HostRuntime) -> Result<(), Fail> {
         shared,
         || {
             let latch = Latch {
+                runtime: rt,
                 held: &server.seen,
                 is_first: false,
             };

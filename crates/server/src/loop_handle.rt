@@ -3,7 +3,7 @@
 use crate::acceptor::Acceptor;
 use crate::users_file::{Stamp, Told};
 use mio::net::UnixStream;
-use mio::{Poll, Waker};
+use mio::{Poll, Registry, Waker};
 use server_log::Log;
 use server_loop::End;
 use std::collections::VecDeque;
@@ -83,6 +83,8 @@ pub struct Shared {
 pub struct LoopStart {
     pub me: usize,
     pub poll: Poll,
+    /// The poll's. It has its descriptor before anybody connects.
+    pub registry: Registry,
     pub acceptor: Option<Acceptor>,
     /// The users' file as it was read at first.
     pub seen: Stamp,

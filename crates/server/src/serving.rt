@@ -70,9 +70,11 @@ fn places<R: Net>(
         let waker = Waker::new(poll.registry(), WAKE)?;
         loop_handles.push(LoopHandle::new(waker, VecDeque::new(alloc)))?;
         let me = starts.len();
+        let registry = poll.registry().try_clone()?;
         starts.push(LoopStart {
             me,
             poll,
+            registry,
             acceptor: acceptor.take(),
             seen,
         })?;

@@ -258,6 +258,7 @@ fn run_loop<L: Roll, G: Gate + Copy + Drop, U: UsersSource, R: Clock + Wait>(
     let LoopStart {
         me,
         mut poll,
+        registry,
         acceptor,
         seen,
     } = start;
@@ -267,7 +268,6 @@ fn run_loop<L: Roll, G: Gate + Copy + Drop, U: UsersSource, R: Clock + Wait>(
     };
     let mut gate = server.gate;
     gate.stand_at(me);
-    let registry = poll.registry().try_clone()?;
     let mut watch = Watch {
         shared,
         loop_handle,

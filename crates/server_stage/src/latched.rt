@@ -11,14 +11,16 @@ use std::sync::atomic::{AtomicU64, Ordering};
 use std::sync::ledger::Ledger as Roll;
 use std::thread;
 use std::thread::Threads;
-use std::time::Clock;
+use std::time::{Clock, Duration};
 
-const YIELDS: usize = 100_000;
+// So many milliseconds the call that comes first is held at most.
+const WAIT: usize = 30_000;
 
 /// Holds the call that comes first, before it is submitted, until a call of the other loop was
 /// answered.
-#[derive(Clone, Copy)]
-struct Latch<'a> {
+#[derive(Drop)]
+struct Latch<'a, R> {
+    rt: &'a R,
     held: &'a AtomicU64,
     mine: &'a AtomicU64,
     theirs: &'a AtomicU64,
@@ -26,16 +28,16 @@ struct Latch<'a> {
     missed: &'a AtomicU64,
 }
 
-impl Gate for Latch<'_> {
+impl<R: Clock> Gate for Latch<'_, R> {
     fn before(&mut self) {
         if self.held.fetch_add(1, Ordering::SeqCst) != 0 {
             return;
         }
-        for _ in 0..YIELDS {
+        for _ in 0..WAIT {
             if self.theirs.load(Ordering::SeqCst) != 0 {
                 return;
             }
-            thread::yield_now();
+            thread::sleep(self.rt, Duration::from_millis(1));
         }
         self.missed.fetch_add(1, Ordering::SeqCst);
     }
@@ -46,14 +48,14 @@ impl Gate for Latch<'_> {
 }
 
 // A loop whose one peer gives a command: its seat, once that peer was told that this was done.
-fn command<L: Roll, R: Wait>(
+fn command<L: Roll, R: Clock + Wait>(
     rt: &R,
     alloc: Global,
     shared: &SharedSession<L>,
     seat: Seat<L>,
-    latch: Latch,
+    latch: Latch<R>,
 ) -> Result<Option<Seat<L>>, AllocError> {
-    let mut own: Loop<Near, Latch, L> = Loop::new(alloc, seat, latch, 2)?;
+    let mut own: Loop<Near, Latch<R>, L> = Loop::new(alloc, seat, latch, 2)?;
     let (near, far) = ends(alloc, Habit::Whole)?;
     far.send(WALL)?;
     own.peers.admit(near, false)?;
@@ -92,6 +94,7 @@ impl<R: Clock + Wait> LoopBody<bool, R> for Pair {
             (&self.second, &self.first)
         };
         let latch = Latch {
+            rt,
             held: &self.held,
             mine,
             theirs,
