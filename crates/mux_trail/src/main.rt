@@ -9,10 +9,7 @@ use trail_program::trail;
 fn main(rt: HostRuntime) -> ExitCode {
     let words = match given(&rt, "mux-trail") {
         Ok(words) => words,
-        Err(error) => {
-            not_given("mux-trail", &error, &mut rt.stderr());
-            return ExitCode::from(2);
-        }
+        Err(error) => return ExitCode::from(not_given("mux-trail", &error, &mut rt.stderr())),
     };
     let status = trail(
         &rt,

@@ -141,11 +141,10 @@ fn two_at_once<R: Net + Clock>(rt: &R, alloc: Global, path: &str) -> io::Result<
     Ok(first.gone()? == Why::Detached && second.gone()? == Why::Detached)
 }
 
-// Two commands, and then `quit`, whatever became of them.
-fn visit_at_once<R: Net + Clock>(rt: &R, alloc: Global, path: &str) -> Option<bool> {
-    let is_right = two_at_once(rt, alloc, path).ok();
+// Tells the server to end, whatever became of what was done before. Whether both went well.
+fn end<R: Net + Clock>(rt: &R, alloc: Global, path: &str, done: io::Result<bool>) -> Option<bool> {
     let has_ended = quit(rt, alloc, path).ok()?;
-    is_right.map(|is_right| is_right && has_ended)
+    done.ok().map(|is_done| is_done && has_ended)
 }
 
 /// Refused here are a server that hands all connections to one loop, and loops that hold a lock
@@ -176,7 +175,10 @@ fn no_loop_waits_for_anothers_turn(rt: HostRuntime) -> Result<(), Fail> {
             };
             serve(shared, rt, server, latch)
         },
-        || visit_at_once(shared, alloc, server.socket),
+        || {
+            let done = two_at_once(shared, alloc, server.socket);
+            end(shared, alloc, server.socket, done)
+        },
     );
     clear(&rt, &watched, "muxd_gates.socket.lock")?;
     assert_eq!(rt;
@@ -221,13 +223,6 @@ fn six_in_turn<R: Net + Clock>(rt: &R, alloc: Global, path: &str) -> io::Result<
     Ok(true)
 }
 
-// Six commands, and then `quit`, whatever became of them.
-fn visit_in_turn<R: Net + Clock>(rt: &R, alloc: Global, path: &str) -> Option<bool> {
-    let is_right = six_in_turn(rt, alloc, path).ok();
-    let has_ended = quit(rt, alloc, path).ok()?;
-    is_right.map(|is_right| is_right && has_ended)
-}
-
 #[test]
 fn connections_go_to_the_loops_in_turn(rt: HostRuntime) -> Result<(), Fail> {
     let alloc = rt.alloc();
@@ -248,7 +243,10 @@ fn connections_go_to_the_loops_in_turn(rt: HostRuntime) -> Result<(), Fail> {
             };
             serve(shared, rt, server, mark)
         },
-        || visit_in_turn(shared, alloc, server.socket),
+        || {
+            let done = six_in_turn(shared, alloc, server.socket);
+            end(shared, alloc, server.socket, done)
+        },
     );
     clear(&rt, &watched, "muxd_marks.socket.lock")?;
     assert_eq!(rt;

@@ -3,7 +3,7 @@
 #![tactic(auto)]
 
 use program_words::{given, not_given};
-use session::{Asked, recorded, setup_path, simulate, trail_path};
+use session::{Asked, path_of, recorded, simulate};
 use std::fs::{File, OpenOptions};
 use std::io::{Read, Write};
 use std::os::unix::fs::OpenOptionsExt;
@@ -12,7 +12,7 @@ use std::{fs, io};
 
 /// What the file has that the words name behind `--setup`; nothing where they name none.
 fn setup(rt: &HostRuntime, words: &[String]) -> io::Result<Vec<u8>> {
-    let Some(path) = setup_path(rt.alloc(), words)? else {
+    let Some(path) = path_of(rt.alloc(), words, "setup")? else {
         return Ok(Vec::new(rt.alloc()));
     };
     match fs::read(rt, path) {
@@ -26,7 +26,7 @@ fn setup(rt: &HostRuntime, words: &[String]) -> io::Result<Vec<u8>> {
 
 /// The new file that the words name behind `--trail`, which its owner alone reads and writes.
 fn trail(rt: &HostRuntime, words: &[String]) -> io::Result<Option<File>> {
-    let Some(path) = trail_path(rt.alloc(), words)? else {
+    let Some(path) = path_of(rt.alloc(), words, "trail")? else {
         return Ok(None);
     };
     let mut options = OpenOptions::new();

@@ -14,4 +14,4 @@ pub use session_core::{
     Reply, Session, Verdict, WindowsFault,
 };
 pub use simulator::{Asked, recorded, simulate};
-pub use words::{setup_path, trail_path};
+pub use words::path_of;

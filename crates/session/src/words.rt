@@ -71,7 +71,8 @@ fn owner_word(alloc: Global) -> Arg<'static>
         .help("The name of the session's owner")
 }
 
-/// The words `muxsim [--edition N] [--setup FILE] [--show] [--trail FILE] OWNER`, the program's name first.
+/// The words `muxsim [--edition N] [--setup FILE] [--show] [--trail FILE] OWNER`, the program's name
+/// first.
 pub fn read_words<'a>(alloc: Global, words: &'a [String]) -> Result<ArgMatches<'a>, Error>
     ensures ok { IfOk result
         (λ m. rows_of (found_of m) ≡ matches_of muxsim (map string_bytes words.entry.now)) }
@@ -110,8 +111,9 @@ pub fn owner_of(matches: &ArgMatches) -> Option<UserId>
     }
 }
 
-/// The file that the words name behind `--` and a name: none where they aren't understood.
-fn path_in<'a>(
+/// The file that the words name behind `--setup` or `--trail`, whose name is given: none where they
+/// aren't understood.
+pub fn path_of<'a>(
     alloc: Global,
     words: &'a [String],
     name: &str,
@@ -125,22 +127,4 @@ fn path_in<'a>(
         Err(error) if error.kind() == ErrorKind::OutOfMemory => Err(AllocError),
         Err(_) => Ok(None),
     }
-}
-
-/// The file that the words name behind `--setup`: none where they aren't understood.
-pub fn setup_path(alloc: Global, words: &[String]) -> Result<Option<&str>, AllocError>
-    ensures { takes muxsim (map string_bytes words.now) ≡ true
-        → IfOk result (λ path. option_map (λ p. p.now) path
-        ≡ first_of (codes "setup") (matches_of muxsim (map string_bytes words.now))) }
-{
-    path_in(alloc, words, "setup")
-}
-
-/// The file that they name behind `--trail`, likewise.
-pub fn trail_path(alloc: Global, words: &[String]) -> Result<Option<&str>, AllocError>
-    ensures { takes muxsim (map string_bytes words.now) ≡ true
-        → IfOk result (λ path. option_map (λ p. p.now) path
-        ≡ first_of (codes "trail") (matches_of muxsim (map string_bytes words.now))) }
-{
-    path_in(alloc, words, "trail")
 }

@@ -3,6 +3,7 @@
 
 mod check;
 mod fault;
+mod following;
 mod heading;
 mod json;
 mod pass;

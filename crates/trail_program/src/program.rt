@@ -2,6 +2,7 @@
 
 use crate::check::{Finish, check_lines};
 use crate::fault::Fault;
+use crate::following::Following;
 use crate::heading::header_of;
 use crate::pass::{Pass, Search, read_pass};
 use crate::show::{Form, show_lines, time_of};
@@ -14,6 +15,7 @@ use clap::{ArgMatches, Error};
 use std::alloc::Global;
 use std::io::{BufRead, BufReader, Write};
 use std::rt::Files;
+use std::time::Clock;
 use std::{fs, str};
 use trail_audit::{Audit, Halt, Wrong};
 use trail_rights::{Decider, Led};
@@ -235,7 +237,7 @@ fn why<R: Files + AllocGlobal, W: Write>(
 }
 
 /// Does what the words ask.
-fn run<R: Files + AllocGlobal, W: Write>(
+fn run<R: Clock + Files + AllocGlobal, W: Write>(
     rt: &R,
     way: &str,
     asked: &Asked<'_>,
@@ -248,6 +250,10 @@ fn run<R: Files + AllocGlobal, W: Write>(
         return why(rt, asked, question, output);
     }
     let file = fs::open(rt, asked.path)?;
+    if asked.follows {
+        let mut reader = BufReader::new(rt.alloc(), Following { rt, file })?;
+        return show(rt.alloc(), asked.form, &mut reader, output);
+    }
     let mut reader = BufReader::new(rt.alloc(), file)?;
     match way {
         "check" => check(rt.alloc(), asked.owner, &mut reader, output),
@@ -268,7 +274,7 @@ fn tell<W: Write, E: Write>(error: &Error, output: &mut W, errors: &mut E) -> u8
 }
 
 /// Does what the words ask of a file.
-fn do_asked<R: Files + AllocGlobal, W: Write, E: Write>(
+fn do_asked<R: Clock + Files + AllocGlobal, W: Write, E: Write>(
     rt: &R,
     matches: &ArgMatches,
     output: &mut W,
@@ -300,7 +306,7 @@ fn do_asked<R: Files + AllocGlobal, W: Write, E: Write>(
 /// `mux-trail check|show|who|why FILE`: the status is 0 for a legal file that is whole, and for what
 /// was shown; 1 for a file that isn't legal, 2 for words or a file that can't be read, 3 for legal
 /// entries without a last line.
-pub fn trail<R: Files + AllocGlobal, W: Write, E: Write>(
+pub fn trail<R: Clock + Files + AllocGlobal, W: Write, E: Write>(
     rt: &R,
     words: &[String],
     output: &mut W,

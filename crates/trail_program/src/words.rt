@@ -18,6 +18,8 @@ pub struct Asked<'a> {
     pub place: Option<u64>,
     pub question: Option<Question>,
     pub form: Form,
+    /// What comes later is shown, too, until the trail ends.
+    pub follows: bool,
 }
 
 /// A word that must stand there.
@@ -92,9 +94,14 @@ pub fn read_words<'a>(alloc: Global, words: &'a [String]) -> Result<ArgMatches<'
         .long("json")
         .action(ArgAction::SetTrue)
         .help("Prints each entry as an object of JSON");
+    let follow = Arg::new(alloc, "follow")
+        .long("follow")
+        .action(ArgAction::SetTrue)
+        .help("Waits for more until the trail ends");
     let show = Command::new(alloc, "show")
         .about("Prints the trail's lines, with times that are read")
         .arg(json)?
+        .arg(follow)?
         .arg(file(alloc))?;
     Command::new(alloc, "mux-trail")
         .version(VERSION)
@@ -142,5 +149,6 @@ pub fn asked_of<'a>(way: &str, matches: &'a ArgMatches) -> Result<Asked<'a>, &'s
         place,
         question,
         form,
+        follows: way == "show" && matches.get_flag("follow"),
     })
 }
