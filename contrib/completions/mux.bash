@@ -1,4 +1,4 @@
-# Completions of bash for muxd, mux, muxsim, vtcat and the scripts of mux: the words that their --help tells.
+# Completions of bash for muxd, mux, muxsim, mux-trail, vtcat and the scripts of mux: the words that their --help tells.
 
 # The options, or with the word Commands the subcommands, that a help text on standard input lists.
 _mux_listed() {
@@ -26,14 +26,17 @@ _mux() {
     --show) words='own' ;;
     --loops) words='1 2 3 4 5 6 7 8' ;;
     --term) words='mux mux-8color vt220' ;;
-    --user | --rows | --cols | --title | --keep | --window | --read | --session | --for) return ;;
+    --user | --rows | --cols | --title | --keep | --window | --read | --session | --for | --owner | --at) return ;;
     *)
-        # mux alone has subcommands, each with options of its own
-        if [[ ${program##*/} == mux ]]; then
+        # mux and mux-trail have subcommands, each with options of its own
+        if [[ ${program##*/} == mux || ${program##*/} == mux-trail ]]; then
             verb=${COMP_WORDS[1]}
             if ((COMP_CWORD == 1)) || [[ $verb == help && $COMP_CWORD -eq 2 ]]; then
                 words=$("$program" --help 2>/dev/null | _mux_listed Commands)
                 ((COMP_CWORD > 1)) || words="$words --help --version"
+            elif [[ ${program##*/} == mux-trail && $current != -* ]]; then
+                # a trail's file, by the shell itself
+                return
             else
                 words=$("$program" "$verb" --help 2>/dev/null | _mux_listed)
             fi
@@ -45,5 +48,5 @@ _mux() {
     mapfile -t COMPREPLY < <(compgen -W "$words" -- "$current")
 }
 
-complete -F _mux -o bashdefault -o default muxd mux muxsim vtcat \
+complete -F _mux -o bashdefault -o default muxd mux muxsim mux-trail vtcat \
     mux-attach mux-command mux-guest mux-over-ssh mux-pty mux-shell mux-turn mux-watch muxd-wait new-token
