@@ -12,7 +12,8 @@ compared with the panes.
 
 Of muxd(8), mux-users(5) and of each script's page the words of --help are compared, too.
 
-Needs tmux and script (or socat). MUXD, MUX, MUXSIM and VTCAT name the programs (those of bin/, if they aren't set).
+Needs tmux and script (or socat). MUXD, MUX, MUXSIM, MUX_TRAIL and VTCAT name the programs (those of bin/, if they
+aren't set).
 Where root plays it, `sudo -iu lab` is played by a stand-in that runs a shell as the login nobody.
 """
 import os
@@ -25,7 +26,7 @@ import tempfile
 import time
 
 TOP = os.path.dirname(os.path.dirname(os.path.dirname(os.path.realpath(__file__))))
-PROGRAMS = ("muxd", "mux", "muxsim", "vtcat")
+PROGRAMS = ("muxd", "mux", "muxsim", "mux-trail", "vtcat")
 SPAN = re.compile(r"`((?:C-a: |(?:mux|muxd|muxsim|vtcat|new-token|mux-[a-z-]+|muxd-wait|own|make|sudo|loginctl"
                   r"|systemctl|tic) |rm -r )[^`]*)`")
 
@@ -79,7 +80,7 @@ class Text:
                     self.lines.append([line, []])
                 elif line.startswith("> ") and self.lines:
                     self.lines[-1][0] += "\n" + line[2:]
-                elif self.lines and block is not None:
+                elif self.lines and self.lines[-1]:
                     self.lines[-1][1].append(line)
             if self.lines:
                 self.lines.append(None)
@@ -576,8 +577,16 @@ def operating(play):
     on.tmux("resize-window", "-t", "texts:wall", "-x", "60", "-y", "12")
     time.sleep(1)
     on.shows("wall", "^again")
-    for line in ("make install", "loginctl enable-linger", "systemctl stop"):
+    for line in ("make install", "loginctl enable-linger", "systemctl stop", "systemctl edit muxd@ops"):
         text.leave(line, system)
+    for line in ("# install -d -m 700 -o mux /var/log/mux", "# trail=/var/log/mux/ops-$(date +%Y-%m-%dT%H%M%S).trail",
+                 "# muxd --socket /run/mux/ops/socket --users /etc/mux/ops/users --trail $trail",
+                 "# mux-trail check $trail"):
+        text.leave(line, system)
+    for line in ("muxd --trail FILE", "mux-trail who FILE", "mux-trail why FILE ann w 3", "mux-trail who --at 1200 FILE",
+                 "mux-trail show FILE", "mux-trail show --json FILE", "mux-trail check FILE",
+                 "mux-trail check --owner own"):
+        text.leave(line, "tests/outside/trailfile plays it")
     text.leave("mux-shell script -f FILE", "its program's matter")
     text.leave("tic -x /usr/local/share/mux/mux.ti", "make lint compiles it")
     text.leave("$ infocmp -x mux-8color | ssh HOST tic -x -", "it needs another host")
@@ -637,9 +646,19 @@ def muxd_page(play):
     play.run("ann", "export MUX_SOCKET=/srv/ops/socket")
     play.run("ann", "setsid -f mux-shell --user own --token ~/ops/own.token --title lesson sudo -iu lab")
     on.run("ann", "muxd-wait --user own --token ~/ops/own.token --window lesson; echo status $?", ["status 0"])
+    over = "mux-command --user own --token ~/ops/own.token quit; while [ -e $MUX_SOCKET ]; do sleep 0.1; done; clear"
+    on.run("ann", over)
+    play.run("ann", "trail=~/ops/$(date +%Y-%m-%dT%H%M%S).trail")
+    play.run("ann", "(umask 007; setsid -f muxd --socket /srv/ops/socket --users ~/ops/users --trail $trail)")
+    on.run("ann", "muxd-wait; ls -l $trail", ["-rw-------"])
+    play.run("ann", "mux-trail who $trail")
+    on.shows("ann", "^user own$")
+    on.run("ann", over)
+    play.run("ann", "mux-trail check $trail")
+    on.shows("ann", "^legal: 1 entries$")
+    on.shows("ann", r"^whole: it ended \(quit\) at ")
     # The page's .Dl lines stand in its prose.
     play.text.leave("$ mux-shell --title lesson sudo -iu lab", "as above")
-    on.run("ann", "mux-command --user own --token ~/ops/own.token quit")
 
 
 def mux_users_page(play):
@@ -738,7 +757,7 @@ def programs(folder):
     """A folder with the programs and scripts, and a stand-in for sudo."""
     os.mkdir(os.path.join(folder, "bin"))
     for program in PROGRAMS:
-        path = os.environ.get(program.upper(), os.path.join(TOP, "bin", program))
+        path = os.environ.get(program.upper().replace("-", "_"), os.path.join(TOP, "bin", program))
         if not os.access(path, os.X_OK):
             sys.exit("tests/outside/texts.py: no program %s; make build makes it" % path)
         os.symlink(os.path.realpath(path), os.path.join(folder, "bin", program))
