@@ -114,9 +114,16 @@ def has_come(it, seconds):
 
 
 def welcome(it):
+    """Whether the first frame lets it in; not, where nothing comes."""
     data = b""
-    while len(data) < 4:
-        data += it.recv(4 - len(data))
+    try:
+        while len(data) < 4:
+            piece = it.recv(4 - len(data))
+            if not piece:
+                return False
+            data += piece
+    except (ConnectionError, TimeoutError):
+        return False
     return data[:1] == b"y"
 
 
@@ -320,7 +327,10 @@ def main():
     reader.add_argument("--tries", type=int, default=100, help="how often servers are started at once")
     WORDS = reader.parse_args()
     for play in (dead_window, ends_behind_frames, winding_up, at_once, one_who_floods, few_descriptors, strangers):
-        play()
+        try:
+            play()
+        except (AssertionError, OSError) as error:
+            check(f"{play.__name__} is played to its end", False, f"{type(error).__name__}: {error}")
     sys.exit(1 if failed else 0)
 
 
