@@ -1,8 +1,11 @@
 -- One seat more.
-use Rattle.std.proofs.Common.{◌≡◌, ℕ, ◌+◌, List, [], ◌∷◌, ◌++◌, length, take, drop, ap, ◌∙◌, arith, length-append}
+use Rattle.std.proofs.Common.{◌≡◌, ℕ, ◌+◌, List, [], ◌∷◌, ◌++◌, false, length, take, drop, ap, ◌∙◌, arith, length-append}
+use Rattle.std.specs.Prelude.{◌||◌}
+use Rattle.std.specs.List.{list_any}
 use Rattle.std.proofs.lemmas.List.{append-nil, drop_all, take_all}
+use Rattle.std.proofs.lemmas.List.Folds.{list_any-append}
 use Rattle.hub.specs.declared.receipt.Receipt.{Receipt}
-use Rattle.hub.specs.Seats.{Sitting}
+use Rattle.hub.specs.Seats.{NoneAsks, Sitting}
 use Rattle.hub.specs.Closing.{receipts_of}
 use Rattle.hub.proofs.Stripping.{receipts_append}
 
@@ -18,3 +21,7 @@ written new old n is same =
 
 pub none_told : (all rest : List Sitting) (s : Sitting) → all ≡ rest ++ s ∷ [] → receipts_of rest ≡ [] → s.receipts ≡ [] → receipts_of all ≡ []
 none_told all rest s is none here = ap receipts_of is ∙ receipts_append rest (s ∷ []) ∙ (λ i. none i ++ (here i ++ []))
+
+pub none_asks : (all rest : List Sitting) (s : Sitting) → all ≡ rest ++ s ∷ [] → NoneAsks rest → s.asks ≡ false → NoneAsks all
+none_asks all rest s is none here =
+    ap (list_any (λ (x : Sitting). x.asks)) is ∙ list_any-append (λ (x : Sitting). x.asks) rest (s ∷ []) ∙ (λ i. none i || (here i || false))

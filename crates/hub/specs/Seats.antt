@@ -1,22 +1,31 @@
 -- What a seat was told.
 use Rattle.std.specs.Prelude.{ℕ, ◌<◌, List, [], ◌∷◌, ◌++◌, ◌≡◌, Option, Some, None}
-use Rattle.std.specs.List.{AllByRecursion}
+use Rattle.std.specs.Prelude.{Bool, false, true, IfSome}
+use Rattle.std.specs.List.{AllByRecursion, list_any}
 use Rattle.session_model.specs.Trace.{EventValue, Reply}
 pub use Rattle.hub.specs.States.{StandsFor}
 use Rattle.hub_trail.specs.declared.kept.Kept.{Kept}
+use Rattle.hub_trail.specs.Trails.{Entry}
 use Rattle.hub_trail.specs.Filing.{kept_of, ending_of}
 use Rattle.hub.specs.declared.receipt.Receipt.{Receipt}
 
--- an answer: the event, the reply, and the place of the entry if there is one
+-- an answer: the event, the reply, the place of the entry if there is one, and this entry if it is
+-- handed out
 pub record Told : Type 0 where
   pub event : EventValue
   pub reply : Reply
   pub place : Option ℕ
+  pub entry : Option Entry
 
--- a seat: its number, and what it was told, the oldest first
+-- a seat: its number, whether it asks for entries, and what it was told, the oldest first
 pub record Sitting : Type 0 where
   pub number : ℕ
+  pub asks : Bool
   pub receipts : List Receipt
+
+-- none of these seats asks
+abbrev pub NoneAsks : List Sitting → Type 0
+NoneAsks seats = list_any (λ (s : Sitting). s.asks) seats ≡ false
 
 -- all places that a seat was told are below this one
 abbrev pub AllBelow : List Receipt → ℕ → Type 0
@@ -28,7 +37,7 @@ Rise [] = Unit {0}
 Rise (r ∷ receipts) = AllByRecursion (λ (s : Receipt). r.place < s.place) receipts × Rise receipts
 
 abbrev pub with_receipt : Sitting → Receipt → Sitting
-with_receipt s r = record { number = s.number; receipts = s.receipts ++ r ∷ [] }
+with_receipt s r = record s { receipts = s.receipts ++ r ∷ [] }
 
 -- An event that writes an entry has a receipt, which names this event and this reply, at a place
 -- above all that the seat was told; and the seat holds it. Any other event has none.
@@ -39,10 +48,23 @@ HasReceipt (Some event) told old new = (place : ℕ) × (told.place ≡ Some pla
     × (new ≡ with_receipt old
     record { place = place; event = event; reply = ending_of told.reply })
 
--- the answer is to this event, and the seat holds its receipt
+-- An entry is handed out to a seat that asks, where the event writes one; it has the receipt's
+-- event and reply.
+pub record IsHanded (seat : Sitting) (event : EventValue) (reply : Reply) (e : Entry) : Type 0 where
+  pub asks : seat.asks ≡ true
+  pub kept : kept_of event ≡ Some e.event
+  pub ending : e.reply ≡ ending_of reply
+
+-- The answer is to this event, and the seat holds its receipt. A seat that doesn't ask is handed no
+-- entry, and none is handed out of an event that writes none.
 pub record Answers (event : EventValue) (told : Told) (old new : Sitting) : Type 0 where
   pub same : told.event ≡ event
   pub receipt : HasReceipt (kept_of event) told old new
+  pub entry : IfSome told.entry (IsHanded old event told.reply)
+
+-- the entry that is handed out stands last in the trail, behind those before
+abbrev pub StandsLast : Option Entry → List Entry → List Entry → Type 0
+StandsLast entry old new = IfSome entry (λ e. new ≡ old ++ e ∷ [])
 
 -- the place of an entry that is written behind so many
 abbrev pub placed : Option Kept → ℕ → Option ℕ

@@ -1,9 +1,11 @@
 //! What a submit answers.
 
 ghost use Rattle.std.specs.Prelude.{◌≡◌};
+ghost use Rattle.std.specs.Option.{option_copied};
 ghost use Rattle.session_model.specs.Trace.{happening};
 ghost use Rattle.hub.specs.declared.answer.HubFault.TheVariants.{NoMemory as OfMemory};
 
+use hub_record::Filed;
 use session_model::{Event, Reply};
 use std::alloc::{AllocError, AllocFailed};
 use std::marker::Model;
@@ -60,6 +62,7 @@ pub struct Answer<'a> {
     pub(crate) event: Event<'a>,
     pub(crate) reply: Reply,
     pub(crate) place: Option<usize>,
+    pub(crate) entry: Option<Filed>,
 }
 
 impl Drop for Answer<'_> {
@@ -68,6 +71,7 @@ impl Drop for Answer<'_> {
             event: _,
             reply: _,
             place: _,
+            entry: _,
         } = self;
     }
 }
@@ -78,7 +82,12 @@ impl<'a> Model for Answer<'a> {
 
     ghost Value = { Told };
 
-    ghost view = { λ a. record { event = happening a.event; reply = a.reply; place = a.place } };
+    ghost view = { λ a. record {
+      event = happening a.event;
+      reply = a.reply;
+      place = a.place;
+      entry = a.entry;
+    } };
 }
 
 impl<'a> Answer<'a> {
@@ -101,5 +110,13 @@ impl<'a> Answer<'a> {
         ensures { result ≡ self.now.place }
     {
         self.place
+    }
+
+    /// The entry, if the event writes one and the seat asks for entries. Such a seat misses it only
+    /// where memory for a copy was refused; the step stands all the same.
+    pub fn entry(&self) -> Option<&Filed>
+        ensures { option_copied result ≡ self.now.entry }
+    {
+        self.entry.as_ref()
     }
 }

@@ -1,6 +1,7 @@
 //! A session with its trail, and what waits for each seat.
 
 ghost use Rattle.std.specs.Prelude.{◌≡◌, ◌<◌, length, IfOk, OnErr, replicate, false, []};
+ghost use Rattle.std.specs.Prelude.{IfSome, Some, slice_get, true};
 ghost use Rattle.session_model.specs.Trace.{begun, happening};
 ghost use Rattle.session_core.specs.Stands.{StandsFor, wants_memory};
 ghost use Rattle.hub_trail.specs.Filing.{kept_of};
@@ -12,6 +13,7 @@ use crate::peers::Peers;
 use crate::prepared::Prepared;
 use crate::waiting::Waiting;
 use acl::{Edition, UserId};
+use hub_record::Filed;
 use hub_roll::Roll;
 use session_core::{Notes, Session};
 use session_model::{Event, Refusal, Reply};
@@ -109,6 +111,19 @@ impl FiledSession {
         self.waiting.mark(event);
         self.entries.write(prepared, notes, &reply);
         Ok(reply)
+    }
+
+    /// A copy of the entry at a place for one who asks. There is none where memory is refused.
+    pub fn copied(&self, asks: bool, place: usize) -> Option<Filed>
+        requires { place < length self.now.entries.list.entries }
+        ensures { IfSome result (λ e. (asks ≡ true)
+            × (slice_get self.now.entries.list.entries place ≡ Some e)) }
+    {
+        if asks {
+            self.entries.list.at(place).copy(self.alloc).ok()
+        } else {
+            None
+        }
     }
 
     /// The entries alone.

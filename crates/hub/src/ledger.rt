@@ -8,7 +8,7 @@ ghost use Rattle.hub_trail.specs.Filing.{kept_of};
 ghost use Rattle.hub_trail.specs.Legal.{IsLegal};
 ghost use Rattle.hub.specs.States.{IsKept, StandsFor, Takes, state_of};
 ghost use Rattle.hub.specs.Closing.{AreThere, IsFirstWrong, receipts_of};
-ghost use Rattle.hub.specs.Seats.{AllBelow, Answers, placed};
+ghost use Rattle.hub.specs.Seats.{AllBelow, Answers, NoneAsks, StandsLast, placed};
 ghost use Rattle.hub.specs.declared.answer.HubFault.TheVariants.{TrailFull, NoMemory};
 ghost use Rattle.hub.specs.declared.answer.HubFault.TheVariants.{Strange};
 
@@ -78,10 +78,11 @@ fn writes_entry(event: Event) -> bool
 fn make_seat<L: Roll>(alloc: Global, number: usize, share: Share<L>) -> Seat<L>
     requires number { number < L.parts }
     requires share { (share.parts ≡ 1) × (share.amount ≡ 0) }
-    ensures { result ≡ record { number = number; receipts = [] } }
+    ensures { result ≡ record { number = number; asks = false; receipts = [] } }
 {
     Seat {
         number,
+        asks: false,
         told: Vec::new(alloc),
         share,
     }
@@ -111,6 +112,7 @@ impl<L: Roll> Ledger<L> {
         }) }
         ensures seats { IfOk result (λ made. (length made.1.items ≡ L.parts)
             × (receipts_of made.1.items ≡ [])) }
+        ensures asks { IfOk result (λ made. NoneAsks made.1.items) }
         ensures err { IfErr result (λ fault. fault ≡ NoMemory) }
     {
         let (book, mut all) = blank.open::<L>();
@@ -139,6 +141,9 @@ impl<L: Roll> Ledger<L> {
             seat.new) }
         ensures place { IfOk result (λ told. told.place
             ≡ placed (kept_of (happening event.entry)) (length self.old.trail.entries)) }
+        // An entry in it is the one that was filed.
+        ensures entry { IfOk result (λ told. StandsLast told.entry self.old.trail.entries
+            self.new.trail.entries) }
         ensures full { (result ≡ Err TrailFull)
             ↔ (IsSome (kept_of (happening event.entry))
             × (length self.old.trail.entries ≡ 4194304)) }
@@ -156,6 +161,7 @@ impl<L: Roll> Ledger<L> {
                 event,
                 reply,
                 place: None,
+                entry: None,
             })
         }
     }
@@ -169,6 +175,8 @@ impl<L: Roll> Ledger<L> {
             seat.new) }
         ensures place { IfOk result (λ told. told.place
             ≡ Some (length self.old.trail.entries)) }
+        ensures entry { IfOk result (λ told. StandsLast told.entry self.old.trail.entries
+            self.new.trail.entries) }
         ensures full { (result ≡ Err TrailFull) ↔ (length self.old.trail.entries ≡ 4194304) }
         ensures strange { (result ≡ Err Strange)
             ↔ ((length self.old.trail.entries < 4194304)
@@ -194,10 +202,12 @@ impl<L: Roll> Ledger<L> {
             reply: KeptReply::of(&reply, copy.spare),
         });
         self.book.add(&mut seat.share, 1);
+        let entry = self.filed.copied(seat.asks, place);
         Ok(Answer {
             event,
             reply,
             place: Some(place),
+            entry,
         })
     }
 

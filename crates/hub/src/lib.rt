@@ -25,7 +25,7 @@ ghost use Rattle.std.specs.Prelude.{◌≡◌, ◌↔◌, ◌<◌, ◌≤◌, le
 ghost use Rattle.session_model.specs.Trace.{begun, happening};
 ghost use Rattle.hub_trail.specs.Legal.{IsLegal};
 ghost use Rattle.hub.specs.Closing.{AreThere, IsFirstWrong, receipts_of};
-ghost use Rattle.hub.specs.Seats.{Answers, StandsFor};
+ghost use Rattle.hub.specs.Seats.{Answers, NoneAsks, StandsFor};
 ghost use Rattle.hub.specs.declared.answer.HubFault.TheVariants.{NoMemory};
 
 use acl::{Edition, UserId};
@@ -73,6 +73,8 @@ impl<L: Roll> Hub<L> {
         requires fresh { StandsFor (begun edition owner) session }
         ensures seats { IfOk result (λ made. (length made.1.items ≡ L.parts)
             × (receipts_of made.1.items ≡ [])) }
+        // A seat asks for entries only where it is told to.
+        ensures asks { IfOk result (λ made. NoneAsks made.1.items) }
         ensures err { IfErr result (λ fault. fault ≡ NoMemory) }
     {
         let (ledger, seats) = Ledger::new(alloc, blank, edition, owner, session, seats)?;

@@ -12,6 +12,7 @@ use std::sync::ledger::{Book, Ledger as Roll, Share};
 #[derive(Drop)]
 pub struct Seat<L: Roll> {
     pub(crate) number: usize,
+    pub(crate) asks: bool,
     pub(crate) told: Vec<Receipt>,
     pub(crate) share: Share<L>,
 }
@@ -22,7 +23,7 @@ impl<L: Roll> Model for Seat<L> {
 
     ghost Value = { Sitting };
 
-    ghost view = { λ s. record { number = s.number; receipts = s.told.items } };
+    ghost view = { λ s. record { number = s.number; asks = s.asks; receipts = s.told.items } };
 
     ghost invariant = { λ s. (s.number < L.parts) × (s.share.parts ≡ 1)
         × (s.share.amount ≡ length s.told.items) × Rise s.told.items };
@@ -34,6 +35,13 @@ impl<L: Roll> Seat<L> {
         ensures { result ≡ self.now.number }
     {
         self.number
+    }
+
+    /// From now on an answer to it has the entry that was written.
+    pub fn ask_for_entries(&mut self)
+        ensures { self.new ≡ record self.old { asks = true } }
+    {
+        self.asks = true;
     }
 
     /// What it was told, the oldest first.

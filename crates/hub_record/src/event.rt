@@ -8,7 +8,7 @@ ghost use Rattle.hub_record.specs.Stored.{kept_lent, takes_block};
 use crate::same::{is_keys, is_same};
 use acl::UserId;
 use hub_trail::Kept;
-use session_model::Event;
+use session_model::{Bytes, Event};
 use std::alloc::{AllocError, Global};
 use std::marker::Model;
 
@@ -84,6 +84,46 @@ fn lent(kept: &Kept) -> KeptRef<'_>
     }
 }
 
+/// A copy of the event.
+fn copied(alloc: Global, kept: &Kept) -> Result<Kept, AllocError>
+    ensures { IfOk result (λ copy. copy ≡ kept.now) }
+{
+    match kept {
+        Kept::Attach { user, rows, cols } => Ok(Kept::Attach {
+            user: *user,
+            rows: *rows,
+            cols: *cols,
+        }),
+        Kept::Detach { client } => Ok(Kept::Detach { client: *client }),
+        Kept::Keys { client } => Ok(Kept::Keys { client: *client }),
+        Kept::Command { user, window, line } => {
+            let line = Bytes::of(alloc, line.as_slice())?;
+            Ok(Kept::Command {
+                user: *user,
+                window: *window,
+                line,
+            })
+        }
+        Kept::Open {
+            user,
+            rows,
+            cols,
+            keep,
+            title,
+        } => {
+            let title = Bytes::of(alloc, title.as_slice())?;
+            Ok(Kept::Open {
+                user: *user,
+                rows: *rows,
+                cols: *cols,
+                keep: *keep,
+                title,
+            })
+        }
+        Kept::Closed { window } => Ok(Kept::Closed { window: *window }),
+    }
+}
+
 /// An event that a trail keeps: 16 bytes, and a block of memory for any but Keys. Contracts see it
 /// as hub_trail's `Kept`.
 #[derive(Debug)]
@@ -127,6 +167,24 @@ impl KeptEvent {
                 }))
             }
             None => Ok(None),
+        }
+    }
+
+    /// A copy. Of Keys it takes no memory.
+    pub fn copy(&self, alloc: Global) -> Result<KeptEvent, AllocError>
+        ensures { IfOk result (λ copy. copy ≡ self.now) }
+    {
+        match &self.form {
+            Form::Keys { client } => Ok(KeptEvent {
+                form: Form::Keys { client: *client },
+            }),
+            Form::Other(kept) => {
+                let kept = copied(alloc, kept)?;
+                let kept = Box::new(alloc, kept)?;
+                Ok(KeptEvent {
+                    form: Form::Other(kept),
+                })
+            }
         }
     }
 

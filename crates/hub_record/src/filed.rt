@@ -1,12 +1,13 @@
 //! Entries as they are stored.
 
-ghost use Rattle.std.specs.Prelude.{◌≡◌, ◌↔◌, true};
+ghost use Rattle.std.specs.Prelude.{◌≡◌, ◌↔◌, IfOk, true};
 
 use crate::event::KeptEvent;
 use crate::reply::KeptReply;
 use acl::Act;
 use hub_trail::Ending;
 use session_model::Verdict;
+use std::alloc::{AllocError, Global};
 use std::marker::Model;
 use std::mem::size_of;
 
@@ -64,6 +65,22 @@ impl Filed {
             acts,
             reply,
         }
+    }
+
+    /// A copy, with no more room than it takes.
+    pub fn copy(&self, alloc: Global) -> Result<Filed, AllocError>
+        ensures { IfOk result (λ copy. copy ≡ self.now) }
+    {
+        let event = self.event.copy(alloc)?;
+        let verdicts = Vec::from_slice(alloc, self.verdicts.as_slice())?;
+        let acts = Vec::from_slice(alloc, self.acts.as_slice())?;
+        let reply = self.reply.copy(alloc)?;
+        Ok(Filed {
+            event,
+            verdicts,
+            acts,
+            reply,
+        })
     }
 
     pub fn event(&self) -> &KeptEvent

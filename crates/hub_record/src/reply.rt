@@ -1,11 +1,12 @@
 //! Replies as they are stored.
 
-ghost use Rattle.std.specs.Prelude.{◌≡◌, ◌↔◌, true};
+ghost use Rattle.std.specs.Prelude.{◌≡◌, ◌↔◌, IfOk, true};
 ghost use Rattle.hub_trail.specs.Filing.{ending_of};
 
 use crate::refusals::is_same;
 use hub_trail::{Ending, Finished};
 use session_model::{Refusal, Reply};
+use std::alloc::{AllocError, Global};
 use std::marker::Model;
 
 /// How a reply is stored.
@@ -53,6 +54,23 @@ impl KeptReply {
             }
         };
         KeptReply { form }
+    }
+
+    /// A copy. Of what wasn't refused it takes no memory.
+    pub fn copy(&self, alloc: Global) -> Result<KeptReply, AllocError>
+        ensures { IfOk result (λ copy. copy ≡ self.now) }
+    {
+        match &self.form {
+            Form::Done(finished) => Ok(KeptReply {
+                form: Form::Done(*finished),
+            }),
+            Form::Refused(refusal) => {
+                let refusal = Box::new(alloc, **refusal)?;
+                Ok(KeptReply {
+                    form: Form::Refused(refusal),
+                })
+            }
+        }
     }
 
     /// The reply without its text.

@@ -67,7 +67,7 @@ pub(crate) fn is_same_answer(answer: &Answer<'_>, other: &Answer<'_>) -> bool {
 }
 
 /// Whether two entries are the same.
-fn is_same_entry(entry: &Filed, other: &Filed) -> bool {
+pub(crate) fn is_same_entry(entry: &Filed, other: &Filed) -> bool {
     entry.event().is_same(other.event())
         && entry.verdicts() == other.verdicts()
         && entry.acts() == other.acts()

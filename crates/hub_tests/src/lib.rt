@@ -7,6 +7,8 @@ mod compare;
 #[cfg(test)]
 mod editions;
 #[cfg(test)]
+mod entries;
+#[cfg(test)]
 mod fresh;
 #[cfg(test)]
 mod many;

@@ -1,15 +1,52 @@
-use Rattle.std.proofs.Common.{◌∙◌, List, subst, sym, arith}
+use Rattle.std.proofs.Common.{◌≡◌, ◌∙◌, ◌∷◌, ◌++◌, [], List, Some, ap, refl, subst, sym, arith}
 use Rattle.std.proofs.lemmas.List.{length-map}
 use Rattle.std.specs.declared.vec.Vec.{Vec}
 use Rattle.std.specs.declared.alloc.Global.{Global}
 use Rattle.session_model.specs.declared.event.Effect.{Effect}
 use Rattle.session_model.specs.Trace.{happening}
-use Rattle.hub.specs.States.{state_of}
+use Rattle.hub_trail.specs.Trails.{Ending}
+use Rattle.hub_trail.specs.Filing.{ending_of, kept_of}
+use Rattle.hub.specs.Slips.{kept_by}
+use Rattle.hub.specs.States.{State, state_of}
 use Rattle.hub.specs.declared.receipt.Receipt.{Receipt}
-use Rattle.hub.specs.Seats.{AllBelow}
-use Rattle.hub.proofs.Filing.{one_more, seats_stay}
+use Rattle.hub.specs.Seats.{AllBelow, Answers, Sitting, StandsLast, Told}
+use Rattle.hub.proofs.Filing.{answered, handed, one_more, seats_stay, stands_last}
 use Rattle.hub.proofs.Rising.{rise_pushed}
 use Rattle.hub.proofs.ledger.Ledger.file.Goals as goal
+
+pub copied-entry-requires : goal.copied-entry-requires
+copied-entry-requires g c =
+    let old = state_of c.self.inside.filed in
+    let new = state_of c.take_step.new.self in
+    let more = one_more c.seat.inside.number (happening c.args.event) c.in_ok-reply.reply old new c.in_ok-reply.ensures.step c.requires in
+    omega (arith, more, c.len-place.ensures)
+
+pub returns-clause-entry : goal.returns-clause-entry
+returns-clause-entry g c =
+    let old = state_of c.self.inside.filed in
+    let new = state_of c.take_step.new.self in
+    subst (λ (s : State). StandsLast c.copied-entry.result s.trail.entries new.trail.entries) c.self.view_is
+    (stands_last c.seat.inside.asks c.seat.inside.number (happening c.args.event) c.in_ok-reply.reply old new c.len-place.result c.copied-entry.result c.in_ok-reply.ensures.step c.requires c.len-place.ensures c.copied-entry.ensures)
+
+pub returns-clause-answer : goal.returns-clause-answer
+returns-clause-answer g c =
+    let event = happening c.args.event in
+    let reply = c.in_ok-reply.reply in
+    let place = c.len-place.result in
+    let was : Sitting = record { number = c.seat.inside.number; asks = c.seat.inside.asks; receipts = c.seat.inside.told.items } in
+    let told : Told = record { event = event; reply = reply; place = Some place; entry = c.copied-entry.result } in
+    let now : Sitting = record was { receipts = c.push_reserved.new.self.items } in
+    let copy = c.in-Some.copy.event in
+    let same : Some copy ≡ kept_of event = sym (ap kept_by c.in-Some.is) ∙ c.in_ok-copy.ensures in
+    let below : AllBelow was.receipts place = subst (λ (x : List Receipt). AllBelow x place) c.as_slice.ensures.value (c.are_below.ensures.0 c.if-not-are_below.false) in
+    let receipt : Ending → Receipt = λ (e : Ending). record { place = place; event = copy; reply = e } in
+    let items : now.receipts ≡ was.receipts ++ receipt (ending_of reply) ∷ [] = c.push_reserved.ensures.items ∙ (λ i. c.reserve.ensures.items i ++ receipt (c.of-3.ensures i) ∷ []) in
+    subst (λ (s : Sitting). Answers event told s now) c.seat.view_is
+    (record {
+      same = refl;
+      receipt = answered (kept_of event) copy place told was now same refl below (ap (λ (x : List Receipt). record was { receipts = x }) items);
+      entry = handed was event reply (state_of c.self.inside.filed) (state_of c.take_step.new.self) place c.copied-entry.result c.in_ok-reply.ensures.step c.requires c.len-place.ensures c.copied-entry.ensures;
+    })
 
 pub invariant_of-self-2 : goal.invariant_of-self-2
 invariant_of-self-2 g c =

@@ -1,6 +1,6 @@
 use Rattle.std.proofs.Common.{ap, arith}
 use Rattle.hub.specs.Seats.{Sitting}
-use Rattle.hub.proofs.Tellings.{none_told, pushed}
+use Rattle.hub.proofs.Tellings.{none_asks, none_told, pushed}
 use Rattle.hub.proofs.ledger.Ledger.new.Goals as goal
 
 pub seats-preserved : goal.seats-preserved
@@ -13,6 +13,7 @@ seats-preserved g c =
     record {
       made = omega (arith, p.0, inv.made);
       told = none_told c.push.new.self.items c.seats.made.items c.make_seat.result more inv.told (ap (λ (s : Sitting). s.receipts) c.make_seat.ensures);
+      asks = none_asks c.push.new.self.items c.seats.made.items c.make_seat.result more inv.asks (ap (λ (s : Sitting). s.asks) c.make_seat.ensures);
       parts = omega (arith, left, inv.parts);
       amount = omega (arith, amount, inv.amount);
     }

@@ -1,4 +1,5 @@
 use Rattle.std.specs.Prelude.{◌≡◌, ◌+◌, length, []}
+use Rattle.hub.specs.Seats.{NoneAsks}
 use Rattle.hub.specs.Closing.{receipts_of}
 use Rattle.hub.proofs.ledger.Ledger.new.Given as goal
 
@@ -6,6 +7,7 @@ abbrev pub invariant-seats : goal.invariant-seats
 invariant-seats g l = record {
   made : length l.made.items ≡ l.number;
   told : receipts_of l.made.items ≡ [];
+  asks : NoneAsks l.made.items;
   parts : l.all.parts + l.number ≡ g.L.Ledger.parts;
   amount : l.all.amount ≡ 0;
 }
