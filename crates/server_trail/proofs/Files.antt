@@ -1,0 +1,61 @@
+-- What is written behind what stood there, and what a reader has left.
+use Rattle.std.proofs.Common.{◌≡◌, ℕ, ◌+◌, ◌<◌, List, [], ◌∷◌, ◌++◌, length, take, drop, Option, Some, None, refl, sym, ◌∙◌, ap, subst, arith, append_assoc}
+use Rattle.std.specs.Prelude.{slice_get}
+use Rattle.std.specs.Io.KnownBytes.{Appends, Consumes}
+use Rattle.std.proofs.lemmas.List.{take_more}
+use Rattle.std.proofs.Math.Seq.{take-add}
+use Rattle.std.proofs.lemmas.Option.{slice_get_within, get_or_from_slice_get}
+use Rattle.std.proofs.lemmas.Grind.{common_steps}
+use Rattle.hub_trail.specs.Trails.{Entry}
+use Rattle.trail_lines.specs.Entries.{line_of}
+use Rattle.server_trail.specs.Files.{Cuts, AreLines, ReadsLines}
+
+-- ---- writing
+
+-- and more behind it
+pub both : (old mid new : Option (List ℕ)) (a b c : List ℕ) → Appends old mid a
+    → Appends mid new b → a ++ b ≡ c → Appends old new c
+both None mid new a b c p q e = tt
+both (Some xs) None new a b c p q e = absurd p
+both (Some xs) (Some ys) None a b c p q e = absurd q
+both (Some xs) (Some ys) (Some zs) a b c p q e =
+    q ∙ (ap (λ l. l ++ b) p ∙ (append_assoc xs a b ∙ ap (λ l. xs ++ l) e))
+
+pub two_parts : (bytes : List ℕ) (n k : ℕ)
+    → take n bytes ++ take k (drop n bytes) ≡ take (n + k) bytes
+two_parts bytes n k = sym (take-add n k bytes)
+
+-- ---- reading
+
+-- a line that ended in a line feed
+pub cut : (old new : Option (List ℕ)) (line read : List ℕ) → Consumes old new read
+    → read ≡ line ++ 0x0A ∷ [] → Cuts old line new
+cut None new line read c e = tt
+cut (Some bytes) None line read c e = absurd c
+cut (Some bytes) (Some rest) line read c e =
+    c ∙ (ap (λ l. l ++ rest) e ∙ append_assoc line (0x0A ∷ []) rest)
+
+-- one entry's line more
+one_more : (first p : ℕ) (entries : List Entry) (e : Entry) (bytes rest more : List ℕ) (ms : ℕ)
+    → p ≡ first + length entries → AreLines first entries bytes rest
+    → rest ≡ line_of (p, ms, e) ++ 0x0A ∷ more → AreLines first (entries ++ e ∷ []) bytes more
+one_more first p [] e bytes rest more ms at a is =
+    let same : p ≡ first = omega (arith, at) in
+    (ms, more, a ∙ (is ∙ ap (λ q. line_of (q, ms, e) ++ 0x0A ∷ more) same), refl)
+one_more first p (x ∷ entries) e bytes rest more ms at a is =
+    (a.0, a.1, a.2, one_more (first + 1) p entries e a.1 rest more ms (omega (arith, at)) a.3 is)
+
+pub line_more : (entries : List Entry) (place : ℕ) (e : Entry) (line : List ℕ)
+    (old mid new : Option (List ℕ)) → slice_get entries place ≡ Some e
+    → ReadsLines (take place entries) old mid → Cuts mid line new
+    → ((ms : ℕ) × (line ≡ line_of (place, ms, e))) → ReadsLines (take (place + 1) entries) old new
+line_more entries place e line None mid new at a c is = tt
+line_more entries place e line (Some bytes) None new at a c is = absurd a
+line_more entries place e line (Some bytes) (Some rest) None at a c is = absurd c
+line_more entries place e line (Some bytes) (Some rest) (Some more) at a c is =
+    let inside : place < length entries = slice_get_within entries place e at in
+    let front : take (place + 1) entries ≡ take place entries ++ e ∷ [] = take_more entries place e inside
+    ∙ ap (λ x. take place entries ++ x ∷ []) (get_or_from_slice_get entries place e e at) in
+    let long : place ≡ 0 + length (take place entries) = grind (arith, common_steps) in
+    subst (λ es. AreLines 0 es bytes more) (sym front) (one_more 0 place (take place entries) e bytes
+    rest more is.0 long a (c ∙ ap (λ l. l ++ 0x0A ∷ more) is.1))

@@ -1,0 +1,64 @@
+-- A trail's file: what was written of it, and what it is when it is read back.
+use Rattle.std.specs.Prelude.{◌≡◌, ℕ, ◌+◌, Bool, true, List, [], ◌∷◌, ◌++◌, length, take, Option}
+use Rattle.std.specs.Prelude.{Some, None, IsSome}
+use Rattle.std.specs.Io.KnownBytes.{Appends}
+use Rattle.hub_trail.specs.Trails.{Entry}
+use Rattle.trail_lines.specs.Entries.{line_of}
+use Rattle.trail_audit.specs.declared.ending.Cause.{Cause}
+use Rattle.trail_audit.specs.declared.ending.Ended.{Ended}
+use Rattle.trail_audit.specs.Heading.{end_text, read_end, read_header}
+
+-- ---- writing
+
+-- the first n bytes were written behind what stood there, once each; all of them, where that is
+-- answered
+pub record HasWritten (old new : Option (List ℕ)) (bytes : List ℕ) (is_all : Bool) : Type 0 where
+  pub count : ℕ
+  pub front : Appends old new (take count bytes)
+  pub all : is_all ≡ true → Appends old new bytes
+
+abbrev pub end_line : ℕ → ℕ → Cause → List ℕ
+end_line entries ms cause =
+    end_text (record { entries = entries; ms = ms; cause = cause }) ++ 0x0A ∷ []
+
+-- ---- reading
+
+-- of what a reader had left, a line was read, with its line feed
+abbrev pub Cuts : Option (List ℕ) → List ℕ → Option (List ℕ) → Type 0
+Cuts None line new = Unit {0}
+Cuts (Some bytes) line None = ⊥
+Cuts (Some bytes) line (Some rest) = bytes ≡ line ++ 0x0A ∷ rest
+
+-- the bytes begin with the lines of entries, the first of which stands at this place, and end in
+-- the rest
+abbrev pub AreLines : ℕ → List Entry → List ℕ → List ℕ → Type 0
+AreLines place [] bytes rest = bytes ≡ rest
+AreLines place (e ∷ entries) bytes rest =
+    (ms : ℕ) × (more : List ℕ) × (bytes ≡ line_of (place, ms, e) ++ 0x0A ∷ more)
+    × AreLines (place + 1) entries more rest
+
+abbrev pub ReadsLines : List Entry → Option (List ℕ) → Option (List ℕ) → Type 0
+ReadsLines entries None new = Unit {0}
+ReadsLines entries (Some bytes) None = ⊥
+ReadsLines entries (Some bytes) (Some rest) = AreLines 0 entries bytes rest
+
+abbrev pub IsFirst : List ℕ → Type 0
+IsFirst line = IsSome (read_header line)
+
+abbrev pub IsLastOf : List ℕ → ℕ → Type 0
+IsLastOf line count = (ended : Ended) × (read_end line ≡ Some ended) × (ended.entries ≡ count)
+
+-- a first line, the lines of the entries in their places, a last line that counts them
+pub record IsTrailOf (entries : List Entry) (bytes : List ℕ) : Type 0 where
+  pub first : List ℕ
+  pub lines : List ℕ
+  pub last : List ℕ
+  pub is : bytes ≡ first ++ 0x0A ∷ lines
+  pub is_first : IsFirst first
+  pub are_lines : AreLines 0 entries lines (last ++ 0x0A ∷ [])
+  pub is_last : IsLastOf last (length entries)
+
+-- so are the bytes that a reader had left, where they are known
+abbrev pub Reads : Option (List ℕ) → (List ℕ → Type 0) → Type 0
+Reads None P = Unit {0}
+Reads (Some bytes) P = P bytes

@@ -1,0 +1,66 @@
+//! A file to which a trail is written, and its first line.
+
+ghost use Rattle.std.specs.Prelude.{◌≡◌, ◌++◌, ◌∷◌, [], OnOk, IfOk};
+ghost use Rattle.std.specs.Io.KnownBytes.{Appends, Keeps};
+ghost use Rattle.trail_audit.specs.Heading.{header_text};
+
+use acl::{Edition, UserId};
+use session_model::Bytes;
+use std::alloc::{AllocError, Global};
+use std::fs::File;
+use std::io::{self, Write};
+use std::time::Clock;
+use trail_audit::{Header, print_header};
+
+/// A file to which a trail is written.
+pub trait TrailFile: Write {
+    /// Brings to the disk what was written.
+    fn sync(&mut self) -> io::Result<()>
+        ensures bytes { Keeps (Self.contents self.old) (Self.contents self.new) };
+}
+
+impl TrailFile for File {
+    fn sync(&mut self) -> io::Result<()> {
+        self.sync_data()
+    }
+}
+
+/// The time of day, in milliseconds since 1970.
+pub fn time<R: Clock>(rt: &R) -> Option<u64> {
+    u64::try_from(rt.since_1970().ok()?.as_millis()).ok()
+}
+
+/// What the first line of a new trail says: edition 2, and the time of day. `version` is the
+/// writer's, a word.
+pub fn header_of<R: Clock>(
+    rt: &R,
+    alloc: Global,
+    owner: UserId,
+    version: &[u8],
+) -> Result<Header, AllocError> {
+    Ok(Header {
+        edition: Edition::Second,
+        owner,
+        version: Bytes::of(alloc, version)?,
+        ms: time(rt).unwrap_or(0),
+    })
+}
+
+fn first_line(alloc: Global, header: &Header) -> Result<Vec<u8>, AllocError>
+    ensures { IfOk result (λ line. line.items ≡ header_text header.now ++ 0x0A ∷ []) }
+{
+    let mut line = Vec::new(alloc);
+    print_header(header, &mut line)?;
+    line.push(b'\n')?;
+    Ok(line)
+}
+
+/// Writes the first line of a trail's file, and brings it to the disk.
+pub fn begin<F: TrailFile>(alloc: Global, file: &mut F, header: &Header) -> io::Result<()>
+    ensures { OnOk result (Appends (F.contents file.old) (F.contents file.new)
+        (header_text header.now ++ 0x0A ∷ [])) }
+{
+    let line = first_line(alloc, header)?;
+    file.write_all(&line)?;
+    file.sync()
+}

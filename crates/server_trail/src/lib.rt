@@ -1,0 +1,16 @@
+//! A session's trail on its way to a file, and such a file compared with the trail.
+#![tactic(auto)]
+
+mod file;
+mod merge;
+mod reading;
+mod recorder;
+mod stop;
+mod writing;
+
+pub use file::{TrailFile, begin, header_of};
+pub use merge::Merge;
+pub use reading::is_trail;
+pub use recorder::Recorder;
+pub use stop::Stopped;
+pub use writing::Written;

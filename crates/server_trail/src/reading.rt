@@ -1,0 +1,101 @@
+//! A file that is read back.
+
+ghost use Rattle.std.specs.Prelude.{◌≡◌, ◌∷◌, ◌++◌, ℕ, List, Some, true, IfOk, IsSome, take};
+ghost use Rattle.trail_lines.specs.Entries.{line_of};
+ghost use Rattle.server_trail.specs.Files.{Reads, Cuts, ReadsLines, IsTrailOf, IsLastOf, IsFirst};
+
+use hub_record::Filed;
+use hub_roll::Roll;
+use line_fields::u64_at;
+use std::alloc::{AllocError, Global};
+use std::io::{self, BufRead};
+use trail_audit::{read_end, read_header};
+use trail_lines::{Unread, print_line};
+
+// Reads a line, which takes the place of what `line` had, without its line feed. Whether there was
+// a whole one.
+fn next_line<R: BufRead>(reader: &mut R, line: &mut Vec<u8>) -> io::Result<bool>
+    ensures { IfOk result (λ is. is ≡ true
+        → Cuts (R.remaining reader.old) line.new.items (R.remaining reader.new)) }
+{
+    line.clear();
+    reader.read_until(b'\n', line)?;
+    match line.pop() {
+        Some(b'\n') => Ok(true),
+        _ => Ok(false),
+    }
+}
+
+// Whether the line is that of the entry at this place, with some time.
+fn is_line_of(alloc: Global, line: &[u8], place: u64, entry: &Filed) -> Result<bool, AllocError>
+    ensures { IfOk result (λ is. is ≡ true
+        → (ms : ℕ) × (line.now ≡ line_of (place, ms, entry.now))) }
+{
+    let Some((_, rest)) = u64_at(line, b' ') else {
+        return Ok(false);
+    };
+    let Some((ms, _)) = u64_at(rest, b' ') else {
+        return Ok(false);
+    };
+    let mut printed = Vec::new(alloc);
+    print_line(place, ms, entry, &mut printed)?;
+    Ok(printed.as_slice() == line)
+}
+
+// Whether the line is a first one.
+fn is_first(alloc: Global, line: &[u8]) -> Result<bool, AllocError>
+    ensures { IfOk result (λ is. is ≡ true → IsFirst line.now) }
+{
+    match read_header(alloc, line) {
+        Ok(_) => Ok(true),
+        Err(Unread::Malformed) => Ok(false),
+        Err(Unread::NoMemory) => Err(AllocError),
+    }
+}
+
+// Whether the line is a last one that counts so many entries.
+fn is_last(alloc: Global, line: &[u8], count: u64) -> Result<bool, AllocError>
+    ensures { IfOk result (λ is. is ≡ true → IsLastOf line.now count) }
+{
+    match read_end(alloc, line) {
+        Ok(ended) => Ok(ended.entries == count),
+        Err(Unread::Malformed) => Ok(false),
+        Err(Unread::NoMemory) => Err(AllocError),
+    }
+}
+
+// Whether the next lines are those of the entries.
+fn are_lines<R: BufRead>(reader: &mut R, line: &mut Vec<u8>, entries: &Roll) -> io::Result<bool>
+    ensures { IfOk result (λ is. is ≡ true → ReadsLines entries.now.entries
+        (R.remaining reader.old) (R.remaining reader.new)) }
+{
+    let alloc = *line.allocator();
+    for place in 0..entries.len() {
+        let entry = entries.at(place);
+        if !next_line(reader, line)? || !is_line_of(alloc, line.as_slice(), place as u64, entry)? {
+            return Ok(false);
+        }
+    }
+    Ok(true)
+}
+
+/// Whether a file is a trail's: a first line, a line for each of the entries in its place, a last
+/// line that counts them, and nothing behind it. `Err` where it can't be read, or memory is
+/// refused.
+pub fn is_trail<R: BufRead>(alloc: Global, reader: &mut R, entries: &Roll) -> io::Result<bool>
+    ensures { IfOk result (λ is. is ≡ true
+        → Reads (R.remaining reader.old) (IsTrailOf entries.now.entries)) }
+{
+    let mut line = Vec::new(alloc);
+    if !next_line(reader, &mut line)? || !is_first(alloc, line.as_slice())? {
+        return Ok(false);
+    }
+    if !are_lines(reader, &mut line, entries)? || !next_line(reader, &mut line)? {
+        return Ok(false);
+    }
+    if !is_last(alloc, line.as_slice(), entries.len() as u64)? {
+        return Ok(false);
+    }
+    line.clear();
+    Ok(reader.read_until(b'\n', &mut line)? == 0)
+}

@@ -1,0 +1,142 @@
+//! Lines on their way to a trail's file, which several threads put down and one writes.
+
+ghost use Rattle.std.specs.Prelude.{◌≡◌, ◌++◌, ◌∷◌, [], IfOk};
+ghost use Rattle.trail_lines.specs.Entries.{line_of};
+
+use crate::file::time;
+use crate::merge::Merge;
+use crate::stop::Stopped;
+use hub_record::Filed;
+use std::alloc::{AllocError, Global};
+use std::sync::atomic::{AtomicU64, Ordering};
+use std::sync::{Condvar, Mutex, OnceLock, Wait};
+use std::time::Clock;
+use trail_lines::print_line;
+
+// A line is taken while at most so many bytes wait.
+const MOST: usize = 16_777_216;
+
+/// The writer doesn't wait for more where so many bytes are ready.
+pub const BLOCK: usize = 65_536;
+
+/// What the loops and the writer share.
+#[derive(Drop)]
+pub struct Waiting {
+    pub merge: Merge,
+    /// How many bytes the writer has taken and not written.
+    pub writing: usize,
+    /// How many loops haven't left.
+    pub loops: usize,
+}
+
+/// The lines of a session's trail on their way to a file. Loops put them down and one thread
+/// writes them, so that no loop waits for the disk.
+#[derive(Drop)]
+pub struct Recorder {
+    pub(crate) alloc: Global,
+    pub(crate) waiting: Mutex<Waiting>,
+    pub(crate) news: Condvar,
+    // The stamp of lines, in milliseconds since 1970.
+    pub(crate) ms: AtomicU64,
+    stopped: OnceLock<Stopped>,
+}
+
+/// The line of an entry, with its line feed.
+fn line_of(alloc: Global, place: usize, ms: u64, entry: &Filed) -> Result<Vec<u8>, AllocError>
+    ensures { IfOk result (λ line.
+        line.items ≡ line_of (place, ms, entry.now) ++ 0x0A ∷ []) }
+{
+    let mut line = Vec::new(alloc);
+    print_line(place as u64, ms, entry, &mut line)?;
+    line.push(b'\n')?;
+    Ok(line)
+}
+
+impl Waiting {
+    // Puts a line down. Whether the writer is to be woken: the first bytes are ready, or as many
+    // as it waits for.
+    fn put(&mut self, place: usize, line: Vec<u8>) -> Result<bool, Stopped> {
+        if self.merge.waiting().saturating_add(self.writing) > MOST {
+            return Err(Stopped::Disk);
+        }
+        let before = self.merge.ready();
+        if self.merge.put(place, line).is_err() {
+            return Err(Stopped::Memory);
+        }
+        let ready = self.merge.ready();
+        Ok((before == 0 && ready > 0) || (before < BLOCK && ready >= BLOCK))
+    }
+}
+
+impl Recorder {
+    /// No line yet. So many loops will leave.
+    pub fn new(alloc: Global, loops: usize) -> Recorder {
+        Recorder {
+            alloc,
+            waiting: Mutex::new(Waiting {
+                merge: Merge::new(alloc),
+                writing: 0,
+                loops,
+            }),
+            news: Condvar::new(),
+            ms: AtomicU64::new(0),
+            stopped: OnceLock::new(),
+        }
+    }
+
+    /// The time of lines from now on. It stays where the clock fails.
+    pub fn set_time<R: Clock>(&self, rt: &R) {
+        if let Some(ms) = time(rt) {
+            self.ms.store(ms, Ordering::SeqCst);
+        }
+    }
+
+    /// Puts the line of an entry down, which stands at this place in the trail; None where memory
+    /// was refused for its copy. Once the file has stopped, nothing is put down.
+    pub fn put(&self, rt: &impl Wait, place: usize, entry: Option<&Filed>) {
+        if self.stopped().is_some() {
+            return;
+        }
+        let ms = self.ms.load(Ordering::SeqCst);
+        let line = match entry {
+            Some(entry) => line_of(self.alloc, place, ms, entry),
+            None => Err(AllocError),
+        };
+        self.put_line(rt, place, line);
+    }
+
+    fn put_line(&self, rt: &impl Wait, place: usize, line: Result<Vec<u8>, AllocError>) {
+        let mut waiting = self.waiting.lock(rt);
+        if self.stopped().is_some() {
+            return;
+        }
+        let put = match line {
+            Ok(line) => waiting.put(place, line),
+            Err(_) => Err(Stopped::Memory),
+        };
+        let is_news = match put {
+            Ok(is_news) => is_news,
+            Err(stopped) => {
+                let _ = self.stopped.set(rt, stopped);
+                false
+            }
+        };
+        drop(waiting);
+        if is_news {
+            self.news.notify_one();
+        }
+    }
+
+    /// Why the file can't go on; None while it can.
+    pub fn stopped(&self) -> Option<Stopped> {
+        self.stopped.get().copied()
+    }
+
+    /// A loop has ended: it puts nothing more down.
+    pub fn leave(&self, rt: &impl Wait) {
+        let mut waiting = self.waiting.lock(rt);
+        waiting.loops = waiting.loops.saturating_sub(1);
+        drop(waiting);
+        self.news.notify_one();
+    }
+}

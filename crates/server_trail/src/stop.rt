@@ -1,0 +1,22 @@
+//! Why a file can't go on.
+
+use trail_audit::Cause;
+
+/// Why a trail's file can't go on.
+#[derive(Clone, Copy, PartialEq, Eq, Debug)]
+pub enum Stopped {
+    /// More than 16 MiB waited for the disk.
+    Disk,
+    /// Memory was refused for a line, or for the copy of its entry.
+    Memory,
+}
+
+impl Stopped {
+    /// As the file's last line says it.
+    pub fn cause(self) -> Cause {
+        match self {
+            Stopped::Disk => Cause::Disk,
+            Stopped::Memory => Cause::Memory,
+        }
+    }
+}

@@ -1,0 +1,237 @@
+//! The thread that writes.
+
+ghost use Rattle.std.specs.Prelude.{◌≡◌, ◌≤◌, ◌++◌, ◌∷◌, [], ℕ, true, false, length, take, IfOk};
+ghost use Rattle.std.specs.Io.KnownBytes.{Appends, Keeps};
+ghost use Rattle.trail_audit.specs.Heading.{end_text};
+ghost use Rattle.server_trail.specs.Files.{HasWritten, end_line};
+
+use crate::file::TrailFile;
+use crate::recorder::{BLOCK, Recorder};
+use std::alloc::{AllocError, Global};
+use std::io::Write;
+use std::sync::Wait;
+use std::sync::atomic::Ordering;
+use std::thread;
+use std::time::{Clock, Duration};
+use trail_audit::{Cause, Ended, print_end};
+
+// The writer lets so many milliseconds pass where few bytes are ready.
+const PAUSE: u64 = 100;
+
+// Where nothing comes, it is looked at after so many seconds.
+const LOOK: u64 = 3_600;
+
+// What the disk refuses is tried again so often once all loops have left, each second.
+const LAST_TRIES: u32 = 5;
+
+/// What was written of a trail whose loops have left.
+#[derive(Debug, Drop)]
+pub struct Written {
+    entries: u64,
+    is_whole: bool,
+}
+
+impl Written {
+    /// How many lines of entries were to be written.
+    pub fn entries(&self) -> u64
+        ensures { result ≡ self.now.entries }
+    {
+        self.entries
+    }
+
+    /// Whether all lines were written that were put down, up to the one at which the file stopped.
+    pub fn is_whole(&self) -> bool
+        ensures { result ≡ self.now.is_whole }
+    {
+        self.is_whole
+    }
+}
+
+// When a file is to be brought to the disk.
+#[derive(Drop)]
+struct Syncing {
+    // Something was written since the last time.
+    is_behind: bool,
+    last: Duration,
+}
+
+impl Syncing {
+    // How long the writer sleeps where nothing is ready.
+    fn pause(&self) -> Duration {
+        Duration::from_secs(if self.is_behind { 1 } else { LOOK })
+    }
+
+    // Brings the file to the disk where that is behind and a second has passed. Where the disk
+    // refuses, it is tried the next time.
+    fn sync<R: Clock, F: TrailFile>(&mut self, rt: &R, file: &mut F)
+        ensures { Keeps (F.contents file.old) (F.contents file.new) }
+    {
+        if !self.is_behind {
+            return;
+        }
+        if let Ok(now) = rt.monotonic() {
+            if now.saturating_sub(self.last) < Duration::from_secs(1) {
+                return;
+            }
+            self.last = now;
+        }
+        self.is_behind = file.sync().is_err();
+    }
+}
+
+// One write. How many of the bytes were taken; none where the file refused them.
+fn write_some<F: Write>(file: &mut F, bytes: &[u8]) -> usize
+    ensures bound { result ≤ length bytes.now }
+    ensures writes { Appends (F.contents file.old) (F.contents file.new) (take result bytes.now) }
+{
+    file.write(bytes).unwrap_or(0)
+}
+
+// Brings the file to the disk, and tries again each second for some seconds.
+fn sync_last<R: Clock, F: TrailFile>(rt: &R, file: &mut F) -> bool
+    ensures { Keeps (F.contents file.old) (F.contents file.new) }
+{
+    'tries: for _ in 0..LAST_TRIES {
+        if file.sync().is_ok() {
+            return true;
+        }
+        thread::sleep(rt, Duration::from_secs(1));
+    }
+    false
+}
+
+// The last line, with its line feed.
+fn last_line(alloc: Global, ended: &Ended) -> Result<Vec<u8>, AllocError>
+    ensures { IfOk result (λ line. line.items ≡ end_text ended.now ++ 0x0A ∷ []) }
+{
+    let mut line = Vec::new(alloc);
+    print_end(ended, &mut line)?;
+    line.push(b'\n')?;
+    Ok(line)
+}
+
+impl Recorder {
+    // How many bytes are ready, and whether all loops have left.
+    fn look(&self, rt: &impl Wait) -> (usize, bool) {
+        let waiting = self.waiting.lock(rt);
+        (waiting.merge.ready(), waiting.loops == 0)
+    }
+
+    // Takes what is ready.
+    fn take(&self, rt: &impl Wait) -> Vec<u8> {
+        let mut waiting = self.waiting.lock(rt);
+        let text = waiting.merge.take();
+        waiting.writing = text.len();
+        text
+    }
+
+    // Writes the bytes. What the file refuses is tried again each second; once all loops have left,
+    // for some seconds. Whether all were written.
+    fn push<R: Clock + Wait, F: Write>(&self, rt: &R, file: &mut F, bytes: &[u8]) -> bool
+        ensures { HasWritten (F.contents file.old) (F.contents file.new) bytes.now result }
+    {
+        let mut sent = 0;
+        let mut tries = 0u32;
+        'writes: for _ in rt.forever() {
+            if sent == bytes.len() {
+                return true;
+            }
+            let count = write_some(file, &bytes[sent..]);
+            sent += count;
+            if count == 0 {
+                if tries >= LAST_TRIES {
+                    return false;
+                }
+                let (_, is_over) = self.look(rt);
+                if is_over {
+                    tries += 1;
+                }
+                thread::sleep(rt, Duration::from_secs(1));
+            }
+        }
+        unreachable!()
+    }
+
+    // Writes what is ready. Whether all of it was written.
+    fn write_ready<R: Clock + Wait, F: Write>(&self, rt: &R, file: &mut F) -> bool {
+        let text = self.take(rt);
+        let is_written = self.push(rt, file, &text);
+        let mut waiting = self.waiting.lock(rt);
+        waiting.writing = 0;
+        is_written
+    }
+
+    // What was written, once all loops have left.
+    fn written(&self, rt: &impl Wait, is_written: bool) -> Written {
+        let waiting = self.waiting.lock(rt);
+        // A line that is still early waits for one that never came.
+        let is_complete = waiting.merge.waiting() == 0 || self.stopped().is_some();
+        Written {
+            entries: waiting.merge.next() as u64,
+            is_whole: is_written && is_complete,
+        }
+    }
+
+    /// Writes the lines as they come, until all loops have left. It sleeps while none is ready, and
+    /// lets a tenth of a second pass where there are few. What the disk refuses is tried again each
+    /// second, and for five seconds at the end. Each second in which something was written, it is
+    /// brought to the disk.
+    pub fn write_all<R: Clock + Wait, F: TrailFile>(&self, rt: &R, file: &mut F) -> Written {
+        let mut syncing = Syncing {
+            is_behind: false,
+            last: Duration::ZERO,
+        };
+        for _ in rt.forever() {
+            let seen = self.news.notifications();
+            let (ready, is_over) = self.look(rt);
+            if ready == 0 && is_over {
+                return self.written(rt, true);
+            }
+            if ready < BLOCK && !is_over {
+                let pause = match ready {
+                    0 => syncing.pause(),
+                    _ => Duration::from_millis(PAUSE),
+                };
+                self.news.sleep(rt, seen, pause);
+            }
+            if ready > 0 {
+                if !self.write_ready(rt, file) {
+                    return self.written(rt, false);
+                }
+                syncing.is_behind = true;
+            }
+            syncing.sync(rt, file);
+        }
+        unreachable!()
+    }
+
+    /// Writes the last line behind what was written, where that is whole, and brings the file to
+    /// the disk. Whether the file is whole then, with its last line, and on the disk.
+    pub fn end<R: Clock + Wait, F: TrailFile>(
+        &self,
+        rt: &R,
+        file: &mut F,
+        written: Written,
+        cause: Cause,
+    ) -> bool
+        ensures torn { written.is_whole ≡ false
+            → Keeps (F.contents file.old) (F.contents file.new) }
+        ensures whole { result ≡ true → (ms : ℕ) × Appends (F.contents file.old)
+            (F.contents file.new) (end_line written.entries ms cause) }
+    {
+        self.set_time(rt);
+        let ended = Ended {
+            entries: written.entries,
+            ms: self.ms.load(Ordering::SeqCst),
+            cause,
+        };
+        let Ok(line) = last_line(self.alloc, &ended) else {
+            return false;
+        };
+        if !written.is_whole {
+            let _ = sync_last(rt, file);
+            return false;
+        }
+        self.push(rt, file, &line) && sync_last(rt, file)
+    }
+}
