@@ -1,4 +1,5 @@
-//! `muxd --socket PATH --users PATH [--loops N]`: serves a session that users share.
+//! `muxd --socket PATH --users PATH [--setup PATH] [--trail PATH] [--loops N] [--log]`: serves a session
+//! that users share.
 #![tactic(auto)]
 
 use program_words::{given, not_given};

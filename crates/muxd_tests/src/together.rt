@@ -20,6 +20,8 @@ const LOCK: &str = "muxd_tests.socket.lock";
 
 const USERS: &str = "muxd_tests.users";
 
+const TRAIL: &str = "muxd_tests.trail";
+
 #[derive(Drop)]
 struct Peers {
     window: Line,
@@ -181,7 +183,9 @@ fn a_server_and_its_peers(rt: HostRuntime) -> Result<(), Fail> {
     }
     write_private(&rt, USERS, &file)?;
     let mut words = Vec::new(alloc);
-    for word in ["muxd", "--socket", SOCKET, "--users", USERS, "--loops", "2"] {
+    for word in [
+        "muxd", "--socket", SOCKET, "--users", USERS, "--trail", TRAIL, "--loops", "2",
+    ] {
         words.push(String::from_str(alloc, word)?)?;
     }
     let words = words.as_slice();
@@ -193,7 +197,11 @@ fn a_server_and_its_peers(rt: HostRuntime) -> Result<(), Fail> {
     );
     fs::remove_file(&rt, USERS)?;
     fs::remove_file(&rt, LOCK)?;
+    let trail = fs::read(&rt, TRAIL)?;
+    fs::remove_file(&rt, TRAIL)?;
     assert_eq!(rt; seen, Some(ALL));
     assert_eq!(rt; status, 0);
+    assert!(rt; trail.starts_with(b"mux-trail 1 2 own "), "its first line");
+    assert!(rt; trail.ends_with(b" quit\n"), "its last line");
     Ok(())
 }

@@ -1,8 +1,9 @@
 //! What can be wrong, and what to do then.
 
 use server_loop::End;
+use server_trail::JournalFault;
 use server_turn::UsersFault;
-use std::alloc::{AllocError, AllocFailed};
+use std::alloc::{AllocError, AllocFailed, Global};
 use std::io;
 use thiserror::Error;
 
@@ -33,6 +34,19 @@ pub enum ServeFault {
     Loop,
     #[error("the trail differs from what was answered")]
     Trail,
+    /// Of the trail's file at this path.
+    #[error("trail {0}: {1}")]
+    Journal(String, JournalFault),
+}
+
+impl ServeFault {
+    /// What is wrong with the trail's file at this path.
+    pub fn of_trail(alloc: Global, path: &str, fault: JournalFault) -> ServeFault {
+        match String::from_str(alloc, path) {
+            Ok(path) => ServeFault::Journal(path, fault),
+            Err(_) => ServeFault::NoMemory,
+        }
+    }
 }
 
 impl From<io::Error> for ServeFault {
@@ -59,12 +73,14 @@ impl<T: Drop> From<AllocFailed<T>> for ServeFault {
     }
 }
 
-/// What a server's end says of how it went, and whether each answer stands in the trail.
-pub fn outcome(end: Option<End>, agrees: bool) -> Result<(), ServeFault> {
-    match end {
-        Some(End::Quit) if agrees => Ok(()),
-        Some(End::Quit) => Err(ServeFault::Trail),
-        Some(End::TrailFull) => Err(ServeFault::TrailFull),
-        Some(End::Fault) | None => Err(ServeFault::Loop),
+/// What a server's end says of how it went, whether each answer stands in the trail, and what is
+/// wrong with the trail's file.
+pub fn outcome(end: Option<End>, agrees: bool, file: Option<ServeFault>) -> Result<(), ServeFault> {
+    match (end, file) {
+        (Some(End::Fault) | None, _) => Err(ServeFault::Loop),
+        (Some(End::Quit), _) if !agrees => Err(ServeFault::Trail),
+        (_, Some(fault)) => Err(fault),
+        (Some(End::TrailFull), None) => Err(ServeFault::TrailFull),
+        (Some(End::Quit), None) => Ok(()),
     }
 }

@@ -5,7 +5,6 @@ mod acceptor;
 mod fault;
 mod loop_handle;
 mod news_line;
-mod pace;
 mod serving;
 mod setup_file;
 mod socket;

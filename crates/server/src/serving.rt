@@ -7,10 +7,12 @@ use crate::setup_file::Setup;
 use crate::socket::Place;
 use crate::turns::{LISTEN, Server, WAKE};
 use crate::users_file::{Stamp, Told, UsersFile, UsersSource};
+use acl::UserId;
 use mio::net::UnixListener;
 use mio::{Interest, Poll, Waker};
 use server_log::Log;
 use server_loop::{Gate, LoopsFault, Open, keep};
+use server_trail::Journal;
 use server_turn::Users;
 use server_words::{of_server, tell};
 use std::alloc::Global;
@@ -42,6 +44,7 @@ struct Asked<'a> {
     socket: &'a str,
     users: &'a str,
     setup: Option<&'a str>,
+    trail: Option<&'a str>,
     loops: usize,
     tells: bool,
 }
@@ -82,6 +85,13 @@ fn places<R: Net>(
     Ok((starts, loop_handles))
 }
 
+// What is wrong with the trail's file, if there is one.
+fn trail_fault(rt: &impl Wait, alloc: Global, journal: Option<&Journal>) -> Option<ServeFault> {
+    let journal = journal?;
+    let fault = journal.fault(rt)?;
+    Some(ServeFault::of_trail(alloc, journal.path(), fault))
+}
+
 // Serves a new session on a listener, until it ends.
 fn serve_on<R, G, U, O>(
     rt: &R,
@@ -101,8 +111,14 @@ where
         writeln!(output, "muxd: ready")?;
         output.flush()
     });
+    if let (Err(_), Some(journal)) = (&kept, &server.journal) {
+        journal.remove();
+    }
     match kept {
-        Ok(agrees) => outcome(server.shared.over.get().copied(), agrees),
+        Ok(agrees) => {
+            let fault = trail_fault(rt, alloc, server.journal.as_ref());
+            outcome(server.shared.over.get().copied(), agrees, fault)
+        }
         Err(LoopsFault::NoMemory) => Err(ServeFault::NoMemory),
         Err(LoopsFault::Untold(error)) => Err(ServeFault::Other(error)),
         Err(LoopsFault::Setup(fault)) => Err(server.setup.wrong(alloc, fault)),
@@ -131,6 +147,54 @@ fn shared<R: Net + AllocGlobal>(
     Ok((shared, starts))
 }
 
+// The new file for the trail, if one is named.
+fn journal<'a>(
+    files: HostRuntime,
+    alloc: Global,
+    path: Option<&'a str>,
+    owner: UserId,
+) -> Result<Option<Journal<'a>>, ServeFault> {
+    let Some(path) = path else {
+        return Ok(None);
+    };
+    match Journal::create(files, alloc, path, owner) {
+        Ok(journal) => Ok(Some(journal)),
+        Err(fault) => Err(ServeFault::of_trail(alloc, path, fault)),
+    }
+}
+
+// Serves these users on a listener, behind what the owner commands at first.
+fn begin<R, G, O>(
+    rt: &R,
+    asked: Asked,
+    host: Host<G>,
+    (users, seen, setup): (Users, Stamp, Setup),
+    listener: UnixListener,
+    output: &mut O,
+) -> Result<(), ServeFault>
+where
+    R: Clock + Net + AllocGlobal + Threads + Wait + Sync,
+    G: Gate + Copy + Sync + Drop,
+    O: Write,
+{
+    let alloc = rt.alloc();
+    let (shared, starts) = shared(rt, asked, seen, listener)?;
+    let journal = journal(host.runtime, alloc, asked.trail, users.owner())?;
+    let server = Server {
+        shared,
+        users: UsersFile {
+            files: host.runtime,
+            alloc,
+            path: asked.users,
+        },
+        setup,
+        gate: host.gate,
+        log: host.runtime.stderr(),
+        journal,
+    };
+    serve_on(rt, alloc, users, starts, &server, output)
+}
+
 fn run<R, G, O, E>(
     rt: &R,
     asked: Asked,
@@ -150,8 +214,8 @@ where
         alloc,
         path: asked.users,
     };
-    let found = users.read()?;
-    if found.1.is_open() {
+    let (users, seen) = users.read()?;
+    if seen.is_open() {
         let path = asked.users;
         let _ = writeln!(
             errors,
@@ -160,19 +224,7 @@ where
     }
     let setup = Setup::read(rt, asked.setup)?;
     let (place, listener) = Place::listen(rt, alloc, asked.socket)?;
-    let served = match shared(rt, asked, found.1, listener) {
-        Ok((shared, starts)) => {
-            let server = Server {
-                shared,
-                users,
-                setup,
-                gate: host.gate,
-                log: host.runtime.stderr(),
-            };
-            serve_on(rt, alloc, found.0, starts, &server, output)
-        }
-        Err(fault) => Err(fault),
-    };
+    let served = begin(rt, asked, host, (users, seen, setup), listener, output);
     place.leave(rt);
     served
 }
@@ -218,6 +270,7 @@ where
         socket,
         users,
         setup: matches.get_str("setup"),
+        trail: matches.get_str("trail"),
         loops: usize::from(loops),
         tells: matches.get_flag("log"),
     };

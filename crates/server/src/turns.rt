@@ -3,13 +3,13 @@
 use crate::acceptor::Acceptor;
 use crate::loop_handle::{LoopHandle, LoopStart, Shared};
 use crate::news_line::NewsLine;
-use crate::pace::{LULL, Pace};
 use crate::setup_file::Setup;
 use crate::users_file::{Stamp, UsersSource};
 use crate::winding::wind_up;
 use crate::wired::Wired;
 use mio::{Events, Poll, Registry, Token};
-use server_loop::{End, Gate, Loop, LoopBody, Seat, SharedSession};
+use server_loop::{End, Gate, LULL, Loop, LoopBody, Pace, Recorder, Seat, SharedSession, Trail};
+use server_trail::{Cause, Journal};
 use std::alloc::Global;
 use std::io;
 use std::io::ErrorKind;
@@ -224,6 +224,16 @@ fn begin_turn<'a, L: Roll, G: Gate + Drop, R: Clock + Wait>(
     take_in(rt, watch, own, is_asked)
 }
 
+// Why the server is to end, if it is. Where the trail's file can't go on, it ends as at a full trail.
+fn end_of<L: Roll, G: Gate + Drop>(
+    session: &SharedSession<L>,
+    own: &Loop<Wired, G, L>,
+) -> Option<End> {
+    let recorder = session.recorder.as_ref();
+    let stopped = recorder.and_then(|recorder| recorder.stopped());
+    own.peers.end().or(stopped.map(|_stopped| End::TrailFull))
+}
+
 // One turn: what came is read and done, and what comes of it is written.
 fn turn<L: Roll, G: Gate + Drop, R: Clock + Wait>(
     rt: &R,
@@ -232,15 +242,20 @@ fn turn<L: Roll, G: Gate + Drop, R: Clock + Wait>(
     own: &mut Loop<Wired, G, L>,
 ) -> io::Result<()> {
     let now = rt.monotonic().ok();
+    if let Some(recorder) = &session.recorder {
+        recorder.set_time(rt);
+    }
     own.read_all(rt, session);
-    let is_news = watch.pace.note(watch.shared, now, own.has_read_much());
+    let is_news = watch
+        .pace
+        .note(&watch.shared.busy, now, own.has_read_much());
     tell_others(watch, own, is_news)?;
-    let holds_draws = watch.pace.holds(watch.shared, now, own.has_typed());
+    let holds_draws = watch.pace.holds(&watch.shared.busy, now, own.has_typed());
     own.expire();
     own.peers.settle(rt, session, holds_draws);
     tell_others(watch, own, false)?;
     tell_news(rt, watch.shared, own);
-    if let Some(end) = own.peers.end() {
+    if let Some(end) = end_of(session, own) {
         watch.shared.end(end)?;
     }
     Ok(())
@@ -296,6 +311,15 @@ fn run_loop<L: Roll, G: Gate + Copy + Drop, U: UsersSource, R: Clock + Wait>(
     Ok(own.into_seat())
 }
 
+// What the last line of the trail's file says of the end; none where a fault leaves it without one.
+fn cause_of(end: End) -> Option<Cause> {
+    match end {
+        End::Quit => Some(Cause::Quit),
+        End::TrailFull => Some(Cause::Full),
+        End::Fault => None,
+    }
+}
+
 /// The loops of a server.
 #[derive(Drop)]
 pub struct Server<'a, G, U> {
@@ -308,6 +332,8 @@ pub struct Server<'a, G, U> {
     pub gate: G,
     /// Is told who comes and goes.
     pub log: Stderr,
+    /// Where the session's trail is written, if it is.
+    pub journal: Option<Journal<'a>>,
 }
 
 impl<R, G, U> LoopBody<LoopStart, R> for Server<'_, G, U>
@@ -344,5 +370,24 @@ where
     fn stand_by(&self, rt: &R) {
         let mut errors = self.log;
         self.shared.log.write_all(rt, &mut errors);
+    }
+
+    fn recorder(&self, alloc: Global, loops: usize) -> Option<Recorder> {
+        self.journal.as_ref()?;
+        Some(Recorder::new(alloc, loops))
+    }
+
+    fn write_trail(&self, rt: &R, recorder: &Recorder) {
+        if let Some(journal) = &self.journal {
+            let written = journal.write(rt, recorder);
+            let cause = self.shared.over.get().copied().and_then(cause_of);
+            journal.end(rt, recorder, written, cause);
+        }
+    }
+
+    fn compare(&self, rt: &R, trail: &Trail) {
+        if let Some(journal) = &self.journal {
+            journal.compare(rt, trail.entries());
+        }
     }
 }

@@ -1,12 +1,14 @@
 //! One loop of the server: what it reads of its connections, and what their frames ask for.
 #![tactic(auto)]
 
+mod pace;
 mod ration;
 mod requests;
 mod turn;
 
+pub use pace::{LULL, Pace};
 pub use server_peers::{
-    End, Gate, Guest, Hub, LoopBody, LoopsFault, News, Open, Peers, Seat, Session, SharedSession,
-    keep,
+    End, Gate, Guest, Hub, LoopBody, LoopsFault, News, Open, Peers, Recorder, Seat, Session,
+    SharedSession, Trail, keep,
 };
 pub use turn::Loop;

@@ -5,10 +5,10 @@ use crate::gate::Gate;
 use crate::inbox::Asked;
 use crate::news::{Guest, News};
 use crate::peer::{Peer, Role, Stage};
-use crate::shared_session::SharedSession;
 use crate::stream::Came;
 use acl::UserId;
 use hub::{Answer, FULL, HubFault, Seat};
+use server_session::SharedSession;
 use session_model::Event;
 use slab::Slab;
 use std::alloc::{AllocError, Global};
@@ -182,7 +182,7 @@ impl<S: Read + Write + Drop, G: Gate + Drop, L: Roll> Peers<S, G, L> {
         event: Event<'a>,
     ) -> Result<Answer<'a>, Unanswered> {
         self.gate.before();
-        let answer = shared.hub.submit(rt, &mut self.seat, event);
+        let answer = shared.submit(rt, &mut self.seat, event);
         self.gate.after();
         self.is_behind = true;
         match event {

@@ -39,7 +39,12 @@ fn new_session<L: Roll>(
     let Ok((hub, seats)) = Hub::<L>::new(alloc, blank, Edition::Second, owner, session, 1) else {
         return Err(Stop::Memory);
     };
-    Ok((SharedSession { hub, users }, seats))
+    let shared = SharedSession {
+        hub,
+        users,
+        recorder: None,
+    };
+    Ok((shared, seats))
 }
 
 /// One loop over a new session.

@@ -2,6 +2,7 @@
 #![tactic(auto)]
 
 mod file;
+mod journal;
 mod merge;
 mod reading;
 mod recorder;
@@ -9,8 +10,10 @@ mod stop;
 mod writing;
 
 pub use file::{TrailFile, begin, header_of};
+pub use journal::{Journal, JournalFault};
 pub use merge::Merge;
 pub use reading::is_trail;
 pub use recorder::Recorder;
 pub use stop::Stopped;
+pub use trail_audit::Cause;
 pub use writing::Written;

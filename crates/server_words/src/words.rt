@@ -59,6 +59,10 @@ pub fn of_server<'a>(alloc: Global, words: &'a [String]) -> Result<ArgMatches<'a
         .long("setup")
         .value_name("PATH")
         .help("A file of the owner's first commands, one a line");
+    let trail = Arg::new(alloc, "trail")
+        .long("trail")
+        .value_name("PATH")
+        .help("A new file for the session's trail, which mux-trail reads");
     let log = Arg::new(alloc, "log")
         .long("log")
         .action(ArgAction::SetTrue)
@@ -71,6 +75,7 @@ pub fn of_server<'a>(alloc: Global, words: &'a [String]) -> Result<ArgMatches<'a
         .arg(path(alloc, "users", USERS))?
         .arg(setup)?
         .arg(loops)?
+        .arg(trail)?
         .arg(log)?
         .try_get_matches_from(words)
 }

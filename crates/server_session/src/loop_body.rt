@@ -4,8 +4,9 @@ ghost use Rattle.std.specs.Prelude.{◌≡◌, ◌<◌, ◌≤◌};
 
 use crate::setting_up::set_up;
 use crate::shared_session::SharedSession;
-use acl::Edition;
-use hub::{Hub, Seat, Session};
+use acl::{Edition, UserId};
+use hub::{Hub, Seat, Session, Trail};
+use server_trail::Recorder;
 use server_turn::Users;
 use setup_lines::SetupFault;
 use std::alloc::{AllocError, Global};
@@ -65,6 +66,17 @@ pub trait LoopBody<P: Drop, R> {
 
     /// What the thread that began the loops does meanwhile, until they have ended.
     fn stand_by(&self, _rt: &R) {}
+
+    /// Where so many loops put the session's trail down: nowhere.
+    fn recorder(&self, _alloc: Global, _loops: usize) -> Option<Recorder> {
+        None
+    }
+
+    /// Writes what is put down, in a thread of its own, until the loops have ended.
+    fn write_trail(&self, _rt: &R, _recorder: &Recorder) {}
+
+    /// The session is over, and this is its trail.
+    fn compare(&self, _rt: &R, _trail: &Trail) {}
 }
 
 // A session while its loops run, and the seats of those that ended well.
@@ -72,6 +84,16 @@ pub trait LoopBody<P: Drop, R> {
 struct Kept<L: Roll> {
     shared: SharedSession<L>,
     left: Mutex<Vec<Seat<L>>>,
+}
+
+impl<L: Roll> Kept<L> {
+    // A loop has ended, and well where it gives its seat back.
+    fn leave(&self, rt: &impl Wait, seat: Option<Seat<L>>) {
+        if let Some(seat) = seat {
+            let _ = self.left.lock(rt).push(seat);
+        }
+        self.shared.leave(rt);
+    }
 }
 
 // Runs every loop to its end, each in a thread.
@@ -90,21 +112,68 @@ where
     R: Clock + Threads + Wait + Sync,
 {
     thread::scope(thread::scope_env(), rt, |scope| {
+        if let Some(recorder) = &kept.shared.recorder {
+            let writing = scope.spawn(move || loop_body.write_trail(rt, recorder));
+            if writing.is_err() {
+                return;
+            }
+        }
         for place in places {
             let Some(seat) = seats.pop() else {
                 return;
             };
             let started = scope.spawn(move || {
-                if let Some(seat) = loop_body.run(rt, alloc, &kept.shared, seat, place) {
-                    let _ = kept.left.lock(rt).push(seat);
-                }
+                let left = loop_body.run(rt, alloc, &kept.shared, seat, place);
+                kept.leave(rt, left);
             });
             if started.is_err() {
                 loop_body.fail(rt);
+                kept.leave(rt, None);
             }
         }
         loop_body.stand_by(rt);
     });
+}
+
+// A new session of this owner, and a seat for each loop.
+fn begin<L: Roll>(
+    alloc: Global,
+    blank: Blank,
+    owner: UserId,
+    loops: usize,
+) -> Result<(Hub<L>, Vec<Seat<L>>), LoopsFault>
+    requires { (blank.name ≡ L.name) × (blank.parts ≡ L.parts) × (loops ≡ L.parts)
+        × (0 < loops) × (loops ≤ 8) }
+{
+    // A new session and a new hub are refused for want of memory alone.
+    let Ok(session) = Session::new(alloc, owner) else {
+        return Err(LoopsFault::NoMemory);
+    };
+    match Hub::<L>::new(alloc, blank, Edition::Second, owner, session, loops) {
+        Ok(begun) => Ok(begun),
+        Err(_) => Err(LoopsFault::NoMemory),
+    }
+}
+
+// Where the session's trail is put down, if it is. Then the answers of these seats have entries.
+fn recorder<L, P, K, R>(
+    rt: &R,
+    alloc: Global,
+    seats: &mut [Seat<L>],
+    loop_body: &K,
+) -> Option<Recorder>
+where
+    L: Roll,
+    P: Drop,
+    K: LoopBody<P, R>,
+    R: Clock,
+{
+    let recorder = loop_body.recorder(alloc, seats.len())?;
+    recorder.set_time(rt);
+    for seat in seats {
+        seat.ask_for_entries();
+    }
+    Some(recorder)
 }
 
 fn keep_as<L, P, K, R, B>(
@@ -128,19 +197,14 @@ where
     requires begun { B.IsAlwaysCallable begun }
 {
     let left = Mutex::new(Vec::with_capacity(alloc, loops)?);
-    let owner = users.owner();
-    // A new session and a new hub are refused for want of memory alone.
-    let Ok(session) = Session::new(alloc, owner) else {
-        return Err(LoopsFault::NoMemory);
+    let (hub, mut seats) = begin::<L>(alloc, blank, users.owner(), loops)?;
+    let recorder = recorder::<L, P, K, R>(rt, alloc, seats.as_mut_slice(), loop_body);
+    let shared = SharedSession {
+        hub,
+        users,
+        recorder,
     };
-    let Ok((hub, mut seats)) = Hub::<L>::new(alloc, blank, Edition::Second, owner, session, loops)
-    else {
-        return Err(LoopsFault::NoMemory);
-    };
-    let kept = Kept {
-        shared: SharedSession { hub, users },
-        left,
-    };
+    let kept = Kept { shared, left };
     if let Some(seat) = seats.first_mut() {
         set_up(rt, alloc, &kept.shared, seat, loop_body.setup())?;
     }
@@ -150,8 +214,9 @@ where
     }
     let Kept { shared, left } = kept;
     let SharedSession { hub, .. } = shared;
-    let (_, wrong) = hub.close(left.into_inner());
+    let (trail, wrong) = hub.close(left.into_inner());
     has_begun.map_err(LoopsFault::Untold)?;
+    loop_body.compare(rt, &trail);
     Ok(wrong.is_none())
 }
 

@@ -1,7 +1,6 @@
 //! When draws wait.
 
-use crate::loop_handle::Shared;
-use std::sync::atomic::Ordering;
+use std::sync::atomic::{AtomicU64, Ordering};
 use std::time::Duration;
 
 // While more may come at once, draws wait for so many milliseconds at most: each client is shown
@@ -45,9 +44,9 @@ impl Pace {
         self.is_busy() || self.awaits_echo
     }
 
-    /// Tells the other loops whether much comes to this one. The answer is whether that is new.
-    /// Without a clock it is over at once.
-    pub fn note(&mut self, shared: &Shared, now: Option<Duration>, is_much: bool) -> bool {
+    /// Tells the other loops whether much comes to this one, in the number of those to which much
+    /// comes. The answer is whether that is new. Without a clock it is over at once.
+    pub fn note(&mut self, busy: &AtomicU64, now: Option<Duration>, is_much: bool) -> bool {
         let was_busy = self.is_busy();
         self.much = match (self.much, now) {
             _ if is_much => Some(now.unwrap_or(Duration::ZERO)),
@@ -60,18 +59,18 @@ impl Pace {
             return false;
         }
         if was_busy {
-            shared.busy.fetch_sub(1, Ordering::SeqCst);
+            busy.fetch_sub(1, Ordering::SeqCst);
         } else {
-            shared.busy.fetch_add(1, Ordering::SeqCst);
+            busy.fetch_add(1, Ordering::SeqCst);
         }
         true
     }
 
     /// Whether the draws of this turn are to wait, as they do where keys were typed in it, whose
     /// echo may come at once. Without a clock they don't.
-    pub fn holds(&mut self, shared: &Shared, now: Option<Duration>, awaits_echo: bool) -> bool {
+    pub fn holds(&mut self, busy: &AtomicU64, now: Option<Duration>, awaits_echo: bool) -> bool {
         self.awaits_echo = awaits_echo;
-        let is_much = awaits_echo || 0 < shared.busy.load(Ordering::SeqCst);
+        let is_much = awaits_echo || 0 < busy.load(Ordering::SeqCst);
         self.since = match now {
             Some(now) if is_much => match self.since {
                 None => Some(now),

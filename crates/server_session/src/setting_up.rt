@@ -23,7 +23,7 @@ fn give<L: Roll, R: Wait>(
         line: line.text.as_bytes(),
     };
     // Memory may lack, or the trail is full: it takes some four million lines.
-    let answer = match shared.hub.submit(rt, seat, event) {
+    let answer = match shared.submit(rt, seat, event) {
         Ok(answer) => answer,
         Err(_) => return Err(LoopsFault::NoMemory),
     };

@@ -1,0 +1,12 @@
+//! The session that the loops of a server share, and its users. It is made and taken down here, so
+//! that what is above proves nothing of what a session holds.
+#![tactic(auto)]
+
+mod loop_body;
+mod setting_up;
+mod shared_session;
+
+pub use hub::{Answer, Hub, HubFault, Seat, Session, Trail};
+pub use loop_body::{LoopBody, LoopsFault, keep};
+pub use server_trail::Recorder;
+pub use shared_session::SharedSession;

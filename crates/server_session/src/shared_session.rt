@@ -1,0 +1,40 @@
+//! What the loops share.
+
+use hub::{Answer, Hub, HubFault, Seat};
+use server_trail::Recorder;
+use server_turn::Users;
+use session_model::Event;
+use std::sync::Wait;
+use std::sync::ledger::Ledger as Roll;
+
+/// The session that the loops share, who may connect, and where its trail is written down.
+#[derive(Drop)]
+pub struct SharedSession<L: Roll> {
+    pub hub: Hub<L>,
+    pub users: Users,
+    /// None where no file is written.
+    pub recorder: Option<Recorder>,
+}
+
+impl<L: Roll> SharedSession<L> {
+    /// Submits an event to the session. An entry that it writes is put down for the trail's file.
+    pub fn submit<'a>(
+        &self,
+        rt: &impl Wait,
+        seat: &mut Seat<L>,
+        event: Event<'a>,
+    ) -> Result<Answer<'a>, HubFault> {
+        let answer = self.hub.submit(rt, seat, event)?;
+        if let (Some(recorder), Some(place)) = (&self.recorder, answer.place()) {
+            recorder.put(rt, place, answer.entry());
+        }
+        Ok(answer)
+    }
+
+    // A loop has ended.
+    pub(crate) fn leave(&self, rt: &impl Wait) {
+        if let Some(recorder) = &self.recorder {
+            recorder.leave(rt);
+        }
+    }
+}

@@ -1,0 +1,145 @@
+//! The file to which a server writes the trail of its session.
+
+use crate::file::{begin, header_of};
+use crate::reading::is_trail;
+use crate::recorder::Recorder;
+use crate::stop::Stopped;
+use crate::writing::Written;
+use acl::UserId;
+use hub_roll::Roll;
+use std::alloc::Global;
+use std::fs::{File, OpenOptions};
+use std::io::BufReader;
+use std::os::unix::fs::OpenOptionsExt;
+use std::rt::HostRuntime;
+use std::sync::{Mutex, Wait};
+use std::time::Clock;
+use std::{fs, io};
+use thiserror::Error;
+use trail_audit::Cause;
+
+// What writes the file.
+const VERSION: &[u8] = b"0.1.0";
+
+/// What is wrong with a trail's file.
+#[derive(Debug, Drop, Error)]
+pub enum JournalFault {
+    #[error("{0}")]
+    NotMade(io::Error),
+    #[error("the disk took no more: the session ended there")]
+    Disk,
+    #[error("out of memory: the session ended there")]
+    Memory,
+    #[error("it isn't written to its end")]
+    Unended,
+    #[error("it isn't read back: {0}")]
+    NotRead(io::Error),
+    #[error("it isn't the session's trail")]
+    Differs,
+}
+
+/// A new file for the trail of a session.
+#[derive(Drop)]
+pub struct Journal<'a> {
+    files: HostRuntime,
+    alloc: Global,
+    path: &'a str,
+    file: Mutex<File>,
+    fault: Mutex<Option<JournalFault>>,
+}
+
+// A new file, which its owner alone reads and writes.
+fn create(files: &HostRuntime, path: &str) -> io::Result<File> {
+    OpenOptions::new()
+        .write(true)
+        .create_new(true)
+        .mode(0o600)
+        .open(files, path)
+}
+
+impl<'a> Journal<'a> {
+    /// A new file, with its first line, for the trail of a session of this owner.
+    pub fn create(
+        files: HostRuntime,
+        alloc: Global,
+        path: &'a str,
+        owner: UserId,
+    ) -> Result<Journal<'a>, JournalFault> {
+        let header = match header_of(&files, alloc, owner, VERSION) {
+            Ok(header) => header,
+            Err(_) => return Err(JournalFault::Memory),
+        };
+        let mut file = create(&files, path).map_err(JournalFault::NotMade)?;
+        if let Err(error) = begin(alloc, &mut file, &header) {
+            let _ = fs::remove_file(&files, path);
+            return Err(JournalFault::NotMade(error));
+        }
+        Ok(Journal {
+            files,
+            alloc,
+            path,
+            file: Mutex::new(file),
+            fault: Mutex::new(None),
+        })
+    }
+
+    /// Where the file is.
+    pub fn path(&self) -> &'a str {
+        self.path
+    }
+
+    /// Takes the file away: no session began.
+    pub fn remove(&self) {
+        let _ = fs::remove_file(&self.files, self.path);
+    }
+
+    /// Writes the lines of entries as they come, until all loops have left.
+    pub fn write<R: Clock + Wait>(&self, rt: &R, recorder: &Recorder) -> Written {
+        recorder.write_all(rt, &mut *self.file.lock(rt))
+    }
+
+    /// Writes the last line. Where no cause is known the file stays without one.
+    pub fn end<R: Clock + Wait>(
+        &self,
+        rt: &R,
+        recorder: &Recorder,
+        written: Written,
+        cause: Option<Cause>,
+    ) {
+        let stopped = recorder.stopped();
+        let is_ended = match stopped.map(Stopped::cause).or(cause) {
+            Some(cause) => recorder.end(rt, &mut *self.file.lock(rt), written, cause),
+            None => false,
+        };
+        let fault = match stopped {
+            Some(Stopped::Disk) => Some(JournalFault::Disk),
+            Some(Stopped::Memory) => Some(JournalFault::Memory),
+            None if is_ended => None,
+            None => Some(JournalFault::Unended),
+        };
+        *self.fault.lock(rt) = fault;
+    }
+
+    // Whether the file, read back, is that of these entries.
+    fn is_whole(&self, entries: &Roll) -> io::Result<bool> {
+        let file = fs::open(&self.files, self.path)?;
+        is_trail(self.alloc, &mut BufReader::new(self.alloc, file)?, entries)
+    }
+
+    /// Reads the file back, if it was written to its end, and compares it with the session's trail.
+    pub fn compare(&self, rt: &impl Wait, entries: &Roll) {
+        let mut fault = self.fault.lock(rt);
+        if fault.is_none() {
+            *fault = match self.is_whole(entries) {
+                Ok(true) => None,
+                Ok(false) => Some(JournalFault::Differs),
+                Err(error) => Some(JournalFault::NotRead(error)),
+            };
+        }
+    }
+
+    /// What is wrong with the file, said once.
+    pub fn fault(&self, rt: &impl Wait) -> Option<JournalFault> {
+        self.fault.lock(rt).take()
+    }
+}
