@@ -1,6 +1,8 @@
 //! The file to which a server writes the trail of its session.
 
-use crate::file::{begin, header_of};
+ghost use Rattle.std.specs.Io.{WritesAtMost};
+
+use crate::file::{TrailFile, begin, header_of};
 use crate::reading::is_trail;
 use crate::recorder::Recorder;
 use crate::stop::Stopped;
@@ -9,7 +11,7 @@ use acl::UserId;
 use hub_roll::Roll;
 use std::alloc::Global;
 use std::fs::{File, OpenOptions};
-use std::io::BufReader;
+use std::io::{BufReader, Write};
 use std::os::unix::fs::OpenOptionsExt;
 use std::rt::HostRuntime;
 use std::sync::{Mutex, Wait};
@@ -26,10 +28,15 @@ const VERSION: &[u8] = b"0.1.0";
 pub enum JournalFault {
     #[error("{0}")]
     NotMade(io::Error),
-    #[error("the disk took no more: the session ended there")]
-    Disk,
+    /// It was refused so, until too much waited.
+    #[error("{0}: the session ended there")]
+    Refused(io::Error),
+    #[error("its disk is too slow: the session ended there")]
+    TooSlow,
     #[error("out of memory: the session ended there")]
     Memory,
+    #[error("it isn't written to its end: {0}")]
+    Cut(io::Error),
     #[error("it isn't written to its end")]
     Unended,
     #[error("it isn't read back: {0}")]
@@ -38,23 +45,82 @@ pub enum JournalFault {
     Differs,
 }
 
+// The file, and why it took nothing at last, if so.
+#[derive(Drop)]
+struct Disk {
+    file: File,
+    error: Option<io::Error>,
+}
+
+impl Disk {
+    // One write, whose error is kept.
+    fn write_some(&mut self, buf: &[u8]) -> io::Result<usize>
+        ensures { WritesAtMost result buf.now }
+    {
+        match self.file.write(buf) {
+            Ok(count) => {
+                self.error = None;
+                Ok(count)
+            }
+            Err(error) => {
+                let kind = error.kind();
+                self.error = Some(error);
+                Err(io::Error::from(kind))
+            }
+        }
+    }
+}
+
+impl Write for Disk {
+    fn write(&mut self, buf: &[u8]) -> io::Result<usize> {
+        self.write_some(buf)
+    }
+
+    fn flush(&mut self) -> io::Result<()> {
+        self.file.flush()
+    }
+}
+
+impl TrailFile for Disk {
+    fn sync(&mut self) -> io::Result<()> {
+        self.file.sync_data()
+    }
+}
+
+// What is wrong with a file whose end was written or not, where it had to stop for this.
+fn fault_of(
+    stopped: Option<Stopped>,
+    is_ended: bool,
+    error: Option<io::Error>,
+) -> Option<JournalFault> {
+    match (stopped, error) {
+        (Some(Stopped::Memory), _) => Some(JournalFault::Memory),
+        (Some(Stopped::Disk), Some(error)) => Some(JournalFault::Refused(error)),
+        (Some(Stopped::Disk), None) => Some(JournalFault::TooSlow),
+        (None, _) if is_ended => None,
+        (None, Some(error)) => Some(JournalFault::Cut(error)),
+        (None, None) => Some(JournalFault::Unended),
+    }
+}
+
 /// A new file for the trail of a session.
 #[derive(Drop)]
 pub struct Journal<'a> {
     files: HostRuntime,
     alloc: Global,
     path: &'a str,
-    file: Mutex<File>,
+    file: Mutex<Disk>,
     fault: Mutex<Option<JournalFault>>,
 }
 
 // A new file, which its owner alone reads and writes.
-fn create(files: &HostRuntime, path: &str) -> io::Result<File> {
-    OpenOptions::new()
+fn create(files: &HostRuntime, path: &str) -> io::Result<Disk> {
+    let file = OpenOptions::new()
         .write(true)
         .create_new(true)
         .mode(0o600)
-        .open(files, path)
+        .open(files, path)?;
+    Ok(Disk { file, error: None })
 }
 
 impl<'a> Journal<'a> {
@@ -107,17 +173,16 @@ impl<'a> Journal<'a> {
         cause: Option<Cause>,
     ) {
         let stopped = recorder.stopped();
+        let mut disk = self.file.lock(rt);
         let is_ended = match stopped.map(Stopped::cause).or(cause) {
-            Some(cause) => recorder.end(rt, &mut *self.file.lock(rt), written, cause),
-            None => false,
+            Some(cause) => recorder.end(rt, &mut *disk, written, cause),
+            None => {
+                let _ = disk.sync();
+                false
+            }
         };
-        let fault = match stopped {
-            Some(Stopped::Disk) => Some(JournalFault::Disk),
-            Some(Stopped::Memory) => Some(JournalFault::Memory),
-            None if is_ended => None,
-            None => Some(JournalFault::Unended),
-        };
-        *self.fault.lock(rt) = fault;
+        let error = disk.error.take();
+        *self.fault.lock(rt) = fault_of(stopped, is_ended, error);
     }
 
     // Whether the file, read back, is that of these entries.
