@@ -112,12 +112,6 @@ where
     R: Clock + Threads + Wait + Sync,
 {
     thread::scope(thread::scope_env(), rt, |scope| {
-        if let Some(recorder) = &kept.shared.recorder {
-            let writing = scope.spawn(move || loop_body.write_trail(rt, recorder));
-            if writing.is_err() {
-                return;
-            }
-        }
         for place in places {
             let Some(seat) = seats.pop() else {
                 return;
@@ -129,6 +123,12 @@ where
             if started.is_err() {
                 loop_body.fail(rt);
                 kept.leave(rt, None);
+            }
+        }
+        if let Some(recorder) = &kept.shared.recorder {
+            let writing = scope.spawn(move || loop_body.write_trail(rt, recorder));
+            if writing.is_err() {
+                loop_body.fail(rt);
             }
         }
         loop_body.stand_by(rt);
