@@ -1,0 +1,72 @@
+//! A file in memory that is slow, or refuses.
+
+use server_trail::TrailFile;
+use std::alloc::Global;
+use std::io::{self, ErrorKind, Write};
+use std::thread;
+use std::time::{Clock, Duration};
+
+/// A file in memory.
+#[derive(Drop)]
+pub struct Disk<'r, R: Clock> {
+    rt: &'r R,
+    pub text: Vec<u8>,
+    /// How many bytes a write takes.
+    most: usize,
+    /// How long each write takes, in milliseconds.
+    pause: u64,
+    /// How many writes are refused.
+    refused: u32,
+    pub syncs: u32,
+}
+
+impl<'r, R: Clock> Disk<'r, R> {
+    pub fn new(rt: &'r R, alloc: Global) -> Disk<'r, R> {
+        Disk {
+            rt,
+            text: Vec::new(alloc),
+            most: usize::MAX,
+            pause: 0,
+            refused: 0,
+            syncs: 0,
+        }
+    }
+
+    /// Each write takes this long, in milliseconds, and takes at most so many bytes.
+    pub fn slow(self, pause: u64, most: usize) -> Disk<'r, R> {
+        Disk {
+            pause,
+            most,
+            ..self
+        }
+    }
+
+    /// So many writes are refused from now on.
+    pub fn refuse(&mut self, count: u32) {
+        self.refused = count;
+    }
+}
+
+impl<'r, R: Clock> Write for Disk<'r, R> {
+    fn write(&mut self, buf: &[u8]) -> io::Result<usize> {
+        thread::sleep(self.rt, Duration::from_millis(self.pause));
+        if self.refused > 0 {
+            self.refused -= 1;
+            return Err(io::Error::from(ErrorKind::Other));
+        }
+        let count = buf.len().min(self.most);
+        self.text.extend_from_slice(&buf[..count])?;
+        Ok(count)
+    }
+
+    fn flush(&mut self) -> io::Result<()> {
+        Ok(())
+    }
+}
+
+impl<'r, R: Clock> TrailFile for Disk<'r, R> {
+    fn sync(&mut self) -> io::Result<()> {
+        self.syncs = self.syncs.saturating_add(1);
+        Ok(())
+    }
+}

@@ -1,0 +1,56 @@
+//! Entries, and a trail of them.
+
+use acl::UserId;
+use hub_record::{Filed, KeptEvent, KeptReply};
+use hub_roll::{Roll, Slip};
+use session_model::{Done, Event, Refusal, Reply};
+use std::alloc::{AllocError, Global};
+
+fn slip(alloc: Global, event: Event<'_>) -> Result<Slip, AllocError> {
+    let reply: Reply = Ok(Done {
+        taken: 1,
+        made: 0,
+        number: 0,
+        text: None,
+    });
+    let spare = Box::new(alloc, Refusal::NoMemory)?;
+    Ok(Slip {
+        event: KeptEvent::of(alloc, event)?.ok_or(AllocError)?,
+        verdicts: Vec::new(alloc),
+        acts: Vec::new(alloc),
+        reply: KeptReply::of(&reply, spare),
+    })
+}
+
+fn keys(place: usize) -> Event<'static> {
+    Event::Keys {
+        client: (place % 1000) as u32,
+        bytes: b"a",
+    }
+}
+
+/// The entry of a place: keys of a client with the place's number.
+pub fn entry(alloc: Global, place: usize) -> Result<Filed, AllocError> {
+    Ok(slip(alloc, keys(place))?.into_entry())
+}
+
+/// An entry whose line is long.
+pub fn long_entry(alloc: Global, user: UserId, line: &[u8]) -> Result<Filed, AllocError> {
+    let event = Event::Command {
+        user,
+        window: None,
+        line,
+    };
+    Ok(slip(alloc, event)?.into_entry())
+}
+
+/// A trail of so many entries.
+pub fn trail(alloc: Global, count: usize) -> Result<Roll, AllocError> {
+    let mut roll = Roll::new(alloc)?;
+    for place in 0..count.min(10_000) {
+        let next = slip(alloc, keys(place))?;
+        roll.reserve()?;
+        roll.push(next);
+    }
+    Ok(roll)
+}
