@@ -8,6 +8,7 @@ mod laws;
 mod lists;
 mod plan;
 mod rows;
+mod sets;
 
 pub use acl::Acl;
 pub use acl_words::Slots;

@@ -5,7 +5,7 @@ ghost use Rattle.std.specs.Prelude.{OnOk, OnErr, length};
 ghost use Rattle.std.specs.List.{list_any};
 ghost use Rattle.acl.specs.Commands.{Answers, Keeps, names_user, with_name, with_names, new_name};
 ghost use Rattle.acl.specs.Commands.{new_name_fault, new_acts, known_acts, name_sets, names_sets};
-ghost use Rattle.acl.specs.Commands.{add_acts, change_fault, sets_on, sets, change_acts};
+ghost use Rattle.acl.specs.Commands.{add_acts, change_fault, change_acts};
 ghost use Rattle.acl.specs.Commands.{known_name_fault, removal_acts, leader_fault, chosen_leader};
 ghost use Rattle.acl.specs.Commands.{group_fault, group_acts, scope_fault, scope_acts, mask_fault};
 ghost use Rattle.acl.specs.Commands.{mask_acts};
@@ -15,6 +15,7 @@ ghost use Rattle.acl.specs.Table.{users_in, led_by};
 ghost use Rattle.acl.specs.Lists.{table_of};
 
 use crate::lists::Lists;
+use crate::sets::{plan_sets, push_act};
 use acl_words::{
     AclFault, Act, Bit, BitChange, MaskEntry, MaskScope, NewLeader, Object, USERS, UserId,
 };
@@ -50,61 +51,6 @@ fn names_any(names: &[Option<UserId>], user: UserId) -> bool
     ensures { result ≡ list_any (names_user user) names.now }
 {
     names.iter().any(|name| names_user(*name, user))
-}
-
-/// Puts an act at the end.
-fn push_act(acts: &mut Vec<Act>, act: Act) -> Result<(), AclFault>
-    ensures ok { OnOk result (acts.new.items ≡ acts.old.items ++ act ∷ []) }
-    ensures err { OnErr result (acts.new.items ≡ acts.old.items) }
-    ensures memory { IfErr result (λ fault. fault ≡ AclFault.NoMemory) }
-{
-    if acts.push(act).is_err() {
-        return Err(AclFault::NoMemory);
-    }
-    Ok(())
-}
-
-/// The sets of a user's bits on one object.
-fn plan_sets_on(
-    user: UserId,
-    changes: &[BitChange],
-    object: Object,
-    acts: &mut Vec<Act>,
-) -> Result<(), AclFault>
-    ensures ok { OnOk result (acts.new.items ≡ acts.old.items ++ sets_on user changes.now object) }
-    ensures err { OnErr result (Keeps acts.old.items acts.new.items) }
-    ensures memory { IfErr result (λ fault. fault ≡ AclFault.NoMemory) }
-{
-    for change in changes {
-        push_act(
-            acts,
-            Act::Set {
-                user,
-                bit: change.bit,
-                object,
-                value: change.value,
-            },
-        )?;
-    }
-    Ok(())
-}
-
-/// The sets of a user's bits, object by object.
-fn plan_sets(
-    user: UserId,
-    changes: &[BitChange],
-    objects: &[Object],
-    acts: &mut Vec<Act>,
-) -> Result<(), AclFault>
-    ensures ok { OnOk result
-        (acts.new.items ≡ acts.old.items ++ sets user changes.now objects.now) }
-    ensures err { OnErr result (Keeps acts.old.items acts.new.items) }
-    ensures memory { IfErr result (λ fault. fault ≡ AclFault.NoMemory) }
-{
-    for object in objects {
-        plan_sets_on(user, changes, *object, acts)?;
-    }
-    Ok(())
 }
 
 /// The user whom a word names, not the owner.

@@ -1,11 +1,13 @@
 //! Commands that are refused: the first fault from the left, and nothing has changed.
 
-use crate::stage::{Name, Stage, user};
+use crate::stage::{Answer, Name, Stage, user};
 use AclFault::{
     NoMemory, NoSuchGroup, OwnerKept, ReservedName, TooManyGroups, TooManyUsers, UnknownUser,
 };
 use Name::{Ann, Bob, Eve, Own, Yan, Zed};
-use acl::{AclFault, Bit, Edition, MaskEntry, MaskScope, NewLeader, PresetKind, UserId};
+use acl::{
+    AclFault, Bit, BitChange, Edition, MaskEntry, MaskScope, NewLeader, Object, PresetKind, UserId,
+};
 use std::test::Fail;
 
 /// At most one allocation is refused in a run, so a second try never is.
@@ -184,6 +186,42 @@ fn changes(rt: HostRuntime) -> Result<(), Fail> {
             "{more} {words:?}"
         );
     }
+    Ok(())
+}
+
+/// Sets bob's r of window 0 so often, by a line of 1,024 changes for each of its objects.
+fn set_often(stage: &mut Stage, value: bool, objects: &[Object]) -> Result<(), AclFault> {
+    let changes = [BitChange {
+        bit: Bit::Read,
+        value,
+    }; 1024];
+    for _ in 0..TRIES {
+        let (acts, locks) = (&mut stage.acts, &mut stage.locks);
+        let done = stage
+            .acl
+            .change(&[user(Bob)], &changes, objects, acts, 0, locks);
+        if done != Err(NoMemory) {
+            return done;
+        }
+    }
+    Err(NoMemory)
+}
+
+/// A step files 65,536 acts of list commands at most.
+#[test]
+fn longest_line(rt: HostRuntime) -> Result<(), Fail> {
+    let bob = user(Bob).ok_or("no name")?;
+    let window = Object::Window(0);
+    let mut stage = Stage::new(rt.alloc(), Edition::Second)?;
+    stage.acts.clear();
+    let before = size(&stage);
+    assert_eq!(rt; set_often(&mut stage, true, &[window; 65]), Err(NoMemory));
+    assert_eq!(rt; size(&stage), before);
+    set_often(&mut stage, false, &[window; 64])?;
+    assert_eq!(rt; stage.acts.len(), 65_536);
+    assert!(rt; stage.answer(bob, Bit::Read, window) != Answer::Passes);
+    assert_eq!(rt; set_often(&mut stage, true, &[window]), Err(NoMemory));
+    assert!(rt; stage.answer(bob, Bit::Read, window) != Answer::Passes);
     Ok(())
 }
 

@@ -13,7 +13,7 @@ use std::sync::{Condvar, Mutex, OnceLock, Wait};
 use std::time::Clock;
 use trail_lines::print_line;
 
-// A line is taken while at most so many bytes wait, without the longest line among them.
+// A line is taken while at most so many bytes wait.
 const MOST: usize = 16_777_216;
 
 /// The writer doesn't wait for more where so many bytes are ready.
@@ -25,8 +25,6 @@ pub struct Waiting {
     pub merge: Merge,
     /// How many bytes the writer has taken and not written.
     pub writing: usize,
-    /// How long the longest line is that waits, or has since something waited.
-    pub longest: usize,
     /// How many loops haven't left.
     pub loops: usize,
 }
@@ -58,11 +56,9 @@ impl Waiting {
     // Puts a line down. Whether the writer is to be woken: the first bytes are ready, or as many
     // as it waits for.
     fn put(&mut self, place: usize, line: Vec<u8>) -> Result<bool, Stopped> {
-        let waiting = self.merge.waiting().saturating_add(self.writing);
-        if waiting.saturating_sub(self.longest) > MOST {
+        if self.merge.waiting().saturating_add(self.writing) > MOST {
             return Err(Stopped::Disk);
         }
-        self.longest = self.longest.max(line.len());
         let before = self.merge.ready();
         if self.merge.put(place, line).is_err() {
             return Err(Stopped::Memory);
@@ -80,7 +76,6 @@ impl Recorder {
             waiting: Mutex::new(Waiting {
                 merge: Merge::new(alloc),
                 writing: 0,
-                longest: 0,
                 loops,
             }),
             news: Condvar::new(),

@@ -158,9 +158,6 @@ impl Recorder {
         let is_written = self.push(rt, file, &text);
         let mut waiting = self.waiting.lock(rt);
         waiting.writing = 0;
-        if waiting.merge.waiting() == 0 {
-            waiting.longest = 0;
-        }
         is_written
     }
 

@@ -3,7 +3,7 @@ use Rattle.std.proofs.lemmas.Result.{err_from_is_err_and}
 use Rattle.acl.specs.Commands.{sets_on}
 use Rattle.acl.proofs.InPlace.{drop-next, drop-past}
 use Rattle.acl.proofs.PlanLemmas.{keeps-all, keeps-same, keeps-on, append-nil}
-use Rattle.acl.proofs.plan.plan_sets_on.Goals as goal
+use Rattle.acl.proofs.sets.plan_sets_on.Goals as goal
 
 pub loop-change-init : goal.loop-change-init
 loop-change-init c = record { left = refl; kept = keeps-all c.args.acts.now.items }

@@ -3,7 +3,7 @@ use Rattle.std.proofs.lemmas.Result.{err_from_is_err_and}
 use Rattle.acl.specs.Commands.{sets}
 use Rattle.acl.proofs.InPlace.{drop-next, drop-past}
 use Rattle.acl.proofs.PlanLemmas.{keeps-all, keeps-on, append-nil}
-use Rattle.acl.proofs.plan.plan_sets.Goals as goal
+use Rattle.acl.proofs.sets.plan_sets.Goals as goal
 
 pub loop-object-init : goal.loop-object-init
 loop-object-init c = record { left = refl; kept = keeps-all c.args.acts.now.items }

@@ -1,6 +1,6 @@
 use Rattle.std.proofs.Common.{◌≡◌, ◌++◌, drop}
 use Rattle.acl.specs.Commands.{Keeps, sets_on}
-use Rattle.acl.proofs.plan.plan_sets_on.Given as goal
+use Rattle.acl.proofs.sets.plan_sets_on.Given as goal
 
 -- what is done, and what is left
 abbrev pub invariant-loop-change : goal.invariant-loop-change
