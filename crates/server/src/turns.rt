@@ -133,7 +133,8 @@ fn sort<L: Roll, G: Gate + Drop>(events: &Events, own: &mut Loop<Wired, G, L>) -
             Token(token) => {
                 let has_hung_up = event.is_read_closed() || event.is_error();
                 if event.is_readable() || has_hung_up {
-                    own.peers.is_ready(token.saturating_sub(FIRST), has_hung_up);
+                    own.peers
+                        .mark_ready(token.saturating_sub(FIRST), has_hung_up);
                 }
             }
         }
@@ -170,8 +171,8 @@ fn tell_others<L: Roll, G: Gate + Drop>(
     own: &mut Loop<Wired, G, L>,
     is_news: bool,
 ) -> io::Result<()> {
-    let has_acted = own.peers.has_acted();
-    let has_submitted = own.peers.has_submitted();
+    let has_acted = own.peers.take_acted();
+    let has_submitted = own.peers.take_submitted();
     if is_news || has_acted || (has_submitted && !watch.pace.is_busy()) {
         watch.shared.wake_others(watch.me)?;
     }
@@ -248,11 +249,11 @@ fn turn<L: Roll, G: Gate + Drop, R: Clock + Wait>(
     own.read_all(rt, session);
     let is_news = watch
         .pace
-        .note(&watch.shared.busy, now, own.has_read_much());
+        .note(&watch.shared.busy, now, own.take_read_much());
     tell_others(watch, own, is_news)?;
-    let holds_draws = watch.pace.holds(&watch.shared.busy, now, own.has_typed());
+    let holds_draws = watch.pace.holds(&watch.shared.busy, now, own.take_typed());
     own.expire();
-    own.peers.settle(rt, session, holds_draws);
+    own.peers.end_turn(rt, session, holds_draws);
     tell_others(watch, own, false)?;
     tell_news(rt, watch.shared, own);
     if let Some(end) = end_of(session, own) {

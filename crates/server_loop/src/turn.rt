@@ -94,12 +94,12 @@ impl<S: Read + Write + Drop, G: Gate + Drop, L: Roll> Loop<S, G, L> {
     }
 
     /// Whether keys of a client were submitted since the last call.
-    pub fn has_typed(&mut self) -> bool {
+    pub fn take_typed(&mut self) -> bool {
         std::mem::replace(&mut self.has_typed, false)
     }
 
     /// Whether a connection had more than one read takes, since the last call.
-    pub fn has_read_much(&mut self) -> bool {
+    pub fn take_read_much(&mut self) -> bool {
         std::mem::replace(&mut self.has_read_much, false)
     }
 

@@ -128,12 +128,12 @@ impl<S: Read + Write + Drop, G: Gate + Drop, L: Roll> Peers<S, G, L> {
     }
 
     /// Whether a step other than a draw was submitted since the last call.
-    pub fn has_submitted(&mut self) -> bool {
+    pub fn take_submitted(&mut self) -> bool {
         std::mem::replace(&mut self.has_submitted, false)
     }
 
     /// Whether a step was submitted since the last call that may have an effect beside a draw.
-    pub fn has_acted(&mut self) -> bool {
+    pub fn take_acted(&mut self) -> bool {
         std::mem::replace(&mut self.has_acted, false)
     }
 
@@ -213,7 +213,7 @@ impl<S: Read + Write + Drop, G: Gate + Drop, L: Roll> Peers<S, G, L> {
     }
 
     /// A connection has something to read, and perhaps its other end was closed.
-    pub fn is_ready(&mut self, key: usize, has_hung_up: bool) {
+    pub fn mark_ready(&mut self, key: usize, has_hung_up: bool) {
         if let Some(peer) = self.peers.get_mut(key) {
             peer.has_more = true;
             peer.has_hung_up |= has_hung_up;

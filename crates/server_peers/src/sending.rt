@@ -188,7 +188,7 @@ impl<S: Read + Write + Drop, G: Gate + Drop, L: Roll> Peers<S, G, L> {
     }
 
     // Those for whom too much waits are told so, and closed once they take no more.
-    fn cut(&mut self, rt: &impl Wait, shared: &SharedSession<L>) {
+    fn drop_laggards(&mut self, rt: &impl Wait, shared: &SharedSession<L>) {
         for key in 0..self.peers.capacity() {
             let Some(peer) = self.peers.get_mut(key) else {
                 continue;
@@ -205,7 +205,7 @@ impl<S: Read + Write + Drop, G: Gate + Drop, L: Roll> Peers<S, G, L> {
 
     /// Ends a turn: hands out what came of it, writes, asks for draws unless they are held, and
     /// lets go what is closed. Where draws of a crowd were begun, it goes on with them.
-    pub fn settle(&mut self, rt: &impl Wait, shared: &SharedSession<L>, holds_draws: bool) {
+    pub fn end_turn(&mut self, rt: &impl Wait, shared: &SharedSession<L>, holds_draws: bool) {
         self.has_waiting = false;
         for key in 0..self.peers.capacity() {
             let _ = self.tell_leaving(rt, shared, key);
@@ -213,7 +213,7 @@ impl<S: Read + Write + Drop, G: Gate + Drop, L: Roll> Peers<S, G, L> {
         self.hand_out(rt, shared);
         self.write_all(rt, shared);
         self.draw_all(rt, shared, holds_draws);
-        self.cut(rt, shared);
+        self.drop_laggards(rt, shared);
         self.sweep();
     }
 }

@@ -60,9 +60,9 @@ fn command<L: Roll, R: Clock + Wait>(
     far.send(WALL)?;
     own.peers.admit(near, false)?;
     for _ in 0..4 {
-        own.peers.is_ready(0, true);
+        own.peers.mark_ready(0, true);
         own.read_all(rt, shared);
-        own.peers.settle(rt, shared, false);
+        own.peers.end_turn(rt, shared, false);
     }
     let is_told = far.taken(alloc)?.as_slice() == b"y\0\x01\0g\0\x01\0".as_slice();
     Ok(is_told.then_some(own.into_seat()))

@@ -107,7 +107,7 @@ impl<L: Roll> Stage<L> {
     pub fn turns<R: Wait>(&mut self, rt: &R, count: usize) {
         for _ in 0..count {
             for key in 0..KEYS {
-                self.own.peers.is_ready(key, true);
+                self.own.peers.mark_ready(key, true);
             }
             self.quiet_turn(rt);
         }
@@ -117,7 +117,7 @@ impl<L: Roll> Stage<L> {
     pub fn quiet_turn<R: Wait>(&mut self, rt: &R) {
         self.own.now = self.own.now.saturating_add(self.tick);
         self.own.read_all(rt, &self.shared);
-        self.own.peers.settle(rt, &self.shared, false);
+        self.own.peers.end_turn(rt, &self.shared, false);
     }
 
     /// A connection that gives a command of the owner: what it is sent.
