@@ -29,5 +29,5 @@ entry_in s = record {
 }
 
 -- what is stored stays, and at most one form stands behind it
-abbrev pub HasOneMore : List Entry → List Entry → Type 0
-HasOneMore old new = (more : List Entry) × (new ≡ old ++ more) × (length more ≤ 1)
+abbrev pub HasOneMore : {A : Type 0} → List A → List A → Type 0
+HasOneMore {A = A} old new = (more : List A) × (new ≡ old ++ more) × (length more ≤ 1)

@@ -5,11 +5,11 @@ ghost use Rattle.hub_roll.specs.Rolls.{entry_in};
 
 use crate::slip::Slip;
 use acl::Object;
-use hub_record::{Filed, KeptRef};
+use hub_record::{Filed, KeptRef, KeptReply};
 use session_model::Verdict;
 
-/// How many codes are tried for an entry.
-const WAYS: usize = 4;
+/// How many codes are tried for an entry or a receipt.
+pub const WAYS: usize = 4;
 
 /// How many codes are kept for the search.
 pub const KEPT: usize = 4096;
@@ -24,7 +24,7 @@ fn number_of(bytes: &[u8]) -> u32 {
 }
 
 /// A number of the event: the same for the same event.
-fn number_of_event(event: KeptRef<'_>) -> u32 {
+pub fn number_of_event(event: KeptRef<'_>) -> u32 {
     match event {
         KeptRef::Keys { client } => client.wrapping_mul(7),
         KeptRef::Command { line, .. } => number_of(line),
@@ -45,6 +45,19 @@ fn window_of(verdict: Verdict) -> u32 {
     }
 }
 
+/// Where among the kept codes the search begins, by a number of the event and by the reply.
+pub fn first_by(number: u32, reply: &KeptReply) -> usize
+    ensures { result ≤ 4092 }
+{
+    let mut number = number;
+    if let Ok(finished) = reply.ending() {
+        number = number
+            .wrapping_mul(31)
+            .wrapping_add((finished.taken % 65536) as u32);
+    }
+    number as usize % (KEPT / WAYS) * WAYS
+}
+
 /// Where among the kept codes the search for an entry begins.
 pub fn first_of(slip: &Slip) -> usize
     ensures { result ≤ 4092 }
@@ -53,15 +66,10 @@ pub fn first_of(slip: &Slip) -> usize
     if let Some(verdict) = slip.verdicts.first() {
         number = number.wrapping_mul(31).wrapping_add(window_of(*verdict));
     }
-    if let Ok(finished) = slip.reply.ending() {
-        number = number
-            .wrapping_mul(31)
-            .wrapping_add((finished.taken % 65536) as u32);
-    }
-    number as usize % (KEPT / WAYS) * WAYS
+    first_by(number, &slip.reply)
 }
 
-/// Where among the kept codes the next one for an entry goes.
+/// Where among the kept codes the next one goes, where the search began at the first.
 pub fn slot_of(first: usize, code: u32) -> usize
     requires { first ≤ 4092 }
     ensures { result ≤ 4095 }
