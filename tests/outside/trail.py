@@ -3,10 +3,13 @@
 
 One user alone would take more than an hour: he causes at most 1,000 entries a second in the long run. Each byte that
 was told as an entry reaches the window, in one INPUT each; the next one finds the trail full: clients and window get
-GONE 7, in whichever loop they are, and muxd says so and ends with status 1. It takes some 1.2 GB of memory. MUXD names the program (that of bin/, if it isn't set); a word is the number of loops (2, if not given).
-Prints a line for each check, and ends with status 1 if one failed.
+GONE 7, in whichever loop they are, and muxd says so and ends with status 1. Equal entries share one stored form, so that
+the trail takes 4 bytes for each of them and the seats' receipts 8, in all some 50 MB; the server is to stay below 100.
+MUXD names the program (that of bin/, if it isn't set); a word is the number of loops (2, if not given). Prints a line for
+each check, and ends with status 1 if one failed.
 """
 import os
+import resource
 import selectors
 import socket
 import subprocess
@@ -19,6 +22,7 @@ MUXD = os.environ.get("MUXD", f"{TOP}/bin/muxd")
 ENTRIES, OWNER, TOKEN = 4_194_304, b"own", b"0" * 64
 USERS = [OWNER] + [b"u%d" % number for number in range(1, 63)]
 BATCH = 2_000
+MOST = 100_000_000
 
 
 def two(number):
@@ -138,6 +142,9 @@ def main(words):
             _, errors = server.communicate(timeout=60)
             check("what the server says", errors, "muxd: the session's trail is full: start another session\n")
             check("its status", server.returncode, 1)
+            # (the server is the one child that was waited for)
+            peak = resource.getrusage(resource.RUSAGE_CHILDREN).ru_maxrss * 1024
+            check(f"its memory stays below {MOST:,} bytes", max(peak, MOST), MOST)
     print(f"{took:.0f} seconds, in {window.pieces} frames")
     return bad
 

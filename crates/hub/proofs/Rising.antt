@@ -1,6 +1,6 @@
 -- Receipts whose places rise.
-use Rattle.std.proofs.Common.{◌≡◌, ℕ, zero, suc, ◌<◌, ◌≤◌, ◌+◌, ◌-◌, Bool, true, false, List, [], ◌∷◌, ◌++◌, length, Some, None, refl, ap, sym, ◌∙◌, subst, arith, cond, length-append}
-use Rattle.std.specs.Prelude.{◌↔◌, ◌==◌, IsSome, Option, nat_lt, option_to_list, slice_get, if◌then◌else◌}
+use Rattle.std.proofs.Common.{◌≡◌, ℕ, zero, suc, ◌<◌, ◌≤◌, ◌+◌, ◌-◌, Bool, true, false, List, [], ◌∷◌, ◌++◌, length, Some, refl, ap, sym, ◌∙◌, subst, arith, cond, length-append}
+use Rattle.std.specs.Prelude.{◌↔◌, ◌==◌, nat_lt, slice_get, if◌then◌else◌}
 use Rattle.std.specs.List.{AllByRecursion}
 use Rattle.std.proofs.lemmas.Bool.Decides.{nat_tests}
 use Rattle.std.proofs.lemmas.List.{append-nil}
@@ -10,7 +10,7 @@ use Rattle.std.proofs.lemmas.Option.{slice_get_within}
 use Rattle.session_laws.proofs.Lists.{all_append, all_weaken, equal}
 use Rattle.hub.proofs.Queues.{all_at}
 use Rattle.hub_trail.specs.Trails.{Entry}
-use Rattle.hub.specs.declared.receipt.Receipt.{Receipt}
+use Rattle.hub_roll.specs.Receipts.{Receipt}
 use Rattle.hub.specs.Seats.{AllBelow, Rise}
 use Rattle.hub.specs.Closing.{AreOf, IsOf, before, times}
 
@@ -47,15 +47,6 @@ below_last (x ∷ rs) r p (suc k) len rise at l =
 
 pub last_below : (rs : List Receipt) (r : Receipt) (p : ℕ) → slice_get rs (length rs - 1) ≡ Some r → AllBelow rs p → r.place < p
 last_below rs r p at all = all_at (λ (s : Receipt). s.place < p) rs (length rs - 1) r all at
-
-got : (xs : List Receipt) (k : ℕ) → k < length xs → slice_get xs k ≡ None → ⊥
-got [] k l is = omega (arith, l)
-got (z ∷ xs) zero l is = cc (is)
-got (z ∷ xs) (suc k) l is = got xs k (omega (arith, l)) is
-
-pub none_last : (rs : List Receipt) (p : ℕ) → slice_get rs (length rs - 1) ≡ None → AllBelow rs p
-none_last [] p at = tt
-none_last (x ∷ rs) p at = absurd (got (x ∷ rs) (length (x ∷ rs) - 1) (omega arith) at)
 
 -- ---- those below a place
 
@@ -201,30 +192,32 @@ less a b is = grind (arith, nat_tests, is)
 tests_less : (a b : ℕ) → a < b → nat_lt a b ≡ true
 tests_less a b l = grind (arith, nat_tests, l)
 
-pub last_tells : (rs : List Receipt) (r : Receipt) (p : ℕ) → Rise rs → Some r ≡ slice_get rs (length rs - 1) → (nat_lt r.place p ≡ true) ↔ AllBelow rs p
+pub last_tells : (rs : List Receipt) (r : Receipt) (p : ℕ) → Rise rs → slice_get rs (length rs - 1) ≡ Some r → (nat_lt r.place p ≡ true) ↔ AllBelow rs p
 last_tells rs r p rise at =
-    let within : length rs - 1 < length rs = slice_get_within rs (length rs - 1) r (sym at) in
-    ((λ is. below_last rs r p (length rs - 1) (omega (arith, within)) rise (sym at) (less r.place p is)), (λ all. tests_less r.place p (last_below rs r p (sym at) all)))
+    let within : length rs - 1 < length rs = slice_get_within rs (length rs - 1) r at in
+    ((λ is. below_last rs r p (length rs - 1) (omega (arith, within)) rise at (less r.place p is)), (λ all. tests_less r.place p (last_below rs r p at all)))
 
-pub none_tells : (rs : List Receipt) (p : ℕ) → None ≡ slice_get rs (length rs - 1) → (true ≡ true) ↔ AllBelow rs p
-none_tells rs p at = ((λ is. none_last rs p (sym at)), (λ all. refl))
-
-pub not_below : (b : Bool) (rs xs : List Receipt) (p : ℕ) → ((b ≡ true) ↔ AllBelow rs p) → b ≡ false → rs ≡ xs → AllBelow xs p → ⊥
-not_below b rs xs p tells is same all = cc (tells.1 (subst (λ (x : List Receipt). AllBelow x p) (sym same) all), is)
+pub not_below : (b : Bool) (rs : List Receipt) (p : ℕ) → ((b ≡ true) ↔ AllBelow rs p) → b ≡ false → AllBelow rs p → ⊥
+not_below b rs p tells is all = cc (tells.1 all, is)
 
 pub some_there : (rs : List Receipt) (p : ℕ) → (AllBelow rs p → ⊥) → 0 < length rs
 some_there [] p not = absurd (not tt)
 some_there (r ∷ rs) p not = omega arith
 
-pub smaller : (o : Option Receipt) (m n : ℕ) → m + length (option_to_list o) ≡ n → (IsSome o ↔ (0 < n)) → 0 < n → m < n
-smaller None m n len is some = absurd (cc (is.1 some))
-smaller (Some r) m n len is some = omega (arith, len)
+pub smaller : (old new : List Receipt) (r : Receipt) → old ≡ new ++ r ∷ [] → length new < length old
+smaller old new r is = (let n = ap (λ (x : List Receipt). length x) is in omega (arith, n, length-append new (r ∷ [])))
 
-pub cut_end : (old new orig : List Receipt) (o : Option Receipt) (p : ℕ) → old ≡ new ++ option_to_list o → Rise old → (AllBelow old p → ⊥) → before p old ≡ before p orig → Rise new × (before p new ≡ before p orig)
-cut_end old new orig None p is rise not same =
-    let e : old ≡ new = is ∙ append-nil new in
-    (subst Rise e rise, ap (before p) (sym e) ∙ same)
-cut_end old new orig (Some r) p is rise not same =
+end_at : (xs : List Receipt) (r : Receipt) → slice_get (xs ++ r ∷ []) (length xs) ≡ Some r
+end_at [] r = refl
+end_at (x ∷ xs) r = end_at xs r
+
+pub last_one : (old new : List Receipt) (r : Receipt) → old ≡ new ++ r ∷ [] → slice_get old (length old - 1) ≡ Some r
+last_one old new r is =
+    let n : length old - 1 ≡ length new = (let e = ap (λ (x : List Receipt). length x) is in omega (arith, e, length-append new (r ∷ []))) in
+    ap (slice_get old) n ∙ ap (λ (x : List Receipt). slice_get x (length new)) is ∙ end_at new r
+
+pub cut_end : (old new orig : List Receipt) (r : Receipt) (p : ℕ) → old ≡ new ++ r ∷ [] → Rise old → (AllBelow old p → ⊥) → before p old ≡ before p orig → Rise new × (before p new ≡ before p orig)
+cut_end old new orig r p is rise not same =
     let front = rise_front new r (subst Rise is rise) in
     let high : p ≤ r.place = split {P = p ≤ r.place} r.place p
     (λ lower. absurd (not (subst (λ (x : List Receipt). AllBelow x p) (sym is) (all_append (λ (s : Receipt). s.place < p) new (r ∷ []) (below_more new r.place p (omega (arith, lower)) front.1) (lower, tt)))))

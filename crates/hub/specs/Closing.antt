@@ -3,7 +3,8 @@ use Rattle.std.specs.Prelude.{ℕ, ◌<◌, ◌≤◌, ◌==◌, List, [], ◌�
 use Rattle.std.specs.Prelude.{length, count_by, filter, nat_lt, slice_get}
 use Rattle.std.specs.List.{AllByRecursion}
 use Rattle.hub_trail.specs.Trails.{Entry}
-use Rattle.hub.specs.declared.receipt.Receipt.{Receipt}
+use Rattle.hub_roll.specs.Receipts.{Receipt}
+pub use Rattle.hub_roll.specs.Receipts.{IsOf}
 use Rattle.hub.specs.Seats.{Sitting}
 
 -- all that these seats were told
@@ -18,10 +19,6 @@ before place receipts = filter (λ (r : Receipt). nat_lt r.place place) receipts
 -- how many receipts name a place
 abbrev pub times : ℕ → List Receipt → ℕ
 times place receipts = count_by (λ (r : Receipt). r.place == place) receipts
-
--- the receipt has the event and the reply of the entry
-abbrev pub IsOf : Entry → Receipt → Type 0
-IsOf e r = (e.event ≡ r.event) × (e.reply ≡ r.reply)
 
 -- those that name the place do
 abbrev pub AreOf : ℕ → Entry → List Receipt → Type 0

@@ -16,11 +16,12 @@ use crate::answer::{Answer, HubFault};
 use crate::closing::{count, first_wrong};
 use crate::filed_session::FiledSession;
 use crate::prepared::Prepared;
-use crate::receipt::{Receipt, are_below};
+use crate::receipt::are_below;
 use crate::seat::Seat;
 use crate::trail::Trail;
 use acl::{Edition, UserId};
 use hub_record::KeptReply;
+use hub_roll::Receipts;
 use session_core::Session;
 use session_model::{Effect, Event};
 use std::alloc::Global;
@@ -83,7 +84,7 @@ fn make_seat<L: Roll>(alloc: Global, number: usize, share: Share<L>) -> Seat<L>
     Seat {
         number,
         asks: false,
-        told: Vec::new(alloc),
+        told: Receipts::new(alloc),
         share,
     }
 }
@@ -187,20 +188,17 @@ impl<L: Roll> Ledger<L> {
         if place >= FULL {
             return Err(HubFault::TrailFull);
         }
-        if !are_below(seat.told.as_slice(), place) {
+        if !are_below(&seat.told, place) {
             return Err(HubFault::Strange);
         }
-        seat.told.reserve(1)?;
+        seat.told.reserve()?;
         let Some(copy) = Prepared::of(self.filed.alloc, event)? else {
             unreachable!()
         };
         let prepared = Prepared::of(self.filed.alloc, event)?;
         let reply = self.filed.take_step(seat.number, event, prepared)?;
-        seat.told.push_reserved(Receipt {
-            place,
-            event: copy.event,
-            reply: KeptReply::of(&reply, copy.spare),
-        });
+        let told = KeptReply::of(&reply, copy.spare);
+        seat.told.push(place, copy.event, told);
         self.book.add(&mut seat.share, 1);
         let entry = self.filed.copied(seat.asks, place);
         Ok(Answer {

@@ -3,8 +3,9 @@
 ghost use Rattle.std.specs.Prelude.{◌≡◌, ◌↔◌, ◌+◌, ◌≤◌, ◌<◌, true, length};
 ghost use Rattle.hub.specs.Closing.{AreOf, before, times};
 
-use crate::receipt::{Receipt, strip};
+use crate::receipt::strip;
 use hub_record::Filed;
+use hub_roll::Receipts;
 use std::marker::Model;
 use std::sync::ledger::{Book, Ledger as Roll, Share};
 
@@ -13,7 +14,7 @@ use std::sync::ledger::{Book, Ledger as Roll, Share};
 pub struct Seat<L: Roll> {
     pub(crate) number: usize,
     pub(crate) asks: bool,
-    pub(crate) told: Vec<Receipt>,
+    pub(crate) told: Receipts,
     pub(crate) share: Share<L>,
 }
 
@@ -23,10 +24,10 @@ impl<L: Roll> Model for Seat<L> {
 
     ghost Value = { Sitting };
 
-    ghost view = { λ s. record { number = s.number; asks = s.asks; receipts = s.told.items } };
+    ghost view = { λ s. record { number = s.number; asks = s.asks; receipts = s.told.receipts } };
 
     ghost invariant = { λ s. (s.number < L.parts) × (s.share.parts ≡ 1)
-        × (s.share.amount ≡ length s.told.items) × Rise s.told.items };
+        × (s.share.amount ≡ length s.told.receipts) × Rise s.told.receipts };
 }
 
 impl<L: Roll> Seat<L> {
@@ -45,10 +46,10 @@ impl<L: Roll> Seat<L> {
     }
 
     /// What it was told, the oldest first.
-    pub fn receipts(&self) -> &[Receipt]
-        ensures { result.now ≡ self.now.receipts }
+    pub fn receipts(&self) -> &Receipts
+        ensures { result.now.receipts ≡ self.now.receipts }
     {
-        self.told.as_slice()
+        &self.told
     }
 
     /// Takes away the receipts of this place and above. How many of them name it, and whether these

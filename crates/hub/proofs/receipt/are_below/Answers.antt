@@ -1,8 +1,11 @@
-use Rattle.hub.proofs.Rising.{last_tells, none_tells}
+use Rattle.std.proofs.Common.{◌≡◌, ◌∙◌, ◌-◌, Some, ap, sym, subst, length, true}
+use Rattle.std.specs.Prelude.{◌↔◌, nat_lt, slice_get}
+use Rattle.hub.specs.Seats.{AllBelow}
+use Rattle.hub.proofs.Rising.{last_tells}
 use Rattle.hub.proofs.receipt.are_below.Goals as goal
 
-pub returns-in-Some : goal.returns-in-Some
-returns-in-Some c = last_tells c.args.receipts.now c.in-Some.receipt.now c.args.place c.requires c.in-Some.ensures.value
-
-pub returns-in-None : goal.returns-in-None
-returns-in-None c = none_tells c.args.receipts.now c.args.place c.in-None.ensures.value
+pub returns-else-count-eq0 : goal.returns-else-count-eq0
+returns-else-count-eq0 c =
+    let rs = c.args.receipts.now.receipts in
+    let at : slice_get rs (length rs - 1) ≡ Some c.at.result = ap (λ n. slice_get rs (n - 1)) (sym c.len-count.ensures) ∙ c.at.ensures in
+    subst (λ n. (nat_lt n c.args.place ≡ true) ↔ AllBelow rs c.args.place) (sym c.place.ensures) (last_tells rs c.at.result c.args.place c.requires at)

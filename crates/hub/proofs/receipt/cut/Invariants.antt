@@ -1,14 +1,13 @@
-use Rattle.std.proofs.Common.{◌≡◌}
-use Rattle.std.specs.Prelude.{vec_len}
+use Rattle.std.proofs.Common.{◌≡◌, length}
 use Rattle.hub.specs.Seats.{Rise}
 use Rattle.hub.specs.Closing.{before}
 use Rattle.hub.proofs.receipt.cut.Given as goal
 
 abbrev pub invariant-above : goal.invariant-above
 invariant-above l = record {
-  rise : Rise l.receipts.items;
-  rest : before l.place l.receipts.items ≡ before l.place l.initial.receipts.items;
+  rise : Rise l.receipts.receipts;
+  rest : before l.place l.receipts.receipts ≡ before l.place l.initial.receipts.receipts;
 }
 
 abbrev pub decreases-above : goal.decreases-above
-decreases-above l = vec_len l.receipts
+decreases-above l = length l.receipts.receipts

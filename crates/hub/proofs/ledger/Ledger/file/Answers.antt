@@ -8,7 +8,7 @@ use Rattle.hub_trail.specs.Trails.{Ending}
 use Rattle.hub_trail.specs.Filing.{ending_of, kept_of}
 use Rattle.hub.specs.Slips.{kept_by}
 use Rattle.hub.specs.States.{State, state_of}
-use Rattle.hub.specs.declared.receipt.Receipt.{Receipt}
+use Rattle.hub_roll.specs.Receipts.{Receipt}
 use Rattle.hub.specs.Seats.{AllBelow, Answers, Sitting, StandsLast, Told}
 use Rattle.hub.proofs.Filing.{answered, handed, one_more, seats_stay, stands_last}
 use Rattle.hub.proofs.Rising.{rise_pushed}
@@ -33,14 +33,14 @@ returns-clause-answer g c =
     let event = happening c.args.event in
     let reply = c.in_ok-reply.reply in
     let place = c.len-place.result in
-    let was : Sitting = record { number = c.seat.inside.number; asks = c.seat.inside.asks; receipts = c.seat.inside.told.items } in
+    let was : Sitting = record { number = c.seat.inside.number; asks = c.seat.inside.asks; receipts = c.seat.inside.told.receipts } in
     let told : Told = record { event = event; reply = reply; place = Some place; entry = c.copied-entry.result } in
-    let now : Sitting = record was { receipts = c.push_reserved.new.self.items } in
+    let now : Sitting = record was { receipts = c.push.new.self.receipts } in
     let copy = c.in-Some.copy.event in
     let same : Some copy ≡ kept_of event = sym (ap kept_by c.in-Some.is) ∙ c.in_ok-copy.ensures in
-    let below : AllBelow was.receipts place = subst (λ (x : List Receipt). AllBelow x place) c.as_slice.ensures.value (c.are_below.ensures.0 c.if-not-are_below.false) in
+    let below : AllBelow was.receipts place = c.are_below.ensures.0 c.if-not-are_below.false in
     let receipt : Ending → Receipt = λ (e : Ending). record { place = place; event = copy; reply = e } in
-    let items : now.receipts ≡ was.receipts ++ receipt (ending_of reply) ∷ [] = c.push_reserved.ensures.items ∙ (λ i. c.reserve.ensures.items i ++ receipt (c.of-3.ensures i) ∷ []) in
+    let items : now.receipts ≡ was.receipts ++ receipt (ending_of reply) ∷ [] = c.push.ensures ∙ (λ i. c.reserve.ensures.same i ++ receipt (c.of-told.ensures i) ∷ []) in
     subst (λ (s : Sitting). Answers event told s now) c.seat.view_is
     (record {
       same = refl;
@@ -68,8 +68,8 @@ invariant_of-self-2 g c =
 pub invariant_of-seat-2 : goal.invariant_of-seat-2
 invariant_of-seat-2 g c =
     let inv = c.seat.invariant in
-    let below : AllBelow c.seat.inside.told.items c.len-place.result = subst (λ (x : List Receipt). AllBelow x c.len-place.result) c.as_slice.ensures.value (c.are_below.ensures.0 c.if-not-are_below.false) in
-    let pushed = rise_pushed c.seat.inside.told.items c.reserve.new.self.items c.push_reserved.new.self.items _ c.reserve.ensures.items c.push_reserved.ensures.items inv.3 below in (
+    let below : AllBelow c.seat.inside.told.receipts c.len-place.result = c.are_below.ensures.0 c.if-not-are_below.false in
+    let pushed = rise_pushed c.seat.inside.told.receipts c.reserve.new.self.receipts c.push.new.self.receipts _ c.reserve.ensures.same c.push.ensures inv.3 below in (
       inv.0,
       c.add.ensures.parts ∙ inv.1,
       (let a = c.add.ensures.amount in omega (arith, a, inv.2, pushed.1)),
