@@ -352,10 +352,24 @@ def readme(play):
     text.leave("make lint", "it checks the texts")
 
 
+def audit(play):
+    """docs/TEACHING.md, "The desk, audited": the trail of a script, and what mux-trail says of it."""
+    play.on.open("auditor")
+    play.on.run("auditor", "cd " + TOP)
+    for line in ("muxsim --trail ~/desk.trail own < examples/desk.mux > ~/desk.out",
+                 "mux-trail check ~/desk.trail", "grep -E '^1[4-6] ' ~/desk.trail",
+                 "mux-trail why --at 14 ~/desk.trail ann w 1", "mux-trail who --at 14 ~/desk.trail | grep ^window",
+                 "sed 's/?bob:-w:0$/?bob:+w:0 ?bob:lock:0:-/' ~/desk.trail > ~/changed.trail",
+                 "mux-trail check ~/changed.trail", "sed 17d ~/desk.trail > ~/shorter.trail",
+                 "mux-trail check ~/shorter.trail"):
+        play.run("auditor", line)
+
+
 def teaching(play):
-    """docs/TEACHING.md, "With a server": two folders, a shell of another login."""
+    """docs/TEACHING.md: an audit, and "With a server": two folders, a shell of another login."""
     on = play.on
     text = play.text
+    audit(play)
     text.leave("make demo SCRIPT=class", "make examples compares what it prints")
     text.leave("make examples", "it compares the pictures")
     text.leave("sudo -iu lab", "it is played below")
