@@ -5,16 +5,22 @@ One user alone would take more than an hour: he causes at most 1,000 entries a s
 was told as an entry reaches the window, in one INPUT each; the next one finds the trail full: clients and window get
 GONE 7, in whichever loop they are, and muxd says so and ends with status 1. Equal entries share one stored form, so that
 the trail takes 4 bytes for each of them and the seats' receipts 8, in all some 50 MB; the server is to stay below 100.
+
+With the word `day` a made-up day is played in ten minutes in its place: five users type 1,400,000 keys, each into a
+window of his own, in bursts of 1, 5 and 40; the server is to take at most 20 bytes a key.
+
 MUXD names the program (that of bin/, if it isn't set); a word is the number of loops (2, if not given). Prints a line for
 each check, and ends with status 1 if one failed.
 """
 import os
+import random
 import resource
 import selectors
 import socket
 import subprocess
 import sys
 import tempfile
+import threading
 import time
 
 TOP = os.path.dirname(os.path.dirname(os.path.dirname(os.path.realpath(__file__))))
@@ -23,6 +29,7 @@ ENTRIES, OWNER, TOKEN = 4_194_304, b"own", b"0" * 64
 USERS = [OWNER] + [b"u%d" % number for number in range(1, 63)]
 BATCH = 2_000
 MOST = 100_000_000
+DAY, TYPISTS, BURSTS, MOST_A_KEY = 1_400_000, 5, (1, 5, 40), 20
 
 
 def two(number):
@@ -105,7 +112,68 @@ def fill(window, clients):
     return sent // 4
 
 
+def resident(pid):
+    """The bytes of memory that a program has."""
+    with open(f"/proc/{pid}/status", encoding="ascii") as lines:
+        return next(int(line.split()[1]) * 1024 for line in lines if line.startswith("VmRSS:"))
+
+
+def type_for_a_day(client, number):
+    """Types a share of the day's keys into the window of this number, an event each."""
+    chance, left = random.Random(number), DAY // TYPISTS
+    client.sendall(frame(b"K", b"\x01%d" % number))
+    while left:
+        count = min(left, chance.choice(BURSTS))
+        client.sendall(frame(b"K", b"x") * count)
+        left -= count
+        time.sleep(chance.random() * 0.002 * count)
+
+
+def drain(peer):
+    try:
+        while peer.recv(1 << 20):
+            pass
+    except OSError:
+        pass
+
+
+def day():
+    """Prints what a made-up day takes. The status to end with."""
+    users, size = USERS[:TYPISTS], two(4) + two(20)
+    with tempfile.TemporaryDirectory() as folder:
+        with open(f"{folder}/users", "wb") as file:
+            file.write(b"".join(user + b" " + TOKEN + b"\n" for user in users))
+        os.chmod(f"{folder}/users", 0o600)
+        command = [MUXD, "--socket", f"{folder}/socket", "--users", f"{folder}/users", "--loops", "2"]
+        with subprocess.Popen(command, stdout=subprocess.PIPE) as server:
+            server.stdout.readline()
+            title = TOKEN + bytes([len(OWNER)]) + OWNER + b"sh"
+            windows = [Peer(f"{folder}/socket", frame(b"W", size + two(0) + title)).socket for _ in users]
+            give(f"{folder}/socket", b"multiuser on")
+            give(f"{folder}/socket", b"acladd " + b",".join(users[1:]))
+            clients = [Peer(f"{folder}/socket", frame(b"A", size + TOKEN + user)).socket for user in users]
+            for peer in windows + clients:
+                peer.setblocking(True)
+                threading.Thread(target=drain, args=(peer,), daemon=True).start()
+            before = resident(server.pid)
+            typing = [threading.Thread(target=type_for_a_day, args=it[::-1]) for it in enumerate(clients)]
+            for it in typing:
+                it.start()
+            for it in typing:
+                it.join()
+            # (what waits in sockets is taken at 1,000 keys a second and user)
+            time.sleep(20)
+            taken = resident(server.pid) - before
+            give(f"{folder}/socket", b"quit")
+            status = server.wait(60)
+    is_well = taken <= DAY * MOST_A_KEY and status == 0
+    print(f"{'ok     ' if is_well else 'FAILED '} {DAY:,} keys: {taken:,} bytes, {taken / DAY:.1f} a key, status {status}")
+    return 0 if is_well else 1
+
+
 def main(words):
+    if words == ["day"]:
+        return day()
     loops = words[0] if words else "2"
     bad = 0
 
