@@ -201,7 +201,7 @@ def main():
         bad = bad or value > most
         print(f"{'ok' if value <= most else 'FAILED':8}{name}: {value:.0f} {unit}, at most {most}", flush=True)
 
-    kinds = [("a command that lists", lambda _: list_clients, 250), ("an attach and its detach", lambda _: attach_and_leave, 700),
+    kinds = [("a command that lists", lambda _: list_clients, 40), ("an attach and its detach", lambda _: attach_and_leave, 700),
              ("a window that comes and goes", lambda _: open_and_close, 900), ("a key", Keys, 40),
              ("a line of output", Words, 8)]
     for name, make, most in kinds:

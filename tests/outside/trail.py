@@ -3,8 +3,9 @@
 
 One user alone would take more than an hour: he causes at most 1,000 entries a second in the long run. Each byte that
 was told as an entry reaches the window, in one INPUT each; the next one finds the trail full: clients and window get
-GONE 7, in whichever loop they are, and muxd says so and ends with status 1. Equal entries share one stored form, so that
-the trail takes 4 bytes for each of them and the seats' receipts 8, in all some 50 MB; the server is to stay below 100.
+GONE 7, in whichever loop they are, and muxd says so and ends with status 1. Equal entries share one stored form: the
+trail takes 4 bytes for each of them, and the seats' receipts 8, in all some 50 MB. With what so many clients that type
+at once need, the server is to stay below 120 MB.
 
 With the word `day` a made-up day is played in ten minutes in its place: five users type 1,400,000 keys, each into a
 window of his own, in bursts of 1, 5 and 40; the server is to take at most 20 bytes a key.
@@ -28,7 +29,7 @@ MUXD = os.environ.get("MUXD", f"{TOP}/bin/muxd")
 ENTRIES, OWNER, TOKEN = 4_194_304, b"own", b"0" * 64
 USERS = [OWNER] + [b"u%d" % number for number in range(1, 63)]
 BATCH = 2_000
-MOST = 100_000_000
+MOST = 120_000_000
 DAY, TYPISTS, BURSTS, MOST_A_KEY = 1_400_000, 5, (1, 5, 40), 20
 
 
@@ -213,7 +214,7 @@ def main(words):
             # (the server is the one child that was waited for)
             peak = resource.getrusage(resource.RUSAGE_CHILDREN).ru_maxrss * 1024
             check(f"its memory stays below {MOST:,} bytes", max(peak, MOST), MOST)
-    print(f"{took:.0f} seconds, in {window.pieces} frames")
+    print(f"{took:.0f} seconds, in {window.pieces} frames, {peak / 1e6:.0f} MB")
     return bad
 
 
