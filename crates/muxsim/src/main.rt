@@ -4,28 +4,57 @@
 
 use program_words::{given, not_given};
 use session::{Asked, path_of, recorded, simulate};
+use std::alloc::AllocError;
+use std::fmt::{Display, Formatter};
 use std::fs::{File, OpenOptions};
 use std::io::{Read, Write};
 use std::os::unix::fs::OpenOptionsExt;
 use std::process::ExitCode;
-use std::{fs, io};
+use std::{fmt, fs, io};
+
+/// Why not all was done.
+#[derive(Drop)]
+enum Fault<'a> {
+    Io(io::Error),
+    Setup(&'a str, io::Error),
+    Trail(&'a str, io::Error),
+}
+
+impl Display for Fault<'_> {
+    fn fmt<W: fmt::Write>(&self, f: &mut Formatter<W>) -> fmt::Result {
+        match self {
+            Fault::Io(error) => write!(f, "{error}"),
+            Fault::Setup(path, error) => write!(f, "setup {path}: {error}"),
+            Fault::Trail(path, error) => write!(f, "trail {path}: {error}"),
+        }
+    }
+}
+
+impl From<AllocError> for Fault<'_> {
+    fn from(error: AllocError) -> Self {
+        Fault::Io(io::Error::from(error))
+    }
+}
+
+impl From<io::Error> for Fault<'_> {
+    fn from(error: io::Error) -> Self {
+        Fault::Io(error)
+    }
+}
 
 /// What the file has that the words name behind `--setup`; nothing where they name none.
-fn setup(rt: &HostRuntime, words: &[String]) -> io::Result<Vec<u8>> {
+fn setup<'a>(rt: &HostRuntime, words: &'a [String]) -> Result<Vec<u8>, Fault<'a>> {
     let Some(path) = path_of(rt.alloc(), words, "setup")? else {
         return Ok(Vec::new(rt.alloc()));
     };
     match fs::read(rt, path) {
         Ok(file) => Ok(file),
-        Err(error) => {
-            let _ = write!(rt.stderr(), "muxsim: setup {path}: ");
-            Err(error)
-        }
+        Err(error) => Err(Fault::Setup(path, error)),
     }
 }
 
 /// The new file that the words name behind `--trail`, which its owner alone reads and writes.
-fn trail(rt: &HostRuntime, words: &[String]) -> io::Result<Option<File>> {
+fn trail<'a>(rt: &HostRuntime, words: &'a [String]) -> Result<Option<File>, Fault<'a>> {
     let Some(path) = path_of(rt.alloc(), words, "trail")? else {
         return Ok(None);
     };
@@ -37,10 +66,7 @@ fn trail(rt: &HostRuntime, words: &[String]) -> io::Result<Option<File>> {
         .open(rt, path)
     {
         Ok(file) => Ok(Some(file)),
-        Err(error) => {
-            let _ = write!(rt.stderr(), "muxsim: trail {path}: ");
-            Err(error)
-        }
+        Err(error) => Err(Fault::Trail(path, error)),
     }
 }
 
@@ -72,14 +98,14 @@ fn play(rt: &HostRuntime, asked: Asked, trail: Option<File>) -> io::Result<u8> {
 }
 
 /// What the words name, and the script, played.
-fn run(rt: &HostRuntime, words: &[String]) -> io::Result<u8> {
+fn run<'a>(rt: &HostRuntime, words: &'a [String]) -> Result<u8, Fault<'a>> {
     let setup = setup(rt, words)?;
     let trail = trail(rt, words)?;
     let asked = Asked {
         words,
         setup: setup.as_slice(),
     };
-    play(rt, asked, trail)
+    Ok(play(rt, asked, trail)?)
 }
 
 fn main(rt: HostRuntime) -> ExitCode {
@@ -89,8 +115,8 @@ fn main(rt: HostRuntime) -> ExitCode {
     };
     match run(&rt, &words) {
         Ok(status) => ExitCode::from(status),
-        Err(error) => {
-            let _ = writeln!(rt.stderr(), "{error}");
+        Err(fault) => {
+            let _ = writeln!(rt.stderr(), "muxsim: {fault}");
             ExitCode::FAILURE
         }
     }
