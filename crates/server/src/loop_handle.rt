@@ -1,7 +1,7 @@
 //! How connections and news come to a loop.
 
 use crate::acceptor::Acceptor;
-use crate::users_file::{Stamp, Told};
+use crate::users_file::Watched;
 use mio::net::UnixStream;
 use mio::{Poll, Registry, Waker};
 use server_log::Log;
@@ -72,7 +72,7 @@ pub struct Shared {
     pub over: OnceLock<End>,
     /// To how many loops much comes.
     pub busy: AtomicU64,
-    pub told: Told,
+    pub watched: Watched,
     pub log: Log,
     /// Whether it is told who comes and goes.
     pub tells: bool,
@@ -86,8 +86,6 @@ pub struct LoopStart {
     /// The poll's. It has its descriptor before anybody connects.
     pub registry: Registry,
     pub acceptor: Option<Acceptor>,
-    /// The users' file as it was read at first.
-    pub seen: Stamp,
 }
 
 impl Shared {

@@ -6,7 +6,7 @@ use crate::loop_handle::{LoopHandle, LoopStart, Shared};
 use crate::setup_file::Setup;
 use crate::socket::Place;
 use crate::turns::{LISTEN, Server, WAKE};
-use crate::users_file::{Stamp, Told, UsersFile, UsersSource};
+use crate::users_file::{Stamp, UsersFile, UsersSource, Watched};
 use acl::UserId;
 use mio::net::UnixListener;
 use mio::{Interest, Poll, Waker};
@@ -54,7 +54,6 @@ fn places<R: Net>(
     rt: &R,
     alloc: Global,
     loops: usize,
-    seen: Stamp,
     mut listener: UnixListener,
 ) -> Result<(Vec<LoopStart>, Vec<LoopHandle>), ServeFault> {
     let mut starts = Vec::new(alloc);
@@ -79,7 +78,6 @@ fn places<R: Net>(
             poll,
             registry,
             acceptor: acceptor.take(),
-            seen,
         })?;
     }
     Ok((starts, loop_handles))
@@ -130,17 +128,17 @@ where
 fn shared<R: Net + AllocGlobal>(
     rt: &R,
     asked: Asked,
-    seen: Stamp,
+    watched: Watched,
     listener: UnixListener,
 ) -> Result<(Shared, Vec<LoopStart>), ServeFault> {
     let alloc = rt.alloc();
     let loops = asked.loops.clamp(1, 8);
-    let (starts, loop_handles) = places(rt, alloc, loops, seen, listener)?;
+    let (starts, loop_handles) = places(rt, alloc, loops, listener)?;
     let shared = Shared {
         loop_handles,
         over: OnceLock::new(),
         busy: AtomicU64::new(0),
-        told: Told::new(seen),
+        watched,
         log: Log::new(alloc, loops),
         tells: asked.tells,
     };
@@ -178,7 +176,8 @@ where
     O: Write,
 {
     let alloc = rt.alloc();
-    let (shared, starts) = shared(rt, asked, seen, listener)?;
+    let watched = Watched::new(alloc, seen, users.owner());
+    let (shared, starts) = shared(rt, asked, watched, listener)?;
     let journal = journal(host.runtime, alloc, asked.trail, users.owner())?;
     let server = Server {
         shared,

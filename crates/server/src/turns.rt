@@ -4,7 +4,7 @@ use crate::acceptor::Acceptor;
 use crate::loop_handle::{LoopHandle, LoopStart, Shared};
 use crate::news_line::NewsLine;
 use crate::setup_file::Setup;
-use crate::users_file::{Stamp, UsersSource};
+use crate::users_file::UsersSource;
 use crate::winding::wind_up;
 use crate::wired::Wired;
 use mio::{Events, Poll, Registry, Token};
@@ -182,18 +182,14 @@ fn tell_others<L: Roll, G: Gate + Drop>(
 // Who may connect is looked at anew, where a first message may be there.
 fn look_at_users<L: Roll, G: Gate + Drop, U: UsersSource, R: Clock + Wait>(
     rt: &R,
-    session: &SharedSession<L>,
     server: &Server<G, U>,
-    seen: &mut Option<Stamp>,
+    count: &mut u64,
     own: &mut Loop<Wired, G, L>,
 ) {
     if own.peers.has_newcomer() {
-        if let Some(found) = server.users.look(seen) {
-            let shared = &server.shared;
-            let owner = session.users.owner();
-            if let Some(users) = shared.told.take(rt, &shared.log, seen, owner, found) {
-                own.users = Some(users);
-            }
+        let shared = &server.shared;
+        if let Some(users) = shared.watched.newest(rt, &shared.log, &server.users, count) {
+            own.users = Some(users);
         }
     }
 }
@@ -276,7 +272,6 @@ fn run_loop<L: Roll, G: Gate + Copy + Drop, U: UsersSource, R: Clock + Wait>(
         mut poll,
         registry,
         acceptor,
-        seen,
     } = start;
     let shared = &server.shared;
     let Some(loop_handle) = shared.loop_handles.get(me) else {
@@ -292,7 +287,7 @@ fn run_loop<L: Roll, G: Gate + Copy + Drop, U: UsersSource, R: Clock + Wait>(
         acceptor,
         pace: Pace::new(),
     };
-    let mut seen = Some(seen);
+    let mut count = 0;
     let mut events = Events::with_capacity(alloc, 64)?;
     let loops = shared.loop_handles.len();
     let mut own: Loop<Wired, G, L> = Loop::new(alloc, seat, gate, loops)?;
@@ -300,7 +295,7 @@ fn run_loop<L: Roll, G: Gate + Copy + Drop, U: UsersSource, R: Clock + Wait>(
     for _ in rt.forever() {
         sleep(&mut poll, &mut events, &watch, &own)?;
         begin_turn(rt, &events, &mut watch, &mut own)?;
-        look_at_users(rt, session, server, &mut seen, &mut own);
+        look_at_users(rt, server, &mut count, &mut own);
         turn(rt, session, &mut watch, &mut own)?;
         if let Some(end) = shared.over.get() {
             watch.acceptor = None;

@@ -92,55 +92,82 @@ impl UsersSource for UsersFile<'_> {
             return None;
         }
         *seen = found;
-        match self.read() {
-            Ok((users, _)) => Some(Ok(users)),
-            Err(fault) => Some(Err(fault)),
-        }
+        Some(self.read().map(|(users, _stamp)| users))
     }
 }
 
-/// Of which users' file it was told how it was read.
+// The users' file as it was looked at last.
 #[derive(Drop)]
-pub struct Told {
-    stamp: Mutex<Option<Stamp>>,
+struct Last {
+    stamp: Option<Stamp>,
+    // How many sound ones there were behind the first, and the users of the last of them.
+    count: u64,
+    users: Option<Users>,
 }
 
-impl Told {
-    /// The file that was read at first.
-    pub fn new(stamp: Stamp) -> Told {
-        Told {
-            stamp: Mutex::new(Some(stamp)),
+impl Last {
+    // Its users count where it is sound and has this owner; otherwise they stay. Either is told.
+    fn take<R: Clock + Wait>(
+        &mut self,
+        rt: &R,
+        log: &Log,
+        owner: UserId,
+        found: Result<Users, ServeFault>,
+    ) {
+        match found {
+            Ok(users) if users.owner() == owner => {
+                log.put(rt, &"the users' file is read anew");
+                self.users = Some(users);
+                self.count = self.count.saturating_add(1);
+            }
+            Ok(_) => log.put(rt, &OTHER_OWNER),
+            Err(ServeFault::NoMemory) => self.stamp = None,
+            Err(fault) => log.put(rt, &Stays(fault)),
+        }
+    }
+}
+
+/// The users' file, which one loop reads for all of them.
+#[derive(Drop)]
+pub struct Watched {
+    alloc: Global,
+    owner: UserId,
+    last: Mutex<Last>,
+}
+
+impl Watched {
+    /// The file that was read at first, with its owner, who is the session's.
+    pub fn new(alloc: Global, stamp: Stamp, owner: UserId) -> Watched {
+        Watched {
+            alloc,
+            owner,
+            last: Mutex::new(Last {
+                stamp: Some(stamp),
+                count: 0,
+                users: None,
+            }),
         }
     }
 
-    fn is_new(&self, rt: &impl Wait, stamp: Option<Stamp>) -> bool {
-        let mut told = self.stamp.lock(rt);
-        std::mem::replace(&mut *told, stamp) != stamp
-    }
-
-    /// The users of a file that has changed, where it is sound and has this owner. Otherwise they
-    /// stay, and what is wrong with the file is told once.
-    pub fn take<R: Clock + Wait>(
+    /// Looks at the file. The users of the last sound one, where they aren't those of this count,
+    /// which a loop had last. Without memory it gets them the next time.
+    pub fn newest<R: Clock + Wait, U: UsersSource>(
         &self,
         rt: &R,
         log: &Log,
-        seen: &mut Option<Stamp>,
-        owner: UserId,
-        found: Result<Users, ServeFault>,
+        source: &U,
+        count: &mut u64,
     ) -> Option<Users> {
-        let is_new = self.is_new(rt, *seen);
-        match found {
-            Ok(users) if users.owner() == owner => {
-                if is_new {
-                    log.put(rt, &"the users' file is read anew");
-                }
-                return Some(users);
-            }
-            Ok(_) if is_new => log.put(rt, &OTHER_OWNER),
-            Err(ServeFault::NoMemory) => *seen = None,
-            Err(fault) if is_new => log.put(rt, &Stays(fault)),
-            _ => {}
+        let mut guard = self.last.lock(rt);
+        let last = &mut *guard;
+        if let Some(found) = source.look(&mut last.stamp) {
+            last.take(rt, log, self.owner, found);
         }
-        None
+        if last.count == *count {
+            return None;
+        }
+        let users = last.users.as_ref()?.copy(self.alloc).ok()?;
+        *count = last.count;
+        Some(users)
     }
 }

@@ -9,7 +9,7 @@ ghost use Rattle.server_turn.specs.Stands.{Breaks, entries_of};
 use crate::fault::UsersFault;
 use crate::user::User;
 use acl::UserId;
-use std::alloc::Global;
+use std::alloc::{AllocError, Global};
 use std::marker::Model;
 
 /// Who may connect: names and tokens, the first the session's owner.
@@ -94,6 +94,14 @@ impl Users {
             list.push(user)?;
             rest = behind_feed(more);
         }
+    }
+
+    /// A copy.
+    pub fn copy(&self, alloc: Global) -> Result<Users, AllocError>
+        ensures { IfOk result (λ copy. copy ≡ self.now) }
+    {
+        let list = Vec::from_slice(alloc, self.list.as_slice())?;
+        Ok(Users { list })
     }
 
     /// The user of the first line.
