@@ -1,7 +1,7 @@
 #!/usr/bin/env python3
 """A server under strain: peers that stop reading, strangers that say nothing, servers that start at once, its end.
 
-tests/outside/strain.py [--muxd PATH] prints a line for each check, and ends with status 1 if one failed.
+tests/outside/strain.py [--muxd PATH] [PART..] prints a line for each check, and ends with status 1 if one failed.
 """
 
 import argparse
@@ -45,24 +45,25 @@ def window():
     return frame(b"W", two(24) + two(80) + two(0) + TOKEN + bytes([len(OWNER)]) + OWNER + b"sh")
 
 
-def command(line):
-    return frame(b"C", b"\xff" + TOKEN + bytes([len(OWNER)]) + OWNER + line)
+def command(line, number=0xff):
+    return frame(b"C", bytes([number]) + TOKEN + bytes([len(OWNER)]) + OWNER + line)
 
 
 class Server:
-    """A server in a folder of its own, perhaps with so many descriptors."""
+    """A server in a folder of its own, perhaps with so many descriptors, or with a log, which is read here."""
 
-    def __init__(self, loops=2, descriptors=None):
+    def __init__(self, loops=2, descriptors=None, log=False):
         self.folder = tempfile.TemporaryDirectory()
         self.path = f"{self.folder.name}/socket"
         self.users = Path(self.folder.name, "users")
         self.users.write_bytes(OWNER + b" " + TOKEN + b"\n")
         self.users.chmod(0o600)
-        self.errors = open(f"{self.folder.name}/errors", "w+b")
+        self.errors = subprocess.PIPE if log else open(f"{self.folder.name}/errors", "w+b")
         limit = (lambda: resource.setrlimit(resource.RLIMIT_NOFILE, (descriptors, descriptors))) if descriptors else None
         self.program = subprocess.Popen(
-            [WORDS.muxd, "--socket", self.path, "--users", self.users, "--loops", str(loops)],
+            [WORDS.muxd, "--socket", self.path, "--users", self.users, "--loops", str(loops), *["--log"] * log],
             stdout=subprocess.PIPE, stderr=self.errors, preexec_fn=limit)
+        self.errors = self.program.stderr or self.errors
         assert self.program.stdout.readline() == b"muxd: ready\n", "the server isn't ready"
 
     def __enter__(self):
@@ -83,9 +84,9 @@ class Server:
             it.sendall(first)
         return it
 
-    def give(self, line, wait=20):
+    def give(self, line, wait=20, number=0xff):
         """What a command is answered, to the end of its connection."""
-        it = self.connect(command(line), wait)
+        it = self.connect(command(line, number), wait)
         try:
             return all_of(it)
         finally:
@@ -131,8 +132,9 @@ def dead_window():
     """A window whose program stops reading is given up, and its client shows that without another event."""
     with Server(loops=1) as server:
         shell = server.connect(window())
+        assert welcome(shell)
         client = server.connect(attach())
-        assert welcome(shell) and welcome(client)
+        assert welcome(client)
         while has_come(client, 1):
             client.recv(65536)
         ended = select.poll()
@@ -174,16 +176,39 @@ def strangers():
     with Server() as server:
         first = [server.connect() for _ in range(44)]
         others = [server.connect() for _ in range(256)]
+        begin = time.time()
         has_come(first[-1], 5)
         time.sleep(0.2)
         gone = sum(has_come(it, 0) and all_of(it) == GONE_FAULT for it in first)
         left = sum(not has_come(it, 0) for it in others)
         check("of 300 strangers the first 44 go", (gone, left) == (44, 256), f"{gone} went, {left} stay")
         check("the owner is answered", server.give(b"windows").endswith(b"g\0\1\0"))
-        begin = time.time()
         check("the others are told to go", all(all_of(it) == GONE_FAULT for it in others))
         took = time.time() - begin
         check("when 10 seconds are over", 8 < took < 13, f"{took:.1f} s")
+
+
+def told_to_go():
+    """A window that was told to go, and doesn't read what waits for it, is closed when 10 seconds are over."""
+    with Server() as server:
+        deaf = server.connect(window())
+        assert welcome(deaf)
+        client = server.connect(attach())
+        assert welcome(client)
+        for _ in range(60):
+            client.sendall(frame(b"K", b"x" * 8192))
+        time.sleep(1)
+        check("a window is killed", server.give(b"kill", number=0).endswith(b"g\0\1\0"))
+        begin = time.time()
+        ended = select.poll()
+        ended.register(deaf, select.POLLHUP)
+        has_ended = ended.poll(20_000)
+        took = time.time() - begin
+        check("and closed when 10 seconds are over, though it doesn't read", has_ended and 8 < took < 13,
+              f"{took:.1f} s")
+        typed = all_of(deaf)
+        check("what it didn't take is dropped", 0 < typed.count(b"x") < 60 * 8192 and not typed.endswith(b"g\0\1\3"),
+              f"{len(typed)} bytes")
 
 
 def few_descriptors():
@@ -218,8 +243,9 @@ def few_descriptors():
 def winding_up():
     with Server() as server:
         deaf = server.connect(window())
+        assert welcome(deaf)
         client = server.connect(attach())
-        assert welcome(deaf) and welcome(client)
+        assert welcome(client)
         for _ in range(60):
             client.sendall(frame(b"K", b"x" * 8192))
         stop = threading.Event()
@@ -263,7 +289,7 @@ def at_once():
             for it in programs:
                 if it not in ready:
                     told += b"a server listens there" in it.communicate()[1] and it.returncode == 1
-            if len(ready) != 1 or not stat.S_ISSOCK(os.stat(path).st_mode):
+            if len(ready) != 1 or not (os.path.exists(path) and stat.S_ISSOCK(os.stat(path).st_mode)):
                 wrong.append(len(ready))
             for it in ready:
                 it.kill()
@@ -295,8 +321,9 @@ def one_who_floods():
     """One user's entries have a rate in the long run; his keys wait, and nobody is cut off."""
     with Server() as server:
         shell = server.connect(window())
+        assert welcome(shell)
         client = server.connect(attach())
-        assert welcome(shell) and welcome(client)
+        assert welcome(client)
         client.setblocking(False)
         shell.setblocking(False)
         many = frame(b"K", b"x") * 2000
@@ -319,14 +346,42 @@ def one_who_floods():
         check("and his command is answered", answer.endswith(b"g\0\1\0") and time.time() - begin < 2)
 
 
+def unread_log():
+    """Nobody waits for a log that isn't read, and the lines that are left out are counted."""
+    with Server(log=True) as server:
+        answered = sum(server.give(b"windows").endswith(b"g\0\1\0") for _ in range(6000))
+        check("beside a log that nobody reads 6,000 commands are done", answered == 6000, str(answered))
+        said = []
+        reader = threading.Thread(target=lambda: said.extend(server.errors))
+        reader.start()
+        server.give(b"quit")
+        check("once it is read the server ends", server.ends_within(10) == 0)
+        reader.join()
+        told = sum(line.endswith(b" a command of own\n") for line in said)
+        left_out = [int(line.split()[1]) for line in said if line.endswith(b" lines are left out here\n")]
+        check("each command is told, or counted as left out", sum(left_out) > 0 and told + sum(left_out) == 6001,
+              f"{told} told, {left_out} left out")
+
+
+PARTS = (dead_window, ends_behind_frames, winding_up, at_once, one_who_floods, few_descriptors, strangers, told_to_go,
+         unread_log)
+
+
 def main():
     global WORDS
     top = Path(__file__).resolve().parent.parent.parent
     reader = argparse.ArgumentParser(description=__doc__)
     reader.add_argument("--muxd", default=os.environ.get("MUXD", str(top / "bin/muxd")), help="the server's program")
     reader.add_argument("--tries", type=int, default=100, help="how often servers are started at once")
+    names = [play.__name__ for play in PARTS]
+    reader.add_argument("parts", nargs="*", metavar="PART", help=f"what is played, of {', '.join(names)}")
     WORDS = reader.parse_args()
-    for play in (dead_window, ends_behind_frames, winding_up, at_once, one_who_floods, few_descriptors, strangers):
+    for name in WORDS.parts:
+        if name not in names:
+            reader.error(f"no part has the name {name}")
+    for play in PARTS:
+        if WORDS.parts and play.__name__ not in WORDS.parts:
+            continue
         try:
             play()
         except (AssertionError, OSError) as error:

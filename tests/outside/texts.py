@@ -92,9 +92,9 @@ class Text:
         if name.endswith(".md"):
             prose = re.sub(r"^    .*$", "", text, flags=re.MULTILINE)
             spans = SPAN.findall(re.sub(r"\s+", " ", prose))
-            # Names of a program's ways, and patterns of words, are no command lines.
+            # Names of a program's ways and words, and patterns of words, are no command lines.
             self.spans = [span for span in spans
-                          if not re.search(r"\[|\.\.|\\|^mux (attach|window|command)$", span)]
+                          if not re.search(r"\[|\.\.|\\|^mux(d|sim|-trail)? (--)?[a-z]+$", span)]
 
     def take(self, line):
         """The next command line of a block, or one of the prose; what the text prints below it."""
@@ -225,10 +225,15 @@ class Play:
         return re.sub(r"/(srv|etc/mux|run/mux)/(?=\w)", self.on.far + "/", line)
 
     def run(self, pane, line):
-        """A command line that ends, of a user or of root."""
-        root = self.text.lines and self.text.lines[0][0] == "# " + line
-        printed = self.text.take(("# " if root else "$ ") + line)
-        self.on.run(pane, self.real(line), printed)
+        """A command line that ends, of a user or of root, or one of the prose."""
+        here = self.text.lines[0][0] if self.text.lines else ""
+        if here == "# " + line:
+            taken = here
+        elif here != "$ " + line and line in self.text.spans:
+            taken = line
+        else:
+            taken = "$ " + line
+        self.on.run(pane, self.real(line), self.text.take(taken))
 
     def attach(self, pane, line, caption, taken=None):
         """A command line that attaches the terminal, which then shows a caption."""
@@ -524,6 +529,13 @@ def policies(play):
     may_not("ann", None, "aclchg jo +w hers", "denied: x on aclchg: entry ann -x")
     over()
     text.leave("$ muxsim --show --setup support own < support.mux", "make examples compares what it prints")
+    for name in ("support", "support.mux"):
+        shutil.copy(os.path.join(TOP, "contrib/policies", name), on.home)
+    on.run("own", "cd; clear")
+    play.run("own", "muxsim --trail support.trail --setup support own < support.mux > /dev/null")
+    play.run("own", "mux-trail check support.trail")
+    play.run("own", "mux-trail why support.trail sue w 0")
+    on.shows("own", "^no$")
 
 
 def operating(play):
@@ -598,7 +610,8 @@ def operating(play):
                  "# mux-trail check $trail"):
         text.leave(line, system)
     for line in ("muxd --trail FILE", "mux-trail who FILE", "mux-trail why FILE ann w 3", "mux-trail who --at 1200 FILE",
-                 "mux-trail show FILE", "mux-trail show --json FILE", "mux-trail check FILE",
+                 "mux-trail show --follow FILE", "mux-trail show FILE", "mux-trail show --json FILE",
+                 "mux-trail check FILE",
                  "mux-trail check --owner own"):
         text.leave(line, "tests/outside/trailfile plays it")
     text.leave("mux-shell script -f FILE", "its program's matter")
@@ -694,6 +707,16 @@ def printing_page(play):
     play.run("ann", line)
 
 
+def trail_page(play):
+    """man/mux-trail.1: a trail of examples/, and one in which a line was changed."""
+    for name in ("support.trail", "support-tampered.trail"):
+        shutil.copy(os.path.join(TOP, "examples", name), play.on.home)
+    play.on.open("ann")
+    play.on.run("ann", "cd; clear")
+    while play.text.lines:
+        play.run("ann", play.text.lines[0][0][2:])
+
+
 def session_pages(play):
     """Pages of scripts that join a session: their examples, on a server with a window, where all is open."""
     on = play.on
@@ -750,6 +773,7 @@ PLAYS = {
     "man/mux-users.5": mux_users_page,
     "man/muxsim.1": printing_page,
     "man/vtcat.1": printing_page,
+    "man/mux-trail.1": trail_page,
     "man/new-token.1": session_pages,
     "man/muxd-wait.1": session_pages,
     "man/mux-command.1": session_pages,
@@ -765,6 +789,13 @@ PLAYS = {
     "docs/TEACHING.md": teaching,
     "docs/FIRST-SESSION.md": first_session,
 }
+
+
+def pages_are_played():
+    """Each man page that has a command line is one of the texts."""
+    for name in sorted(os.listdir(os.path.join(TOP, "man"))):
+        if "man/" + name not in PLAYS and Text("man/" + name).lines:
+            raise Fault("man/%s: not played" % name)
 
 
 def programs(folder):
@@ -794,6 +825,7 @@ def main(names):
     try:
         words_agree()
         print("the words of --help and of the pages agree")
+        pages_are_played()
     except Fault as fault:
         print("FAILED: %s" % fault)
         status = 1

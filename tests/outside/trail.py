@@ -3,9 +3,9 @@
 
 One user alone would take more than an hour: he causes at most 1,000 entries a second in the long run. Each byte that
 was told as an entry reaches the window, in one INPUT each; the next one finds the trail full: clients and window get
-GONE 7, in whichever loop they are, and muxd says so and ends with status 1. Equal entries share one stored form: the
-trail takes 4 bytes for each of them, and the seats' receipts 8, in all some 50 MB. With what so many clients that type
-at once need, the server is to stay below 120 MB.
+GONE 7, in whichever loop they are, and muxd says so, in its log how full it was before, and ends with status 1. Equal
+entries share one stored form: the trail takes 4 bytes for each of them, and the seats' receipts 8, in all some 50 MB.
+With what so many clients that type at once need, the server is to stay below 120 MB.
 
 With the word `day` a made-up day is played in ten minutes in its place: five users type 1,400,000 keys, each into a
 window of his own, in bursts of 1, 5 and 40; the server is to take at most 20 bytes a key.
@@ -191,7 +191,7 @@ def main(words):
             users.write(b"".join(user + b" " + TOKEN + b"\n" for user in USERS))
         os.chmod(f"{folder}/users", 0o600)
         how = {"stdout": subprocess.PIPE, "stderr": subprocess.PIPE, "text": True}
-        command = [MUXD, "--socket", f"{folder}/socket", "--users", f"{folder}/users", "--loops", loops]
+        command = [MUXD, "--log", "--socket", f"{folder}/socket", "--users", f"{folder}/users", "--loops", loops]
         with subprocess.Popen(command, **how) as server:
             check("a server", server.stdout.readline(), "muxd: ready\n")
             size = two(4) + two(20)
@@ -209,7 +209,12 @@ def main(words):
             check("the window is let go", window.gone, 7)
             check("the clients are let go", {client.gone for client in clients}, {7})
             _, errors = server.communicate(timeout=60)
-            check("what the server says", errors, "muxd: the session's trail is full: start another session\n")
+            check("what the server says", errors.splitlines(True)[-1],
+                  "muxd: the session's trail is full: start another session\n")
+            check("and before", [line.split()[-2] for line in errors.splitlines() if line.endswith(" percent")],
+                  ["50", "75", "90", "99"])
+            went = sum(line.endswith(" went: the trail is full") for line in errors.splitlines())
+            check("each client and the window is told to have gone", went, len(USERS) + 1)
             check("its status", server.returncode, 1)
             # (the server is the one child that was waited for)
             peak = resource.getrusage(resource.RUSAGE_CHILDREN).ru_maxrss * 1024

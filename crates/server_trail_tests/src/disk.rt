@@ -15,8 +15,10 @@ pub struct Disk<'r, R: Clock> {
     most: usize,
     /// How long each write takes, in milliseconds.
     pause: u64,
-    /// How many writes are refused.
+    /// How many writes are refused, each behind one that took some.
     refused: u32,
+    /// The last write took some.
+    has_taken: bool,
     pub syncs: u32,
 }
 
@@ -28,6 +30,7 @@ impl<'r, R: Clock> Disk<'r, R> {
             most: usize::MAX,
             pause: 0,
             refused: 0,
+            has_taken: false,
             syncs: 0,
         }
     }
@@ -41,7 +44,7 @@ impl<'r, R: Clock> Disk<'r, R> {
         }
     }
 
-    /// So many writes are refused from now on.
+    /// So many writes are refused from now on, each behind one that takes some.
     pub fn refuse(&mut self, count: u32) {
         self.refused = count;
     }
@@ -50,12 +53,14 @@ impl<'r, R: Clock> Disk<'r, R> {
 impl<'r, R: Clock> Write for Disk<'r, R> {
     fn write(&mut self, buf: &[u8]) -> io::Result<usize> {
         thread::sleep(self.rt, Duration::from_millis(self.pause));
-        if self.refused > 0 {
+        if self.refused > 0 && self.has_taken {
             self.refused -= 1;
+            self.has_taken = false;
             return Err(io::Error::from(ErrorKind::Other));
         }
         let count = buf.len().min(self.most);
         self.text.extend_from_slice(&buf[..count])?;
+        self.has_taken = true;
         Ok(count)
     }
 

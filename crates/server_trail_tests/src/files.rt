@@ -82,7 +82,7 @@ fn slow_file_has_every_line_once(rt: HostRuntime) {
 #[test]
 fn refused_writes_go_on(rt: HostRuntime) {
     let alloc = rt.alloc();
-    let disk = Disk::new(&rt, alloc).slow(0, 5_000);
+    let disk = Disk::new(&rt, alloc).slow(0, 500);
     assert_eq!(rt; plays(&rt, alloc, disk, 3), Some(true));
 }
 
