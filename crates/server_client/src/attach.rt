@@ -1,7 +1,7 @@
 //! `mux`: a client, a window or a command.
 
 use crate::fault::{ClientFault, Gone};
-use crate::opening::{Opened, Way, number, open};
+use crate::opening::{Opened, Way, number, open, warn_of_token};
 use crate::refusals::explain;
 use crate::showing::show;
 use crate::standing::{Intake, Outlet, Shared, Standing};
@@ -196,6 +196,7 @@ pub fn client<
         return 2;
     };
     let way = Way::of(name);
+    warn_of_token(rt, matches, errors);
     let ending = match run(rt, way, matches, input, output) {
         Ok(ending) => ending,
         Err(fault) => Ending {

@@ -12,6 +12,8 @@ pub enum ClientFault {
     Words,
     #[error("the token's file isn't read: {0}: --token names it")]
     NoFile(io::Error),
+    #[error("others may write the token's file: chmod go-w {0}")]
+    Writable(String),
     #[error("the sizes' file isn't opened: {0}: --sizes names it")]
     NoSizes(io::Error),
     #[error("standard input isn't read: {0}")]

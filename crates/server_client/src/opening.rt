@@ -7,7 +7,13 @@ use std::fs;
 use std::fs::{File, Files, OpenOptions};
 use std::io::{ErrorKind, Write};
 use std::net::Net;
+use std::os::unix::fs::MetadataExt;
 use std::os::unix::net::UnixStream;
+
+// Modes of a file: those of its group and of all others.
+const OTHERS_READ: u32 = 0o044;
+
+const OTHERS_WRITE: u32 = 0o022;
 
 /// What a peer is to the server.
 #[derive(Clone, Copy, Debug, PartialEq, Eq)]
@@ -81,6 +87,30 @@ fn first_frame<R: AllocGlobal>(
     Ok(frame)
 }
 
+// Whether others may use a file so. A terminal or a pipe is none.
+fn is_open<R: Files<File = File>>(rt: &R, path: &str, mode: u32) -> bool {
+    match fs::metadata(rt, path) {
+        Ok(found) => found.is_file() && found.mode() & mode != 0,
+        Err(_) => false,
+    }
+}
+
+/// Warns of a token's file that others may read.
+pub fn warn_of_token<R: Files<File = File>, E: Write>(
+    rt: &R,
+    matches: &ArgMatches,
+    errors: &mut E,
+) {
+    if let Ok(path) = word(matches, "token") {
+        if is_open(rt, path, OTHERS_READ) {
+            let _ = writeln!(
+                errors,
+                "mux: others may read the token's file: chmod go-r {path}"
+            );
+        }
+    }
+}
+
 fn token_of(file: &[u8]) -> Result<Token, ClientFault> {
     let digits = file.strip_suffix(b"\n".as_slice()).unwrap_or(file);
     Token::read(digits).ok_or(ClientFault::NoToken)
@@ -136,7 +166,11 @@ pub fn open<R: Net + Files<File = File> + AllocGlobal>(
 ) -> Result<Opened, ClientFault> {
     let zeros = Token::read(&[b'0'; 64]).ok_or(ClientFault::NoToken)?;
     first_frame(rt, way, matches, zeros)?;
-    let file = fs::read(rt, word(matches, "token")?).map_err(ClientFault::NoFile)?;
+    let path = word(matches, "token")?;
+    if is_open(rt, path, OTHERS_WRITE) {
+        return Err(ClientFault::Writable(String::from_str(rt.alloc(), path)?));
+    }
+    let file = fs::read(rt, path).map_err(ClientFault::NoFile)?;
     let token = token_of(&file)?;
     let sizes = open_sizes(rt, way, matches)?;
     let frame = first_frame(rt, way, matches, token)?;
