@@ -1,4 +1,4 @@
-//! Tests of the tables of a session.
+//! Tests of the windows of a session.
 #![tactic(auto)]
 
 #[cfg(test)]
