@@ -2,7 +2,7 @@
 
 use server_loop::End;
 use server_trail::JournalFault;
-use server_turn::UsersFault;
+use server_users::UsersFault;
 use std::alloc::{AllocError, AllocFailed, Global};
 use std::io;
 use thiserror::Error;

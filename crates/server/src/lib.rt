@@ -14,5 +14,6 @@ mod winding;
 mod wired;
 
 pub use server_loop::{Gate, Loop, Open};
-pub use server_turn::{AuthFault, Turn, Users, UsersFault, authenticate};
+pub use server_turn::Turn;
+pub use server_users::{AuthFault, Users, UsersFault, authenticate};
 pub use serving::{Host, serve, serve_through};

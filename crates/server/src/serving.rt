@@ -11,9 +11,9 @@ use acl::UserId;
 use mio::net::UnixListener;
 use mio::{Interest, Poll, Waker};
 use server_log::Log;
-use server_loop::{Gate, LoopsFault, Open, keep};
+use server_loop::{Gate, LoopsFault, Open, Start, keep};
 use server_trail::Journal;
-use server_turn::Users;
+use server_users::Users;
 use server_words::{of_server, tell};
 use std::alloc::Global;
 use std::collections::VecDeque;
@@ -93,9 +93,7 @@ fn trail_fault(rt: &impl Wait, alloc: Global, journal: Option<&Journal>) -> Opti
 // Serves a new session on a listener, until it ends.
 fn serve_on<R, G, U, O>(
     rt: &R,
-    alloc: Global,
-    users: Users,
-    starts: Vec<LoopStart>,
+    start: Start<LoopStart>,
     server: &Server<G, U>,
     output: &mut O,
 ) -> Result<(), ServeFault>
@@ -105,7 +103,8 @@ where
     U: UsersSource + Sync + Drop,
     O: Write,
 {
-    let kept = keep(rt, alloc, users, starts, server, || {
+    let alloc = start.alloc;
+    let kept = keep(rt, start, server, || {
         writeln!(output, "muxd: ready")?;
         output.flush()
     });
@@ -177,7 +176,7 @@ where
 {
     let alloc = rt.alloc();
     let watched = Watched::new(alloc, seen, users.owner());
-    let (shared, starts) = shared(rt, asked, watched, listener)?;
+    let (shared, places) = shared(rt, asked, watched, listener)?;
     let journal = journal(host.runtime, alloc, asked.trail, users.owner())?;
     let server = Server {
         shared,
@@ -191,7 +190,12 @@ where
         log: host.runtime.stderr(),
         journal,
     };
-    serve_on(rt, alloc, users, starts, &server, output)
+    let start = Start {
+        alloc,
+        users,
+        places,
+    };
+    serve_on(rt, start, &server, output)
 }
 
 fn run<R, G, O, E>(

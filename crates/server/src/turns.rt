@@ -81,14 +81,23 @@ fn admit<'a, L: Roll, G: Gate + Drop>(
     }
 }
 
-/// Waits for events, at most so long. An interrupted wait has none.
-pub fn wait(poll: &mut Poll, events: &mut Events, timeout: Option<Duration>) -> io::Result<()> {
-    match poll.poll(events, timeout) {
-        Err(error) if error.kind() == ErrorKind::Interrupted => {
-            events.clear();
-            Ok(())
+/// What a loop waits with, and the events that came.
+#[derive(Drop)]
+pub struct Waiting {
+    poll: Poll,
+    events: Events,
+}
+
+impl Waiting {
+    /// Waits for events, at most so long. An interrupted wait has none.
+    pub fn wait(&mut self, timeout: Option<Duration>) -> io::Result<()> {
+        match self.poll.poll(&mut self.events, timeout) {
+            Err(error) if error.kind() == ErrorKind::Interrupted => {
+                self.events.clear();
+                Ok(())
+            }
+            waited => waited,
         }
-        waited => waited,
     }
 }
 
@@ -109,8 +118,7 @@ fn timeout<L: Roll, G: Gate + Drop>(watch: &Watch, own: &Loop<Wired, G, L>) -> O
 
 // Waits until the loop has something to do. It is woken by news only while it sleeps.
 fn sleep<L: Roll, G: Gate + Drop>(
-    poll: &mut Poll,
-    events: &mut Events,
+    waiting: &mut Waiting,
     watch: &Watch,
     own: &Loop<Wired, G, L>,
 ) -> io::Result<()> {
@@ -118,7 +126,7 @@ fn sleep<L: Roll, G: Gate + Drop>(
     if longest != Some(Duration::ZERO) && !watch.loop_handle.may_sleep() {
         longest = Some(Duration::ZERO);
     }
-    let waited = wait(poll, events, longest);
+    let waited = waiting.wait(longest);
     watch.loop_handle.is_awake();
     waited
 }
@@ -269,7 +277,7 @@ fn run_loop<L: Roll, G: Gate + Copy + Drop, U: UsersSource, R: Clock + Wait>(
 ) -> io::Result<Seat<L>> {
     let LoopStart {
         me,
-        mut poll,
+        poll,
         registry,
         acceptor,
     } = start;
@@ -288,18 +296,21 @@ fn run_loop<L: Roll, G: Gate + Copy + Drop, U: UsersSource, R: Clock + Wait>(
         pace: Pace::new(),
     };
     let mut count = 0;
-    let mut events = Events::with_capacity(alloc, 64)?;
+    let mut waiting = Waiting {
+        poll,
+        events: Events::with_capacity(alloc, 64)?,
+    };
     let loops = shared.loop_handles.len();
     let mut own: Loop<Wired, G, L> = Loop::new(alloc, seat, gate, loops)?;
     own.peers.tells = shared.tells;
     for _ in rt.forever() {
-        sleep(&mut poll, &mut events, &watch, &own)?;
-        begin_turn(rt, &events, &mut watch, &mut own)?;
+        sleep(&mut waiting, &watch, &own)?;
+        begin_turn(rt, &waiting.events, &mut watch, &mut own)?;
         look_at_users(rt, server, &mut count, &mut own);
         turn(rt, session, &mut watch, &mut own)?;
         if let Some(end) = shared.over.get() {
             watch.acceptor = None;
-            wind_up(rt, session, &mut poll, &mut events, &mut own, *end)?;
+            wind_up(rt, session, &mut waiting, &mut own, *end)?;
             tell_news(rt, shared, &mut own);
             break;
         }

@@ -3,7 +3,7 @@
 use crate::fault::ServeFault;
 use acl::UserId;
 use server_log::Log;
-use server_turn::Users;
+use server_users::Users;
 use std::alloc::Global;
 use std::fmt::{Display, Formatter};
 use std::fs::Metadata;

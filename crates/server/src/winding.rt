@@ -1,8 +1,7 @@
 //! How a loop ends.
 
-use crate::turns::wait;
+use crate::turns::Waiting;
 use crate::wired::Wired;
-use mio::{Events, Poll};
 use server_loop::{End, Gate, Loop, SharedSession};
 use std::io;
 use std::sync::Wait;
@@ -29,8 +28,7 @@ fn is_late<R: Clock>(rt: &R, began: Option<Duration>, pauses: u64) -> bool {
 pub fn wind_up<L: Roll, G: Gate + Drop, R: Clock + Wait>(
     rt: &R,
     session: &SharedSession<L>,
-    poll: &mut Poll,
-    events: &mut Events,
+    waiting: &mut Waiting,
     own: &mut Loop<Wired, G, L>,
     end: End,
 ) -> io::Result<()> {
@@ -40,7 +38,7 @@ pub fn wind_up<L: Roll, G: Gate + Drop, R: Clock + Wait>(
         if own.peers.is_empty() || is_late(rt, began, pauses) {
             return Ok(());
         }
-        wait(poll, events, Some(Duration::from_millis(PAUSE)))?;
+        waiting.wait(Some(Duration::from_millis(PAUSE)))?;
         own.peers.finish(rt, session, end);
     }
     Ok(())

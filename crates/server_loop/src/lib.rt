@@ -9,6 +9,6 @@ mod turn;
 pub use pace::{LULL, Pace};
 pub use server_peers::{
     End, Gate, Guest, Hub, LoopBody, LoopsFault, News, Open, Peers, Recorder, Seat, Session,
-    SharedSession, Trail, keep,
+    SharedSession, Start, Trail, keep,
 };
 pub use turn::Loop;

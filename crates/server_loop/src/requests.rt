@@ -5,7 +5,7 @@ use acl::UserId;
 use attach_proto::{Message, Text, Token, Why};
 use command_lang::{Command, FaultKind, parse};
 use server_peers::{Asked, Gate, Guest, News, Role, Sending, SharedSession, Unanswered};
-use server_turn::authenticate;
+use server_users::authenticate;
 use session_model::{Event, Refusal};
 use std::alloc::{AllocError, Global};
 use std::io::{Read, Write};
@@ -15,6 +15,13 @@ use std::sync::ledger::Ledger as Roll;
 const UNKNOWN: &str = "unknown user or wrong token";
 
 const NO_ROOM: &str = "the server has no room for more connections";
+
+// Whose first message it is: his connection's key, and the user who he showed to be.
+#[derive(Clone, Copy)]
+struct Newcomer {
+    key: usize,
+    user: UserId,
+}
 
 fn is_quit(alloc: Global, line: &[u8]) -> Result<bool, AllocError> {
     match parse(alloc, line) {
@@ -178,7 +185,7 @@ impl<S: Read + Write + Drop, G: Gate + Drop, L: Roll> Loop<S, G, L> {
             return Went::Held;
         }
         self.peers.set_user(key, user);
-        self.begin_as(rt, shared, key, user, message);
+        self.begin_as(rt, shared, Newcomer { key, user }, message);
         Went::Done
     }
 
@@ -186,10 +193,10 @@ impl<S: Read + Write + Drop, G: Gate + Drop, L: Roll> Loop<S, G, L> {
         &mut self,
         rt: &impl Wait,
         shared: &SharedSession<L>,
-        key: usize,
-        user: UserId,
+        newcomer: Newcomer,
         message: &Message,
     ) {
+        let user = newcomer.user;
         match message {
             Message::Attach { rows, cols, .. } => {
                 let event = Event::Attach {
@@ -197,7 +204,7 @@ impl<S: Read + Write + Drop, G: Gate + Drop, L: Roll> Loop<S, G, L> {
                     rows: *rows,
                     cols: *cols,
                 };
-                self.join(rt, shared, key, user, event)
+                self.join(rt, shared, newcomer, event)
             }
             Message::Window {
                 rows,
@@ -213,10 +220,10 @@ impl<S: Read + Write + Drop, G: Gate + Drop, L: Roll> Loop<S, G, L> {
                     keep: *keep,
                     title: title.as_str(),
                 };
-                self.join(rt, shared, key, user, event)
+                self.join(rt, shared, newcomer, event)
             }
             Message::Command { window, line, .. } => {
-                self.command(rt, shared, key, user, *window, line.as_slice())
+                self.command(rt, shared, newcomer, *window, line.as_slice())
             }
             _ => {}
         }
@@ -227,10 +234,10 @@ impl<S: Read + Write + Drop, G: Gate + Drop, L: Roll> Loop<S, G, L> {
         &mut self,
         rt: &impl Wait,
         shared: &SharedSession<L>,
-        key: usize,
-        user: UserId,
+        newcomer: Newcomer,
         event: Event,
     ) {
+        let Newcomer { key, user } = newcomer;
         let answer = match self.peers.submit(rt, shared, event) {
             Ok(answer) => answer,
             Err(unanswered) => {
@@ -264,11 +271,11 @@ impl<S: Read + Write + Drop, G: Gate + Drop, L: Roll> Loop<S, G, L> {
         &mut self,
         rt: &impl Wait,
         shared: &SharedSession<L>,
-        key: usize,
-        user: UserId,
+        newcomer: Newcomer,
         window: Option<u8>,
         line: &[u8],
     ) {
+        let Newcomer { key, user } = newcomer;
         let event = Event::Command { user, window, line };
         let Ok(is_quit) = is_quit(self.alloc, line) else {
             self.peers.dismiss(key, Why::Fault);

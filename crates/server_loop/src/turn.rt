@@ -2,7 +2,7 @@
 
 use crate::ration::Rations;
 use server_peers::{Came, Gate, Peers, Role, Seat, SharedSession};
-use server_turn::Users;
+use server_users::Users;
 use std::alloc::{AllocError, Global};
 use std::io::{Read, Write};
 use std::sync::Wait;

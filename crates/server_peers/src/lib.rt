@@ -21,6 +21,6 @@ pub use news::{Guest, News};
 pub use peer::Role;
 pub use peers::{Peers, Unanswered};
 pub use server_session::{
-    Hub, LoopBody, LoopsFault, Recorder, Seat, Session, SharedSession, Trail, keep,
+    Hub, LoopBody, LoopsFault, Recorder, Seat, Session, SharedSession, Start, Trail, keep,
 };
 pub use stream::Came;

@@ -6,7 +6,7 @@ use Rattle.std.specs.declared.sync.ledger.Ledger.{Ghosts}
 use Rattle.hub.proofs.Crossing.{hub_sync, seats_sync}
 use denote.Param.Send.{sendable}
 use Rattle.std.proofs.Crossing.{crosses}
-use Rattle.server_turn.proofs.users.Users.TheSendSync as users
+use Rattle.server_users.proofs.users.Users.TheSendSync as users
 use Rattle.server_trail.proofs.recorder.Recorder.TheSendSync as recorder
 use Rattle.server_session.specs.contracts.shared_session.SharedSession as SharedSession
 use Rattle.server_session.specs.contracts.loop_body.Kept as Kept

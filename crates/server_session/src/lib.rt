@@ -7,6 +7,6 @@ mod setting_up;
 mod shared_session;
 
 pub use hub::{Answer, Hub, HubFault, Seat, Session, Trail};
-pub use loop_body::{LoopBody, LoopsFault, keep};
+pub use loop_body::{LoopBody, LoopsFault, Start, keep};
 pub use server_trail::Recorder;
 pub use shared_session::SharedSession;

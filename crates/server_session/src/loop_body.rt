@@ -7,7 +7,7 @@ use crate::shared_session::SharedSession;
 use acl::{Edition, UserId};
 use hub::{Hub, Seat, Session, Trail};
 use server_trail::Recorder;
-use server_turn::Users;
+use server_users::Users;
 use setup_lines::SetupFault;
 use std::alloc::{AllocError, Global};
 use std::marker::Brand;
@@ -79,6 +79,14 @@ pub trait LoopBody<P: Drop, R> {
     fn compare(&self, _rt: &R, _trail: &Trail) {}
 }
 
+/// What a session begins with: who may connect, and a place for each loop.
+#[derive(Drop)]
+pub struct Start<P: Drop> {
+    pub alloc: Global,
+    pub users: Users,
+    pub places: Vec<P>,
+}
+
 // A session while its loops run, and the seats of those that ended well.
 #[derive(Drop)]
 struct Kept<L: Roll> {
@@ -96,21 +104,27 @@ impl<L: Roll> Kept<L> {
     }
 }
 
-// Runs every loop to its end, each in a thread.
-fn run_all<L, P, K, R>(
-    rt: &R,
+// What the loops are begun with: each takes a seat and a place.
+#[derive(Drop)]
+struct Starts<L: Roll, P: Drop> {
     alloc: Global,
-    kept: &Kept<L>,
-    mut seats: Vec<Seat<L>>,
+    seats: Vec<Seat<L>>,
     places: Vec<P>,
-    loop_body: &K,
-)
+}
+
+// Runs every loop to its end, each in a thread.
+fn run_all<L, P, K, R>(rt: &R, kept: &Kept<L>, starts: Starts<L, P>, loop_body: &K)
 where
     L: Roll + Send + Sync,
     P: Send + Drop,
     K: LoopBody<P, R> + Sync,
     R: Clock + Threads + Wait + Sync,
 {
+    let Starts {
+        alloc,
+        mut seats,
+        places,
+    } = starts;
     thread::scope(thread::scope_env(), rt, |scope| {
         for place in places {
             let Some(seat) = seats.pop() else {
@@ -176,13 +190,17 @@ where
     Some(recorder)
 }
 
+// For how many loops a session is made: a blank of as many parts.
+#[derive(Drop)]
+struct Parts {
+    blank: Blank,
+    loops: usize,
+}
+
 fn keep_as<L, P, K, R, B>(
     rt: &R,
-    alloc: Global,
-    blank: Blank,
-    users: Users,
-    loops: usize,
-    places: Vec<P>,
+    parts: Parts,
+    start: Start<P>,
     loop_body: &K,
     begun: B,
 ) -> Result<bool, LoopsFault>
@@ -192,10 +210,16 @@ where
     K: LoopBody<P, R> + Sync,
     R: Clock + Threads + Wait + Sync,
     B: FnOnce() -> io::Result<()>,
-    requires blank { (blank.name ≡ L.name) × (blank.parts ≡ L.parts) × (loops ≡ L.parts)
-        × (0 < loops) × (loops ≤ 8) }
+    requires blank { (parts.blank.name ≡ L.name) × (parts.blank.parts ≡ L.parts)
+        × (parts.loops ≡ L.parts) × (0 < parts.loops) × (parts.loops ≤ 8) }
     requires begun { B.IsAlwaysCallable begun }
 {
+    let Parts { blank, loops } = parts;
+    let Start {
+        alloc,
+        users,
+        places,
+    } = start;
     let left = Mutex::new(Vec::with_capacity(alloc, loops)?);
     let (hub, mut seats) = begin::<L>(alloc, blank, users.owner(), loops)?;
     let recorder = recorder::<L, P, K, R>(rt, alloc, seats.as_mut_slice(), loop_body);
@@ -210,7 +234,12 @@ where
     }
     let has_begun = begun();
     if has_begun.is_ok() {
-        run_all(rt, alloc, &kept, seats, places, loop_body);
+        let starts = Starts {
+            alloc,
+            seats,
+            places,
+        };
+        run_all(rt, &kept, starts, loop_body);
     }
     let Kept { shared, left } = kept;
     let SharedSession { hub, .. } = shared;
@@ -220,14 +249,12 @@ where
     Ok(wrong.is_none())
 }
 
-/// Keeps a new session for these users: tells that it begins, and runs a loop for each of
-/// 1 to 8 places, each in a thread, until all have ended. The answer is whether each answer
-/// that a loop was given stands in the session's trail.
+/// Keeps a new session: tells that it begins, and runs a loop for each of 1 to 8 places, each in a
+/// thread, until all have ended. The answer is whether each answer that a loop was given stands in
+/// the session's trail.
 pub fn keep<P, K, R, B>(
     rt: &R,
-    alloc: Global,
-    users: Users,
-    places: Vec<P>,
+    start: Start<P>,
     loop_body: &K,
     begun: B,
 ) -> Result<bool, LoopsFault>
@@ -238,7 +265,8 @@ where
     B: FnOnce() -> io::Result<()>,
     requires { B.IsAlwaysCallable begun }
 {
-    let loops = places.len().clamp(1, MOST);
+    let loops = start.places.len().clamp(1, MOST);
     let blank = Blank::new(loops as u64);
-    keep_as::<Brand, P, K, R, B>(rt, alloc, blank, users, loops, places, loop_body, begun)
+    let parts = Parts { blank, loops };
+    keep_as::<Brand, P, K, R, B>(rt, parts, start, loop_body, begun)
 }

@@ -2,7 +2,7 @@
 
 use hub::{Answer, Hub, HubFault, Seat};
 use server_trail::Recorder;
-use server_turn::Users;
+use server_users::Users;
 use session_model::Event;
 use std::sync::Wait;
 use std::sync::ledger::Ledger as Roll;

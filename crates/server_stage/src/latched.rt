@@ -4,7 +4,7 @@ use crate::frames::WALL;
 use crate::stage::users;
 use crate::stop::Stop;
 use crate::streams::{Habit, Near, ends};
-use server_loop::{Gate, Loop, LoopBody, LoopsFault, Seat, SharedSession, keep};
+use server_loop::{Gate, Loop, LoopBody, LoopsFault, Seat, SharedSession, Start, keep};
 use std::alloc::{AllocError, Global};
 use std::sync::Wait;
 use std::sync::atomic::{AtomicU64, Ordering};
@@ -124,7 +124,12 @@ pub fn both_are_answered<R: Clock + Threads + Wait + Sync>(
         missed: AtomicU64::new(0),
         told: AtomicU64::new(0),
     };
-    let agrees = match keep(rt, alloc, users(alloc)?, places, &pair, || Ok(())) {
+    let start = Start {
+        alloc,
+        users: users(alloc)?,
+        places,
+    };
+    let agrees = match keep(rt, start, &pair, || Ok(())) {
         Ok(agrees) => agrees,
         Err(LoopsFault::NoMemory) => return Err(Stop::Memory),
         Err(_) => return Err(Stop::Other("begun")),

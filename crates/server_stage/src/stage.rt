@@ -8,7 +8,7 @@ use crate::streams::{Far, Habit, Near, ends};
 use acl::Edition;
 use hub_record::{Filed, KeptRef};
 use server_loop::{Hub, Loop, Open, Seat, Session, SharedSession};
-use server_turn::{Users, UsersFault};
+use server_users::{Users, UsersFault};
 use std::alloc::Global;
 use std::marker::Brand;
 use std::sync::Wait;

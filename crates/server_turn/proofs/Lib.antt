@@ -1,5 +1,1 @@
-pub mod Differences
-pub mod Lines
-pub mod Seen
-pub mod Spelled
 pub mod Writing

@@ -1,7 +1,0 @@
-use Rattle.std.proofs.Common.{Contains, map, take}
-use Rattle.server_turn.specs.Stands.{entry_of}
-use Rattle.server_turn.proofs.authenticating.holder.Given as goal
-
-abbrev pub invariant-loop-user : goal.invariant-loop-user
-invariant-loop-user l = Contains (map entry_of (take l.user-index l.users))
-    (record { name = l.name; token = l.token }) → ⊥

@@ -1,0 +1,4 @@
+pub mod Differences
+pub mod Lines
+pub mod Seen
+pub mod Spelled

@@ -1,0 +1,24 @@
+-- What is kept of users, as entries, and what faults say.
+use Rattle.std.specs.Prelude.{ℕ, List, map, Contains}
+use Rattle.acl.specs.Names.{name_of}
+use Rattle.server_users.specs.declared.user.User.{User}
+use Rattle.server_users.specs.declared.fault.UsersFault.{UsersFault}
+use Rattle.server_users.specs.declared.fault.UsersFault.TheVariants.{BadLine, NoMemory}
+use Rattle.server_users.specs.declared.fault.AuthFault.{AuthFault}
+use Rattle.server_users.specs.declared.fault.AuthFault.TheVariants.{BadUser, BadToken}
+use Rattle.server_users.specs.Entries.{Entry, BreaksAt, names}
+
+abbrev pub entry_of : User → Entry
+entry_of u = record { name = name_of u.id; token = u.token.digits }
+
+abbrev pub entries_of : List User → List Entry
+entries_of us = map entry_of us
+
+-- what a fault says of the file
+abbrev pub Breaks : List ℕ → UsersFault → Type 0
+Breaks file (BadLine n) = BreaksAt file n
+Breaks file NoMemory = Unit {0}
+
+abbrev pub Refuses : List Entry → List ℕ → AuthFault → Type 0
+Refuses us name BadUser = Contains (names us) name → ⊥
+Refuses us name BadToken = Contains (names us) name

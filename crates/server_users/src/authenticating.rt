@@ -1,0 +1,36 @@
+//! Who somebody is.
+
+ghost use Rattle.std.specs.Prelude.{◌≡◌, ◌↔◌, IsOk, IfOk, IfErr, IsSome, IfSome, Contains};
+ghost use Rattle.acl.specs.Names.{name_of};
+ghost use Rattle.server_users.specs.Stands.{Refuses, entries_of};
+
+use crate::fault::AuthFault;
+use crate::user::User;
+use crate::users::{Users, has_name};
+use acl::UserId;
+
+fn holder(users: &[User], name: &[u8], token: &[u8]) -> Option<UserId>
+    ensures some { IsSome result
+        ↔ Contains (entries_of users.now) (record { name = name.now; token = token.now }) }
+    ensures named { IfSome result (λ user. name_of user ≡ name.now) }
+{
+    for user in users {
+        if user.shows(name, token) {
+            return Some(user.id);
+        }
+    }
+    None
+}
+
+/// The user of this name, who shows this token. The time doesn't depend on where a token differs.
+pub fn authenticate(users: &Users, name: &[u8], token: &[u8]) -> Result<UserId, AuthFault>
+    ensures ok { IsOk result ↔ Contains users.now (record { name = name.now; token = token.now }) }
+    ensures named { IfOk result (λ user. name_of user ≡ name.now) }
+    ensures refused { IfErr result (Refuses users.now name.now) }
+{
+    match holder(&users.list, name, token) {
+        Some(user) => Ok(user),
+        None if has_name(&users.list, name) => Err(AuthFault::BadToken),
+        None => Err(AuthFault::BadUser),
+    }
+}

@@ -1,0 +1,12 @@
+//! Who may connect: the users' file, and who shows which token.
+#![tactic(auto)]
+
+mod authenticating;
+mod fault;
+mod token;
+mod user;
+mod users;
+
+pub use authenticating::authenticate;
+pub use fault::{AuthFault, UsersFault};
+pub use users::Users;

@@ -1,0 +1,113 @@
+//! The users' file.
+
+ghost use Rattle.std.specs.Prelude.{◌≡◌, ◌↔◌, ◌++◌, IsTrue, IfOk, IfErr, Some, Contains};
+ghost use Rattle.std.specs.Prelude.{drop, slice_get};
+ghost use Rattle.acl.specs.Names.{name_of};
+ghost use Rattle.server_users.specs.Entries.{IsLine, EndsLine, AreUsers, IsFileOf, names};
+ghost use Rattle.server_users.specs.Stands.{Breaks, entries_of};
+
+use crate::fault::UsersFault;
+use crate::user::User;
+use acl::UserId;
+use std::alloc::{AllocError, Global};
+use std::marker::Model;
+
+/// Who may connect: names and tokens, the first the session's owner.
+#[derive(Debug)]
+pub struct Users {
+    pub(crate) list: Vec<User>,
+}
+
+impl Drop for Users {
+    fn drop(self) {
+        let Users { list: _ } = self;
+    }
+}
+
+impl Model for Users {
+    ghost use Rattle.std.specs.Prelude.{◌<◌, List, vec_len};
+    ghost use Rattle.server_users.specs.Entries.{Entry, AreUsers};
+    ghost use Rattle.server_users.specs.Stands.{entries_of};
+
+    ghost Value = { List Entry };
+
+    ghost view = { λ u. entries_of u.list.items };
+
+    ghost invariant = { λ u. AreUsers (entries_of u.list.items) × (0 < vec_len u.list) };
+}
+
+// The first line, and what stands behind it, with its line feed.
+fn split_line(bytes: &[u8]) -> (&[u8], &[u8])
+    ensures whole { bytes.now ≡ result.0.now ++ result.1.now }
+    ensures line { IsLine result.0.now }
+    ensures more { EndsLine result.1.now }
+{
+    let end = bytes
+        .iter()
+        .position(|byte| *byte == b'\n')
+        .unwrap_or(bytes.len());
+    bytes.split_at(end)
+}
+
+// What stands behind a line, without its line feed.
+fn behind_feed(more: &[u8]) -> &[u8]
+    ensures { result.now ≡ drop 1 more.now }
+{
+    match more.split_first() {
+        Some((_, rest)) => rest,
+        None => more,
+    }
+}
+
+/// Whether a user has this name.
+pub(crate) fn has_name(users: &[User], name: &[u8]) -> bool
+    ensures { IsTrue result ↔ Contains (names (entries_of users.now)) name.now }
+{
+    for user in users {
+        if user.is_named(name) {
+            return true;
+        }
+    }
+    false
+}
+
+impl Users {
+    /// The users of a file, whose lines are each a name, one blank and 64 digits of `0` to `9`, `a`
+    /// to `f`. No name stands twice. The last line's feed may lack.
+    pub fn read(alloc: Global, file: &[u8]) -> Result<Users, UsersFault>
+        ensures ok { IfOk result (λ users. AreUsers users × IsFileOf users file.now) }
+        ensures bad { IfErr result (Breaks file.now) }
+    {
+        let mut list: Vec<User> = Vec::new(alloc);
+        let mut rest = file;
+        'lines: loop {
+            if rest.is_empty() && !list.is_empty() {
+                return Ok(Users { list });
+            }
+            let (line, more) = split_line(rest);
+            let Some(user) = User::of_line(line) else {
+                return Err(UsersFault::BadLine(list.len() + 1));
+            };
+            if has_name(&list, user.id.as_bytes()) {
+                return Err(UsersFault::BadLine(list.len() + 1));
+            }
+            list.push(user)?;
+            rest = behind_feed(more);
+        }
+    }
+
+    /// A copy.
+    pub fn copy(&self, alloc: Global) -> Result<Users, AllocError>
+        ensures { IfOk result (λ copy. copy ≡ self.now) }
+    {
+        let list = Vec::from_slice(alloc, self.list.as_slice())?;
+        Ok(Users { list })
+    }
+
+    /// The user of the first line.
+    pub fn owner(&self) -> UserId
+        ensures { slice_get (names self.now) 0 ≡ Some (name_of result) }
+    {
+        self.list[0].id
+    }
+}
