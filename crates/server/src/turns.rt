@@ -34,9 +34,11 @@ const LOOK: u64 = 1_000;
 // So many connections at most wait for their first message, by all loops together.
 const MOST_NEW: usize = 256;
 
-// What a loop minds beside its connections.
+/// What a loop minds beside its connections: the events that came, news, and who is to be taken in.
 #[derive(Drop)]
-struct Watch<'a> {
+pub struct Watch<'a> {
+    poll: Poll,
+    events: Events,
     shared: &'a Shared,
     loop_handle: &'a LoopHandle,
     registry: &'a Registry,
@@ -48,16 +50,23 @@ struct Watch<'a> {
 impl Watch<'_> {
     // Whether connections wait, to be taken in at once.
     fn has_more(&self) -> bool {
-        self.acceptor
-            .as_ref()
-            .is_some_and(|acceptor| acceptor.has_more)
+        self.acceptor.as_ref().is_some_and(|it| it.has_more)
     }
 
     // Whether connections wait that couldn't be taken in.
     fn is_stuck(&self) -> bool {
-        self.acceptor
-            .as_ref()
-            .is_some_and(|acceptor| acceptor.is_stuck)
+        self.acceptor.as_ref().is_some_and(|it| it.is_stuck)
+    }
+
+    /// Waits for events, at most so long. An interrupted wait has none.
+    pub fn wait(&mut self, timeout: Option<Duration>) -> io::Result<()> {
+        match self.poll.poll(&mut self.events, timeout) {
+            Err(error) if error.kind() == ErrorKind::Interrupted => {
+                self.events.clear();
+                Ok(())
+            }
+            waited => waited,
+        }
     }
 }
 
@@ -81,26 +90,6 @@ fn admit<'a, L: Roll, G: Gate + Drop>(
     }
 }
 
-/// What a loop waits with, and the events that came.
-#[derive(Drop)]
-pub struct Waiting {
-    poll: Poll,
-    events: Events,
-}
-
-impl Waiting {
-    /// Waits for events, at most so long. An interrupted wait has none.
-    pub fn wait(&mut self, timeout: Option<Duration>) -> io::Result<()> {
-        match self.poll.poll(&mut self.events, timeout) {
-            Err(error) if error.kind() == ErrorKind::Interrupted => {
-                self.events.clear();
-                Ok(())
-            }
-            waited => waited,
-        }
-    }
-}
-
 // How long to wait for events.
 fn timeout<L: Roll, G: Gate + Drop>(watch: &Watch, own: &Loop<Wired, G, L>) -> Option<Duration> {
     if own.peers.is_due() || watch.has_more() {
@@ -117,16 +106,12 @@ fn timeout<L: Roll, G: Gate + Drop>(watch: &Watch, own: &Loop<Wired, G, L>) -> O
 }
 
 // Waits until the loop has something to do. It is woken by news only while it sleeps.
-fn sleep<L: Roll, G: Gate + Drop>(
-    waiting: &mut Waiting,
-    watch: &Watch,
-    own: &Loop<Wired, G, L>,
-) -> io::Result<()> {
+fn sleep<L: Roll, G: Gate + Drop>(watch: &mut Watch, own: &Loop<Wired, G, L>) -> io::Result<()> {
     let mut longest = timeout(watch, own);
     if longest != Some(Duration::ZERO) && !watch.loop_handle.may_sleep() {
         longest = Some(Duration::ZERO);
     }
-    let waited = waiting.wait(longest);
+    let waited = watch.wait(longest);
     watch.loop_handle.is_awake();
     waited
 }
@@ -218,14 +203,13 @@ fn tell_news<L: Roll, G: Gate + Drop, R: Clock + Wait>(
 // A turn begins: who has something to say, and who is new.
 fn begin_turn<'a, L: Roll, G: Gate + Drop, R: Clock + Wait>(
     rt: &R,
-    events: &Events,
     watch: &mut Watch<'a>,
     own: &mut Loop<Wired<'a>, G, L>,
 ) -> io::Result<()> {
     if let Ok(now) = rt.monotonic() {
         own.now = now;
     }
-    let is_asked = sort(events, own);
+    let is_asked = sort(&watch.events, own);
     take_in(rt, watch, own, is_asked)
 }
 
@@ -288,6 +272,8 @@ fn run_loop<L: Roll, G: Gate + Copy + Drop, U: UsersSource, R: Clock + Wait>(
     let mut gate = server.gate;
     gate.stand_at(me);
     let mut watch = Watch {
+        poll,
+        events: Events::with_capacity(alloc, 64)?,
         shared,
         loop_handle,
         registry: &registry,
@@ -296,21 +282,17 @@ fn run_loop<L: Roll, G: Gate + Copy + Drop, U: UsersSource, R: Clock + Wait>(
         pace: Pace::new(),
     };
     let mut count = 0;
-    let mut waiting = Waiting {
-        poll,
-        events: Events::with_capacity(alloc, 64)?,
-    };
     let loops = shared.loop_handles.len();
     let mut own: Loop<Wired, G, L> = Loop::new(alloc, seat, gate, loops)?;
     own.peers.tells = shared.tells;
     for _ in rt.forever() {
-        sleep(&mut waiting, &watch, &own)?;
-        begin_turn(rt, &waiting.events, &mut watch, &mut own)?;
+        sleep(&mut watch, &own)?;
+        begin_turn(rt, &mut watch, &mut own)?;
         look_at_users(rt, server, &mut count, &mut own);
         turn(rt, session, &mut watch, &mut own)?;
         if let Some(end) = shared.over.get() {
             watch.acceptor = None;
-            wind_up(rt, session, &mut waiting, &mut own, *end)?;
+            wind_up(rt, session, &mut watch, &mut own, *end)?;
             tell_news(rt, shared, &mut own);
             break;
         }

@@ -1,6 +1,6 @@
 //! How a loop ends.
 
-use crate::turns::Waiting;
+use crate::turns::Watch;
 use crate::wired::Wired;
 use server_loop::{End, Gate, Loop, SharedSession};
 use std::io;
@@ -28,7 +28,7 @@ fn is_late<R: Clock>(rt: &R, began: Option<Duration>, pauses: u64) -> bool {
 pub fn wind_up<L: Roll, G: Gate + Drop, R: Clock + Wait>(
     rt: &R,
     session: &SharedSession<L>,
-    waiting: &mut Waiting,
+    watch: &mut Watch,
     own: &mut Loop<Wired, G, L>,
     end: End,
 ) -> io::Result<()> {
@@ -38,7 +38,7 @@ pub fn wind_up<L: Roll, G: Gate + Drop, R: Clock + Wait>(
         if own.peers.is_empty() || is_late(rt, began, pauses) {
             return Ok(());
         }
-        waiting.wait(Some(Duration::from_millis(PAUSE)))?;
+        watch.wait(Some(Duration::from_millis(PAUSE)))?;
         own.peers.finish(rt, session, end);
     }
     Ok(())
