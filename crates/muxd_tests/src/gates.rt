@@ -68,15 +68,19 @@ fn clear<R: Files, S>(rt: &R, watched: &Watched<S>, lock: &str) -> io::Result<()
     fs::remove_file(rt, lock)
 }
 
-// The owner's connection, which gives a command.
-fn giver<R: Net + Clock>(rt: &R, alloc: Global, path: &str, line: &str) -> io::Result<Line> {
-    let first = Message::Command {
+// A command of the owner.
+fn given(alloc: Global, line: &str) -> io::Result<Message> {
+    Ok(Message::Command {
         window: None,
         token: token(OWN)?,
         name: Text::new(alloc, "own")?,
         line: Bytes::new(alloc, line.as_bytes())?,
-    };
-    Line::new(rt, alloc, path, &first)
+    })
+}
+
+// The owner's connection, which gives a command.
+fn giver<R: Net + Clock>(rt: &R, alloc: Global, path: &str, line: &str) -> io::Result<Line> {
+    Line::new(rt, alloc, path, &given(alloc, line)?)
 }
 
 // The server is told to end.
@@ -134,10 +138,23 @@ impl Gate for Latch<'_> {
     }
 }
 
-// Whether two commands that are given at the same time are done.
-fn two_at_once<R: Net + Clock>(rt: &R, alloc: Global, path: &str) -> io::Result<bool> {
-    let mut first = giver(rt, alloc, path, "wall a")?;
+// Whether two commands that are given at the same time are done. The second loop's is held when the
+// first loop's comes: were the first one held, nobody would take the second connection in.
+fn two_at_once<R: Net + Clock>(
+    rt: &R,
+    alloc: Global,
+    path: &str,
+    held: &Held,
+) -> io::Result<bool> {
+    let mut first = Line::silent(rt, alloc, path)?;
     let mut second = giver(rt, alloc, path, "wall b")?;
+    for _ in 0..WAIT {
+        if held.begun.load(Ordering::SeqCst) != 0 {
+            break;
+        }
+        thread::sleep(rt, Duration::from_millis(1));
+    }
+    first.send(&given(alloc, "wall a")?)?;
     Ok(first.gone()? == Why::Detached && second.gone()? == Why::Detached)
 }
 
@@ -176,7 +193,7 @@ fn no_loop_waits_for_anothers_turn(rt: HostRuntime) -> Result<(), Fail> {
             serve(shared, rt, server, latch)
         },
         || {
-            let done = two_at_once(shared, alloc, server.socket);
+            let done = two_at_once(shared, alloc, server.socket, &server.seen);
             end(shared, alloc, server.socket, done)
         },
     );

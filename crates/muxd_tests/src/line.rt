@@ -79,6 +79,19 @@ fn is_line(line: &[Cell], text: &[u8]) -> bool {
 }
 
 impl Line {
+    /// A connection on which nothing was said yet.
+    pub fn silent<R: Net + Clock>(rt: &R, alloc: Global, path: &str) -> io::Result<Line> {
+        let stream = connect(rt, path)?;
+        stream.set_read_timeout(Some(Duration::from_secs(10)))?;
+        Ok(Line {
+            alloc,
+            stream,
+            reader: Reader::new(alloc, Side::Peer),
+            came: VecDeque::new(alloc),
+            terminal: terminal(alloc)?,
+        })
+    }
+
     /// A connection that begins with this message.
     pub fn new<R: Net + Clock>(
         rt: &R,
@@ -86,15 +99,7 @@ impl Line {
         path: &str,
         first: &Message,
     ) -> io::Result<Line> {
-        let stream = connect(rt, path)?;
-        stream.set_read_timeout(Some(Duration::from_secs(10)))?;
-        let mut line = Line {
-            alloc,
-            stream,
-            reader: Reader::new(alloc, Side::Peer),
-            came: VecDeque::new(alloc),
-            terminal: terminal(alloc)?,
-        };
+        let mut line = Line::silent(rt, alloc, path)?;
         line.send(first)?;
         Ok(line)
     }
