@@ -12,29 +12,13 @@ use Rattle.attach_proto.specs.declared.message.Message.{Message}
 use Rattle.attach_proto.specs.declared.reading.Front.{Front}
 use Rattle.attach_proto.specs.declared.reading.Front.TheVariants.{Part, Broken, Whole}
 use Rattle.attach_proto.specs.Spelling.{code, reader_of, kind_of, payload, spelling}
-use Rattle.attach_proto.specs.Reading.{kind_at, message_of, ended, sized, same_side, of_kind, front}
+use Rattle.attach_proto.specs.Reading.{kind_at, all_kinds, message_of, ended, sized, same_side, of_kind, front}
 use Rattle.attach_proto.specs.Streams.{IsRead}
 use Rattle.attach_proto.proofs.FieldLaws.{IsBytes, IsBytes-take, two_is}
-use Rattle.attach_proto.proofs.Payloads.{chosen, message_takes, message_again}
-
-kind_here : (n k : ℕ) (w z : Kind) → k ≡ code w → eqb n k ≡ true → w ≡ z → n ≡ code z
-kind_here n k w z k-is t e = eqb-true n k t ∙ k-is ∙ ap code e
+use Rattle.attach_proto.proofs.Payloads.{found, message_takes, message_again}
 
 pub kind_takes : (n : ℕ) (k : Kind) → kind_at n ≡ Some k → n ≡ code k
-kind_takes n k e =
-    chosen (eqb n 65) kind.Attach k _ (n ≡ code k) e (kind_here n 65 kind.Attach k refl) (λ e.
-    chosen (eqb n 87) kind.Window k _ (n ≡ code k) e (kind_here n 87 kind.Window k refl) (λ e.
-    chosen (eqb n 67) kind.Command k _ (n ≡ code k) e (kind_here n 67 kind.Command k refl) (λ e.
-    chosen (eqb n 75) kind.Keys k _ (n ≡ code k) e (kind_here n 75 kind.Keys k refl) (λ e.
-    chosen (eqb n 82) kind.Resize k _ (n ≡ code k) e (kind_here n 82 kind.Resize k refl) (λ e.
-    chosen (eqb n 79) kind.Output k _ (n ≡ code k) e (kind_here n 79 kind.Output k refl) (λ e.
-    chosen (eqb n 68) kind.Detach k _ (n ≡ code k) e (kind_here n 68 kind.Detach k refl) (λ e.
-    chosen (eqb n 121) kind.Welcome k _ (n ≡ code k) e (kind_here n 121 kind.Welcome k refl) (λ e.
-    chosen (eqb n 100) kind.Draw k _ (n ≡ code k) e (kind_here n 100 kind.Draw k refl) (λ e.
-    chosen (eqb n 105) kind.Input k _ (n ≡ code k) e (kind_here n 105 kind.Input k refl) (λ e.
-    chosen (eqb n 115) kind.Say k _ (n ≡ code k) e (kind_here n 115 kind.Say k refl) (λ e.
-    chosen (eqb n 122) kind.Size k _ (n ≡ code k) e (kind_here n 122 kind.Size k refl) (λ e.
-    chosen (eqb n 103) kind.Gone k _ (n ≡ code k) e (kind_here n 103 kind.Gone k refl) (λ e. absurd cc)))))))))))))
+kind_takes n k e = eqb-true n (code k) (found (λ j. eqb n (code j)) all_kinds k e)
 
 pub kind_again : (k : Kind) → kind_at (code k) ≡ Some k
 kind_again kind.Attach = refl

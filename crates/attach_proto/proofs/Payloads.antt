@@ -1,6 +1,6 @@
 -- The message of a payload is the one that spells it.
-use Rattle.std.proofs.Common.{◌≡◌, ℕ, ◌<◌, Bool, true, false, cond, eqb, List, [], ◌∷◌, ◌++◌, Option, Some, None, refl, ap, subst, ◌∙◌, arith}
-use Rattle.std.specs.Prelude.{IfSome}
+use Rattle.std.proofs.Common.{◌≡◌, ℕ, ◌<◌, Bool, true, false, cond, eqb, List, [], ◌∷◌, ◌++◌, Option, Some, None, refl, sym, ap, subst, ◌∙◌, arith}
+use Rattle.std.specs.Prelude.{IfSome, find}
 use Rattle.std.proofs.lemmas.Bool.{eqb-true}
 use Rattle.attach_proto.specs.declared.why.Why.{Why}
 use Rattle.attach_proto.specs.declared.why.Why.TheVariants as why
@@ -10,7 +10,7 @@ use Rattle.attach_proto.specs.declared.message.Message.{Message}
 use Rattle.attach_proto.specs.declared.message.Message.TheVariants.{Attach, Window, Command, Keys, Resize, Output, Detach, Welcome, Draw, Input, Say, Size, Gone}
 use Rattle.attach_proto.specs.Texts.{text_of}
 use Rattle.attach_proto.specs.Spelling.{two, named, window_byte, reason, kind_of, payload, HasFields}
-use Rattle.attach_proto.specs.Reading.{◌>>=◌, one_at, two_at, token_at, name_at, end_at, some_of, window_of, why_at, attach_of, window_frame_of, command_of, size_of, number_of, message_of}
+use Rattle.attach_proto.specs.Reading.{◌>>=◌, one_at, two_at, token_at, name_at, end_at, some_of, window_of, why_at, all_reasons, attach_of, window_frame_of, command_of, size_of, number_of, message_of}
 use Rattle.attach_proto.proofs.FieldLaws.{IsBytes, bind_some, some_is, two_takes, two_is, one_takes, token_takes, token_again, text_takes, text_again, name_takes, name_again, end_takes, some_takes, some_again}
 
 -- a message that spells this payload of this kind
@@ -106,19 +106,13 @@ pub chosen : {A : Type 0} (b : Bool) (x z : A) (y : Option A) (P : Type 0) → c
 chosen true x z y P e f g = f refl (some_is x z e)
 chosen false x z y P e f g = g e
 
-why_here : (n k : ℕ) (w z : Why) → k ≡ reason w → eqb n k ≡ true → w ≡ z → n ≡ reason z
-why_here n k w z k-is t e = eqb-true n k t ∙ k-is ∙ ap reason e
+-- what is found passes
+pub found : {A : Type 0} (test : A → Bool) (xs : List A) (z : A) → find test xs ≡ Some z → test z ≡ true
+found test [] z e = absurd cc
+found test (x ∷ xs) z e = chosen (test x) x z (find test xs) (test z ≡ true) e (λ passes same. ap test (sym same) ∙ passes) (found test xs z)
 
 why_takes : (n : ℕ) (w : Why) → why_at n ≡ Some w → n ≡ reason w
-why_takes n w e =
-    chosen (eqb n 0) why.Detached w _ (n ≡ reason w) e (why_here n 0 why.Detached w refl) (λ e.
-    chosen (eqb n 1) why.Removed w _ (n ≡ reason w) e (why_here n 1 why.Removed w refl) (λ e.
-    chosen (eqb n 2) why.SingleUser w _ (n ≡ reason w) e (why_here n 2 why.SingleUser w refl) (λ e.
-    chosen (eqb n 3) why.Killed w _ (n ≡ reason w) e (why_here n 3 why.Killed w refl) (λ e.
-    chosen (eqb n 4) why.Quit w _ (n ≡ reason w) e (why_here n 4 why.Quit w refl) (λ e.
-    chosen (eqb n 5) why.TooFarBehind w _ (n ≡ reason w) e (why_here n 5 why.TooFarBehind w refl) (λ e.
-    chosen (eqb n 6) why.Fault w _ (n ≡ reason w) e (why_here n 6 why.Fault w refl) (λ e.
-    chosen (eqb n 7) why.TrailFull w _ (n ≡ reason w) e (why_here n 7 why.TrailFull w refl) (λ e. absurd cc))))))))
+why_takes n w e = eqb-true n (reason w) (found (λ v. eqb n (reason v)) all_reasons w e)
 
 pub message_takes : (k : Kind) (bytes : List ℕ) (m : Message) → IsBytes bytes → message_of k bytes ≡ Some m → Spells k bytes m
 unfolding message_of

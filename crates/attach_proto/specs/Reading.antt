@@ -1,7 +1,7 @@
 -- The front of a stream, read from the left: a whole frame, a fault, or less than a whole frame.
 -- That it tells what `Streams` and `Spelling` say is proved of each function that cites it.
 use Rattle.std.specs.Prelude.{ℕ, ◌+◌, ◌*◌, Bool, true, false, nat_lt, ◌==◌, if◌then◌else◌, List, []}
-use Rattle.std.specs.Prelude.{◌∷◌, length, take, drop, Option, Some, None}
+use Rattle.std.specs.Prelude.{◌∷◌, length, take, drop, find, Option, Some, None}
 use Rattle.attach_proto.specs.declared.fault.ProtoFault.TheVariants.{BadKind, TooLong, BadPayload}
 use Rattle.attach_proto.specs.declared.fault.ProtoFault.TheVariants.{WrongSide}
 use Rattle.attach_proto.specs.declared.side.Side.{Side}
@@ -17,41 +17,30 @@ use Rattle.attach_proto.specs.declared.message.Message.TheVariants.{Draw, Input,
 use Rattle.attach_proto.specs.declared.reading.Front.{Front}
 use Rattle.attach_proto.specs.declared.reading.Front.TheVariants.{Part, Broken, Whole}
 use Rattle.attach_proto.specs.Texts.{token_of, text_of}
-use Rattle.attach_proto.specs.Spelling.{reader_of}
+use Rattle.attach_proto.specs.Spelling.{reader_of, code, reason}
 
 infixl 10 ◌>>=◌
 abbrev pub ◌>>=◌ : {A B : Type 0} → Option A → (A → Option B) → Option B
 (Some x) >>= f = f x
 None >>= f = None
 
-abbrev pub kind_at : ℕ → Option Kind
-kind_at n =
-    if n == 0x41 then Some kind.Attach
-    else (if n == 0x57 then Some kind.Window
-    else (if n == 0x43 then Some kind.Command
-    else (if n == 0x4B then Some kind.Keys
-    else (if n == 0x52 then Some kind.Resize
-    else (if n == 0x4F then Some kind.Output
-    else (if n == 0x44 then Some kind.Detach
-    else (if n == 0x79 then Some kind.Welcome
-    else (if n == 0x64 then Some kind.Draw
-    else (if n == 0x69 then Some kind.Input
-    else (if n == 0x73 then Some kind.Say
-    else (if n == 0x7A then Some kind.Size
-    else (if n == 0x67 then Some kind.Gone
-    else None))))))))))))
+abbrev pub all_kinds : List Kind
+all_kinds =
+    kind.Attach ∷ kind.Window ∷ kind.Command ∷ kind.Keys ∷ kind.Resize ∷ kind.Output ∷ kind.Detach
+    ∷ kind.Welcome ∷ kind.Draw ∷ kind.Input ∷ kind.Say ∷ kind.Size ∷ kind.Gone ∷ []
 
+-- the kind with this code
+abbrev pub kind_at : ℕ → Option Kind
+kind_at n = find (λ k. n == code k) all_kinds
+
+abbrev pub all_reasons : List Why
+all_reasons =
+    why.Detached ∷ why.Removed ∷ why.SingleUser ∷ why.Killed ∷ why.Quit ∷ why.TooFarBehind
+    ∷ why.Fault ∷ why.TrailFull ∷ []
+
+-- the reason with this number
 abbrev pub why_at : ℕ → Option Why
-why_at n =
-    if n == 0 then Some why.Detached
-    else (if n == 1 then Some why.Removed
-    else (if n == 2 then Some why.SingleUser
-    else (if n == 3 then Some why.Killed
-    else (if n == 4 then Some why.Quit
-    else (if n == 5 then Some why.TooFarBehind
-    else (if n == 6 then Some why.Fault
-    else (if n == 7 then Some why.TrailFull
-    else None)))))))
+why_at n = find (λ w. n == reason w) all_reasons
 
 -- A field is a value and the bytes after it.
 abbrev pub two_at : List ℕ → Option (ℕ × List ℕ)

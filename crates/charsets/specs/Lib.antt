@@ -3,3 +3,4 @@ pub mod Partial
 pub mod Units
 pub mod Sets
 pub mod Shifts
+pub mod Entries

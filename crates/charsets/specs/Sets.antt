@@ -2,6 +2,8 @@
 use Rattle.std.specs.Prelude.{ℕ, ◌+◌, ◌-◌, nat_lt, ◌==◌, if◌then◌else◌, List, [], ◌∷◌, slice_index}
 use Rattle.std.specs.Prelude.{codes}
 use Rattle.std.specs.List.{list_any}
+use Prim.Native.Char.{code}
+use Rattle.charsets.specs.Entries.{entry_or}
 use Rattle.charsets.specs.declared.sets.CharacterSet.{CharacterSet}
 use Rattle.charsets.specs.declared.sets.CharacterSet.TheVariants.{Ascii, UnitedKingdom}
 use Rattle.charsets.specs.declared.sets.CharacterSet.TheVariants.{SpecialGraphics, Supplemental}
@@ -12,23 +14,22 @@ graphics = codes " ◆▒␉␌␍␊°±␤␋┘┐┌└┼⎺⎻─⎼⎽├
 
 -- the positions of the supplemental set that have no character
 abbrev pub unassigned : List ℕ
-unassigned =
-    0x24 ∷ 0x26 ∷ 0x2C ∷ 0x2D ∷ 0x2E ∷ 0x2F ∷ 0x34 ∷ 0x38 ∷ 0x3E ∷ 0x50 ∷ 0x5E ∷ 0x70 ∷ 0x7E ∷ []
+unassigned = codes "$&,-./48>P^p~"
 
--- position u of the supplemental set is the code u + 80, but for some letters and the currency sign
+-- those that aren't the code 80 above: the currency sign and some letters
+abbrev pub supplements : List (ℕ × ℕ)
+supplements =
+    (code "(", code "¤") ∷ (code "W", code "Œ") ∷ (code "]", code "Ÿ") ∷ (code "w", code "œ")
+    ∷ (code "}", code "ÿ") ∷ []
+
+-- each other position u has the code u + 80
 unfoldable pub supplement : ℕ → ℕ
 supplement u =
-    if list_any (λ v. v == u) unassigned then 0xFFFD
-    else (if u == 0x28 then 0xA4
-    else (if u == 0x57 then 0x152
-    else (if u == 0x5D then 0x178
-    else (if u == 0x77 then 0x153
-    else (if u == 0x7D then 0xFF
-    else u + 0x80)))))
+    if list_any (λ v. v == u) unassigned then 0xFFFD else entry_or (u + 0x80) supplements u
 
 -- the character at a position of a set, 21 to 7E
 unfoldable pub character_at : CharacterSet → ℕ → ℕ
 character_at Ascii u = u
-character_at UnitedKingdom u = if u == 0x23 then 0xA3 else u
+character_at UnitedKingdom u = if u == code "#" then code "£" else u
 character_at SpecialGraphics u = if nat_lt u 0x5F then u else slice_index graphics (u - 0x5F)
 character_at Supplemental u = supplement u

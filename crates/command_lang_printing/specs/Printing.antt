@@ -1,7 +1,7 @@
 -- How a command is printed.
 use Rattle.std.specs.Prelude.{ℕ, ◌+◌, ◌/◌, ◌%◌, Bool, true, false, not, ◌&&◌, ◌||◌, nat_lt, ◌==◌}
 use Rattle.std.specs.Prelude.{if◌then◌else◌, List, [], ◌∷◌, ◌++◌, map, codes, Option, Some, None}
-use Rattle.std.specs.List.{list_all, join_with_byte}
+use Rattle.std.specs.List.{list_all, list_any, join_with_byte}
 use Rattle.std.specs.Str.{chars, encode_utf8_all}
 use Rattle.std.specs.Char.{is_ascii_alphanumeric}
 use Rattle.std.specs.Fmt.{decimal}
@@ -108,12 +108,9 @@ words_of (command.Encoding coding) = coding_word coding ∷ []
 words_of (command.Stuff text) = text ∷ []
 words_of _ = []
 
--- The characters that need no quotes: ASCII's letters and digits, and _ - + , # ? *
+-- The characters that need no quotes: ASCII's letters and digits, and some signs
 abbrev pub is_plain : ℕ → Bool
-is_plain c =
-    is_ascii_alphanumeric c
-    || (c == 0x5F
-    || (c == 0x2D || (c == 0x2B || (c == 0x2C || (c == 0x23 || (c == 0x3F || c == 0x2A))))))
+is_plain c = is_ascii_alphanumeric c || list_any (λ sign. c == sign) (codes "_-+,#?*")
 
 abbrev pub octal : ℕ → List ℕ
 octal c = (0x30 + c / 64 % 8) ∷ (0x30 + c / 8 % 8) ∷ (0x30 + c % 8) ∷ []

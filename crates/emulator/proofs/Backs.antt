@@ -9,7 +9,7 @@ use Rattle.cells.specs.Line.{IsPaired}
 use Rattle.cells.specs.Page.{line_at, IsPage}
 use Rattle.cells.proofs.Pages.{IsPaired-nil}
 use Rattle.terminal_model.specs.Screen.{Page, Screen, IsSound}
-use Rattle.emulator.specs.Pages.{moved_back}
+use Rattle.terminal_model.specs.Scrollback.{moved_back}
 
 -- the kept lines that stand above the page's
 abbrev above : ℕ → Screen → Page

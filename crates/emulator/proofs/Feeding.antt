@@ -14,7 +14,8 @@ use Rattle.control_parser.proofs.Openings.{functions-opening}
 use Rattle.cells.specs.declared.grid.GridFault.{GridFault}
 use Rattle.cells.specs.Page.{IsGridSize}
 use Rattle.terminal_model.specs.Screen.{Screen, starting}
-use Rattle.terminal_model.specs.Table.{effect, resized}
+use Rattle.terminal_model.specs.Sizing.{resized}
+use Rattle.terminal_model.specs.Table.{effect}
 use Rattle.terminal_model.specs.Reports.{report}
 use Rattle.terminal_model.specs.Reading.{Terminal, Read, IsTerminal, ready, nothing_read, act, act_all, read_unit, read_units, rest_in, in_coding, read_byte, reads}
 use Rattle.terminal_model.specs.Writing.{Size, writes}

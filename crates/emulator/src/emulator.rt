@@ -12,9 +12,9 @@ ghost use Rattle.terminal_model.specs.Writing.{Size, Clear, Reset, Encoding, rea
 ghost use Rattle.vt_screen.specs.Sizes.{IsScreenSize};
 ghost use Rattle.emulator.specs.Standing.{StandsFor, StandsWithin, HasRead, HasTaken};
 ghost use Rattle.emulator.specs.Standing.{TakesWriting, in_screen_coding};
-ghost use Rattle.emulator.specs.Pages.{moved_back};
+ghost use Rattle.terminal_model.specs.Scrollback.{moved_back};
 
-use crate::shown::Shown;
+use crate::moved_page::MovedPage;
 use cells::GridFault;
 use charsets::{Coding, Decoder, Unit, Units};
 use control_parser::{Parser, Sequence};
@@ -86,7 +86,7 @@ impl Emulator {
         ensures few { length result ≤ 24 }
     {
         let units = self.decoder.push(byte);
-        let report = self.take_all(units);
+        let report = self.push_units(units);
         self.follow_coding();
         report
     }
@@ -129,7 +129,7 @@ impl Emulator {
         ensures room { vec_len out.old + 24 ≤ vec_capacity out.old → IsOk result }
     {
         out.reserve(REPORT_BYTES)?;
-        let count = self.take_wholes(bytes);
+        let count = self.read_pieces(bytes);
         if count > 0 {
             return Ok(count);
         }
@@ -139,7 +139,7 @@ impl Emulator {
     }
 
     /// Takes the units that a byte completes, and gives what is answered.
-    fn take_all(&mut self, units: Units) -> Report
+    fn push_units(&mut self, units: Units) -> Report
         ensures stands { (t : Terminal) → StandsWithin self.old t
             → StandsWithin self.new (read_units t (unit_list units)).terminal }
         ensures reports { (t : Terminal) → StandsWithin self.old t
@@ -149,10 +149,10 @@ impl Emulator {
     {
         match units {
             Units::Nothing => Report::none(),
-            Units::One(unit) => self.take(unit),
+            Units::One(unit) => self.push_unit(unit),
             Units::Two(first, second) => {
-                let mut report = self.take(first);
-                let next = self.take(second);
+                let mut report = self.push_unit(first);
+                let next = self.push_unit(second);
                 report.extend(next.as_slice());
                 report
             }
@@ -160,7 +160,7 @@ impl Emulator {
     }
 
     /// Takes a unit, and gives what is answered.
-    fn take(&mut self, unit: Unit) -> Report
+    fn push_unit(&mut self, unit: Unit) -> Report
         ensures stands { (t : Terminal) → StandsWithin self.old t
             → StandsWithin self.new (read_unit t unit).terminal }
         ensures reports { (t : Terminal) → StandsWithin self.old t
@@ -199,12 +199,12 @@ impl Emulator {
 
     /// Lends the lines of the page, moved back by so many kept lines, or by all where they are
     /// fewer.
-    pub fn page(&self, offset: usize) -> Shown<'_>
+    pub fn page(&self, offset: usize) -> MovedPage<'_>
         ensures lines { result ≡ moved_back offset self.now.screen }
         ensures sized { IsPage self.now.screen.state.rows self.now.screen.state.columns result }
         ensures page { offset ≡ 0 → result ≡ self.now.screen.page }
     {
-        Shown::of(&self.screen, offset)
+        MovedPage::of(&self.screen, offset)
     }
 
     /// The cursor's line and column, from 0.

@@ -10,7 +10,7 @@ ghost use Rattle.terminal_model.specs.Scrollback.{all_left};
 ghost use Rattle.terminal_model.specs.Writing.{Writing, Clear, Reset, Encoding, IsWriting, writes};
 ghost use Rattle.terminal_model.specs.Writing.{writes_all};
 ghost use Rattle.emulator.specs.Standing.{Parts, StandsFor, HasRead};
-ghost use Rattle.emulator.specs.Pages.{moved_back};
+ghost use Rattle.terminal_model.specs.Scrollback.{moved_back};
 
 /// Bytes that are read in two pieces are read as the whole.
 pub fn pieces_are_whole()

@@ -3,7 +3,7 @@
 
 mod emulator;
 mod laws;
-mod shown;
+mod moved_page;
 mod whole;
 
 pub use emulator::{Emulator, Stopped};
@@ -11,4 +11,4 @@ pub use laws::{
     commands_answer_nothing, moved_page_shows_the_last_lines, pieces_are_whole,
     unmoved_page_is_the_page,
 };
-pub use shown::Shown;
+pub use moved_page::MovedPage;

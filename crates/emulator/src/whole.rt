@@ -31,26 +31,26 @@ impl Emulator {
     /// Where nothing has begun, reads all that stands whole at the front of some bytes and isn't
     /// answered. It gives how many bytes that are: 0 where something has begun, or nothing of the
     /// kind stands there.
-    pub(crate) fn take_wholes(&mut self, bytes: &[u8]) -> usize
+    pub(crate) fn read_pieces(&mut self, bytes: &[u8]) -> usize
         ensures taken { (said : List ℕ) → HasTaken self.old bytes.now result said self.new said }
         ensures few { result ≤ length bytes.now }
     {
         if self.decoder.is_idle() && self.parser.is_idle() {
-            self.take_on(bytes)
+            self.read_idle(bytes)
         } else {
             0
         }
     }
 
     /// The same where nothing has begun.
-    fn take_on(&mut self, bytes: &[u8]) -> usize
+    fn read_idle(&mut self, bytes: &[u8]) -> usize
         requires { IsBetween self.old }
         ensures taken { (said : List ℕ) → HasTaken self.old bytes.now result said self.new said }
         ensures few { result ≤ length bytes.now }
     {
         let mut taken = 0;
         while taken < bytes.len() {
-            let count = self.take_whole(&bytes[taken..]);
+            let count = self.read_piece(&bytes[taken..]);
             if count == 0 {
                 return taken;
             }
@@ -62,7 +62,7 @@ impl Emulator {
     /// Reads the first that stands whole: a run of bytes 20 to 7E, and in UTF-8 a control, an
     /// escape sequence without intermediates, a control sequence that isn't answered, a character
     /// from U+00A0 on.
-    fn take_whole(&mut self, bytes: &[u8]) -> usize
+    fn read_piece(&mut self, bytes: &[u8]) -> usize
         requires some { 0 < length bytes.now }
         requires idle { IsBetween self.old }
         ensures taken { (said : List ℕ) → HasTaken self.old bytes.now result said self.new said }
@@ -80,18 +80,18 @@ impl Emulator {
             return 0;
         }
         match first {
-            ESC => self.take_escape(bytes),
+            ESC => self.read_escape(bytes),
             CAN | SUB => 0,
             ..0x20 => {
                 self.screen.control(first);
                 1
             }
-            _ => self.take_text(bytes),
+            _ => self.read_text(bytes),
         }
     }
 
     /// The same of what begins with ESC.
-    fn take_escape(&mut self, bytes: &[u8]) -> usize
+    fn read_escape(&mut self, bytes: &[u8]) -> usize
         requires begins { take 1 bytes.now ≡ 0x1B ∷ [] }
         requires idle { IsBetween self.old }
         requires coding { self.old.decoding.coding ≡ Utf8 }
@@ -104,7 +104,7 @@ impl Emulator {
             return 0;
         }
         if bytes[1] == b'[' {
-            return self.take_sequence(bytes);
+            return self.read_sequence(bytes);
         }
         if !ends_escape(bytes[1]) {
             return 0;
@@ -114,7 +114,7 @@ impl Emulator {
     }
 
     /// The same of what begins with CSI.
-    fn take_sequence(&mut self, bytes: &[u8]) -> usize
+    fn read_sequence(&mut self, bytes: &[u8]) -> usize
         requires begins { take 2 bytes.now ≡ 0x1B ∷ 0x5B ∷ [] }
         requires idle { IsBetween self.old }
         requires coding { self.old.decoding.coding ≡ Utf8 }
@@ -134,7 +134,7 @@ impl Emulator {
     }
 
     /// The same of characters from U+00A0 on: of a run of letters, or of any.
-    fn take_text(&mut self, bytes: &[u8]) -> usize
+    fn read_text(&mut self, bytes: &[u8]) -> usize
         requires some { 0 < length bytes.now }
         requires idle { IsBetween self.old }
         requires coding { self.old.decoding.coding ≡ Utf8 }
@@ -144,18 +144,18 @@ impl Emulator {
         ensures parsing { self.new.parsing ≡ self.old.parsing }
     {
         if BEHIND_LETTERS <= bytes[0] {
-            return self.take_characters(bytes);
+            return self.read_characters(bytes);
         }
-        let count = self.take_letters(bytes);
+        let count = self.read_letters(bytes);
         if count == 0 {
-            return self.take_characters(bytes);
+            return self.read_characters(bytes);
         }
         count
     }
 
     /// The same of letters, as many as there is room for at once. It gives 0 where none stands
     /// there, and has done nothing then.
-    fn take_letters(&mut self, bytes: &[u8]) -> usize
+    fn read_letters(&mut self, bytes: &[u8]) -> usize
         requires idle { IsBetween self.old }
         requires coding { self.old.decoding.coding ≡ Utf8 }
         ensures taken { (said : List ℕ) → HasTaken self.old bytes.now result said self.new said }
@@ -174,7 +174,7 @@ impl Emulator {
     }
 
     /// The same of characters of two or three bytes from U+00A0 on.
-    fn take_characters(&mut self, bytes: &[u8]) -> usize
+    fn read_characters(&mut self, bytes: &[u8]) -> usize
         requires idle { IsBetween self.old }
         requires coding { self.old.decoding.coding ≡ Utf8 }
         ensures taken { (said : List ℕ) → HasTaken self.old bytes.now result said self.new said }

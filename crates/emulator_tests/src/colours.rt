@@ -2,7 +2,7 @@
 
 use crate::judging::{Size, fed, made};
 use cells::{Cell, Rendition};
-use emulator::Shown;
+use emulator::MovedPage;
 use std::process::Abort;
 use std::str::Chars;
 use std::test::Fail;
@@ -95,7 +95,7 @@ fn go_on_with_line(fore: &mut Chars<'_>, back: &mut Chars<'_>, line: &[Cell]) ->
 }
 
 /// Whether the cells of a page have these colours.
-fn has_colours(page: &Shown<'_>, fore: &str, back: &str) -> bool {
+fn has_colours(page: &MovedPage<'_>, fore: &str, back: &str) -> bool {
     let mut fore = fore.chars();
     let mut back = back.chars();
     for line in 0..page.rows() {

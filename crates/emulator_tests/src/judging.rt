@@ -1,7 +1,7 @@
 //! An emulator for a test, and what its page shows.
 
 use cells::{Cell, Marks, Shape};
-use emulator::{Emulator, Shown};
+use emulator::{Emulator, MovedPage};
 use std::alloc::Global;
 use std::str::Chars;
 use std::test::Fail;
@@ -54,7 +54,7 @@ fn goes_on_with_line(text: &mut Chars<'_>, line: &[Cell]) -> bool {
 }
 
 /// Whether the page is this text: its lines, each ended by `|`.
-pub fn shows(page: &Shown<'_>, text: &str) -> bool {
+pub fn shows(page: &MovedPage<'_>, text: &str) -> bool {
     let mut text = text.chars();
     for line in 0..page.rows() {
         if !goes_on_with_line(&mut text, page.line(line)) {
@@ -65,7 +65,7 @@ pub fn shows(page: &Shown<'_>, text: &str) -> bool {
 }
 
 /// Whether two pages have the same cells.
-pub fn are_alike(page: &Shown<'_>, other: &Shown<'_>) -> bool {
+pub fn are_alike(page: &MovedPage<'_>, other: &MovedPage<'_>) -> bool {
     if page.rows() != other.rows() {
         return false;
     }

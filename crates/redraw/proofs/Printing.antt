@@ -14,9 +14,11 @@ use Rattle.control_parser.specs.declared.func.Func.TheVariants.{Print}
 use Rattle.control_parser.specs.Spelling.{spelling}
 use Rattle.terminal_model.specs.declared.state.State.{State}
 use Rattle.terminal_model.specs.declared.state.Position.{Position}
-use Rattle.terminal_model.specs.Screen.{Page, Screen, IsSound}
+use Rattle.terminal_model.specs.Screen.{Page, Screen, IsSound, with_state}
 use Rattle.terminal_model.specs.Functions.{plain_sequence}
-use Rattle.terminal_model.specs.Table.{effect, acted_from, settled, with_state, printed, printed_as, placed, advanced, following, marked_at, drawn}
+use Rattle.terminal_model.specs.Motion.{unpending}
+use Rattle.terminal_model.specs.Printing.{printed, printed_as, placed, advanced, following, marked_at, drawn}
+use Rattle.terminal_model.specs.Table.{effect, acted_from}
 use Rattle.terminal_model.specs.Drawing.{drawn_state, StandsAt, cell_of, has_room, mark_place, place_by, Differs}
 use Rattle.terminal_model.proofs.Sound.{IsSound-effect}
 use Rattle.terminal_model.specs.Drawable.{IsGlyph}
@@ -84,7 +86,7 @@ module _ (rows columns : ℕ) where
 
   module _ (old new : Page) (pen : Pen) (x : Screen) (d : Drawing rows columns pen x) (lh : pen.line < rows) (ch : pen.column < columns) where
     -- ERASURES
-    erase_writes : (y : Screen) (n : ℕ) → IsSound y → 0 < n → pen.column + n ≤ columns → y.state ≡ settled x.state → y.tabs ≡ x.tabs → y.saved ≡ x.saved → y.page ≡ written pen.line pen.column columns (replicate n blank) x.page
+    erase_writes : (y : Screen) (n : ℕ) → IsSound y → 0 < n → pen.column + n ≤ columns → y.state ≡ unpending x.state → y.tabs ≡ x.tabs → y.saved ≡ x.saved → y.page ≡ written pen.line pen.column columns (replicate n blank) x.page
         → Writes rows columns pen pen.line pen.column n (λ c. blank) x y
     erase_writes y n sound some room state tabs saved page =
         let m : length (replicate n blank) ≡ n = length-replicate n blank in
@@ -94,7 +96,7 @@ module _ (rows columns : ℕ) where
             sound = sound;
             rows_are = ap (λ (s : State). s.rows) state ∙ d.rows_are;
             columns_are = k ∙ d.columns_are;
-            state_is = state ∙ ap settled d.state_is ∙ ap drawn_state (sym state);
+            state_is = state ∙ ap unpending d.state_is ∙ ap drawn_state (sym state);
             tabs_are = tabs ∙ d.tabs_are ∙ rw k refl;
             none_saved = saved ∙ d.none_saved;
             line_is = λ h. ap (λ (s : State). s.line) state ∙ d.line_is h;

@@ -11,9 +11,10 @@ use Rattle.control_parser.specs.declared.func.Func.TheVariants.{Csi}
 use Rattle.terminal_model.specs.declared.action.Action.TheVariants.{Render}
 use Rattle.terminal_model.specs.declared.action.Attribute.{Attribute}
 use Rattle.terminal_model.specs.declared.action.Attribute.TheVariants.{Plain, Bold, Underlined, Blinking, Reversed, Foreground, Background}
-use Rattle.terminal_model.specs.Screen.{Screen}
+use Rattle.terminal_model.specs.Screen.{Screen, with_state}
 use Rattle.terminal_model.specs.Functions.{plain_sequence, each, rendered}
-use Rattle.terminal_model.specs.Table.{acted_from, all_acted, effect, with_state, apart}
+use Rattle.terminal_model.specs.Motion.{unjoined}
+use Rattle.terminal_model.specs.Table.{acted_from, all_acted, effect}
 use Rattle.terminal_model.specs.Drawing.{IsListed}
 use Rattle.terminal_model.specs.Places.{value_if, value_of_colour, rendition_values}
 use Rattle.terminal_model.proofs.Frames.{all_acted-append, each-append}
@@ -185,7 +186,7 @@ params-listed rows (n ∷ values) h = named-listed rows n values (all-named (n �
 -- WHAT THEY DO
 
 abbrev pub with_rendition : Screen → Rendition → Screen
-with_rendition x r = with_state x (apart (record x.state { rendition = r }))
+with_rendition x r = with_state x (unjoined (record x.state { rendition = r }))
 
 switch-bold : (x : Screen) (r : Rendition) (o n : Bool) → r.is_bold ≡ o → all_acted (with_rendition x r) (each rendered (switched o n 1 22)) ≡ with_rendition x (record r { is_bold = n })
 unfolding acted_from

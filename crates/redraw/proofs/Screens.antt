@@ -8,7 +8,8 @@ use Rattle.control_parser.specs.Spelling.{spelling}
 use Rattle.terminal_model.specs.declared.state.State.{State}
 use Rattle.terminal_model.specs.Screen.{Page, Screen, IsSound}
 use Rattle.terminal_model.specs.Functions.{first, second, plain_sequence}
-use Rattle.terminal_model.specs.Table.{effect, acted_from, moved_to, settled, apart, line_named, line_below}
+use Rattle.terminal_model.specs.Motion.{moved_to, unpending, unjoined, line_named, line_below}
+use Rattle.terminal_model.specs.Table.{effect, acted_from}
 use Rattle.terminal_model.specs.Drawing.{drawn_state}
 use Rattle.terminal_model.proofs.Sound.{IsSound-effect}
 use Rattle.redraw.specs.declared.pen.Pen.{Pen}
@@ -24,11 +25,11 @@ use Rattle.redraw.proofs.Renditions.{with_rendition, params-made}
 moved_drawn : (s : State) (l c : ℕ) → s ≡ drawn_state s → moved_to s l c ≡ drawn_state (moved_to s l c)
 moved_drawn s l c e = ap (λ z. moved_to z l c) e
 
-settled_drawn : (s : State) → s ≡ drawn_state s → settled s ≡ drawn_state (settled s)
-settled_drawn s e = ap settled e
+settled_drawn : (s : State) → s ≡ drawn_state s → unpending s ≡ drawn_state (unpending s)
+settled_drawn s e = ap unpending e
 
-rendered_drawn : (s : State) (r : Rendition) → s ≡ drawn_state s → apart (record s { rendition = r }) ≡ drawn_state (apart (record s { rendition = r }))
-rendered_drawn s r e = ap (λ (z : State). apart (record z { rendition = r })) e
+rendered_drawn : (s : State) (r : Rendition) → s ≡ drawn_state s → unjoined (record s { rendition = r }) ≡ drawn_state (unjoined (record s { rendition = r }))
+rendered_drawn s r e = ap (λ (z : State). unjoined (record z { rendition = r })) e
 
 module _ (rows columns : ℕ) where
   module _ (pen : Pen) (x : Screen) (d : Drawing rows columns pen x) where

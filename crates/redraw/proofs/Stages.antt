@@ -7,7 +7,8 @@ use Rattle.terminal_model.specs.declared.state.Modes.{Modes}
 use Rattle.terminal_model.specs.declared.state.Position.{Position}
 use Rattle.terminal_model.specs.Screen.{Page, Screen}
 use Rattle.terminal_model.specs.Functions.{private_sequence}
-use Rattle.terminal_model.specs.Table.{effect, acted_from, settled}
+use Rattle.terminal_model.specs.Motion.{unpending}
+use Rattle.terminal_model.specs.Table.{effect, acted_from}
 use Rattle.terminal_model.specs.Shows.{seen_at}
 use Rattle.terminal_model.proofs.Sound.{IsSound-effect}
 use Rattle.view.specs.declared.view.KeyModes.{KeyModes}
@@ -55,7 +56,7 @@ module _ (old new page : Page) (rows columns : ℕ) (pen : Pen) where
             sound = IsSound-effect x (func_of (Arrows true)) d.sound;
             rows_are = d.rows_are;
             columns_are = d.columns_are;
-            state_is = ap (λ (z : State). settled (record z { modes = record z.modes { has_application_arrows = true } })) d.state_is;
+            state_is = ap (λ (z : State). unpending (record z { modes = record z.modes { has_application_arrows = true } })) d.state_is;
             tabs_are = d.tabs_are;
             none_saved = d.none_saved;
             line_is = d.line_is;
@@ -77,7 +78,7 @@ module _ (old new page : Page) (rows columns : ℕ) (pen : Pen) where
             sound = IsSound-effect x (func_of (Arrows false)) d.sound;
             rows_are = d.rows_are;
             columns_are = d.columns_are;
-            state_is = ap (λ (z : State). settled (record z { modes = record z.modes { has_application_arrows = false } })) d.state_is;
+            state_is = ap (λ (z : State). unpending (record z { modes = record z.modes { has_application_arrows = false } })) d.state_is;
             tabs_are = d.tabs_are;
             none_saved = d.none_saved;
             line_is = d.line_is;
@@ -102,7 +103,7 @@ module _ (old new page : Page) (rows columns : ℕ) (pen : Pen) where
             sound = IsSound-effect x (func_of (ShowCursor true)) d.sound;
             rows_are = d.rows_are;
             columns_are = d.columns_are;
-            state_is = ap (λ (z : State). settled (record z { modes = record z.modes { shows_cursor = true } })) d.state_is;
+            state_is = ap (λ (z : State). unpending (record z { modes = record z.modes { shows_cursor = true } })) d.state_is;
             tabs_are = d.tabs_are;
             none_saved = d.none_saved;
             line_is = d.line_is;
@@ -124,7 +125,7 @@ module _ (old new page : Page) (rows columns : ℕ) (pen : Pen) where
             sound = IsSound-effect x (func_of (ShowCursor false)) d.sound;
             rows_are = d.rows_are;
             columns_are = d.columns_are;
-            state_is = ap (λ (z : State). settled (record z { modes = record z.modes { shows_cursor = false } })) d.state_is;
+            state_is = ap (λ (z : State). unpending (record z { modes = record z.modes { shows_cursor = false } })) d.state_is;
             tabs_are = d.tabs_are;
             none_saved = d.none_saved;
             line_is = d.line_is;
@@ -149,7 +150,7 @@ module _ (old new page : Page) (rows columns : ℕ) (pen : Pen) where
             sound = IsSound-effect x (func_of (Keypad true)) d.sound;
             rows_are = d.rows_are;
             columns_are = d.columns_are;
-            state_is = ap (λ (z : State). settled (record z { modes = record z.modes { has_application_keypad = true } })) d.state_is;
+            state_is = ap (λ (z : State). unpending (record z { modes = record z.modes { has_application_keypad = true } })) d.state_is;
             tabs_are = d.tabs_are;
             none_saved = d.none_saved;
             line_is = d.line_is;
@@ -171,7 +172,7 @@ module _ (old new page : Page) (rows columns : ℕ) (pen : Pen) where
             sound = IsSound-effect x (func_of (Keypad false)) d.sound;
             rows_are = d.rows_are;
             columns_are = d.columns_are;
-            state_is = ap (λ (z : State). settled (record z { modes = record z.modes { has_application_keypad = false } })) d.state_is;
+            state_is = ap (λ (z : State). unpending (record z { modes = record z.modes { has_application_keypad = false } })) d.state_is;
             tabs_are = d.tabs_are;
             none_saved = d.none_saved;
             line_is = d.line_is;

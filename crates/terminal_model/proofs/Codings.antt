@@ -19,7 +19,11 @@ use Rattle.terminal_model.specs.declared.state.State.{State}
 use Rattle.terminal_model.specs.declared.state.Position.{Position}
 use Rattle.terminal_model.specs.Screen.{Screen}
 use Rattle.terminal_model.specs.Functions.{actions_of, escape_action, intermediate_action, designation, control_action, sequence_actions, marked_sequence, between_sequence, plain_sequence, private_sequence, each, alone, rendered, mode_set, private_mode_set, part_of, protection, tab_cleared, status_reported}
-use Rattle.terminal_model.specs.Table.{acted_from, acted, all_acted, effect, printed, printed_as, wrapped, wide_or_none, lacks_room, marked_at, homed, margins_or_none, lines_inserted, lines_deleted, is_in_margins, columns_of, drawn, bottom_of}
+use Rattle.terminal_model.specs.Motion.{margins_or_none, bottom_of}
+use Rattle.terminal_model.specs.Printing.{printed, printed_as, wrapped, wide_or_none, lacks_room, marked_at, columns_of, drawn}
+use Rattle.terminal_model.specs.Erasing.{lines_inserted, lines_deleted, is_in_margins}
+use Rattle.terminal_model.specs.Settings.{homed}
+use Rattle.terminal_model.specs.Table.{acted_from, acted, all_acted, effect}
 
 -- what neither prints nor sets the coding
 abbrev pub is_ordinary : Action → Bool

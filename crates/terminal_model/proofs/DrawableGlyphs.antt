@@ -17,7 +17,7 @@ use Rattle.cells.specs.Glyph.{glyph_columns}
 use Rattle.control_parser.specs.declared.func.Func.TheVariants.{Print}
 use Rattle.control_parser.specs.Grammar.{is_graphic}
 use Rattle.control_parser.specs.Spelling.{IsGiven}
-use Rattle.terminal_model.specs.Table.{columns_of, drawn, drawn_as}
+use Rattle.terminal_model.specs.Printing.{columns_of, drawn, drawn_as}
 use Rattle.terminal_model.specs.Drawable.{IsGlyph}
 
 -- THE SETS give graphic characters

@@ -14,7 +14,7 @@ use Rattle.cells.specs.Page.{line_at, Origin, New, From, cell_from, are_own_halv
 use Rattle.cells.specs.Resizing.{line_resized, page_resized}
 use Rattle.cells.proofs.Settling.{cell_at_past, right_kept}
 use Rattle.cells.proofs.Pages.{length-line_from, length-page_from, line_at-page_from}
-use Rattle.terminal_model.specs.Screen.{Page, taken_in}
+use Rattle.terminal_model.specs.Screen.{Page, with_newest}
 use Rattle.terminal_model.specs.Drawable.{IsGlyph, HasHalves, IsDrawableCell, IsDrawableLine, AreDrawableLines, AreMarks}
 use Rattle.terminal_model.specs.Places.{place}
 use Rattle.terminal_model.proofs.Resizes.{line_from-resized}
@@ -360,7 +360,7 @@ marked_stays line column mark page none =
 
 -- KEPT LINES
 
-pub taken_drawable : (keep : ℕ) (line : List Cell) (kept : Page) → IsDrawableLine line → AreDrawableLines kept → AreDrawableLines (taken_in keep line kept)
+pub taken_drawable : (keep : ℕ) (line : List Cell) (kept : Page) → IsDrawableLine line → AreDrawableLines kept → AreDrawableLines (with_newest keep line kept)
 taken_drawable keep line kept h k n = ⊎_elim
     (λ (inside : n < keep). subst IsDrawableLine (sym (get_or-take keep (line ∷ kept) n [] inside)) (all n))
     (λ (past : keep ≤ n). subst IsDrawableLine (sym (get_or_past (take keep (line ∷ kept)) n [] (rw (length-take keep (line ∷ kept)) (omega arith)))) drawable_nil)

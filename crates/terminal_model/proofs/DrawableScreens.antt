@@ -18,8 +18,12 @@ use Rattle.terminal_model.specs.declared.action.Mode.TheVariants as modes
 use Rattle.terminal_model.specs.declared.action.Part.{Part}
 use Rattle.terminal_model.specs.declared.state.Position.{Position}
 use Rattle.terminal_model.specs.declared.state.State.{State}
-use Rattle.terminal_model.specs.Screen.{Page, Screen, blank_page, starting}
+use Rattle.terminal_model.specs.Screen.{Page, Screen, blank_page, starting, with_state}
 use Rattle.terminal_model.specs.Functions.{actions_of, intermediate_action}
+use Rattle.terminal_model.specs.Motion
+use Rattle.terminal_model.specs.Printing
+use Rattle.terminal_model.specs.Erasing
+use Rattle.terminal_model.specs.Sizing
 use Rattle.terminal_model.specs.Table
 use Rattle.terminal_model.specs.Places.{place}
 use Rattle.terminal_model.specs.Drawable.{IsGlyph, IsDrawableLine, AreDrawableLines, IsDrawableScreen}
@@ -40,7 +44,7 @@ scrolled_down_page top bottom count page h = page_from-drawable (scrolled_down t
 spliced_page : (line at rest width : ℕ) (fresh : List Cell) (page : Page) → IsDrawableLine fresh → AreDrawableLines page → AreDrawableLines (page_from (edited line (spliced at fresh rest width)) page)
 spliced_page line at rest width fresh page k h = page_from-drawable (edited line (spliced at fresh rest width)) page h (edited_drawable line (spliced at fresh rest width) (λ other. spliced_drawable at fresh rest width other k))
 
-line_erased-page : (s : State) (from end : ℕ) (page : Page) → AreDrawableLines page → AreDrawableLines (Table.line_erased s from end page)
+line_erased-page : (s : State) (from end : ℕ) (page : Page) → AreDrawableLines page → AreDrawableLines (Erasing.line_erased s from end page)
 line_erased-page s from end page h = spliced_page s.line from end s.columns (replicate (end - from) blank) page (blanks_drawable (end - from)) h
 
 erased_lines-page : (first end : ℕ) (page : Page) → AreDrawableLines page → AreDrawableLines (page_from (erased_lines first end) page)
@@ -55,20 +59,20 @@ unprotected_origin cells from end line column = by (nat_le from column && nat_lt
     by true = refl
     by false = tt
 
-part_unprotected-page : (s : State) (part : Part) (page : Page) → AreDrawableLines page → AreDrawableLines (Table.part_unprotected s part page)
+part_unprotected-page : (s : State) (part : Part) (page : Page) → AreDrawableLines page → AreDrawableLines (Erasing.part_unprotected s part page)
 part_unprotected-page s part page h =
-    let from : ℕ = Table.first_column part s in
-    let end : ℕ = Table.end_column part s in
+    let from : ℕ = Erasing.first_column part s in
+    let end : ℕ = Erasing.end_column part s in
     page_from-drawable (edited s.line (unprotected_erased (line_at page s.line) from end)) page h
     (edited_drawable s.line (unprotected_erased (line_at page s.line) from end) (λ line.
     old_or_blank (λ column. on_line line (unprotected_erased (line_at page s.line) from end column)) (unprotected_origin (line_at page s.line) from end line)))
 
-lines_unprotected-page : (s : State) (part : Part) (page : Page) → AreDrawableLines page → AreDrawableLines (Table.lines_unprotected s part page)
+lines_unprotected-page : (s : State) (part : Part) (page : Page) → AreDrawableLines page → AreDrawableLines (Erasing.lines_unprotected s part page)
 lines_unprotected-page s part page h =
-    let first : ℕ = Table.first_line part s in
-    let end : ℕ = Table.end_line part s in
-    page_from-drawable (Table.unprotected_lines page s.columns first end) page h (λ line.
-    old_or_blank (Table.unprotected_lines page s.columns first end line) (λ column.
+    let first : ℕ = Erasing.first_line part s in
+    let end : ℕ = Erasing.end_line part s in
+    page_from-drawable (Erasing.unprotected_lines page s.columns first end) page h (λ line.
+    old_or_blank (Erasing.unprotected_lines page s.columns first end line) (λ column.
     old_or_blank_if (nat_le first line && nat_lt line end) (on_line line (unprotected_erased (line_at page line) 0 s.columns column)) (From line column) (unprotected_origin (line_at page line) 0 s.columns line column) tt))
 
 filled_page : (page : Page) → AreDrawableLines page → AreDrawableLines (page_from (filled (narrow_cell 0x45 plain false)) page)
@@ -85,42 +89,42 @@ blank_lines rows columns line = ⊎_elim
 
 -- SCREENS
 
-scrolled-page : (b : Bool) (s : State) (page : Page) → AreDrawableLines page → AreDrawableLines (Table.scrolled_page b s page)
+scrolled-page : (b : Bool) (s : State) (page : Page) → AreDrawableLines page → AreDrawableLines (Motion.scrolled_page b s page)
 scrolled-page true s page h = scrolled_up_page s.top s.bottom 1 page h
 scrolled-page false s page h = h
 
-lowered-page : (b : Bool) (s : State) (page : Page) → AreDrawableLines page → AreDrawableLines (Table.lowered_page b s page)
+lowered-page : (b : Bool) (s : State) (page : Page) → AreDrawableLines page → AreDrawableLines (Motion.lowered_page b s page)
 lowered-page true s page h = scrolled_down_page s.top s.bottom 1 page h
 lowered-page false s page h = h
 
-scrolled-kept : (b : Bool) (keep' : ℕ) (page kept : Page) → AreDrawableLines page → AreDrawableLines kept → AreDrawableLines (Table.scrolled_kept b keep' page kept)
+scrolled-kept : (b : Bool) (keep' : ℕ) (page kept : Page) → AreDrawableLines page → AreDrawableLines kept → AreDrawableLines (Motion.scrolled_kept b keep' page kept)
 scrolled-kept true keep' page kept h k = taken_drawable keep' (line_at page 0) kept (h 0) k
 scrolled-kept false keep' page kept h k = k
 
-drawable-indexed : (x : Screen) → IsDrawableScreen x → IsDrawableScreen (Table.indexed x)
+drawable-indexed : (x : Screen) → IsDrawableScreen x → IsDrawableScreen (Motion.indexed x)
 drawable-indexed x h = record {
   page = scrolled-page (x.state.line == x.state.bottom) x.state x.page h.page;
   kept = scrolled-kept ((x.state.line == x.state.bottom) && (x.state.top == 0)) x.keep x.page x.kept h.page h.kept;
   joined = tt;
 }
 
-drawable-wrapped : (b : Bool) (x : Screen) → IsDrawableScreen x → IsDrawableScreen (Table.wrapped b x)
-drawable-wrapped true x h = drawable-indexed (Table.with_state x (Table.moved_to x.state x.state.line 0)) (record { page = h.page; kept = h.kept; joined = tt })
+drawable-wrapped : (b : Bool) (x : Screen) → IsDrawableScreen x → IsDrawableScreen (Printing.wrapped b x)
+drawable-wrapped true x h = drawable-indexed (with_state x (Motion.moved_to x.state x.state.line 0)) (record { page = h.page; kept = h.kept; joined = tt })
 drawable-wrapped false x h = h
 
-drawable-placed : (fresh : List Cell) (x : Screen) → IsDrawableLine fresh → 0 < length fresh → is_right (cell_at fresh 0).shape ≡ false → IsDrawableScreen x → IsDrawableScreen (Table.placed fresh x)
+drawable-placed : (fresh : List Cell) (x : Screen) → IsDrawableLine fresh → 0 < length fresh → is_right (cell_at fresh 0).shape ≡ false → IsDrawableScreen x → IsDrawableScreen (Printing.placed fresh x)
 drawable-placed fresh x k some none h = record {
-  page = spliced_page x.state.line x.state.column (Table.following x.state (length fresh)) x.state.columns fresh x.page k h.page;
+  page = spliced_page x.state.line x.state.column (Printing.following x.state (length fresh)) x.state.columns fresh x.page k h.page;
   kept = h.kept;
-  joined = first_stays x.state.line x.state.column (Table.following x.state (length fresh)) x.state.columns fresh x.page some none;
+  joined = first_stays x.state.line x.state.column (Printing.following x.state (length fresh)) x.state.columns fresh x.page some none;
 }
 
-drawable-wide : (b : Bool) (c : ℕ) (x : Screen) → IsGlyph 2 c → IsDrawableScreen x → IsDrawableScreen (Table.wide_or_none b c x)
+drawable-wide : (b : Bool) (c : ℕ) (x : Screen) → IsGlyph 2 c → IsDrawableScreen x → IsDrawableScreen (Printing.wide_or_none b c x)
 drawable-wide true c x g h = record { page = h.page; kept = h.kept; joined = tt }
 drawable-wide false c x g h =
     drawable-placed (left_cell c x.state.rendition x.state.is_protecting ∷ right_cell c x.state.rendition x.state.is_protecting ∷ []) x (wide_drawable c x.state.rendition x.state.is_protecting g) (omega arith) refl h
 
-drawable-marked : (q : Option Position) (c : ℕ) (x : Screen) → x.state.joining ≡ q → IsGlyph 0 c → IsDrawableScreen x → IsDrawableScreen (Table.marked_at q c x)
+drawable-marked : (q : Option Position) (c : ℕ) (x : Screen) → x.state.joining ≡ q → IsGlyph 0 c → IsDrawableScreen x → IsDrawableScreen (Printing.marked_at q c x)
 drawable-marked None c x e g h = h
 drawable-marked (Some q) c x e g h =
     let none : is_right (place x.page q.line q.column).shape ≡ false = subst (λ (o : Option Position). IfSome o (λ p. is_right (place x.page p.line p.column).shape ≡ false)) e h.joined in
@@ -130,30 +134,30 @@ drawable-marked (Some q) c x e g h =
       joined = subst (λ (o : Option Position). IfSome o (λ p. is_right (place (page_marked q.line q.column c x.page) p.line p.column).shape ≡ false)) (sym e) (marked_stays q.line q.column c x.page none);
     }
 
-drawable-printed_as : (width c : ℕ) (x : Screen) → width ≤ 2 → IsGlyph width c → IsDrawableScreen x → IsDrawableScreen (Table.printed_as width c x)
+drawable-printed_as : (width c : ℕ) (x : Screen) → width ≤ 2 → IsGlyph width c → IsDrawableScreen x → IsDrawableScreen (Printing.printed_as width c x)
 drawable-printed_as zero c x few g h = drawable-marked x.state.joining c x refl g h
 drawable-printed_as (suc zero) c x few g h =
-    let w : Screen = Table.wrapped x.state.is_wrap_pending x in
+    let w : Screen = Printing.wrapped x.state.is_wrap_pending x in
     drawable-placed (narrow_cell c w.state.rendition w.state.is_protecting ∷ []) w (narrow_drawable c w.state.rendition w.state.is_protecting g) (omega arith) refl (drawable-wrapped x.state.is_wrap_pending x h)
 drawable-printed_as (suc (suc more)) c x few g h =
-    let w : Screen = Table.wrapped x.state.is_wrap_pending x in
-    let b : Bool = Table.lacks_room w.state && w.state.modes.wraps in
+    let w : Screen = Printing.wrapped x.state.is_wrap_pending x in
+    let b : Bool = Printing.lacks_room w.state && w.state.modes.wraps in
     let none : suc (suc more) ≡ 2 = omega arith in
-    drawable-wide (Table.lacks_room (Table.wrapped b w).state) c (Table.wrapped b w) (subst (λ (n : ℕ). IsGlyph n c) none g) (drawable-wrapped b w (drawable-wrapped x.state.is_wrap_pending x h))
+    drawable-wide (Printing.lacks_room (Printing.wrapped b w).state) c (Printing.wrapped b w) (subst (λ (n : ℕ). IsGlyph n c) none g) (drawable-wrapped b w (drawable-wrapped x.state.is_wrap_pending x h))
 
-drawable-printed : (c : Option ℕ) (x : Screen) → IfSome c (λ d. IsGiven (funcs.Print d)) → IsDrawableScreen x → IsDrawableScreen (Table.printed c x)
+drawable-printed : (c : Option ℕ) (x : Screen) → IfSome c (λ d. IsGiven (funcs.Print d)) → IsDrawableScreen x → IsDrawableScreen (Printing.printed c x)
 drawable-printed None x g h = h
-drawable-printed (Some c) x g h = drawable-printed_as (Table.columns_of c) (Table.drawn c) x (columns_few c) (drawn_glyph c g) h
+drawable-printed (Some c) x g h = drawable-printed_as (Printing.columns_of c) (Printing.drawn c) x (columns_few c) (drawn_glyph c g) h
 
-drawable-margins : (b : Bool) (top bottom : ℕ) (x : Screen) → IsDrawableScreen x → IsDrawableScreen (Table.with_state x (Table.margins_or_none b top bottom x.state))
+drawable-margins : (b : Bool) (top bottom : ℕ) (x : Screen) → IsDrawableScreen x → IsDrawableScreen (with_state x (Motion.margins_or_none b top bottom x.state))
 drawable-margins true top bottom x h = record { page = h.page; kept = h.kept; joined = tt }
 drawable-margins false top bottom x h = record { page = h.page; kept = h.kept; joined = h.joined }
 
-drawable-inserted : (b : Bool) (n : ℕ) (x : Screen) → IsDrawableScreen x → IsDrawableScreen (Table.lines_inserted b n x)
+drawable-inserted : (b : Bool) (n : ℕ) (x : Screen) → IsDrawableScreen x → IsDrawableScreen (Erasing.lines_inserted b n x)
 drawable-inserted true n x h = record { page = scrolled_down_page x.state.line x.state.bottom (min n (x.state.bottom + 1 - x.state.line)) x.page h.page; kept = h.kept; joined = tt }
 drawable-inserted false n x h = record { page = h.page; kept = h.kept; joined = tt }
 
-drawable-deleted : (b : Bool) (n : ℕ) (x : Screen) → IsDrawableScreen x → IsDrawableScreen (Table.lines_deleted b n x)
+drawable-deleted : (b : Bool) (n : ℕ) (x : Screen) → IsDrawableScreen x → IsDrawableScreen (Erasing.lines_deleted b n x)
 drawable-deleted true n x h = record { page = scrolled_up_page x.state.line x.state.bottom (min n (x.state.bottom + 1 - x.state.line)) x.page h.page; kept = h.kept; joined = tt }
 drawable-deleted false n x h = record { page = h.page; kept = h.kept; joined = tt }
 
@@ -167,25 +171,25 @@ IsGivenAction _ = Prim.Unit {0}
 drawable-acted : (x : Screen) (a : Action) → IsGivenAction a → IsDrawableScreen x → IsDrawableScreen (Table.acted x a)
 unfolding Table.acted_from
 drawable-acted x (Print u) g h =
-    drawable-printed (mapped x.state.shifts u) (Table.with_state x (record x.state { shifts = spent x.state.shifts u })) (mapped_given x.state.shifts u g) (record { page = h.page; kept = h.kept; joined = h.joined })
+    drawable-printed (mapped x.state.shifts u) (with_state x (record x.state { shifts = spent x.state.shifts u })) (mapped_given x.state.shifts u g) (record { page = h.page; kept = h.kept; joined = h.joined })
 drawable-acted x LineFeed g h =
-    drawable-indexed (Table.with_state x (Table.moved_to x.state x.state.line (cond x.state.modes.starts_lines 0 x.state.column))) (record { page = h.page; kept = h.kept; joined = tt })
+    drawable-indexed (with_state x (Motion.moved_to x.state x.state.line (cond x.state.modes.starts_lines 0 x.state.column))) (record { page = h.page; kept = h.kept; joined = tt })
 drawable-acted x Index g h = drawable-indexed x h
 drawable-acted x NextLine g h = drawable-wrapped true x h
 drawable-acted x ReverseIndex g h = record { page = lowered-page (x.state.line == x.state.top) x.state x.page h.page; kept = h.kept; joined = tt }
 drawable-acted x Reset g h = record { page = blank_lines x.state.rows x.state.columns; kept = h.kept; joined = tt }
 drawable-acted x Align g h = record { page = filled_page x.page h.page; kept = h.kept; joined = tt }
-drawable-acted x (SetMargins top bottom) g h = drawable-margins (nat_lt top (Table.bottom_of x.state.rows bottom)) top (Table.bottom_of x.state.rows bottom) x h
+drawable-acted x (SetMargins top bottom) g h = drawable-margins (nat_lt top (Motion.bottom_of x.state.rows bottom)) top (Motion.bottom_of x.state.rows bottom) x h
 drawable-acted x (EraseInPage part) g h = record {
-  page = erased_lines-page (Table.first_line part x.state) (Table.end_line part x.state) (Table.part_erased x.state part x.page)
-      (line_erased-page x.state (Table.first_column part x.state) (Table.end_column part x.state) x.page h.page);
+  page = erased_lines-page (Erasing.first_line part x.state) (Erasing.end_line part x.state) (Erasing.part_erased x.state part x.page)
+      (line_erased-page x.state (Erasing.first_column part x.state) (Erasing.end_column part x.state) x.page h.page);
   kept = h.kept;
   joined = tt;
 }
-drawable-acted x (EraseInLine part) g h = record { page = line_erased-page x.state (Table.first_column part x.state) (Table.end_column part x.state) x.page h.page; kept = h.kept; joined = tt }
+drawable-acted x (EraseInLine part) g h = record { page = line_erased-page x.state (Erasing.first_column part x.state) (Erasing.end_column part x.state) x.page h.page; kept = h.kept; joined = tt }
 drawable-acted x (EraseCells n) g h = record { page = line_erased-page x.state x.state.column (min (x.state.column + n) x.state.columns) x.page h.page; kept = h.kept; joined = tt }
 drawable-acted x (EraseUnprotectedInPage part) g h = record {
-  page = lines_unprotected-page x.state part (Table.part_unprotected x.state part x.page) (part_unprotected-page x.state part x.page h.page);
+  page = lines_unprotected-page x.state part (Erasing.part_unprotected x.state part x.page) (part_unprotected-page x.state part x.page h.page);
   kept = h.kept;
   joined = tt;
 }
@@ -200,8 +204,8 @@ drawable-acted x (DeleteCells n) g h = record {
   kept = h.kept;
   joined = tt;
 }
-drawable-acted x (InsertLines n) g h = drawable-inserted (Table.is_in_margins x.state) n x h
-drawable-acted x (DeleteLines n) g h = drawable-deleted (Table.is_in_margins x.state) n x h
+drawable-acted x (InsertLines n) g h = drawable-inserted (Erasing.is_in_margins x.state) n x h
+drawable-acted x (DeleteLines n) g h = drawable-deleted (Erasing.is_in_margins x.state) n x h
 drawable-acted x (SetMode modes.Insert on) g h = record { page = h.page; kept = h.kept; joined = tt }
 drawable-acted x (SetMode modes.NewLine on) g h = record { page = h.page; kept = h.kept; joined = tt }
 drawable-acted x (SetMode modes.Arrows on) g h = record { page = h.page; kept = h.kept; joined = tt }
@@ -257,6 +261,6 @@ drawable-effect x f g h = drawable-all x (actions_of f) (func_given f g) h
 pub drawable-starting : (rows columns keep' : ℕ) → IsDrawableScreen (starting rows columns keep')
 drawable-starting rows columns keep' = record { page = blank_lines rows columns; kept = λ n. drawable_nil; joined = tt }
 
-pub drawable-resized : (rows columns : ℕ) (x : Screen) → IsDrawableScreen x → IsDrawableScreen (Table.resized rows columns x)
-unfolding Table.resized
+pub drawable-resized : (rows columns : ℕ) (x : Screen) → IsDrawableScreen x → IsDrawableScreen (Sizing.resized rows columns x)
+unfolding Sizing.resized
 drawable-resized rows columns x h = record { page = page_resized-drawable rows columns x.page h.page; kept = kept_resized-drawable columns x.kept h.kept; joined = tt }

@@ -14,7 +14,8 @@ use Rattle.control_parser.specs.Grammar.{controls, text, begun_by, piece as func
 use Rattle.terminal_model.specs.declared.state.Position.{Position}
 use Rattle.terminal_model.specs.Functions.{plain_sequence, private_sequence}
 use Rattle.terminal_model.specs.Screen.{Page, Screen}
-use Rattle.terminal_model.specs.Table.{columns_of, drawn, acted_from}
+use Rattle.terminal_model.specs.Printing.{columns_of, drawn}
+use Rattle.terminal_model.specs.Table.{acted_from}
 use Rattle.terminal_model.specs.Reading.{act, act_all, read_unit, read_units, read_byte, reads}
 use Rattle.terminal_model.specs.Drawing.{IsDiscreet, IsListed, PrintsOf, StandsAt, place_by}
 use Rattle.terminal_model.specs.Rows.{fresh_reads, csi, kanji, wide_page, printed_beside}

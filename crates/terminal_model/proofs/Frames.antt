@@ -17,9 +17,13 @@ use Rattle.terminal_model.specs.declared.action.Attribute.{Attribute}
 use Rattle.terminal_model.specs.declared.action.Mode.{Mode}
 use Rattle.terminal_model.specs.Reports.{report, all_answered}
 use Rattle.terminal_model.specs.declared.state.Position.{Position}
-use Rattle.terminal_model.specs.Screen.{Screen, IsSound}
+use Rattle.terminal_model.specs.Screen.{Screen, IsSound, with_state, with_page}
 use Rattle.terminal_model.specs.Functions.{each, plain_sequence, private_sequence, rendered, private_mode_set}
-use Rattle.terminal_model.specs.Table.{acted_from, acted, all_acted, effect, printed, printed_as, placed, placed_narrow, placed_wide, wrapped, widely, wide_or_none, lacks_room, marked_at, advanced, settled, apart, moved_to, line_named, line_erased, with_state, with_page, columns_of, drawn, homed, rendition_with, modes_with}
+use Rattle.terminal_model.specs.Motion.{unpending, unjoined, moved_to, line_named}
+use Rattle.terminal_model.specs.Printing.{printed, printed_as, placed, placed_narrow, placed_wide, wrapped, wide_printed, wide_or_none, lacks_room, marked_at, advanced, columns_of, drawn}
+use Rattle.terminal_model.specs.Erasing.{line_erased}
+use Rattle.terminal_model.specs.Settings.{homed, rendition_with, modes_with}
+use Rattle.terminal_model.specs.Table.{acted_from, acted, all_acted, effect}
 use Rattle.terminal_model.specs.Places.{place, IsPlain, narrow_at, wide_at, PutsOver, PutsMark, mode_final, keypad_final}
 use Rattle.terminal_model.proofs.Places.{over-at, marked-at}
 
@@ -36,7 +40,7 @@ prints-narrow x c h g w = prints x c h g ∙ ap (λ n. printed_as n (drawn c) x)
 prints-wide : (x : Screen) (c : ℕ) → IsPlain x → is_graphic (Code c) ≡ true → columns_of c ≡ 2 → x.state.column + 2 ≤ x.state.columns → effect x (Print c) ≡ placed_wide (drawn c) x
 prints-wide x c h g w room =
     let has : eqb (x.state.column + 1) x.state.columns ≡ false = ne_eqb (x.state.column + 1) x.state.columns (omega arith) in
-    prints x c h g ∙ ap (λ n. printed_as n (drawn c) x) w ∙ ap (λ b. widely (drawn c) (wrapped b x)) h.none_pending
+    prints x c h g ∙ ap (λ n. printed_as n (drawn c) x) w ∙ ap (λ b. wide_printed (drawn c) (wrapped b x)) h.none_pending
     ∙ ap (λ b. let v = wrapped (b && x.state.modes.wraps) x in wide_or_none (lacks_room v.state) (drawn c) v) has
     ∙ ap (λ b. wide_or_none b (drawn c) x) has
 
@@ -74,7 +78,7 @@ mark-joins x c p h g w j l k =
 
 -- blanks at the cursor
 erased-over : (x : Screen) (count : ℕ) → IsSound x → 0 < count → x.state.column + count ≤ x.state.columns
-    → PutsOver x (replicate count blank) (settled x.state) (with_page x (settled x.state) (line_erased x.state x.state.column (x.state.column + count) x.page))
+    → PutsOver x (replicate count blank) (unpending x.state) (with_page x (unpending x.state) (line_erased x.state x.state.column (x.state.column + count) x.page))
 erased-over x count h some room =
     let n : length (replicate count blank) ≡ count = length-replicate count blank in
     let same : x.state.column + count - x.state.column ≡ count = omega arith in
@@ -87,19 +91,19 @@ erased-over x count h some room =
     }
 
 -- ECH
-pub cells-erased : (x : Screen) (n : ℕ) → IsSound x → 0 < n → x.state.column + n ≤ x.state.columns → PutsOver x (replicate n blank) (settled x.state) (effect x (Csi None (n ∷ []) [] 0x58))
+pub cells-erased : (x : Screen) (n : ℕ) → IsSound x → 0 < n → x.state.column + n ≤ x.state.columns → PutsOver x (replicate n blank) (unpending x.state) (effect x (Csi None (n ∷ []) [] 0x58))
 unfolding acted_from plain_sequence
 cells-erased x n h some room =
     let count : max 1 n ≡ n = omega arith in
     let end : min (x.state.column + max 1 n) x.state.columns ≡ x.state.column + n = omega arith in
-    subst (λ (e : ℕ). PutsOver x (replicate n blank) (settled x.state) (with_page x (settled x.state) (line_erased x.state x.state.column e x.page))) (sym end) (erased-over x n h some room)
+    subst (λ (e : ℕ). PutsOver x (replicate n blank) (unpending x.state) (with_page x (unpending x.state) (line_erased x.state x.state.column e x.page))) (sym end) (erased-over x n h some room)
 
 -- EL
-pub line-erased : (x : Screen) → IsSound x → PutsOver x (replicate (x.state.columns - x.state.column) blank) (settled x.state) (effect x (Csi None (0 ∷ []) [] 0x4B))
+pub line-erased : (x : Screen) → IsSound x → PutsOver x (replicate (x.state.columns - x.state.column) blank) (unpending x.state) (effect x (Csi None (0 ∷ []) [] 0x4B))
 unfolding acted_from plain_sequence
 line-erased x h =
     let end : x.state.column + (x.state.columns - x.state.column) ≡ x.state.columns = omega (arith, h.cursor.1) in
-    subst (λ (e : ℕ). PutsOver x (replicate (x.state.columns - x.state.column) blank) (settled x.state) (with_page x (settled x.state) (line_erased x.state x.state.column e x.page))) end
+    subst (λ (e : ℕ). PutsOver x (replicate (x.state.columns - x.state.column) blank) (unpending x.state) (with_page x (unpending x.state) (line_erased x.state x.state.column e x.page))) end
     (erased-over x (x.state.columns - x.state.column) h (omega (arith, h.cursor.1)) (omega (arith, h.cursor.1)))
 
 -- CUP, to a place of the page, with ?6 reset
@@ -131,7 +135,7 @@ unfolding plain_sequence
 rendered-in-turn x a b = ap (all_acted x) (each-append rendered a b) ∙ all_acted-append x (each rendered a) (each rendered b)
 
 -- one value of SGR, of DECSM or DECRM, and the keypad
-pub rendered-one : (x : Screen) (n : ℕ) (a : Attribute) → rendered n ≡ Some (Render a) → effect x (Csi None (n ∷ []) [] 0x6D) ≡ with_state x (apart (record x.state { rendition = rendition_with x.state.rendition a }))
+pub rendered-one : (x : Screen) (n : ℕ) (a : Attribute) → rendered n ≡ Some (Render a) → effect x (Csi None (n ∷ []) [] 0x6D) ≡ with_state x (unjoined (record x.state { rendition = rendition_with x.state.rendition a }))
 unfolding acted_from plain_sequence
 rendered-one x n a h = ap (λ m. all_acted x (option_to_list m ++ [])) h
 
@@ -141,7 +145,7 @@ unfolding acted_from private_sequence
 mode-set x true n m h = ap (λ v. all_acted x (option_to_list v ++ [])) h
 mode-set x false n m h = ap (λ v. all_acted x (option_to_list v ++ [])) h
 
-pub keypad-set : (x : Screen) (on : Bool) → effect x (Esc [] (keypad_final on)) ≡ with_state x (settled (record x.state { modes = record x.state.modes { has_application_keypad = on } }))
+pub keypad-set : (x : Screen) (on : Bool) → effect x (Esc [] (keypad_final on)) ≡ with_state x (unpending (record x.state { modes = record x.state.modes { has_application_keypad = on } }))
 unfolding acted_from
 keypad-set x true = refl
 keypad-set x false = refl

@@ -5,7 +5,8 @@ use Rattle.control_parser.specs.declared.func.Func.{Func}
 use Rattle.terminal_model.specs.declared.action.Action.TheVariants.{SetMargins}
 use Rattle.terminal_model.specs.Screen.{Screen}
 use Rattle.terminal_model.specs.Functions.{actions_of}
-use Rattle.terminal_model.specs.Table.{acted_from, acted, all_acted, effect, bottom_of, margins_or_none}
+use Rattle.terminal_model.specs.Motion.{bottom_of, margins_or_none}
+use Rattle.terminal_model.specs.Table.{acted_from, acted, all_acted, effect}
 use Rattle.terminal_model.specs.Reports.{all_answered, report}
 
 pub effect-none : (x : Screen) (f : Func) → actions_of f ≡ [] → effect x f ≡ x

@@ -15,9 +15,13 @@ use Rattle.terminal_model.specs.declared.state.State.{State}
 use Rattle.terminal_model.specs.declared.state.Position.{Position}
 use Rattle.terminal_model.specs.declared.action.Action.{Action}
 use Rattle.terminal_model.specs.declared.action.Action.TheVariants.{Print, LineFeed, Index, NextLine, InsertLines, DeleteLines}
-use Rattle.terminal_model.specs.Screen.{Page, Screen, IsSound}
+use Rattle.terminal_model.specs.Screen.{Page, Screen, IsSound, with_state}
 use Rattle.terminal_model.specs.Functions.{actions_of}
-use Rattle.terminal_model.specs.Table.{acted_from, acted, all_acted, effect, indexed, scrolled_kept, with_state, moved_to, printed, printed_as, wrapped, wide_or_none, widely, lacks_room, marked_at, lines_inserted, lines_deleted, is_in_margins, columns_of, drawn, resized}
+use Rattle.terminal_model.specs.Motion.{indexed, scrolled_kept, moved_to}
+use Rattle.terminal_model.specs.Printing.{printed, printed_as, wrapped, wide_or_none, wide_printed, lacks_room, marked_at, columns_of, drawn}
+use Rattle.terminal_model.specs.Erasing.{lines_inserted, lines_deleted, is_in_margins}
+use Rattle.terminal_model.specs.Sizing.{resized}
+use Rattle.terminal_model.specs.Table.{acted_from, acted, all_acted, effect}
 use Rattle.terminal_model.specs.Reading.{Terminal, IsTerminal, Act, Read, ready, read_units, read_byte, reads}
 use Rattle.terminal_model.specs.Writing.{Writing, Output, Size, Clear, Reset, Encoding, IsWriting, writes, writes_all}
 use Rattle.terminal_model.specs.Scrollback.{indexed_out, is_wrapped, printed_out, acted_out, all_acted_out, lines_out, lines_of, left_by, all_left, KeepsLast}
@@ -81,7 +85,7 @@ wide_kept true c x = refl
 wide_kept false c x = refl
 
 -- a wide character, where a wrap may have been pending
-wide_pushes : (pending : Bool) (c : ℕ) (x : Screen) → length x.kept ≤ x.keep → 2 ≤ x.state.columns → Pushes x (cond (pending || (lacks_room x.state && x.state.modes.wraps)) (indexed_out x) []) (widely c (wrapped pending x))
+wide_pushes : (pending : Bool) (c : ℕ) (x : Screen) → length x.kept ≤ x.keep → 2 ≤ x.state.columns → Pushes x (cond (pending || (lacks_room x.state && x.state.modes.wraps)) (indexed_out x) []) (wide_printed c (wrapped pending x))
 wide_pushes true c x few room =
     let w : Screen = wrapped true x in
     let first : lacks_room w.state ≡ false = ne_eqb (0 + 1) x.state.columns (λ e. absurd (omega arith)) in

@@ -12,7 +12,7 @@ pub mod Terminals
 pub mod DrawableTerminals
 pub mod Places
 pub mod Frames
-pub mod Shown
+pub mod WorkedRows
 pub mod DrawnRows
 pub mod Leaving
 pub mod WholeReading

@@ -11,7 +11,7 @@ use Rattle.cells.proofs.Settling.{cell_at_past, true≢false, settled_at, after_
 use Rattle.cells.proofs.Splicing.{at_front, at_fresh, at_rest}
 use Rattle.cells.proofs.Pages.{page_from-edited}
 use Rattle.terminal_model.specs.Screen.{Page, blank_page}
-use Rattle.terminal_model.specs.Places.{place, over, with_mark}
+use Rattle.terminal_model.specs.Places.{place, overlaid_cell, with_mark}
 
 and_true : (a b : Bool) → a ≡ true → b ≡ true → (a && b) ≡ true
 and_true a b h k = rw h k
@@ -133,7 +133,7 @@ module _ (fresh cells : List Cell) (at : ℕ) (paired : IsPaired cells) (pairs :
       ∙ sym (rw (ne_eqb (suc j) (at + length fresh) ne) refl))
       (cases_eq (suc j) (at + length fresh))
 
-  pub over-is : (k : ℕ) → cell_at (cells_from source cells) k ≡ over fresh at cells k
+  pub over-is : (k : ℕ) → cell_at (cells_from source cells) k ≡ overlaid_cell fresh at cells k
   over-is k = ⊎_elim
       (λ (h : k < at).
       let no : leb at k ≡ false = grind (arith, nat_tests) in
@@ -177,7 +177,7 @@ edited-at rows columns at source page p h line column =
 
 -- new cells over a line of a page
 pub over-at : (rows columns at from rest : ℕ) (fresh : List Cell) (page : Page) → IsPage rows columns page → at < rows → IsPaired fresh → 0 < length fresh → from + length fresh ≤ columns → rest ≡ from + length fresh
-    → (line column : ℕ) → place (page_from (edited at (spliced from fresh rest columns)) page) line column ≡ (if line == at then over fresh from (line_at page at) column else place page line column)
+    → (line column : ℕ) → place (page_from (edited at (spliced from fresh rest columns)) page) line column ≡ (if line == at then overlaid_cell fresh from (line_at page at) column else place page line column)
 over-at rows columns at from rest fresh page p h pairs some room e line column =
     let wide : length (line_at page at) ≡ columns = p.width at h in
     edited-at rows columns at (spliced from fresh rest columns) page p h line column

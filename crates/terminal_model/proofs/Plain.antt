@@ -9,7 +9,8 @@ use Rattle.control_parser.specs.declared.func.Func.TheVariants.{Print}
 use Rattle.control_parser.specs.Grammar.{nothing}
 use Rattle.control_parser.proofs.Pieces.{functions-plain}
 use Rattle.terminal_model.specs.Screen.{Screen}
-use Rattle.terminal_model.specs.Table.{columns_of, drawn, drawn_as, effect}
+use Rattle.terminal_model.specs.Printing.{columns_of, drawn, drawn_as}
+use Rattle.terminal_model.specs.Table.{effect}
 use Rattle.terminal_model.specs.Reading.{Read, ready, joined, reads}
 use Rattle.terminal_model.proofs.Readings.{effects, acts_of}
 use Rattle.terminal_model.proofs.Spellings.{done, ending}

@@ -9,9 +9,10 @@ use Rattle.control_parser.specs.declared.func.Func.TheVariants.{Csi}
 use Rattle.terminal_model.specs.declared.action.Action.{Action}
 use Rattle.terminal_model.specs.declared.action.Action.TheVariants.{Render}
 use Rattle.terminal_model.specs.declared.action.Attribute.{Attribute}
-use Rattle.terminal_model.specs.Screen.{Screen}
+use Rattle.terminal_model.specs.Screen.{Screen, with_state}
 use Rattle.terminal_model.specs.Functions.{plain_sequence, each, rendered}
-use Rattle.terminal_model.specs.Table.{acted_from, acted, all_acted, effect, with_state, apart}
+use Rattle.terminal_model.specs.Motion.{unjoined}
+use Rattle.terminal_model.specs.Table.{acted_from, acted, all_acted, effect}
 use Rattle.terminal_model.specs.Reports.{all_answered, report}
 use Rattle.terminal_model.specs.Drawing.{IsListed}
 use Rattle.terminal_model.specs.Places.{value_if, value_of_colour, colour_values, rendition_values}
@@ -19,7 +20,7 @@ use Rattle.terminal_model.proofs.Frames.{all_acted-append, each-append}
 
 -- what SGR leaves of a screen, with a rendition
 abbrev with_rendition : Screen → Rendition → Screen
-with_rendition x r = with_state x (apart (record x.state { rendition = r }))
+with_rendition x r = with_state x (unjoined (record x.state { rendition = r }))
 
 -- without colours, and then those that come
 begun : (x : Screen) (b u k v : Bool) (later : List ℕ) → effect x (Csi None (0 ∷ (value_if b 1 ++ (value_if u 4 ++ (value_if k 5 ++ (value_if v 7 ++ later))))) [] 0x6D)
@@ -74,7 +75,7 @@ colours-set x r =
     ∙ ap (λ y. all_acted y (each rendered (value_of_colour 40 r.back))) (fore-set x (record r { back = Default }) r.fore)
     ∙ back-set x r r.back
 
-pub rendition-is : (x : Screen) (r : Rendition) → effect x (Csi None (rendition_values r) [] 0x6D) ≡ with_state x (apart (record x.state { rendition = r }))
+pub rendition-is : (x : Screen) (r : Rendition) → effect x (Csi None (rendition_values r) [] 0x6D) ≡ with_state x (unjoined (record x.state { rendition = r }))
 rendition-is x r = begun x r.is_bold r.is_underlined r.is_blinking r.is_reversed (colour_values r) ∙ colours-set x r
 
 -- VALUES THAT ARE NAMED

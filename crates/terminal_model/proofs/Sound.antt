@@ -22,8 +22,14 @@ use Rattle.terminal_model.specs.declared.action.Mode.TheVariants as modes
 use Rattle.terminal_model.specs.declared.state.State.{State}
 use Rattle.terminal_model.specs.declared.state.Saved.{Saved}
 use Rattle.terminal_model.specs.declared.state.Position.{Position}
-use Rattle.terminal_model.specs.Screen.{Page, Screen, taken_in, blank_page, starting, starting_tabs, IsInside, AreKept, IsSound}
+use Rattle.terminal_model.specs.Screen.{Page, Screen, with_newest, blank_page, starting, starting_tabs, IsInside, AreKept, IsSound, with_page, with_state}
 use Rattle.terminal_model.specs.Functions.{actions_of}
+use Rattle.terminal_model.specs.Motion
+use Rattle.terminal_model.specs.Printing
+use Rattle.terminal_model.specs.Saving
+use Rattle.terminal_model.specs.Erasing
+use Rattle.terminal_model.specs.Settings
+use Rattle.terminal_model.specs.Sizing
 use Rattle.terminal_model.specs.Table
 use Rattle.terminal_model.proofs.Resizes.{IsPaired-nil, IsPaired-line_resized, IsPage-page_resized}
 
@@ -53,13 +59,13 @@ with-all x s page kept h f p k few =
       few = few;
     }
 
-pub with-page : (x : Screen) (s : State) (page : Page) → IsSound x → Fits x.state.rows x.state.columns s → IsPage x.state.rows x.state.columns page → IsSound (Table.with_page x s page)
+pub with-page : (x : Screen) (s : State) (page : Page) → IsSound x → Fits x.state.rows x.state.columns s → IsPage x.state.rows x.state.columns page → IsSound (with_page x s page)
 with-page x s page h f p = with-all x s page x.kept h f p h.kept h.few
 
-pub with-state : (x : Screen) (s : State) → IsSound x → Fits x.state.rows x.state.columns s → IsSound (Table.with_state x s)
+pub with-state : (x : Screen) (s : State) → IsSound x → Fits x.state.rows x.state.columns s → IsSound (with_state x s)
 with-state x s h f = with-page x s x.page h f h.sized
 
-with-tabs : (x : Screen) (tabs : List Bool) → IsSound x → length tabs ≡ x.state.columns → IsSound (record x { state = Table.settled x.state; tabs = tabs })
+with-tabs : (x : Screen) (tabs : List Bool) → IsSound x → length tabs ≡ x.state.columns → IsSound (record x { state = Motion.unpending x.state; tabs = tabs })
 with-tabs x tabs h t = record {
   size = h.size;
   sized = h.sized;
@@ -73,14 +79,14 @@ with-tabs x tabs h t = record {
   few = h.few;
 }
 
-moved : (x : Screen) (line column : ℕ) → IsSound x → line < x.state.rows → column < x.state.columns → Fits x.state.rows x.state.columns (Table.moved_to x.state line column)
+moved : (x : Screen) (line column : ℕ) → IsSound x → line < x.state.rows → column < x.state.columns → Fits x.state.rows x.state.columns (Motion.moved_to x.state line column)
 moved x line column h l c = record { rows_are = refl; columns_are = refl; cursor = (l, c); margins = h.margins; bottom_inside = h.bottom_inside; joined = tt }
 
-same-place : (x : Screen) → IsSound x → Fits x.state.rows x.state.columns (Table.settled x.state)
+same-place : (x : Screen) → IsSound x → Fits x.state.rows x.state.columns (Motion.unpending x.state)
 same-place x h = record { rows_are = refl; columns_are = refl; cursor = h.cursor; margins = h.margins; bottom_inside = h.bottom_inside; joined = tt }
 
 -- a line more in the scrollback
-kept-more : (columns keep : ℕ) (line : List Cell) (kept : Page) → length line ≡ columns → IsPaired line → AreKept columns kept → AreKept columns (taken_in keep line kept)
+kept-more : (columns keep : ℕ) (line : List Cell) (kept : Page) → length line ≡ columns → IsPaired line → AreKept columns kept → AreKept columns (with_newest keep line kept)
 kept-more columns keep line kept w p k = record {
   width = λ n h. let few : n < min keep (length (line ∷ kept)) = rw (length-take keep (line ∷ kept)) at h in
       ap length (get_or-take keep (line ∷ kept) n [] (omega arith)) ∙ width-at n (omega arith);
@@ -98,72 +104,72 @@ kept-more columns keep line kept w p k = record {
     paired-at zero = p
     paired-at (suc n) = k.paired n
 
-kept-few : (keep : ℕ) (line : List Cell) (kept : Page) → length (taken_in keep line kept) ≤ keep
+kept-few : (keep : ℕ) (line : List Cell) (kept : Page) → length (with_newest keep line kept) ≤ keep
 kept-few keep line kept = rw (length-take keep (line ∷ kept)) (omega arith)
 
-scrolled-page : (b : Bool) (x : Screen) → IsSound x → IsPage x.state.rows x.state.columns (Table.scrolled_page b x.state x.page)
+scrolled-page : (b : Bool) (x : Screen) → IsSound x → IsPage x.state.rows x.state.columns (Motion.scrolled_page b x.state x.page)
 scrolled-page true x h = IsPage-page_from (scrolled_up x.state.top x.state.bottom 1) x.state.rows x.state.columns x.page h.sized
 scrolled-page false x h = h.sized
 
-lowered-page : (b : Bool) (x : Screen) → IsSound x → IsPage x.state.rows x.state.columns (Table.lowered_page b x.state x.page)
+lowered-page : (b : Bool) (x : Screen) → IsSound x → IsPage x.state.rows x.state.columns (Motion.lowered_page b x.state x.page)
 lowered-page true x h = IsPage-page_from (scrolled_down x.state.top x.state.bottom 1) x.state.rows x.state.columns x.page h.sized
 lowered-page false x h = h.sized
 
-scrolled-kept : (b : Bool) (x : Screen) → IsSound x → AreKept x.state.columns (Table.scrolled_kept b x.keep x.page x.kept)
+scrolled-kept : (b : Bool) (x : Screen) → IsSound x → AreKept x.state.columns (Motion.scrolled_kept b x.keep x.page x.kept)
 scrolled-kept true x h = kept-more x.state.columns x.keep (line_at x.page 0) x.kept (h.sized.width 0 (omega (arith, h.size.least_rows))) (h.sized.paired 0) h.kept
 scrolled-kept false x h = h.kept
 
-scrolled-few : (b : Bool) (x : Screen) → IsSound x → length (Table.scrolled_kept b x.keep x.page x.kept) ≤ x.keep
+scrolled-few : (b : Bool) (x : Screen) → IsSound x → length (Motion.scrolled_kept b x.keep x.page x.kept) ≤ x.keep
 scrolled-few true x h = kept-few x.keep (line_at x.page 0) x.kept
 scrolled-few false x h = h.few
 
-below-inside : (s : State) → s.line < s.rows → Table.line_below s < s.rows
+below-inside : (s : State) → s.line < s.rows → Motion.line_below s < s.rows
 below-inside s h = ⊎_elim
     (λ (e : eqb s.line s.bottom ≡ true). rw e h)
     (λ (e : eqb s.line s.bottom ≡ false). rw e (omega arith))
     (cases_Bool (eqb s.line s.bottom))
 
-above-inside : (s : State) → s.line < s.rows → Table.line_above s < s.rows
+above-inside : (s : State) → s.line < s.rows → Motion.line_above s < s.rows
 above-inside s h = ⊎_elim
     (λ (e : eqb s.line s.top ≡ true). rw e h)
     (λ (e : eqb s.line s.top ≡ false). rw e (omega arith))
     (cases_Bool (eqb s.line s.top))
 
-pub IsSound-indexed : (x : Screen) → IsSound x → IsSound (Table.indexed x)
+pub IsSound-indexed : (x : Screen) → IsSound x → IsSound (Motion.indexed x)
 IsSound-indexed x h =
     let s : State = x.state in
     let gone : Bool = (s.line == s.bottom) && (s.top == 0) in
-    with-all x (Table.moved_to s (Table.line_below s) s.column) (Table.scrolled_page (s.line == s.bottom) s x.page) (Table.scrolled_kept gone x.keep x.page x.kept)
-    h (moved x (Table.line_below s) s.column h (below-inside s h.cursor.0) h.cursor.1) (scrolled-page (s.line == s.bottom) x h) (scrolled-kept gone x h) (scrolled-few gone x h)
+    with-all x (Motion.moved_to s (Motion.line_below s) s.column) (Motion.scrolled_page (s.line == s.bottom) s x.page) (Motion.scrolled_kept gone x.keep x.page x.kept)
+    h (moved x (Motion.line_below s) s.column h (below-inside s h.cursor.0) h.cursor.1) (scrolled-page (s.line == s.bottom) x h) (scrolled-kept gone x h) (scrolled-few gone x h)
 
-IsSound-reverse_indexed : (x : Screen) → IsSound x → IsSound (Table.reverse_indexed x)
+IsSound-reverse_indexed : (x : Screen) → IsSound x → IsSound (Motion.reverse_indexed x)
 IsSound-reverse_indexed x h =
     let s : State = x.state in
-    with-page x _ _ h (moved x (Table.line_above s) s.column h (above-inside s h.cursor.0) h.cursor.1) (lowered-page (s.line == s.top) x h)
+    with-page x _ _ h (moved x (Motion.line_above s) s.column h (above-inside s h.cursor.0) h.cursor.1) (lowered-page (s.line == s.top) x h)
 
 -- printing
 
-wrapped-sound : (b : Bool) (x : Screen) → IsSound x → IsSound (Table.wrapped b x)
+wrapped-sound : (b : Bool) (x : Screen) → IsSound x → IsSound (Printing.wrapped b x)
 wrapped-sound true x h =
     let s : State = x.state in
-    IsSound-indexed (Table.with_state x (Table.moved_to s s.line 0)) (with-state x (Table.moved_to s s.line 0) h (moved x s.line 0 h h.cursor.0 (omega (arith, h.size.least_columns))))
+    IsSound-indexed (with_state x (Motion.moved_to s s.line 0)) (with-state x (Motion.moved_to s s.line 0) h (moved x s.line 0 h h.cursor.0 (omega (arith, h.size.least_columns))))
 wrapped-sound false x h = h
 
-advanced-inside : (s : State) (width : ℕ) → 2 ≤ s.columns → (Table.advanced s width).column < s.columns
+advanced-inside : (s : State) (width : ℕ) → 2 ≤ s.columns → (Printing.advanced s width).column < s.columns
 advanced-inside s width h = ⊎_elim
     (λ (e : ltb (s.column + width) s.columns ≡ true). let l : s.column + width < s.columns = grind (arith, nat_tests) in rw e l)
     (λ (e : ltb (s.column + width) s.columns ≡ false). rw e (omega arith))
     (cases_Bool (ltb (s.column + width) s.columns))
 
-placed-sound : (fresh : List Cell) (x : Screen) → IsSound x → IsSound (Table.placed fresh x)
+placed-sound : (fresh : List Cell) (x : Screen) → IsSound x → IsSound (Printing.placed fresh x)
 placed-sound fresh x h =
     let s : State = x.state in
-    with-page x (Table.advanced s (length fresh)) _ h
+    with-page x (Printing.advanced s (length fresh)) _ h
     (record { rows_are = refl; columns_are = refl; cursor = (h.cursor.0, advanced-inside s (length fresh) h.size.least_columns); margins = h.margins; bottom_inside = h.bottom_inside; joined = h.cursor })
-    (IsPage-page_from (edited s.line (spliced s.column fresh (Table.following s (length fresh)) s.columns)) s.rows s.columns x.page h.sized)
+    (IsPage-page_from (edited s.line (spliced s.column fresh (Printing.following s (length fresh)) s.columns)) s.rows s.columns x.page h.sized)
 
-wide-sound : (b : Bool) (c : ℕ) (x : Screen) → IsSound x → IsSound (Table.wide_or_none b c x)
-wide-sound true c x h = with-state x (Table.apart x.state) h (record { rows_are = refl; columns_are = refl; cursor = h.cursor; margins = h.margins; bottom_inside = h.bottom_inside; joined = tt })
+wide-sound : (b : Bool) (c : ℕ) (x : Screen) → IsSound x → IsSound (Printing.wide_or_none b c x)
+wide-sound true c x h = with-state x (Motion.unjoined x.state) h (record { rows_are = refl; columns_are = refl; cursor = h.cursor; margins = h.margins; bottom_inside = h.bottom_inside; joined = tt })
 wide-sound false c x h = placed-sound (left_cell c x.state.rendition x.state.is_protecting ∷ right_cell c x.state.rendition x.state.is_protecting ∷ []) x h
 
 -- a mark changes no shape
@@ -190,26 +196,26 @@ marked-page rows columns line column mark page p =
           (cases_eq l line);
     }
 
-marked-sound : (q : Option Position) (c : ℕ) (x : Screen) → IsSound x → IsSound (Table.marked_at q c x)
+marked-sound : (q : Option Position) (c : ℕ) (x : Screen) → IsSound x → IsSound (Printing.marked_at q c x)
 marked-sound None c x h = h
 marked-sound (Some q) c x h =
     with-page x x.state _ h
     (record { rows_are = refl; columns_are = refl; cursor = h.cursor; margins = h.margins; bottom_inside = h.bottom_inside; joined = h.joined })
     (marked-page x.state.rows x.state.columns q.line q.column c x.page h.sized)
 
-printed_as-sound : (width c : ℕ) (x : Screen) → IsSound x → IsSound (Table.printed_as width c x)
+printed_as-sound : (width c : ℕ) (x : Screen) → IsSound x → IsSound (Printing.printed_as width c x)
 printed_as-sound zero c x h = marked-sound x.state.joining c x h
 printed_as-sound (suc zero) c x h =
-    let w : Screen = Table.wrapped x.state.is_wrap_pending x in
+    let w : Screen = Printing.wrapped x.state.is_wrap_pending x in
     placed-sound (narrow_cell c w.state.rendition w.state.is_protecting ∷ []) w (wrapped-sound x.state.is_wrap_pending x h)
 printed_as-sound (suc (suc more)) c x h =
-    let w : Screen = Table.wrapped x.state.is_wrap_pending x in
-    let b : Bool = Table.lacks_room w.state && w.state.modes.wraps in
-    wide-sound (Table.lacks_room (Table.wrapped b w).state) c (Table.wrapped b w) (wrapped-sound b w (wrapped-sound x.state.is_wrap_pending x h))
+    let w : Screen = Printing.wrapped x.state.is_wrap_pending x in
+    let b : Bool = Printing.lacks_room w.state && w.state.modes.wraps in
+    wide-sound (Printing.lacks_room (Printing.wrapped b w).state) c (Printing.wrapped b w) (wrapped-sound b w (wrapped-sound x.state.is_wrap_pending x h))
 
-printed-sound : (c : Option ℕ) (x : Screen) → IsSound x → IsSound (Table.printed c x)
+printed-sound : (c : Option ℕ) (x : Screen) → IsSound x → IsSound (Printing.printed c x)
 printed-sound None x h = h
-printed-sound (Some c) x h = printed_as-sound (Table.columns_of c) (Table.drawn c) x h
+printed-sound (Some c) x h = printed_as-sound (Printing.columns_of c) (Printing.drawn c) x h
 
 -- the other rows
 
@@ -224,7 +230,7 @@ IsPage-blank rows columns = record {
 }
 
 -- home, within any margins
-home-fits : (rows columns : ℕ) (s : State) → s.rows ≡ rows → s.columns ≡ columns → 0 < columns → s.top < s.bottom → s.bottom < rows → Fits rows columns (Table.home s)
+home-fits : (rows columns : ℕ) (s : State) → s.rows ≡ rows → s.columns ≡ columns → 0 < columns → s.top < s.bottom → s.bottom < rows → Fits rows columns (Motion.home s)
 home-fits rows columns s r c w m b = record {
   rows_are = r;
   columns_are = c;
@@ -240,66 +246,66 @@ home-fits rows columns s r c w m b = record {
   joined = tt;
 }
 
-margins-fit : (x : Screen) → IsSound x → (top bottom : ℕ) → (b : Bool) → nat_lt top bottom ≡ b → bottom < x.state.rows → Fits x.state.rows x.state.columns (Table.margins_or_none b top bottom x.state)
+margins-fit : (x : Screen) → IsSound x → (top bottom : ℕ) → (b : Bool) → nat_lt top bottom ≡ b → bottom < x.state.rows → Fits x.state.rows x.state.columns (Motion.margins_or_none b top bottom x.state)
 margins-fit x h top bottom true e l =
     let below : top < bottom = grind (arith, nat_tests) in
     home-fits x.state.rows x.state.columns (record x.state { top = top; bottom = bottom }) refl refl (omega (arith, h.size.least_columns)) below l
 margins-fit x h top bottom false e l = record { rows_are = refl; columns_are = refl; cursor = h.cursor; margins = h.margins; bottom_inside = h.bottom_inside; joined = h.joined }
 
-bottom-inside : (rows : ℕ) (bottom : Option ℕ) → 2 ≤ rows → Table.bottom_of rows bottom < rows
+bottom-inside : (rows : ℕ) (bottom : Option ℕ) → 2 ≤ rows → Motion.bottom_of rows bottom < rows
 bottom-inside rows None h = omega arith
 bottom-inside rows (Some b) h = omega arith
 
-restored-line : (s : State) (p : Saved) → s.top < s.bottom → s.bottom < s.rows → Table.restored_line s p < s.rows
+restored-line : (s : State) (p : Saved) → s.top < s.bottom → s.bottom < s.rows → Saving.restored_line s p < s.rows
 restored-line s p m b = ⊎_elim
     (λ (e : p.counts_from_margin ≡ true). rw e (omega arith))
     (λ (e : p.counts_from_margin ≡ false). rw e (omega arith))
     (cases_Bool p.counts_from_margin)
 
-line-up : (s : State) (n : ℕ) → s.line < s.rows → s.top < s.rows → Table.line_up s n < s.rows
+line-up : (s : State) (n : ℕ) → s.line < s.rows → s.top < s.rows → Motion.line_up s n < s.rows
 line-up s n h t = ⊎_elim
     (λ (e : leb s.top s.line ≡ true). rw e (omega arith))
     (λ (e : leb s.top s.line ≡ false). rw e (omega arith))
     (cases_Bool (leb s.top s.line))
 
-line-down : (s : State) (n : ℕ) → s.line < s.rows → s.bottom < s.rows → Table.line_down s n < s.rows
+line-down : (s : State) (n : ℕ) → s.line < s.rows → s.bottom < s.rows → Motion.line_down s n < s.rows
 line-down s n h t = ⊎_elim
     (λ (e : leb s.line s.bottom ≡ true). rw e (omega arith))
     (λ (e : leb s.line s.bottom ≡ false). rw e (omega arith))
     (cases_Bool (leb s.line s.bottom))
 
-line-named : (s : State) (line : ℕ) → 0 < s.rows → s.bottom < s.rows → Table.line_named s line < s.rows
+line-named : (s : State) (line : ℕ) → 0 < s.rows → s.bottom < s.rows → Motion.line_named s line < s.rows
 line-named s line h b = ⊎_elim
     (λ (e : s.modes.counts_from_margin ≡ true). rw e (omega arith))
     (λ (e : s.modes.counts_from_margin ≡ false). rw e (omega arith))
     (cases_Bool s.modes.counts_from_margin)
 
-homed-fits : (x : Screen) → IsSound x → (m : Mode) (on : Bool) → Fits x.state.rows x.state.columns (Table.homed m (record x.state { modes = Table.modes_with x.state.modes m on }))
+homed-fits : (x : Screen) → IsSound x → (m : Mode) (on : Bool) → Fits x.state.rows x.state.columns (Settings.homed m (record x.state { modes = Settings.modes_with x.state.modes m on }))
 homed-fits x h modes.Insert on = record { rows_are = refl; columns_are = refl; cursor = h.cursor; margins = h.margins; bottom_inside = h.bottom_inside; joined = tt }
 homed-fits x h modes.NewLine on = record { rows_are = refl; columns_are = refl; cursor = h.cursor; margins = h.margins; bottom_inside = h.bottom_inside; joined = tt }
 homed-fits x h modes.Arrows on = record { rows_are = refl; columns_are = refl; cursor = h.cursor; margins = h.margins; bottom_inside = h.bottom_inside; joined = tt }
 homed-fits x h modes.Inverted on = record { rows_are = refl; columns_are = refl; cursor = h.cursor; margins = h.margins; bottom_inside = h.bottom_inside; joined = tt }
 homed-fits x h modes.Origin on =
-    home-fits x.state.rows x.state.columns (record x.state { modes = Table.modes_with x.state.modes modes.Origin on }) refl refl (omega (arith, h.size.least_columns)) h.margins h.bottom_inside
+    home-fits x.state.rows x.state.columns (record x.state { modes = Settings.modes_with x.state.modes modes.Origin on }) refl refl (omega (arith, h.size.least_columns)) h.margins h.bottom_inside
 homed-fits x h modes.Wrap on = record { rows_are = refl; columns_are = refl; cursor = h.cursor; margins = h.margins; bottom_inside = h.bottom_inside; joined = tt }
 homed-fits x h modes.Cursor on = record { rows_are = refl; columns_are = refl; cursor = h.cursor; margins = h.margins; bottom_inside = h.bottom_inside; joined = tt }
 
-paged : (x : Screen) (o : ℕ → ℕ → Origin) → IsSound x → IsSound (Table.with_page x (Table.settled x.state) (page_from o x.page))
-paged x o h = with-page x (Table.settled x.state) (page_from o x.page) h (same-place x h) (IsPage-page_from o x.state.rows x.state.columns x.page h.sized)
+paged : (x : Screen) (o : ℕ → ℕ → Origin) → IsSound x → IsSound (with_page x (Motion.unpending x.state) (page_from o x.page))
+paged x o h = with-page x (Motion.unpending x.state) (page_from o x.page) h (same-place x h) (IsPage-page_from o x.state.rows x.state.columns x.page h.sized)
 
-inserted-sound : (b : Bool) (n : ℕ) (x : Screen) → IsSound x → IsSound (Table.lines_inserted b n x)
+inserted-sound : (b : Bool) (n : ℕ) (x : Screen) → IsSound x → IsSound (Erasing.lines_inserted b n x)
 inserted-sound true n x h =
     let s : State = x.state in
-    with-page x (Table.moved_to s s.line 0) _ h (moved x s.line 0 h h.cursor.0 (omega (arith, h.size.least_columns)))
+    with-page x (Motion.moved_to s s.line 0) _ h (moved x s.line 0 h h.cursor.0 (omega (arith, h.size.least_columns)))
     (IsPage-page_from (scrolled_down s.line s.bottom (min n (s.bottom + 1 - s.line))) s.rows s.columns x.page h.sized)
-inserted-sound false n x h = with-state x (Table.settled x.state) h (same-place x h)
+inserted-sound false n x h = with-state x (Motion.unpending x.state) h (same-place x h)
 
-deleted-sound : (b : Bool) (n : ℕ) (x : Screen) → IsSound x → IsSound (Table.lines_deleted b n x)
+deleted-sound : (b : Bool) (n : ℕ) (x : Screen) → IsSound x → IsSound (Erasing.lines_deleted b n x)
 deleted-sound true n x h =
     let s : State = x.state in
-    with-page x (Table.moved_to s s.line 0) _ h (moved x s.line 0 h h.cursor.0 (omega (arith, h.size.least_columns)))
+    with-page x (Motion.moved_to s s.line 0) _ h (moved x s.line 0 h h.cursor.0 (omega (arith, h.size.least_columns)))
     (IsPage-page_from (scrolled_up s.line s.bottom (min n (s.bottom + 1 - s.line))) s.rows s.columns x.page h.sized)
-deleted-sound false n x h = with-state x (Table.settled x.state) h (same-place x h)
+deleted-sound false n x h = with-state x (Motion.unpending x.state) h (same-place x h)
 
 pub tabs-start : (columns : ℕ) → length (starting_tabs columns) ≡ columns
 tabs-start columns = length-map-range_with_len _ 0 columns
@@ -307,12 +313,12 @@ tabs-start columns = length-map-range_with_len _ 0 columns
 pub IsSound-acted : (x : Screen) (a : Action) → IsSound x → IsSound (Table.acted x a)
 unfolding Table.acted_from
 IsSound-acted x (Print u) h =
-    let y : Screen = Table.with_state x (record x.state { shifts = spent x.state.shifts u }) in
+    let y : Screen = with_state x (record x.state { shifts = spent x.state.shifts u }) in
     printed-sound (mapped x.state.shifts u) y (with-state x y.state h (record { rows_are = refl; columns_are = refl; cursor = h.cursor; margins = h.margins; bottom_inside = h.bottom_inside; joined = h.joined }))
 IsSound-acted x Backspace h = with-state x _ h (moved x x.state.line (x.state.column - 1) h h.cursor.0 (omega (arith, h.cursor.1)))
 IsSound-acted x Tab h =
     let s : State = x.state in
-    with-state x _ h (moved x s.line (Table.next_stop x.tabs s.columns s.column) h h.cursor.0 (omega (arith, h.size.least_columns)))
+    with-state x _ h (moved x s.line (Motion.next_stop x.tabs s.columns s.column) h h.cursor.0 (omega (arith, h.size.least_columns)))
 IsSound-acted x LineFeed h =
     let s : State = x.state in
     let column : ℕ = cond s.modes.starts_lines 0 s.column in
@@ -320,7 +326,7 @@ IsSound-acted x LineFeed h =
     (λ (e : s.modes.starts_lines ≡ true). rw e (omega (arith, h.cursor.1)))
     (λ (e : s.modes.starts_lines ≡ false). rw e h.cursor.1)
     (cases_Bool s.modes.starts_lines) in
-    IsSound-indexed (Table.with_state x (Table.moved_to s s.line column)) (with-state x (Table.moved_to s s.line column) h (moved x s.line column h h.cursor.0 inside))
+    IsSound-indexed (with_state x (Motion.moved_to s s.line column)) (with-state x (Motion.moved_to s s.line column) h (moved x s.line column h h.cursor.0 inside))
 IsSound-acted x CarriageReturn h = with-state x _ h (moved x x.state.line 0 h h.cursor.0 (omega (arith, h.cursor.1)))
 IsSound-acted x (Shift shift) h = with-state x _ h (record { rows_are = refl; columns_are = refl; cursor = h.cursor; margins = h.margins; bottom_inside = h.bottom_inside; joined = tt })
 IsSound-acted x (Designate place set') h = with-state x _ h (record { rows_are = refl; columns_are = refl; cursor = h.cursor; margins = h.margins; bottom_inside = h.bottom_inside; joined = tt })
@@ -342,8 +348,8 @@ IsSound-acted x Save h = record {
   few = h.few;
 }
 IsSound-acted x Restore h =
-    let p : Saved = Table.saved_or_none x.saved in
-    with-state x (Table.restored x.state p) h
+    let p : Saved = Saving.saved_or_none x.saved in
+    with-state x (Saving.restored x.state p) h
     (record { rows_are = refl; columns_are = refl; cursor = (restored-line x.state p h.margins h.bottom_inside, omega (arith, h.cursor.1)); margins = h.margins; bottom_inside = h.bottom_inside; joined = tt })
 IsSound-acted x (SetEightBitReports on) h = with-state x _ h (record { rows_are = refl; columns_are = refl; cursor = h.cursor; margins = h.margins; bottom_inside = h.bottom_inside; joined = tt })
 IsSound-acted x (SetApplicationKeypad on) h = with-state x _ h (record { rows_are = refl; columns_are = refl; cursor = h.cursor; margins = h.margins; bottom_inside = h.bottom_inside; joined = tt })
@@ -360,42 +366,42 @@ IsSound-acted x Reset h = record {
   few = h.few;
 }
 IsSound-acted x Align h =
-    with-page x _ _ h (home-fits x.state.rows x.state.columns (Table.whole_margins x.state) refl refl (omega (arith, h.size.least_columns)) (omega (arith, h.size.least_rows)) (omega (arith, h.size.least_rows)))
+    with-page x _ _ h (home-fits x.state.rows x.state.columns (Motion.whole_margins x.state) refl refl (omega (arith, h.size.least_columns)) (omega (arith, h.size.least_rows)) (omega (arith, h.size.least_rows)))
     (IsPage-page_from (filled (narrow_cell 0x45 plain false)) x.state.rows x.state.columns x.page h.sized)
-IsSound-acted x (Up n) h = with-state x _ h (moved x (Table.line_up x.state n) x.state.column h (line-up x.state n h.cursor.0 (omega (arith, h.margins, h.bottom_inside))) h.cursor.1)
-IsSound-acted x (Down n) h = with-state x _ h (moved x (Table.line_down x.state n) x.state.column h (line-down x.state n h.cursor.0 h.bottom_inside) h.cursor.1)
+IsSound-acted x (Up n) h = with-state x _ h (moved x (Motion.line_up x.state n) x.state.column h (line-up x.state n h.cursor.0 (omega (arith, h.margins, h.bottom_inside))) h.cursor.1)
+IsSound-acted x (Down n) h = with-state x _ h (moved x (Motion.line_down x.state n) x.state.column h (line-down x.state n h.cursor.0 h.bottom_inside) h.cursor.1)
 IsSound-acted x (Right n) h = with-state x _ h (moved x x.state.line (min (x.state.column + n) (x.state.columns - 1)) h h.cursor.0 (omega (arith, h.cursor.1)))
 IsSound-acted x (Left n) h = with-state x _ h (moved x x.state.line (x.state.column - n) h h.cursor.0 (omega (arith, h.cursor.1)))
 IsSound-acted x (MoveTo line column) h =
-    with-state x _ h (moved x (Table.line_named x.state line) (min column (x.state.columns - 1)) h (line-named x.state line (omega (arith, h.cursor.0)) h.bottom_inside) (omega (arith, h.cursor.1)))
+    with-state x _ h (moved x (Motion.line_named x.state line) (min column (x.state.columns - 1)) h (line-named x.state line (omega (arith, h.cursor.0)) h.bottom_inside) (omega (arith, h.cursor.1)))
 IsSound-acted x (SetMargins top bottom) h =
-    let last : ℕ = Table.bottom_of x.state.rows bottom in
+    let last : ℕ = Motion.bottom_of x.state.rows bottom in
     with-state x _ h (margins-fit x h top last (nat_lt top last) refl (bottom-inside x.state.rows bottom h.size.least_rows))
 IsSound-acted x ClearTab h = with-tabs x (set x.tabs x.state.column false) h (length-set x.tabs x.state.column false ∙ h.tabs)
 IsSound-acted x ClearTabs h = with-tabs x (replicate x.state.columns false) h (length-replicate x.state.columns false)
 IsSound-acted x (EraseInPage part) h =
     let s : State = x.state in
-    with-page x (Table.settled s) _ h (same-place x h)
-    (IsPage-page_from (erased_lines (Table.first_line part s) (Table.end_line part s)) s.rows s.columns (Table.part_erased s part x.page)
-    (IsPage-page_from (edited s.line (spliced (Table.first_column part s) (replicate (Table.end_column part s - Table.first_column part s) blank) (Table.end_column part s) s.columns)) s.rows s.columns x.page h.sized))
+    with-page x (Motion.unpending s) _ h (same-place x h)
+    (IsPage-page_from (erased_lines (Erasing.first_line part s) (Erasing.end_line part s)) s.rows s.columns (Erasing.part_erased s part x.page)
+    (IsPage-page_from (edited s.line (spliced (Erasing.first_column part s) (replicate (Erasing.end_column part s - Erasing.first_column part s) blank) (Erasing.end_column part s) s.columns)) s.rows s.columns x.page h.sized))
 IsSound-acted x (EraseInLine part) h = search (paged, h)
 IsSound-acted x (EraseCells n) h = search (paged, h)
 IsSound-acted x (EraseUnprotectedInPage part) h =
     let s : State = x.state in
-    let page : Page = Table.part_unprotected s part x.page in
-    with-page x (Table.settled s) _ h (same-place x h)
-    (IsPage-page_from (Table.unprotected_lines page s.columns (Table.first_line part s) (Table.end_line part s)) s.rows s.columns page
-    (IsPage-page_from (edited s.line (unprotected_erased (line_at x.page s.line) (Table.first_column part s) (Table.end_column part s))) s.rows s.columns x.page h.sized))
+    let page : Page = Erasing.part_unprotected s part x.page in
+    with-page x (Motion.unpending s) _ h (same-place x h)
+    (IsPage-page_from (Erasing.unprotected_lines page s.columns (Erasing.first_line part s) (Erasing.end_line part s)) s.rows s.columns page
+    (IsPage-page_from (edited s.line (unprotected_erased (line_at x.page s.line) (Erasing.first_column part s) (Erasing.end_column part s))) s.rows s.columns x.page h.sized))
 IsSound-acted x (EraseUnprotectedInLine part) h = search (paged, h)
 IsSound-acted x (InsertCells n) h = search (paged, h)
 IsSound-acted x (DeleteCells n) h = search (paged, h)
-IsSound-acted x (InsertLines n) h = inserted-sound (Table.is_in_margins x.state) n x h
-IsSound-acted x (DeleteLines n) h = deleted-sound (Table.is_in_margins x.state) n x h
+IsSound-acted x (InsertLines n) h = inserted-sound (Erasing.is_in_margins x.state) n x h
+IsSound-acted x (DeleteLines n) h = deleted-sound (Erasing.is_in_margins x.state) n x h
 IsSound-acted x (Protect on) h = with-state x _ h (record { rows_are = refl; columns_are = refl; cursor = h.cursor; margins = h.margins; bottom_inside = h.bottom_inside; joined = tt })
 IsSound-acted x (Render attribute) h = with-state x _ h (record { rows_are = refl; columns_are = refl; cursor = h.cursor; margins = h.margins; bottom_inside = h.bottom_inside; joined = tt })
 IsSound-acted x (SetMode mode on) h = with-state x _ h (homed-fits x h mode on)
 IsSound-acted x BlankPage h =
-    with-page x _ _ h (home-fits x.state.rows x.state.columns (Table.whole_margins x.state) refl refl (omega (arith, h.size.least_columns)) (omega (arith, h.size.least_rows)) (omega (arith, h.size.least_rows)))
+    with-page x _ _ h (home-fits x.state.rows x.state.columns (Motion.whole_margins x.state) refl refl (omega (arith, h.size.least_columns)) (omega (arith, h.size.least_rows)) (omega (arith, h.size.least_rows)))
     (IsPage-blank x.state.rows x.state.columns)
 IsSound-acted x SoftReset h = record {
   size = h.size;
@@ -438,7 +444,7 @@ IsSound-starting rows columns keep g = record {
 
 -- a change of size
 
-resized-saved : (rows columns : ℕ) (p : Option Saved) → 0 < rows → 0 < columns → IfSome (option_map (Table.saved_resized rows columns) p) (λ q. IsInside rows columns q.line q.column)
+resized-saved : (rows columns : ℕ) (p : Option Saved) → 0 < rows → 0 < columns → IfSome (option_map (Sizing.saved_resized rows columns) p) (λ q. IsInside rows columns q.line q.column)
 resized-saved rows columns None r c = tt
 resized-saved rows columns (Some p) r c = (omega arith, omega arith)
 
@@ -452,8 +458,8 @@ resized-kept columns kept paired = record {
       (cases_lt n (length kept));
 }
 
-pub IsSound-resized : (rows columns : ℕ) (x : Screen) → IsGridSize rows columns → IsSound x → IsSound (Table.resized rows columns x)
-unfolding Table.resized
+pub IsSound-resized : (rows columns : ℕ) (x : Screen) → IsGridSize rows columns → IsSound x → IsSound (Sizing.resized rows columns x)
+unfolding Sizing.resized
 IsSound-resized rows columns x g h = record {
   size = g;
   sized = IsPage-page_resized rows columns x.page h.sized.paired;

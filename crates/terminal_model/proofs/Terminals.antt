@@ -12,7 +12,7 @@ use Rattle.control_parser.specs.Grammar.{functions}
 use Rattle.control_parser.specs.Kept.{opening}
 use Rattle.control_parser.proofs.Openings.{functions-opening}
 use Rattle.terminal_model.specs.Screen.{Screen, IsSound}
-use Rattle.terminal_model.specs.Table.{resized}
+use Rattle.terminal_model.specs.Sizing.{resized}
 use Rattle.terminal_model.specs.Reading.{Terminal, IsTerminal, ready, act, act_all, read_unit, read_units, rest_in, read_byte, reads}
 use Rattle.terminal_model.specs.Writing.{Writing, Output, Size, Clear, Reset, Encoding, IsWriting, writes, writes_all}
 use Rattle.terminal_model.proofs.Sound.{IsSound-effect, IsSound-resized}

@@ -10,7 +10,7 @@ use Rattle.cells.specs.Page.{line_at}
 use Rattle.control_parser.specs.declared.func.Func.TheVariants.{Print}
 use Rattle.control_parser.specs.Spelling.{IsGiven}
 use Rattle.terminal_model.specs.Screen.{Page, Screen}
-use Rattle.terminal_model.specs.Table.{columns_of, drawn}
+use Rattle.terminal_model.specs.Printing.{columns_of, drawn}
 use Rattle.terminal_model.specs.Places.{place}
 
 -- a character that is printed as it is, in so many columns (UAX #11)

@@ -22,7 +22,9 @@ use Rattle.terminal_model.specs.Screen.{Page, Screen, starting_modes, starting_s
 use Rattle.terminal_model.specs.Screen.{blank_page}
 use Rattle.terminal_model.specs.Functions.{actions_of, rendered, mode_set, private_mode_set, first}
 use Rattle.terminal_model.specs.Functions.{second, last_line}
-use Rattle.terminal_model.specs.Table.{effect, bottom_of, columns_of}
+use Rattle.terminal_model.specs.Motion.{bottom_of}
+use Rattle.terminal_model.specs.Printing.{columns_of}
+use Rattle.terminal_model.specs.Table.{effect}
 use Rattle.terminal_model.specs.Reading.{Terminal, ready, Act}
 use Rattle.terminal_model.specs.Shows.{View, seen_at, Shows, IsOfSize}
 

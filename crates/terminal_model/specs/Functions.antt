@@ -1,8 +1,11 @@
 -- What each control function means: the rows of the screen table by their spelling, with their
 -- arguments.
-use Rattle.std.specs.Prelude.{ℕ, ◌-◌, ◌==◌, max, Bool, true, false, if◌then◌else◌, List, [], ◌∷◌}
-use Rattle.std.specs.Prelude.{slice_index_or, Option, Some, None, option_to_list, option_map}
+use Rattle.std.specs.Prelude.{ℕ, ◌+◌, ◌-◌, ◌==◌, max, Bool, true, false, if◌then◌else◌, List, []}
+use Rattle.std.specs.Prelude.{◌∷◌, ◌++◌, map, slice_index_or, Option, Some, None, option_to_list}
+use Rattle.std.specs.Prelude.{option_map}
 use Rattle.std.specs.List.{flat_map}
+use Prim.Native.Char.{code}
+use Rattle.charsets.specs.Entries.{entry_at, entry_or}
 use Rattle.charsets.specs.declared.unit.Coding.TheVariants.{Utf8, Ecma35}
 use Rattle.charsets.specs.declared.unit.Unit.TheVariants as units
 use Rattle.charsets.specs.declared.sets.CharacterSet.{CharacterSet}
@@ -16,8 +19,10 @@ use Rattle.control_parser.specs.declared.func.Func.{Func}
 use Rattle.control_parser.specs.declared.func.Func.TheVariants as funcs
 use Rattle.terminal_model.specs.declared.action.Part.{Part}
 use Rattle.terminal_model.specs.declared.action.Part.TheVariants.{ToEnd, ToStart, All}
+use Rattle.cells.specs.declared.cell.Colour.{Colour}
 use Rattle.cells.specs.declared.cell.Colour.TheVariants.{Default, Black, Red, Green, Yellow, Blue}
 use Rattle.cells.specs.declared.cell.Colour.TheVariants.{Magenta, Cyan, White}
+use Rattle.terminal_model.specs.declared.action.Attribute.{Attribute}
 use Rattle.terminal_model.specs.declared.action.Attribute.TheVariants.{Plain, Bold, Underlined}
 use Rattle.terminal_model.specs.declared.action.Attribute.TheVariants.{Blinking, Reversed}
 use Rattle.terminal_model.specs.declared.action.Attribute.TheVariants.{Foreground, Background}
@@ -59,141 +64,124 @@ count params = max 1 (first params)
 abbrev pub last_line : ℕ → Option ℕ
 last_line n = if n == 0 then None else Some (n - 1)
 
--- C0 controls (ECMA-48, 8.3; VT220 manual, chapter 2); NUL, ENQ, BEL and the others mean nothing
--- here
+-- C0 controls (ECMA-48, 8.3; VT220 manual, chapter 2): BS, HT, LF, VT, FF, CR, SO, SI; NUL, ENQ,
+-- BEL and the others mean nothing here
 abbrev pub control_action : ℕ → Option Action
 control_action c =
-    if c == 0x08 then Some Backspace
-    else (if c == 0x09 then Some Tab
-    else (if c == 0x0A then Some LineFeed
-    else (if c == 0x0B then Some LineFeed
-    else (if c == 0x0C then Some LineFeed
-    else (if c == 0x0D then Some CarriageReturn
-    else (if c == 0x0E then Some (Shift So)
-    else (if c == 0x0F then Some (Shift Si)
-    else None)))))))
+    entry_at
+    ((0x08, Backspace) ∷ (0x09, Tab) ∷ (0x0A, LineFeed) ∷ (0x0B, LineFeed) ∷ (0x0C, LineFeed)
+    ∷ (0x0D, CarriageReturn) ∷ (0x0E, Shift So) ∷ (0x0F, Shift Si) ∷ [])
+    c
 
--- ESC and a final byte
+-- ESC and a final byte: DECSC, DECRC, DECKPAM, DECKPNM, IND, NEL, HTS, RI, SS2, SS3, RIS, LS2, LS3,
+-- LS3R, LS2R, LS1R (ECMA-48, 8.3; VT220 manual, chapter 4)
 abbrev pub escape_action : ℕ → Option Action
 escape_action last =
-    if last == 0x37 then Some Save  -- 7
-    else (if last == 0x38 then Some Restore  -- 8
-    else (if last == 0x3D then Some (SetApplicationKeypad true)  -- =
-    else (if last == 0x3E then Some (SetApplicationKeypad false)  -- >
-    else (if last == 0x44 then Some Index  -- D
-    else (if last == 0x45 then Some NextLine  -- E
-    else (if last == 0x48 then Some SetTab  -- H
-    else (if last == 0x4D then Some ReverseIndex  -- M
-    else (if last == 0x4E then Some (Shift Ss2)  -- N
-    else (if last == 0x4F then Some (Shift Ss3)  -- O
-    else (if last == 0x63 then Some Reset  -- c
-    else (if last == 0x6E then Some (Shift Ls2)  -- n
-    else (if last == 0x6F then Some (Shift Ls3)  -- o
-    else (if last == 0x7C then Some (Shift Ls3r)  -- |
-    else (if last == 0x7D then Some (Shift Ls2r)  -- }
-    else (if last == 0x7E then Some (Shift Ls1r)  -- ~
-    else None)))))))))))))))
+    entry_at
+    ((code "7", Save) ∷ (code "8", Restore) ∷ (code "=", SetApplicationKeypad true)
+    ∷ (code ">", SetApplicationKeypad false) ∷ (code "D", Index) ∷ (code "E", NextLine)
+    ∷ (code "H", SetTab) ∷ (code "M", ReverseIndex) ∷ (code "N", Shift Ss2)
+    ∷ (code "O", Shift Ss3) ∷ (code "c", Reset) ∷ (code "n", Shift Ls2) ∷ (code "o", Shift Ls3)
+    ∷ (code "|", Shift Ls3r) ∷ (code "}", Shift Ls2r) ∷ (code "~", Shift Ls1r) ∷ [])
+    last
 
--- designations (ECMA-35: the sets of 94 characters): ( ) * + are G0 to G3
+-- the place that a designation's intermediate names (ECMA-35: the sets of 94 characters)
 abbrev pub designated_place : ℕ → Option Place
 designated_place intermediate =
-    if intermediate == 0x28 then Some G0
-    else (if intermediate == 0x29 then Some G1
-    else (if intermediate == 0x2A then Some G2
-    else (if intermediate == 0x2B then Some G3
-    else None)))
+    entry_at ((code "(", G0) ∷ (code ")", G1) ∷ (code "*", G2) ∷ (code "+", G3) ∷ []) intermediate
 
--- B, A, 0 and < name the sets; the last one is this project's own
+-- the set that its final byte names; the last one is this project's own
 abbrev pub designated_set : ℕ → Option CharacterSet
 designated_set last =
-    if last == 0x42 then Some Ascii
-    else (if last == 0x41 then Some UnitedKingdom
-    else (if last == 0x30 then Some SpecialGraphics
-    else (if last == 0x3C then Some Supplemental
-    else None)))
+    entry_at
+    ((code "B", Ascii) ∷ (code "A", UnitedKingdom) ∷ (code "0", SpecialGraphics)
+    ∷ (code "<", Supplemental) ∷ [])
+    last
 
 abbrev pub designation : Option Place → Option CharacterSet → Option Action
 designation None set = None
 designation (Some place) None = None
 designation (Some place) (Some set) = Some (Designate place set)
 
--- ESC, an intermediate and a final byte
+-- ESC, an intermediate and a final byte: S7C1T, S8C1T; DECALN; the coding systems; a designation
 abbrev pub intermediate_action : ℕ → ℕ → Option Action
 intermediate_action intermediate last =
-    if intermediate == 0x20 then
-    (if last == 0x46 then Some (SetEightBitReports false)  -- SP F
-    else (if last == 0x47 then Some (SetEightBitReports true)  -- SP G
-    else None))
-    else (if intermediate == 0x23 then
-    (if last == 0x38 then Some Align else None)  -- # 8
-    else (if intermediate == 0x25 then
-    (if last == 0x47 then Some (SetCoding Utf8)  -- % G
-    else (if last == 0x40 then Some (SetCoding Ecma35)  -- % @
-    else None))
-    else designation (designated_place intermediate) (designated_set last)))
+    entry_or (designation (designated_place intermediate) (designated_set last))
+    ((
+      code " ",
+      entry_at
+          ((code "F", SetEightBitReports false) ∷ (code "G", SetEightBitReports true) ∷ []) last,
+    )
+    ∷ (code "#", entry_at ((code "8", Align) ∷ []) last)
+    ∷ (
+      code "%",
+      entry_at ((code "G", SetCoding Utf8) ∷ (code "@", SetCoding Ecma35) ∷ []) last,
+    )
+    ∷ [])
+    intermediate
 
 -- the part that ED, EL, DECSED and DECSEL erase, by their parameter; other values are ignored
 abbrev pub part_of : ℕ → Option Part
-part_of n =
-    if n == 0 then Some ToEnd
-    else (if n == 1 then Some ToStart
-    else (if n == 2 then Some All
-    else None))
+part_of n = entry_at ((0, ToEnd) ∷ (1, ToStart) ∷ (2, All) ∷ []) n
 
--- the values of SGR that name a colour: of the foreground, and of the background
-abbrev pub coloured : ℕ → Option Action
-coloured n =
-    if n == 30 then Some (Render (Foreground Black))
-    else (if n == 31 then Some (Render (Foreground Red))
-    else (if n == 32 then Some (Render (Foreground Green))
-    else (if n == 33 then Some (Render (Foreground Yellow))
-    else (if n == 34 then Some (Render (Foreground Blue))
-    else (if n == 35 then Some (Render (Foreground Magenta))
-    else (if n == 36 then Some (Render (Foreground Cyan))
-    else (if n == 37 then Some (Render (Foreground White))
-    else (if n == 39 then Some (Render (Foreground Default))
-    else (if n == 40 then Some (Render (Background Black))
-    else (if n == 41 then Some (Render (Background Red))
-    else (if n == 42 then Some (Render (Background Green))
-    else (if n == 43 then Some (Render (Background Yellow))
-    else (if n == 44 then Some (Render (Background Blue))
-    else (if n == 45 then Some (Render (Background Magenta))
-    else (if n == 46 then Some (Render (Background Cyan))
-    else (if n == 47 then Some (Render (Background White))
-    else (if n == 49 then Some (Render (Background Default))
-    else None)))))))))))))))))
+-- SGR (ECMA-48, 8.3.117). A colour's digit: it ends the colour's values.
+abbrev pub colour_digit : Colour → ℕ
+colour_digit Black = 0
+colour_digit Red = 1
+colour_digit Green = 2
+colour_digit Yellow = 3
+colour_digit Blue = 4
+colour_digit Magenta = 5
+colour_digit Cyan = 6
+colour_digit White = 7
+colour_digit Default = 9
 
--- one value of SGR; other values are ignored
+abbrev pub all_colours : List Colour
+all_colours =
+    Black ∷ Red ∷ Green ∷ Yellow ∷ Blue ∷ Magenta ∷ Cyan ∷ White ∷ Default ∷ []
+
+-- the values of the colours, from that of colour 0 on: 30 of the foreground, 40 of the background
+abbrev pub foreground_base : ℕ
+foreground_base = 30
+
+abbrev pub background_base : ℕ
+background_base = 40
+
+abbrev pub colours_from : ℕ → (Colour → Attribute) → List (ℕ × Action)
+colours_from base of_colour =
+    map (λ (c : Colour). (base + colour_digit c, Render (of_colour c))) all_colours
+
+-- a value that names a colour
+abbrev pub colour_action : ℕ → Option Action
+colour_action n =
+    entry_at
+    (colours_from foreground_base Foreground ++ colours_from background_base Background) n
+
+-- a value: 0, what is set and what is reset, the colours; other values are ignored
 abbrev pub rendered : ℕ → Option Action
 rendered n =
-    if n == 0 then Some (Render Plain)
-    else (if n == 1 then Some (Render (Bold true))
-    else (if n == 4 then Some (Render (Underlined true))
-    else (if n == 5 then Some (Render (Blinking true))
-    else (if n == 7 then Some (Render (Reversed true))
-    else (if n == 22 then Some (Render (Bold false))
-    else (if n == 24 then Some (Render (Underlined false))
-    else (if n == 25 then Some (Render (Blinking false))
-    else (if n == 27 then Some (Render (Reversed false))
-    else coloured n))))))))
+    entry_or (colour_action n)
+    ((0, Some (Render Plain))
+    ∷ (1, Some (Render (Bold true))) ∷ (4, Some (Render (Underlined true)))
+    ∷ (5, Some (Render (Blinking true))) ∷ (7, Some (Render (Reversed true)))
+    ∷ (22, Some (Render (Bold false))) ∷ (24, Some (Render (Underlined false)))
+    ∷ (25, Some (Render (Blinking false))) ∷ (27, Some (Render (Reversed false))) ∷ [])
+    n
 
 -- one value of SM or RM
 abbrev pub mode_set : Bool → ℕ → Option Action
 mode_set is_set n =
-    if n == 4 then Some (SetMode modes.Insert is_set)
-    else (if n == 20 then Some (SetMode modes.NewLine is_set)
-    else None)
+    entry_at
+    ((4, SetMode modes.Insert is_set) ∷ (20, SetMode modes.NewLine is_set) ∷ []) n
 
 -- one value of DECSM or DECRM
 abbrev pub private_mode_set : Bool → ℕ → Option Action
 private_mode_set is_set n =
-    if n == 1 then Some (SetMode modes.Arrows is_set)
-    else (if n == 3 then Some BlankPage
-    else (if n == 5 then Some (SetMode modes.Inverted is_set)
-    else (if n == 6 then Some (SetMode modes.Origin is_set)
-    else (if n == 7 then Some (SetMode modes.Wrap is_set)
-    else (if n == 25 then Some (SetMode modes.Cursor is_set)
-    else None)))))
+    entry_at
+    ((1, SetMode modes.Arrows is_set) ∷ (3, BlankPage) ∷ (5, SetMode modes.Inverted is_set)
+    ∷ (6, SetMode modes.Origin is_set) ∷ (7, SetMode modes.Wrap is_set)
+    ∷ (25, SetMode modes.Cursor is_set) ∷ [])
+    n
 
 -- each value in turn
 abbrev pub each : (ℕ → Option Action) → List ℕ → List Action
@@ -205,74 +193,81 @@ alone = option_to_list
 
 -- DECSCA's parameter: 1 protects what is printed later, 0 and 2 don't
 abbrev pub protection : ℕ → Option Action
-protection n =
-    if n == 1 then Some (Protect true)
-    else (if n == 0 then Some (Protect false)
-    else (if n == 2 then Some (Protect false)
-    else None))
+protection n = entry_at ((1, Protect true) ∷ (0, Protect false) ∷ (2, Protect false) ∷ []) n
 
 -- TBC's parameter
 abbrev pub tab_cleared : ℕ → Option Action
-tab_cleared n = if n == 0 then Some ClearTab else (if n == 3 then Some ClearTabs else None)
+tab_cleared n = entry_at ((0, ClearTab) ∷ (3, ClearTabs) ∷ []) n
 
 -- DSR's parameter
 abbrev pub status_reported : ℕ → Option Action
-status_reported n =
-    if n == 5 then Some ReportStatus else (if n == 6 then Some ReportPlace else None)
+status_reported n = entry_at ((5, ReportStatus) ∷ (6, ReportPlace) ∷ []) n
 
--- CSI, parameters and a final byte
+-- DA's parameter: 0 alone asks
+abbrev pub asked : Action → ℕ → List Action
+asked report n = if n == 0 then report ∷ [] else []
+
+-- CSI, parameters and a final byte: ICH, CUU, CUD, CUF, CUB, CUP, ED, EL, IL, DL, DCH, ECH, DA,
+-- HVP, TBC, SM, RM, SGR, DSR, DECSTBM (ECMA-48, 8.3; VT220 manual, chapter 4)
 unfoldable pub plain_sequence : List ℕ → ℕ → List Action
 plain_sequence params last =
-    if last == 0x40 then InsertCells (count params) ∷ []  -- @
-    else (if last == 0x41 then Up (count params) ∷ []  -- A
-    else (if last == 0x42 then Down (count params) ∷ []  -- B
-    else (if last == 0x43 then Right (count params) ∷ []  -- C
-    else (if last == 0x44 then Left (count params) ∷ []  -- D
-    else (if last == 0x48 then MoveTo (first params - 1) (second params - 1) ∷ []  -- H
-    else (if last == 0x4A then alone (option_map EraseInPage (part_of (first params)))  -- J
-    else (if last == 0x4B then alone (option_map EraseInLine (part_of (first params)))  -- K
-    else (if last == 0x4C then InsertLines (count params) ∷ []  -- L
-    else (if last == 0x4D then DeleteLines (count params) ∷ []  -- M
-    else (if last == 0x50 then DeleteCells (count params) ∷ []  -- P
-    else (if last == 0x58 then EraseCells (count params) ∷ []  -- X
-    else (if last == 0x63 then (if first params == 0 then ReportAttributes ∷ [] else [])  -- c
-    else (if last == 0x66 then MoveTo (first params - 1) (second params - 1) ∷ []  -- f
-    else (if last == 0x67 then alone (tab_cleared (first params))  -- g
-    else (if last == 0x68 then each (mode_set true) params  -- h
-    else (if last == 0x6C then each (mode_set false) params  -- l
-    else (if last == 0x6D then each rendered params  -- m
-    else (if last == 0x6E then alone (status_reported (first params))  -- n
-    else (if last == 0x72 then SetMargins (first params - 1) (last_line (second params)) ∷ []  -- r
-    else [])))))))))))))))))))
+    entry_or []
+    ((code "@", InsertCells (count params) ∷ [])
+    ∷ (code "A", Up (count params) ∷ [])
+    ∷ (code "B", Down (count params) ∷ [])
+    ∷ (code "C", Right (count params) ∷ [])
+    ∷ (code "D", Left (count params) ∷ [])
+    ∷ (code "H", MoveTo (first params - 1) (second params - 1) ∷ [])
+    ∷ (code "J", alone (option_map EraseInPage (part_of (first params))))
+    ∷ (code "K", alone (option_map EraseInLine (part_of (first params))))
+    ∷ (code "L", InsertLines (count params) ∷ [])
+    ∷ (code "M", DeleteLines (count params) ∷ [])
+    ∷ (code "P", DeleteCells (count params) ∷ [])
+    ∷ (code "X", EraseCells (count params) ∷ [])
+    ∷ (code "c", asked ReportAttributes (first params))
+    ∷ (code "f", MoveTo (first params - 1) (second params - 1) ∷ [])
+    ∷ (code "g", alone (tab_cleared (first params)))
+    ∷ (code "h", each (mode_set true) params)
+    ∷ (code "l", each (mode_set false) params)
+    ∷ (code "m", each rendered params)
+    ∷ (code "n", alone (status_reported (first params)))
+    ∷ (code "r", SetMargins (first params - 1) (last_line (second params)) ∷ [])
+    ∷ [])
+    last
 
--- CSI ? , parameters and a final byte
+-- CSI ? , parameters and a final byte: DECSED, DECSEL, DECSM, DECRM, and the printer's DSR
 unfoldable pub private_sequence : List ℕ → ℕ → List Action
 private_sequence params last =
-    if last == 0x4A then alone (option_map EraseUnprotectedInPage (part_of (first params)))  -- J
-    else (if last == 0x4B then
-    alone (option_map EraseUnprotectedInLine (part_of (first params)))  -- K
-    else (if last == 0x68 then each (private_mode_set true) params  -- h
-    else (if last == 0x6C then each (private_mode_set false) params  -- l
-    else (if last == 0x6E then (if first params == 15 then ReportPrinter ∷ [] else [])  -- n
-    else []))))
+    entry_or []
+    ((code "J", alone (option_map EraseUnprotectedInPage (part_of (first params))))
+    ∷ (code "K", alone (option_map EraseUnprotectedInLine (part_of (first params))))
+    ∷ (code "h", each (private_mode_set true) params)
+    ∷ (code "l", each (private_mode_set false) params)
+    ∷ (code "n", (if first params == 15 then ReportPrinter ∷ [] else []))
+    ∷ [])
+    last
 
--- CSI, perhaps a mark, parameters and a final byte
+-- CSI, perhaps a mark, parameters and a final byte; CSI > c is the secondary DA
 abbrev pub marked_sequence : Option ℕ → List ℕ → ℕ → List Action
 marked_sequence None params last = plain_sequence params last
 marked_sequence (Some mark) params last =
-    if mark == 0x3F then private_sequence params last
-    else (if mark == 0x3E then
-    (if last == 0x63 then (if first params == 0 then ReportSecondaryAttributes ∷ [] else [])
-    else [])
-    else [])
+    entry_or []
+    ((code "?", private_sequence params last)
+    ∷ (
+      code ">",
+      entry_or [] ((code "c", asked ReportSecondaryAttributes (first params)) ∷ []) last,
+    )
+    ∷ [])
+    mark
 
 -- CSI, parameters, an intermediate and a final byte: DECSTR is CSI ! p, and DECSCA is CSI Ps " q
 abbrev pub between_sequence : List ℕ → ℕ → ℕ → List Action
 between_sequence params intermediate last =
-    if intermediate == 0x21 then (if last == 0x70 then SoftReset ∷ [] else [])
-    else (if intermediate == 0x22 then
-    (if last == 0x71 then alone (protection (first params)) else [])
-    else [])
+    entry_or []
+    ((code "!", entry_or [] ((code "p", SoftReset ∷ []) ∷ []) last)
+    ∷ (code "\"", entry_or [] ((code "q", alone (protection (first params))) ∷ []) last)
+    ∷ [])
+    intermediate
 
 abbrev pub sequence_actions : Option ℕ → List ℕ → List ℕ → ℕ → List Action
 sequence_actions mark params [] last = marked_sequence mark params last

@@ -1,6 +1,13 @@
 pub mod Screen
 pub mod Functions
+pub mod Motion
+pub mod Printing
+pub mod Saving
+pub mod Erasing
+pub mod Settings
+pub mod Resets
 pub mod Table
+pub mod Sizing
 pub mod Reports
 pub mod Reading
 pub mod Writing

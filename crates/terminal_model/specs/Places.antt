@@ -1,12 +1,12 @@
 -- What stands at a place afterwards.
 use Rattle.std.specs.Prelude.{◌≡◌, ℕ, ◌+◌, ◌-◌, ◌==◌, Bool, true, false, ◌&&◌, nat_lt, nat_le}
 use Rattle.std.specs.Prelude.{if◌then◌else◌, List, [], ◌∷◌, length, None, cond, ◌++◌}
+use Prim.Native.Char.{code}
 use Rattle.charsets.specs.declared.sets.CharacterSet.TheVariants.{Ascii}
 use Rattle.charsets.specs.Shifts.{set_at}
 use Rattle.cells.specs.declared.cell.Cell.{Cell}
 use Rattle.cells.specs.declared.cell.Colour.{Colour}
-use Rattle.cells.specs.declared.cell.Colour.TheVariants.{Default, Black, Red, Green, Yellow, Blue}
-use Rattle.cells.specs.declared.cell.Colour.TheVariants.{Magenta, Cyan, White}
+use Rattle.cells.specs.declared.cell.Colour.TheVariants.{Default}
 use Rattle.cells.specs.declared.cell.Rendition.{Rendition}
 use Rattle.cells.specs.Line.{blank, cell_at, is_left, is_right, marked, narrow_cell, left_cell}
 use Rattle.cells.specs.Line.{right_cell}
@@ -14,6 +14,7 @@ use Rattle.cells.specs.Page.{line_at}
 use Rattle.terminal_model.specs.declared.state.Position.{Position}
 use Rattle.terminal_model.specs.declared.state.State.{State}
 use Rattle.terminal_model.specs.Screen.{Page, Screen, IsSound}
+use Rattle.terminal_model.specs.Functions.{colour_digit, foreground_base, background_base}
 
 -- the cell of a place, and a blank past the page
 abbrev pub place : Page → ℕ → ℕ → Cell
@@ -21,17 +22,18 @@ place page line column = cell_at (line_at page line) column
 
 -- New cells over a line, from a column on. The half of a wide character beside them that lost its
 -- other half is a blank.
-abbrev pub over : List Cell → ℕ → List Cell → ℕ → Cell
-over fresh at old column =
+abbrev pub overlaid_cell : List Cell → ℕ → List Cell → ℕ → Cell
+overlaid_cell fresh at old column =
     if nat_le at column && nat_lt column (at + length fresh) then cell_at fresh (column - at)
     else (if (column + 1 == at) && is_left (cell_at old column).shape then blank
     else (if (column == at + length fresh) && is_right (cell_at old column).shape then blank
     else cell_at old column))
 
 -- the same in the cursor's line; the other lines stay
-abbrev pub over_cursor : List Cell → Screen → ℕ → ℕ → Cell
-over_cursor fresh x line column =
-    if line == x.state.line then over fresh x.state.column (line_at x.page x.state.line) column
+abbrev pub overlaid_at_cursor : List Cell → Screen → ℕ → ℕ → Cell
+overlaid_at_cursor fresh x line column =
+    if line == x.state.line
+    then overlaid_cell fresh x.state.column (line_at x.page x.state.line) column
     else place x.page line column
 
 -- one more mark at a place
@@ -60,7 +62,7 @@ wide_at x c =
 
 -- new cells were put at the cursor, the state is this one, and all else stayed
 pub record PutsOver (x : Screen) (fresh : List Cell) (s : State) (y : Screen) : Type 0 where
-  pub page : (line column : ℕ) → place y.page line column ≡ over_cursor fresh x line column
+  pub page : (line column : ℕ) → place y.page line column ≡ overlaid_at_cursor fresh x line column
   pub rest : y ≡ record x { state = s; page = y.page }
 
 -- a mark joined the cell of a place, and nothing else changed
@@ -71,31 +73,25 @@ pub record PutsMark (x : Screen) (p : Position) (mark : ℕ) (y : Screen) : Type
 
 -- the final byte of DECSM and DECRM, of DECKPAM and DECKPNM
 abbrev pub mode_final : Bool → ℕ
-mode_final true = 0x68
-mode_final false = 0x6C
+mode_final true = code "h"
+mode_final false = code "l"
 
 abbrev pub keypad_final : Bool → ℕ
-keypad_final true = 0x3D
-keypad_final false = 0x3E
+keypad_final true = code "="
+keypad_final false = code ">"
 
 -- the values of SGR that make a rendition of any other: 0, what is on, and the colours
 abbrev pub value_if : Bool → ℕ → List ℕ
 value_if b n = cond b (n ∷ []) []
 
--- the value of a colour, from that of colour 0 on
+-- the value of a colour, from that of colour 0 on; 0 has set the terminal's own
 abbrev pub value_of_colour : ℕ → Colour → List ℕ
 value_of_colour base Default = []
-value_of_colour base Black = base ∷ []
-value_of_colour base Red = (base + 1) ∷ []
-value_of_colour base Green = (base + 2) ∷ []
-value_of_colour base Yellow = (base + 3) ∷ []
-value_of_colour base Blue = (base + 4) ∷ []
-value_of_colour base Magenta = (base + 5) ∷ []
-value_of_colour base Cyan = (base + 6) ∷ []
-value_of_colour base White = (base + 7) ∷ []
+value_of_colour base colour = (base + colour_digit colour) ∷ []
 
 abbrev pub colour_values : Rendition → List ℕ
-colour_values r = value_of_colour 30 r.fore ++ value_of_colour 40 r.back
+colour_values r =
+    value_of_colour foreground_base r.fore ++ value_of_colour background_base r.back
 
 abbrev pub rendition_values : Rendition → List ℕ
 rendition_values r =

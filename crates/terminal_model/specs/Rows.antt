@@ -21,12 +21,12 @@ abbrev pub wide : ℕ → List Cell
 wide c = left_cell c plain false ∷ right_cell c plain false ∷ []
 
 -- letters in two colours; a wide character in a foreground
-abbrev pub coloured : Colour → Colour → List ℕ → List Cell
-coloured fore back text =
+abbrev pub in_colours : Colour → Colour → List ℕ → List Cell
+in_colours fore back text =
     map (λ c. narrow_cell c (record plain { fore = fore; back = back }) false) text
 
-abbrev pub coloured_wide : Colour → ℕ → List Cell
-coloured_wide colour c =
+abbrev pub wide_in_colour : Colour → ℕ → List Cell
+wide_in_colour colour c =
     left_cell c (record plain { fore = colour }) false
     ∷ right_cell c (record plain { fore = colour }) false ∷ []
 

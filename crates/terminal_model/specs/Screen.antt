@@ -5,8 +5,8 @@ use Rattle.std.specs.List.{range_with_len}
 use Rattle.charsets.specs.declared.unit.Coding.TheVariants.{Utf8}
 use Rattle.charsets.specs.Shifts.{starting as starting_shifts}
 use Rattle.cells.specs.declared.cell.Cell.{Cell}
-use Rattle.cells.specs.Line.{blank, plain, IsPaired}
-use Rattle.cells.specs.Page.{line_at, IsPage, IsGridSize}
+use Rattle.cells.specs.Line.{blank, plain, IsPaired, Source}
+use Rattle.cells.specs.Page.{line_at, IsPage, IsGridSize, page_from, edited}
 use Rattle.terminal_model.specs.declared.state.Modes.{Modes}
 use Rattle.terminal_model.specs.declared.state.State.{State}
 use Rattle.terminal_model.specs.declared.state.Saved.{Saved}
@@ -26,8 +26,8 @@ pub record Screen : Type 0 where
   pub keep : ℕ
 
 -- the scrollback with one more line: of all lines that left, the last `keep` stay
-abbrev pub taken_in : ℕ → List Cell → Page → Page
-taken_in keep line kept = take keep (line ∷ kept)
+abbrev pub with_newest : ℕ → List Cell → Page → Page
+with_newest keep line kept = take keep (line ∷ kept)
 
 -- the starting values of the modes: ?7 and ?25 are set, the others are reset, and the keypad is
 -- numeric (VT220 manual, chapter 4)
@@ -104,3 +104,14 @@ pub record IsSound (x : Screen) : Type 0 where
   pub saved : IfSome x.saved (λ p. IsInside x.state.rows x.state.columns p.line p.column)
   pub kept : AreKept x.state.columns x.kept
   pub few : length x.kept ≤ x.keep
+
+-- a screen with another state, and another page
+abbrev pub with_state : Screen → State → Screen
+with_state x s = record x { state = s }
+
+abbrev pub with_page : Screen → State → Page → Screen
+with_page x s page = record x { state = s; page = page }
+
+-- the cursor's line is edited, and the others stay
+abbrev pub line_edited : State → (ℕ → Source) → Page → Page
+line_edited s source page = page_from (edited s.line source) page

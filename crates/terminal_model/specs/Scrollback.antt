@@ -1,7 +1,7 @@
 -- The lines that leave a page at the top. A scrollback keeps the last ones of them (GNU Screen
 -- manual, "Scrollback").
 use Rattle.std.specs.Prelude.{◌≡◌, ℕ, zero, suc, ◌==◌, Bool, false, ◌&&◌, ◌||◌, cond, List, [], ◌∷◌}
-use Rattle.std.specs.Prelude.{◌++◌, map, take, reverse, Option, Some, None}
+use Rattle.std.specs.Prelude.{◌++◌, length, map, take, reverse, Option, Some, None}
 use Rattle.std.specs.List.{flat_map}
 use Rattle.charsets.specs.Shifts.{mapped}
 use Rattle.cells.specs.Page.{line_at}
@@ -13,7 +13,8 @@ use Rattle.terminal_model.specs.declared.action.Action.TheVariants.{Print, LineF
 use Rattle.terminal_model.specs.declared.action.Action.TheVariants.{NextLine}
 use Rattle.terminal_model.specs.Screen.{Page, Screen}
 use Rattle.terminal_model.specs.Functions.{actions_of}
-use Rattle.terminal_model.specs.Table.{lacks_room, columns_of, acted}
+use Rattle.terminal_model.specs.Printing.{lacks_room, columns_of}
+use Rattle.terminal_model.specs.Table.{acted}
 use Rattle.terminal_model.specs.Reading.{Terminal, Act}
 use Rattle.terminal_model.specs.Writing.{Writing, Size, writes}
 
@@ -66,3 +67,8 @@ all_left lines t (w ∷ later) = all_left (left_by lines t w) (writes t w).termi
 -- a screen keeps the last ones of the lines, the newest first
 abbrev pub KeepsLast : Page → Screen → Type 0
 KeepsLast lines x = x.kept ≡ take x.keep (reverse lines)
+
+-- The page moved back by so many kept lines, or all where they are fewer: as many lines as the page
+-- has, of the newest kept lines, oldest first, and then the page's (own).
+abbrev pub moved_back : ℕ → Screen → Page
+moved_back offset x = take (length x.page) (reverse (take offset x.kept) ++ x.page)

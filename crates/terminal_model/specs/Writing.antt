@@ -3,7 +3,7 @@ use Rattle.std.specs.Prelude.{ℕ, List, [], ◌∷◌}
 use Rattle.charsets.specs.declared.unit.Coding.{Coding}
 use Rattle.charsets.specs.declared.unit.Coding.TheVariants.{Utf8, Ecma35}
 use Rattle.cells.specs.Page.{IsGridSize}
-use Rattle.terminal_model.specs.Table.{resized}
+use Rattle.terminal_model.specs.Sizing.{resized}
 use Rattle.terminal_model.specs.Reading.{Terminal, ready, Read, nothing_read, joined, reads}
 
 -- bytes of the window's program, a change of size, and the commands clear, reset and encoding

@@ -20,10 +20,13 @@ ghost use Rattle.terminal_model.specs.declared.action.Attribute.{Attribute};
 ghost use Rattle.terminal_model.specs.declared.action.Mode.{Mode};
 ghost use Rattle.terminal_model.specs.declared.state.Position.{Position};
 ghost use Rattle.terminal_model.specs.Screen.{Page, Screen, IsSound, starting, blank_page};
+ghost use Rattle.terminal_model.specs.Screen.{with_state};
 ghost use Rattle.terminal_model.specs.Functions.{actions_of, rendered, private_mode_set};
-ghost use Rattle.terminal_model.specs.Table.{acted, effect, bottom_of, resized, advanced, settled};
-ghost use Rattle.terminal_model.specs.Table.{apart, moved_to, with_state, homed, rendition_with};
-ghost use Rattle.terminal_model.specs.Table.{modes_with, columns_of, drawn};
+ghost use Rattle.terminal_model.specs.Motion.{bottom_of, unpending, unjoined, moved_to};
+ghost use Rattle.terminal_model.specs.Printing.{advanced, columns_of, drawn};
+ghost use Rattle.terminal_model.specs.Sizing.{resized};
+ghost use Rattle.terminal_model.specs.Table.{acted, effect};
+ghost use Rattle.terminal_model.specs.Settings.{homed, rendition_with, modes_with};
 ghost use Rattle.terminal_model.specs.Reports.{report};
 ghost use Rattle.terminal_model.specs.Reading.{Act, Terminal, IsTerminal, ready, joined, reads};
 ghost use Rattle.terminal_model.specs.Writing.{Writing, IsWriting, Output, writes_all};
@@ -36,7 +39,8 @@ ghost use Rattle.terminal_model.specs.Shows.{blank_view};
 ghost use Rattle.terminal_model.specs.Drawing.{frame_bytes, frame_start, Draws, IsListed, IsDrawn};
 ghost use Rattle.terminal_model.specs.Drawing.{AreSpelled};
 ghost use Rattle.terminal_model.specs.Drawable.{IsDrawableScreen};
-ghost use Rattle.terminal_model.specs.Places.{place, over, with_mark, IsPlain, narrow_at, wide_at};
+ghost use Rattle.terminal_model.specs.Places.{place, overlaid_cell, with_mark, IsPlain, narrow_at};
+ghost use Rattle.terminal_model.specs.Places.{wide_at};
 ghost use Rattle.terminal_model.specs.Places.{PutsOver, PutsMark, mode_final, keypad_final};
 ghost use Rattle.terminal_model.specs.Places.{rendition_values};
 
@@ -164,9 +168,10 @@ pub fn printed_ones_stand_at_places()
 /// ECH and EL at a place: blanks over the cells at the cursor.
 pub fn erased_ones_stand_at_places()
     ensures cells { (x : Screen) (n : ℕ) → IsSound x → 0 < n → x.state.column + n ≤ x.state.columns
-        → PutsOver x (replicate n blank) (settled x.state) (effect x (Csi None (n ∷ []) [] 0x58)) }
+        → PutsOver x (replicate n blank) (unpending x.state)
+        (effect x (Csi None (n ∷ []) [] 0x58)) }
     ensures line { (x : Screen) → IsSound x
-        → PutsOver x (replicate (x.state.columns - x.state.column) blank) (settled x.state)
+        → PutsOver x (replicate (x.state.columns - x.state.column) blank) (unpending x.state)
         (effect x (Csi None (0 ∷ []) [] 0x4B)) }
     ensures cells_quiet { (x : Screen) (params : List ℕ) → report x (Csi None params [] 0x58) ≡ [] }
     ensures line_quiet { (x : Screen) → report x (Csi None (0 ∷ []) [] 0x4B) ≡ [] }
@@ -188,18 +193,19 @@ pub fn renditions_and_modes_change_alone()
         ≡ effect (effect x (Csi None a [] 0x6D)) (Csi None b [] 0x6D) }
     ensures rendition { (x : Screen) (n : ℕ) (a : Attribute) → rendered n ≡ Some (Render a)
         → effect x (Csi None (n ∷ []) [] 0x6D)
-        ≡ with_state x (apart (record x.state { rendition = rendition_with x.state.rendition a })) }
+        ≡ with_state x
+        (unjoined (record x.state { rendition = rendition_with x.state.rendition a })) }
     ensures mode { (x : Screen) (on : Bool) (n : ℕ) (m : Mode)
         → private_mode_set on n ≡ Some (SetMode m on)
         → effect x (Csi (Some 0x3F) (n ∷ []) [] (mode_final on))
         ≡ with_state x (homed m (record x.state { modes = modes_with x.state.modes m on })) }
     ensures keypad { (x : Screen) (on : Bool)
         → effect x (Esc [] (keypad_final on))
-        ≡ with_state x (settled
+        ≡ with_state x (unpending
         (record x.state { modes = record x.state.modes { has_application_keypad = on } })) }
     ensures whole_rendition { (x : Screen) (r : Rendition)
         → effect x (Csi None (rendition_values r) [] 0x6D)
-        ≡ with_state x (apart (record x.state { rendition = r })) }
+        ≡ with_state x (unjoined (record x.state { rendition = r })) }
     ensures rendition_quiet { (x : Screen) (values : List ℕ)
         → report x (Csi None values [] 0x6D) ≡ [] }
     ensures mode_quiet { (x : Screen) (on : Bool) (n : ℕ) (m : Mode)
@@ -214,7 +220,7 @@ pub fn pages_at_places()
         → IsPage rows columns page → at < rows → IsPaired fresh → 0 < length fresh
         → from + length fresh ≤ columns → rest ≡ from + length fresh → (line column : ℕ)
         → place (page_from (edited at (spliced from fresh rest columns)) page) line column
-        ≡ (if line == at then over fresh from (line_at page at) column
+        ≡ (if line == at then overlaid_cell fresh from (line_at page at) column
         else place page line column) }
     ensures marked { (rows columns at from mark : ℕ) (page : Page)
         → IsPage rows columns page → at < rows → from < columns → (line column : ℕ)

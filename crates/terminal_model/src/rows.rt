@@ -6,7 +6,7 @@ ghost use Rattle.cells.specs.Line.{plain, narrow_cell, marked};
 ghost use Rattle.cells.specs.declared.cell.Colour.TheVariants.{Default, Black, Red, Yellow, Blue};
 ghost use Rattle.cells.specs.declared.cell.Colour.TheVariants.{Cyan, White};
 ghost use Rattle.terminal_model.specs.Screen.{blank_page, starting};
-ghost use Rattle.terminal_model.specs.Table.{resized};
+ghost use Rattle.terminal_model.specs.Sizing.{resized};
 ghost use Rattle.terminal_model.specs.Reading.{ready};
 ghost use Rattle.terminal_model.specs.Writing.{Output, writes_all};
 ghost use Rattle.std.specs.List.{AllByRecursion};
@@ -14,7 +14,7 @@ ghost use Rattle.std.specs.Prelude.{None};
 ghost use Rattle.control_parser.specs.declared.func.Func.TheVariants.{Csi};
 ghost use Rattle.terminal_model.specs.Drawing.{IsDiscreet, IsListed};
 ghost use Rattle.terminal_model.specs.Rows.{fresh_reads, with_cursor, letters, protected_letters};
-ghost use Rattle.terminal_model.specs.Rows.{coloured, coloured_wide, wide, seen, shown};
+ghost use Rattle.terminal_model.specs.Rows.{in_colours, wide_in_colour, wide, seen, shown};
 ghost use Rattle.terminal_model.specs.Rows.{shown_keeping, csi, kanji, new_line, narrowed};
 ghost use Rattle.terminal_model.specs.Rows.{wide_page, printed_beside};
 ghost use Rattle.terminal_model.specs.Scrollback.{all_left};
@@ -121,7 +121,7 @@ pub fn edited_rows()
 pub fn coloured_rows()
     ensures in_turn { shown 2 5 (csi (codes "31;44m") ++ codes "a"
         ++ csi (codes "39m") ++ codes "b" ++ csi (codes "0m") ++ codes "c")
-        ≡ with_cursor 0 3 ((coloured Red Blue (codes "a") ++ coloured Default Blue (codes "b")
+        ≡ with_cursor 0 3 ((in_colours Red Blue (codes "a") ++ in_colours Default Blue (codes "b")
         ++ letters (codes "c  ")) ∷ blank_page 1 5) }
     ensures each_by_itself { shown 2 5 (csi (codes "38;5;1m") ++ codes "a")
         ≡ with_cursor 0 1
@@ -132,28 +132,28 @@ pub fn coloured_rows()
     ensures saved { shown 2 5
         (csi (codes "33m") ++ 0x1B ∷ codes "7" ++ csi (codes "m") ++ 0x1B ∷ codes "8a")
         ≡ with_cursor 0 1
-        ((coloured Yellow Default (codes "a") ++ letters (codes "    ")) ∷ blank_page 1 5) }
+        ((in_colours Yellow Default (codes "a") ++ letters (codes "    ")) ∷ blank_page 1 5) }
     ensures soft_reset { shown 2 5 (csi (codes "32;43m") ++ csi (codes "!p") ++ codes "a")
         ≡ with_cursor 0 1 (letters (codes "a    ") ∷ blank_page 1 5) }
     ensures wide_cut { shown 2 5
         (csi (codes "36m") ++ kanji ++ kanji ++ csi (codes "2H") ++ csi (codes "1;2H") ++ codes "x")
-        ≡ with_cursor 0 2 ((letters (codes " ") ++ coloured Cyan Default (codes "x")
-        ++ coloured_wide Cyan 0x6F22 ++ letters (codes " ")) ∷ blank_page 1 5) }
+        ≡ with_cursor 0 2 ((letters (codes " ") ++ in_colours Cyan Default (codes "x")
+        ++ wide_in_colour Cyan 0x6F22 ++ letters (codes " ")) ∷ blank_page 1 5) }
     ensures insertion { shown 2 5
         (csi (codes "41m") ++ codes "ab" ++ csi (codes "1;2H") ++ csi (codes "2@"))
-        ≡ with_cursor 0 1 ((coloured Default Red (codes "a") ++ letters (codes "  ")
-        ++ coloured Default Red (codes "b") ++ letters (codes " ")) ∷ blank_page 1 5) }
+        ≡ with_cursor 0 1 ((in_colours Default Red (codes "a") ++ letters (codes "  ")
+        ++ in_colours Default Red (codes "b") ++ letters (codes " ")) ∷ blank_page 1 5) }
     ensures deletion { shown 2 5 (csi (codes "47m") ++ codes "a"
         ++ new_line ++ codes "b" ++ csi (codes "H") ++ csi (codes "M"))
         ≡ with_cursor 0 0
-        ((coloured Default White (codes "b") ++ letters (codes "    ")) ∷ blank_page 1 5) }
+        ((in_colours Default White (codes "b") ++ letters (codes "    ")) ∷ blank_page 1 5) }
     ensures smaller { seen
         (resized 2 3 (fresh_reads 2 5 0 (csi (codes "30m") ++ codes "ab" ++ kanji)).terminal.screen)
         ≡ with_cursor 0 2
-        ((coloured Black Default (codes "ab") ++ letters (codes " ")) ∷ blank_page 1 3) }
+        ((in_colours Black Default (codes "ab") ++ letters (codes " ")) ∷ blank_page 1 3) }
     ensures strings { shown 2 5 (csi (codes "34m") ++ 0x1B ∷ codes "P$qm" ++ 0x1B ∷ codes "\\a")
         ≡ with_cursor 0 1
-        ((coloured Blue Default (codes "a") ++ letters (codes "    ")) ∷ blank_page 1 5) }
+        ((in_colours Blue Default (codes "a") ++ letters (codes "    ")) ∷ blank_page 1 5) }
 {}
 
 /// What a frame may hold: characters at the places where they stand, and functions whose values are

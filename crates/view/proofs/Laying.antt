@@ -8,7 +8,7 @@ use Rattle.cells.specs.Line.{blank, cell_at, is_left, is_right, IsPaired, splice
 use Rattle.cells.specs.Page.{line_at, IsGrid, page_from, edited}
 use Rattle.cells.proofs.Settling.{and_false}
 use Rattle.cells.proofs.Pages.{length-page_from, width-page_from}
-use Rattle.terminal_model.specs.Places.{place, over}
+use Rattle.terminal_model.specs.Places.{place, overlaid_cell}
 use Rattle.terminal_model.specs.Shows.{View}
 use Rattle.terminal_model.proofs.Places.{over-at}
 use Rattle.regions.specs.declared.rect.Rect.{Rect}
@@ -65,7 +65,7 @@ module _ (old cells : List Cell) (at : ℕ) (paired : IsPaired old) (some : 0 < 
       let next : c ≡ suc (at + last) = omega arith in
       ap (λ (k : ℕ). is_right (cell_at old k).shape) next ∙ sym (paired.next (at + last)) ∙ ap (λ (x : Cell). is_left x.shape) (free last (omega arith))
 
-  beside : (c : ℕ) → (c < at) ⊎ (at + length cells ≤ c) → over cells at old c ≡ cell_at old c
+  beside : (c : ℕ) → (c < at) ⊎ (at + length cells ≤ c) → overlaid_cell cells at old c ≡ cell_at old c
   beside c side =
       let out : (leb at c && ltb c (at + length cells)) ≡ false = ⊎_elim (λ (h : c < at). grind (arith, nat_tests)) (λ (h : at + length cells ≤ c). grind (arith, nat_tests)) side in
       let before : (eqb (c + 1) at && is_left (cell_at old c).shape) ≡ false = ⊎_elim
@@ -80,7 +80,7 @@ module _ (old cells : List Cell) (at : ℕ) (paired : IsPaired old) (some : 0 < 
       in
       rw (out, before, after) refl
 
-  inside : (c : ℕ) → at ≤ c → c < at + length cells → over cells at old c ≡ cell_at cells (c - at)
+  inside : (c : ℕ) → at ≤ c → c < at + length cells → overlaid_cell cells at old c ≡ cell_at cells (c - at)
   inside c a b = rw (le-leb at c a, lt-ltb c (at + length cells) b) refl
 
 pub free_corner : (r : Rect) (page : List (List Cell)) → IsFree r page → 0 < r.rows → IsOnPage page r.line r.column
@@ -110,7 +110,7 @@ module _ (r : Rect) (old : View) (line column : ℕ) (cells : List Cell) (grid :
   some : 0 < length cells
   some = omega (arith, free.wide)
 
-  written_at : (l c : ℕ) → place (written line column cells old.page) l c ≡ (if l == line then over cells column (line_at old.page line) c else place old.page l c)
+  written_at : (l c : ℕ) → place (written line column cells old.page) l c ≡ (if l == line then overlaid_cell cells column (line_at old.page line) c else place old.page l c)
   written_at l c =
       ap (λ (n : ℕ). place (page_from (edited line (spliced column cells (column + length cells) n)) old.page) l c) wide_line
       ∙ over-at (length old.page) (length (line_at old.page 0)) line column (column + length cells) cells old.page grid.well_formed line_inside paired some cells_fit refl l c

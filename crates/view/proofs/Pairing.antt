@@ -9,7 +9,7 @@ use Rattle.cells.specs.declared.cell.Shape.TheVariants.{Narrow, Left, Right}
 use Rattle.cells.specs.Line.{blank, cell_at, is_left, is_right, IsPaired, narrow_cell, left_cell, right_cell}
 use Rattle.cells.specs.Page.{line_at}
 use Rattle.cells.proofs.Settling.{and_false}
-use Rattle.terminal_model.specs.Table.{columns_of}
+use Rattle.terminal_model.specs.Printing.{columns_of}
 use Rattle.regions.specs.declared.rect.Rect.{Rect}
 use Rattle.std.specs.Prelude.{nat_lt}
 use Rattle.view.specs.Texts.{uncut, visible, text_cells, text_at}

@@ -4,7 +4,7 @@ use Rattle.std.specs.Prelude.{List, [], ◌∷◌, ◌++◌, slice_index_or}
 use Rattle.cells.specs.declared.cell.Cell.{Cell}
 use Rattle.cells.specs.declared.cell.Rendition.{Rendition}
 use Rattle.cells.specs.Line.{is_left, narrow_cell, left_cell, right_cell}
-use Rattle.terminal_model.specs.Table.{columns_of, drawn}
+use Rattle.terminal_model.specs.Printing.{columns_of, drawn}
 
 -- a character of width 0, such as a mark, and a control show as U+FFFD; so does what a terminal
 -- draws so (UAX #11)

@@ -8,7 +8,8 @@ ghost use Rattle.control_parser.specs.declared.func.Func.TheVariants.{Control, E
 ghost use Rattle.cells.specs.Page.{IsGridSize, line_at};
 ghost use Rattle.cells.specs.Line.{cell_at};
 ghost use Rattle.terminal_model.specs.Screen.{IsSound, starting};
-ghost use Rattle.terminal_model.specs.Table.{effect, resized};
+ghost use Rattle.terminal_model.specs.Sizing.{resized};
+ghost use Rattle.terminal_model.specs.Table.{effect};
 ghost use Rattle.terminal_model.specs.Reports.{report};
 ghost use Rattle.vt_screen_rows.specs.Runs.{PrintsAscii};
 ghost use Rattle.vt_screen.specs.Effects.{effects};

@@ -1,7 +1,8 @@
 //! The functions that name several values.
 
 ghost use Rattle.std.specs.Prelude.{◌≡◌, IfSome};
-ghost use Rattle.terminal_model.specs.Functions.{coloured, mode_set, private_mode_set, rendered};
+ghost use Rattle.terminal_model.specs.Functions.{colour_action, mode_set, private_mode_set};
+ghost use Rattle.terminal_model.specs.Functions.{rendered};
 ghost use Rattle.vt_screen_actions.specs.Meanings.{meaning};
 ghost use Rattle.vt_screen_actions.specs.Counted.{IsCounted};
 ghost use Rattle.vt_screen_actions.specs.Silent.{IsSilent};
@@ -57,7 +58,7 @@ fn rendition_action(value: u16) -> Option<Action>
 
 /// A value of SGR that names a colour.
 fn colour_action(value: u16) -> Option<Action>
-    ensures value { result ≡ coloured value }
+    ensures value { result ≡ colour_action value }
     ensures counted { IfSome result IsCounted }
     ensures silent { IfSome result IsSilent }
 {

@@ -3,7 +3,7 @@ use Rattle.std.proofs.Common.{◌≡◌, ℕ, ◌<◌, ◌≤◌, Bool, true, fa
 use Rattle.std.proofs.lemmas.Bool.{and_parts, cases_lt, cond-true, cond-false, lt-leb}
 use Rattle.std.proofs.lemmas.Bool.Decides.{nat_tests}
 use Rattle.cells.specs.Glyph.{glyph_columns}
-use Rattle.terminal_model.specs.Table.{columns_of, drawn, drawn_as}
+use Rattle.terminal_model.specs.Printing.{columns_of, drawn, drawn_as}
 use Rattle.ucd_table.specs.Steps.{Step, step_value}
 use Rattle.ucd_table.proofs.Computing.{tables}
 use Rattle.ucd_table.proofs.StepsLemmas.{step_value-here, step_value-later}

@@ -10,9 +10,10 @@ use Rattle.charsets.specs.Shifts.{is_graphic, is_position, mapped, spent}
 use Rattle.std.proofs.lemmas.Bool.Decides.{nat_tests}
 use Rattle.terminal_model.specs.declared.action.Action.TheVariants.{Print}
 use Rattle.terminal_model.specs.declared.state.State.{State}
-use Rattle.terminal_model.specs.Screen.{Screen}
+use Rattle.terminal_model.specs.Screen.{Screen, with_state}
 use Rattle.terminal_model.specs.Scrollback.{is_wrapped}
-use Rattle.terminal_model.specs.Table.{acted, acted_from, columns_of, drawn, drawn_as, printed, with_state}
+use Rattle.terminal_model.specs.Printing.{columns_of, drawn, drawn_as, printed}
+use Rattle.terminal_model.specs.Table.{acted, acted_from}
 use Rattle.vt_screen_rows.specs.Places.{acted_places, printed_places, wrapped_places}
 use Rattle.std.specs.List.{list_all}
 use Rattle.charsets.specs.Units.{is_plain, is_letter}

@@ -13,8 +13,9 @@ use Rattle.cells.proofs.Runs.{page_run_more}
 use Rattle.terminal_model.specs.declared.action.Action.{Action}
 use Rattle.terminal_model.specs.declared.action.Action.TheVariants.{Print}
 use Rattle.terminal_model.specs.declared.state.State.{State}
-use Rattle.terminal_model.specs.Screen.{Screen, IsSound}
-use Rattle.terminal_model.specs.Table.{acted, acted_from, advanced, all_acted, drawn, placed_narrow, printed, printed_as, with_page, with_state, wrapped}
+use Rattle.terminal_model.specs.Screen.{Screen, IsSound, with_page, with_state}
+use Rattle.terminal_model.specs.Printing.{advanced, drawn, placed_narrow, printed, printed_as, wrapped}
+use Rattle.terminal_model.specs.Table.{acted, acted_from, all_acted}
 use Rattle.terminal_model.proofs.Sound.{IsSound-acted}
 use Rattle.vt_screen_rows.specs.declared.display.Display.{Display}
 use Rattle.vt_screen_rows.specs.Displays.{IsFit, screen_of}

@@ -10,7 +10,8 @@ use Rattle.terminal_model.specs.declared.action.Action.TheVariants.{Print}
 use Rattle.terminal_model.specs.declared.state.State.{State}
 use Rattle.terminal_model.specs.Screen.{Screen, IsSound}
 use Rattle.terminal_model.specs.Scrollback.{is_wrapped}
-use Rattle.terminal_model.specs.Table.{acted, all_acted, wrapped}
+use Rattle.terminal_model.specs.Printing.{wrapped}
+use Rattle.terminal_model.specs.Table.{acted, all_acted}
 use Rattle.vt_screen_rows.proofs.Letters.{both, graphic, columns-letter}
 use Rattle.terminal_model.proofs.Sound.{IsSound-acted}
 use Rattle.vt_screen_rows.specs.Places.{wrapped_places, printed_places, acted_places, all_acted_places}

@@ -7,8 +7,12 @@ use Rattle.terminal_model.specs.declared.action.Mode.{Mode}
 use Rattle.terminal_model.specs.declared.action.Mode.TheVariants as modes
 use Rattle.terminal_model.specs.declared.action.Action.{Action}
 use Rattle.terminal_model.specs.declared.action.Action.TheVariants.{Print, Backspace, Tab, LineFeed, CarriageReturn, Shift, Designate, SetCoding, Index, NextLine, ReverseIndex, SetTab, Save, Restore, SetEightBitReports, SetApplicationKeypad, Reset, Align, Up, Down, Right, Left, MoveTo, SetMargins, ClearTab, ClearTabs, EraseInPage, EraseInLine, EraseCells, EraseUnprotectedInPage, EraseUnprotectedInLine, InsertCells, DeleteCells, InsertLines, DeleteLines, Protect, Render, SetMode, BlankPage, SoftReset, ReportStatus, ReportPlace, ReportPrinter, ReportAttributes, ReportSecondaryAttributes}
-use Rattle.terminal_model.specs.Screen.{Screen}
-use Rattle.terminal_model.specs.Table.{acted, acted_from, bottom_of, columns_of, drawn, homed, is_in_margins, lacks_room, lines_deleted, lines_inserted, margins_or_none, marked_at, printed, printed_as, wide_or_none, widely, with_state, wrapped}
+use Rattle.terminal_model.specs.Screen.{Screen, with_state}
+use Rattle.terminal_model.specs.Motion.{bottom_of, margins_or_none}
+use Rattle.terminal_model.specs.Printing.{columns_of, drawn, lacks_room, marked_at, printed, printed_as, wide_or_none, wide_printed, wrapped}
+use Rattle.terminal_model.specs.Erasing.{is_in_margins, lines_deleted, lines_inserted}
+use Rattle.terminal_model.specs.Settings.{homed}
+use Rattle.terminal_model.specs.Table.{acted, acted_from}
 
 wrapped_columns : (b : Bool) (x : Screen) → (wrapped b x).state.columns ≡ x.state.columns
 wrapped_columns true x = refl
@@ -22,7 +26,7 @@ marked_columns : (p : Option Position) (c : ℕ) (x : Screen) → (marked_at p c
 marked_columns None c x = refl
 marked_columns (Some p) c x = refl
 
-widely_columns : (c : ℕ) (x : Screen) → (widely c x).state.columns ≡ x.state.columns
+widely_columns : (c : ℕ) (x : Screen) → (wide_printed c x).state.columns ≡ x.state.columns
 widely_columns c x =
     let due : Bool = lacks_room x.state && x.state.modes.wraps in
     wide_columns (lacks_room (wrapped due x).state) c (wrapped due x) ∙ wrapped_columns due x

@@ -7,7 +7,7 @@ use Rattle.cells.specs.declared.cell.Cell.{Cell}
 use Rattle.cells.specs.Line.{cells_from, unprotected_erased}
 use Rattle.cells.specs.Page.{IsPage, From, line_at, line_from, page_from, edited, on_line}
 use Rattle.cells.proofs.Pages.{IsPage-page_from, line_at-page_from, line_from-edit, line_from-whole, page_from-edited, page_from-is}
-use Rattle.terminal_model.specs.Table.{unprotected_lines}
+use Rattle.terminal_model.specs.Erasing.{unprotected_lines}
 
 within : (first end line : ℕ) → first ≤ line → line < end → (nat_le first line && nat_lt line end) ≡ true
 within first end line h k = grind (arith, nat_tests)

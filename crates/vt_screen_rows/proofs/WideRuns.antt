@@ -12,9 +12,10 @@ use Rattle.cells.specs.Wide.{wide_cells}
 use Rattle.cells.proofs.WideRuns.{page_wides_more}
 use Rattle.terminal_model.specs.declared.action.Action.TheVariants.{Print}
 use Rattle.terminal_model.specs.declared.state.State.{State}
-use Rattle.terminal_model.specs.Screen.{Screen, IsSound}
+use Rattle.terminal_model.specs.Screen.{Screen, IsSound, with_page, with_state}
 use Rattle.terminal_model.specs.Scrollback.{is_wrapped}
-use Rattle.terminal_model.specs.Table.{acted, acted_from, advanced, all_acted, drawn, lacks_room, printed, printed_as, wide_or_none, widely, with_page, with_state, wrapped}
+use Rattle.terminal_model.specs.Printing.{advanced, drawn, lacks_room, printed, printed_as, wide_or_none, wide_printed, wrapped}
+use Rattle.terminal_model.specs.Table.{acted, acted_from, all_acted}
 use Rattle.terminal_model.proofs.Sound.{IsSound-acted}
 use Rattle.vt_screen_rows.specs.Places.{acted_places, all_acted_places, printed_places, wrapped_places}
 use Rattle.vt_screen_rows.specs.Runs.{TakesRuns, IsWide, AreWide, prints, wides_placed}
@@ -35,7 +36,7 @@ wide_one x c t settled w room =
     ∙ ap (λ (v : Shifts). printed (Some c) (with_state x (record s { shifts = v }))) (spent-none s.shifts c t.unshifted)
     ∙ ap (λ (n : ℕ). printed_as n (drawn c) x) w.columns
     ∙ ap (λ (d : ℕ). printed_as 2 d x) w.drawn
-    ∙ ap (λ (b : Bool). widely c (wrapped b x)) settled
+    ∙ ap (λ (b : Bool). wide_printed c (wrapped b x)) settled
     ∙ ap (λ (b : Bool). wide_or_none (lacks_room (wrapped (b && s.modes.wraps) x).state) c (wrapped (b && s.modes.wraps) x)) left
     ∙ ap (λ (b : Bool). wide_or_none b c x) left
     ∙ ap (λ (b : Bool). with_page x (advanced s 2) (page_from (edited s.line (spliced s.column (wide_cells (c ∷ []) s.rendition s.is_protecting) (cond b s.column (s.column + 2)) s.columns)) x.page)) t.replaces

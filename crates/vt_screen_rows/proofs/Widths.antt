@@ -3,8 +3,10 @@ use Rattle.std.proofs.Common.{◌≡◌, ℕ, length, refl, sym, ap, ◌∙◌}
 use Rattle.cells.specs.Page.{IsGridSize, line_at}
 use Rattle.terminal_model.specs.declared.action.Action.{Action}
 use Rattle.terminal_model.specs.declared.action.Action.TheVariants.{NextLine}
-use Rattle.terminal_model.specs.Screen.{Screen, IsSound, starting}
-use Rattle.terminal_model.specs.Table.{acted, acted_from, indexed, moved_to, resized, with_state}
+use Rattle.terminal_model.specs.Screen.{Screen, IsSound, starting, with_state}
+use Rattle.terminal_model.specs.Motion.{indexed, moved_to}
+use Rattle.terminal_model.specs.Sizing.{resized}
+use Rattle.terminal_model.specs.Table.{acted, acted_from}
 use Rattle.terminal_model.proofs.Sound.{IsSound-acted, IsSound-resized, IsSound-starting}
 use Rattle.vt_screen_rows.specs.declared.display.Display.{Display}
 use Rattle.vt_screen_rows.specs.Displays.{IsFit, screen_of}

@@ -4,7 +4,7 @@ use Rattle.cells.specs.Page.{page_from}
 use Rattle.cells.specs.Moves.{scrolled_up}
 use Rattle.terminal_model.specs.declared.state.State.{State}
 use Rattle.terminal_model.specs.Screen.{Screen, IsSound}
-use Rattle.terminal_model.specs.Table.{scrolled_kept}
+use Rattle.terminal_model.specs.Motion.{scrolled_kept}
 use Rattle.vt_screen_rows.specs.declared.display.Display.{Display}
 
 -- the scrollback has its newest line last

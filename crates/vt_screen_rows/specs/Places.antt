@@ -10,7 +10,9 @@ use Rattle.terminal_model.specs.declared.action.Action.TheVariants.{NextLine, Re
 use Rattle.terminal_model.specs.declared.action.Action.TheVariants.{InsertLines, DeleteLines}
 use Rattle.terminal_model.specs.Screen.{Screen}
 use Rattle.terminal_model.specs.Scrollback.{is_wrapped}
-use Rattle.terminal_model.specs.Table.{acted, columns_of, is_in_margins}
+use Rattle.terminal_model.specs.Printing.{columns_of}
+use Rattle.terminal_model.specs.Erasing.{is_in_margins}
+use Rattle.terminal_model.specs.Table.{acted}
 use Rattle.vt_screen_page.specs.Store.{turned}
 
 -- the lines of the margins go up by one in the last of them, and down by one in the first

@@ -9,8 +9,8 @@ use Rattle.cells.specs.Wide.{wide_cells}
 use Rattle.terminal_model.specs.declared.action.Action.{Action}
 use Rattle.terminal_model.specs.declared.action.Action.TheVariants.{Print}
 use Rattle.terminal_model.specs.declared.state.State.{State}
-use Rattle.terminal_model.specs.Screen.{Screen}
-use Rattle.terminal_model.specs.Table.{advanced, columns_of, drawn, line_edited}
+use Rattle.terminal_model.specs.Screen.{Screen, line_edited}
+use Rattle.terminal_model.specs.Printing.{advanced, columns_of, drawn}
 
 -- characters are printed, one after another
 abbrev pub prints : List ℕ → List Action

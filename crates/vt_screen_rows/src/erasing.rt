@@ -7,8 +7,9 @@ ghost use Rattle.terminal_model.specs.declared.action.Action.TheVariants.{EraseC
 ghost use Rattle.terminal_model.specs.declared.action.Action.TheVariants.{EraseInPage};
 ghost use Rattle.terminal_model.specs.declared.action.Action.TheVariants.{EraseUnprotectedInLine};
 ghost use Rattle.terminal_model.specs.declared.action.Action.TheVariants.{EraseUnprotectedInPage};
-ghost use Rattle.terminal_model.specs.Table.{acted, line_erased, part_erased, part_unprotected};
-ghost use Rattle.terminal_model.specs.Table.{unprotected_lines};
+ghost use Rattle.terminal_model.specs.Erasing.{line_erased, part_erased, part_unprotected};
+ghost use Rattle.terminal_model.specs.Erasing.{unprotected_lines};
+ghost use Rattle.terminal_model.specs.Table.{acted};
 ghost use Rattle.vt_screen_rows.specs.Displays.{IsFit, screen_of};
 
 use crate::display::Display;

@@ -2,7 +2,7 @@
 #![tactic(auto, using(crate::proofs::Widths::line_width), // a line is as wide as its page
 unfolding(terminal_model::specs::Table::acted_from))]
 
-mod act;
+mod apply;
 mod display;
 mod editing;
 mod erasing;

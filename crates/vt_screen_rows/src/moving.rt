@@ -1,7 +1,9 @@
 //! Rows that go to another line, and may scroll.
 
 ghost use Rattle.std.specs.Prelude.{◌≡◌};
-ghost use Rattle.terminal_model.specs.Table.{acted, indexed, moved_to, reverse_indexed, with_state};
+ghost use Rattle.terminal_model.specs.Screen.{with_state};
+ghost use Rattle.terminal_model.specs.Motion.{indexed, moved_to, reverse_indexed};
+ghost use Rattle.terminal_model.specs.Table.{acted};
 ghost use Rattle.terminal_model.specs.declared.action.Action.TheVariants.{LineFeed};
 ghost use Rattle.vt_screen_rows.specs.Acting.{MovesLines};
 ghost use Rattle.vt_screen_rows.specs.Displays.{IsFit, screen_of, scrolled};

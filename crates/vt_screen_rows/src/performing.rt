@@ -28,7 +28,7 @@ impl Display {
     {
         match acts {
             Acts::Nothing => Report::none(),
-            Acts::One(action) => self.act(action),
+            Acts::One(action) => self.apply(action),
             Acts::Each(setting, values) => {
                 self.set_each(setting, values);
                 Report::none()
@@ -48,7 +48,7 @@ impl Display {
         ensures silent { AreUnanswered self.old (alone action) }
     {
         if let Some(action) = action {
-            self.change(action);
+            self.apply_row(action);
         }
     }
 
@@ -63,8 +63,8 @@ impl Display {
         ensures silent { AreUnanswered self.old (alone (control_action control)) }
     {
         match control {
-            b'\r' => self.change(Action::CarriageReturn),
-            b'\n' => self.change(Action::LineFeed),
+            b'\r' => self.apply_row(Action::CarriageReturn),
+            b'\n' => self.apply_row(Action::LineFeed),
             _ => self.perform_other_control(control),
         }
     }
@@ -100,7 +100,7 @@ impl Display {
                 if is_answered(&action) {
                     return false;
                 }
-                self.change(action);
+                self.apply_row(action);
                 true
             }
             Acts::Each(setting, values) => {
@@ -134,7 +134,7 @@ impl Display {
         if mark.is_none() && intermediates.is_empty() {
             return self.perform_plain(params, last);
         }
-        self.perform_any(mark, params, intermediates, last)
+        self.perform_rest(mark, params, intermediates, last)
     }
 
     /// The same of one with neither mark nor intermediates. CUP and SGR, the commonest, have a case
@@ -155,13 +155,13 @@ impl Display {
         match last {
             b'H' => self.perform_unanswered(sequence_acts(None, params, &[], b'H')),
             b'm' => self.perform_unanswered(sequence_acts(None, params, &[], b'm')),
-            _ => self.perform_any(None, params, &[], last),
+            _ => self.perform_rest(None, params, &[], last),
         }
     }
 
     /// The same of any, whose row is found when it is done.
     #[inline(never)]
-    fn perform_any(
+    fn perform_rest(
         &mut self,
         mark: Option<u8>,
         params: &[u16],
@@ -193,7 +193,7 @@ impl Display {
     {
         for value in values {
             if let Some(action) = setting.action(*value) {
-                self.change(action);
+                self.apply_row(action);
             }
         }
     }

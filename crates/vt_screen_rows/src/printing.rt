@@ -3,9 +3,10 @@
 ghost use Rattle.std.specs.Prelude.{◌≡◌, ◌<◌, ◌+◌, ◌&&◌, Some, IsTrue};
 ghost use Rattle.cells.specs.Glyph.{glyph_columns};
 ghost use Rattle.charsets.specs.declared.unit.Unit.TheVariants.{Code};
-ghost use Rattle.terminal_model.specs.Table.{acted, columns_of, drawn, drawn_as, lacks_room};
-ghost use Rattle.terminal_model.specs.Table.{marked_at, placed_narrow, placed_wide, printed};
-ghost use Rattle.terminal_model.specs.Table.{printed_as, widely, wrapped};
+ghost use Rattle.terminal_model.specs.Printing.{columns_of, drawn, drawn_as, lacks_room, marked_at};
+ghost use Rattle.terminal_model.specs.Printing.{placed_narrow, placed_wide, printed, printed_as};
+ghost use Rattle.terminal_model.specs.Printing.{wide_printed, wrapped};
+ghost use Rattle.terminal_model.specs.Table.{acted};
 ghost use Rattle.terminal_model.specs.declared.action.Action.TheVariants.{Print};
 ghost use Rattle.vt_screen_rows.specs.Acting.{MovesLines, MovesLinesBy};
 ghost use Rattle.vt_screen_rows.specs.Displays.{IsFit, screen_of};
@@ -74,7 +75,7 @@ impl Display {
     /// Prints a character by its width.
     #[inline(always)]
     #[tactic(auto, // its columns, and what is drawn
-    unfolding(terminal_model::specs::Table::columns_of, terminal_model::specs::Table::drawn))]
+    unfolding(terminal_model::specs::Printing::columns_of, terminal_model::specs::Printing::drawn))]
     fn print_character(&mut self, character: char)
         requires { IsFit self.old }
         ensures screen { screen_of self.new ≡ printed (Some character) (screen_of self.old) }
@@ -180,7 +181,7 @@ impl Display {
     #[inline(always)]
     fn print_wide(&mut self, character: char)
         requires { IsFit self.old }
-        ensures screen { screen_of self.new ≡ widely character (screen_of self.old) }
+        ensures screen { screen_of self.new ≡ wide_printed character (screen_of self.old) }
         ensures width { self.new.ring.columns ≡ self.old.ring.columns }
         ensures places { MovesLines self.old
             (wrapped_places (lacks_room self.old.state && self.old.state.modes.wraps)) self.new }

@@ -236,7 +236,7 @@ fn is_ideograph(character: char) -> bool
 /// The same as `is_wide`, by the character's width.
 #[inline(never)]
 #[tactic(auto, // its columns, and what is drawn
-unfolding(terminal_model::specs::Table::columns_of, terminal_model::specs::Table::drawn))]
+unfolding(terminal_model::specs::Printing::columns_of, terminal_model::specs::Printing::drawn))]
 fn is_broad(character: char) -> bool
     ensures { IsTrue result → IsWide character }
 {

@@ -4,7 +4,7 @@ ghost use Rattle.std.specs.Prelude.{◌≡◌, ◌↔◌, Err, IfOk, OnOk, OnErr
 ghost use Rattle.std.specs.List.{range_with_len};
 ghost use Rattle.cells.specs.Page.{IsGridSize};
 ghost use Rattle.terminal_model.specs.Screen.{starting};
-ghost use Rattle.terminal_model.specs.Table.{resized};
+ghost use Rattle.terminal_model.specs.Sizing.{resized};
 ghost use Rattle.vt_screen_rows.specs.Displays.{screen_of};
 
 use crate::display::Display;

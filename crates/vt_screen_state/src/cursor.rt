@@ -1,14 +1,15 @@
 //! The cursor.
 
 ghost use Rattle.std.specs.Prelude.{◌≡◌, ◌+◌, ◌-◌, ◌<◌, ◌≤◌, ◌&&◌, min};
-ghost use Rattle.terminal_model.specs.Table.{advanced, apart, following, home, lacks_room};
-ghost use Rattle.terminal_model.specs.Table.{line_down, line_named, line_up, moved_to, settled};
+ghost use Rattle.terminal_model.specs.Motion.{unjoined, home, line_down, line_named, line_up};
+ghost use Rattle.terminal_model.specs.Motion.{moved_to, unpending};
+ghost use Rattle.terminal_model.specs.Printing.{advanced, following, lacks_room};
 
 use terminal_model::{Position, State};
 
 /// No mark joins what was printed: so after every function other than print.
 pub fn separate(state: &mut State)
-    ensures { state.new ≡ apart state.old }
+    ensures { state.new ≡ unjoined state.old }
 {
     state.joining = None;
 }
@@ -16,7 +17,7 @@ pub fn separate(state: &mut State)
 /// No mark joins what was printed, and no wrap is pending: so after every function other than
 /// print, SGR, the shifts and the designations.
 pub fn settle(state: &mut State)
-    ensures { state.new ≡ settled state.old }
+    ensures { state.new ≡ unpending state.old }
 {
     state.is_wrap_pending = false;
     state.joining = None;

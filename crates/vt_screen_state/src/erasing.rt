@@ -1,7 +1,7 @@
 //! The parts of a line and of the page that an erasure takes (ECMA-48, 8.3.38, 8.3.39 and 8.3.41).
 
 ghost use Rattle.std.specs.Prelude.{◌≡◌, ◌+◌, ◌<◌, ◌≤◌, min};
-ghost use Rattle.terminal_model.specs.Table.{first_column, end_column, first_line, end_line};
+ghost use Rattle.terminal_model.specs.Erasing.{first_column, end_column, first_line, end_line};
 
 use terminal_model::{Part, State};
 

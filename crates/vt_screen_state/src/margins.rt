@@ -2,8 +2,8 @@
 
 ghost use Rattle.std.specs.Prelude.{◌≡◌, ◌-◌, ◌<◌, min, nat_lt};
 ghost use Rattle.cells.specs.Page.{IsGridSize};
-ghost use Rattle.terminal_model.specs.Table.{bottom_of, is_in_margins, margins_or_none};
-ghost use Rattle.terminal_model.specs.Table.{whole_margins};
+ghost use Rattle.terminal_model.specs.Motion.{bottom_of, margins_or_none, whole_margins};
+ghost use Rattle.terminal_model.specs.Erasing.{is_in_margins};
 ghost use Rattle.vt_screen_state.specs.Fitted.{fitted};
 
 use crate::cursor::go_home;

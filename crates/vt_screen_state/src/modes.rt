@@ -3,8 +3,9 @@
 ghost use Rattle.std.specs.Prelude.{◌≡◌, ◌-◌, ◌<◌};
 ghost use Rattle.charsets.specs.Shifts.{designated, shifted};
 ghost use Rattle.terminal_model.specs.Screen.{starting_modes, starting_state};
-ghost use Rattle.terminal_model.specs.Table.{apart, homed, modes_with, rendition_with, settled};
-ghost use Rattle.terminal_model.specs.Table.{softly_reset};
+ghost use Rattle.terminal_model.specs.Motion.{unjoined, unpending};
+ghost use Rattle.terminal_model.specs.Settings.{homed, modes_with, rendition_with};
+ghost use Rattle.terminal_model.specs.Resets.{softly_reset};
 
 use crate::cursor::{go_home, separate, settle};
 use crate::margins::use_whole_page;
@@ -90,7 +91,7 @@ fn change_rendition(rendition: &mut Rendition, attribute: Attribute)
 /// One value of SGR (ECMA-48, 8.3.117).
 pub fn render(state: &mut State, attribute: Attribute)
     ensures { state.new
-        ≡ apart (record state.old { rendition = rendition_with state.old.rendition attribute }) }
+        ≡ unjoined (record state.old { rendition = rendition_with state.old.rendition attribute }) }
 {
     change_rendition(&mut state.rendition, attribute);
     separate(state);
@@ -98,7 +99,7 @@ pub fn render(state: &mut State, attribute: Attribute)
 
 /// A shift function (ECMA-48, 8.3.75 to 8.3.81, 8.3.141 and 8.3.142).
 pub fn shift(state: &mut State, shift: Shift)
-    ensures { state.new ≡ apart (record state.old { shifts = shifted state.old.shifts shift }) }
+    ensures { state.new ≡ unjoined (record state.old { shifts = shifted state.old.shifts shift }) }
 {
     state.shifts.shift(shift);
     separate(state);
@@ -107,7 +108,7 @@ pub fn shift(state: &mut State, shift: Shift)
 /// Designates a set to a place (ECMA-35; VT220 Programmer Reference Manual, SCS).
 pub fn designate(state: &mut State, place: Place, set: CharacterSet)
     ensures { state.new
-        ≡ apart (record state.old { shifts = designated state.old.shifts place set }) }
+        ≡ unjoined (record state.old { shifts = designated state.old.shifts place set }) }
 {
     state.shifts.designate(place, set);
     separate(state);
@@ -115,7 +116,7 @@ pub fn designate(state: &mut State, place: Place, set: CharacterSet)
 
 /// The coding that the window writes in from here on (ECMA-35, other coding systems).
 pub fn set_coding(state: &mut State, coding: Coding)
-    ensures { state.new ≡ settled (record state.old { coding = coding }) }
+    ensures { state.new ≡ unpending (record state.old { coding = coding }) }
 {
     state.coding = coding;
     settle(state);
@@ -123,7 +124,7 @@ pub fn set_coding(state: &mut State, coding: Coding)
 
 /// S8C1T, or S7C1T where false (VT220 Programmer Reference Manual, C1 control transmission).
 pub fn set_eight_bit_reports(state: &mut State, is_set: bool)
-    ensures { state.new ≡ settled (record state.old { has_eight_bit_reports = is_set }) }
+    ensures { state.new ≡ unpending (record state.old { has_eight_bit_reports = is_set }) }
 {
     state.has_eight_bit_reports = is_set;
     settle(state);
@@ -131,7 +132,7 @@ pub fn set_eight_bit_reports(state: &mut State, is_set: bool)
 
 /// DECKPAM, or DECKPNM where false (VT220 Programmer Reference Manual, modes).
 pub fn set_application_keypad(state: &mut State, is_set: bool)
-    ensures { state.new ≡ settled
+    ensures { state.new ≡ unpending
         (record state.old { modes = record state.old.modes { has_application_keypad = is_set } }) }
 {
     state.modes.has_application_keypad = is_set;
@@ -140,7 +141,7 @@ pub fn set_application_keypad(state: &mut State, is_set: bool)
 
 /// DECSCA (VT220 Programmer Reference Manual, character attributes).
 pub fn protect(state: &mut State, is_set: bool)
-    ensures { state.new ≡ settled (record state.old { is_protecting = is_set }) }
+    ensures { state.new ≡ unpending (record state.old { is_protecting = is_set }) }
 {
     state.is_protecting = is_set;
     settle(state);

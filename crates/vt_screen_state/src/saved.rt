@@ -2,8 +2,9 @@
 
 ghost use Rattle.std.specs.Prelude.{◌≡◌, ◌-◌, ◌<◌, option_map};
 ghost use Rattle.cells.specs.Page.{IsGridSize};
-ghost use Rattle.terminal_model.specs.Table.{never_saved, restored, restored_line, saved_of};
-ghost use Rattle.terminal_model.specs.Table.{saved_or_none, saved_resized};
+ghost use Rattle.terminal_model.specs.Saving.{never_saved, restored, restored_line, saved_of};
+ghost use Rattle.terminal_model.specs.Saving.{saved_or_none};
+ghost use Rattle.terminal_model.specs.Sizing.{saved_resized};
 
 use cells::Rendition;
 use charsets::Shifts;

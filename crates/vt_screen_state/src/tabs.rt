@@ -2,7 +2,7 @@
 
 ghost use Rattle.std.specs.Prelude.{◌≡◌, ◌<◌, ◌≤◌, true, false, length, replicate, slice_set};
 ghost use Rattle.terminal_model.specs.Screen.{starting_tabs};
-ghost use Rattle.terminal_model.specs.Table.{next_stop};
+ghost use Rattle.terminal_model.specs.Motion.{next_stop};
 
 use std::marker::Model;
 use terminal_model::MAX_COLUMNS;

@@ -6,7 +6,9 @@ use Rattle.charsets.specs.Sets.{character_at, supplement}
 use Rattle.control_parser.specs.Text.{fields}
 use Rattle.control_parser.specs.Grammar.{controls, text, begun_by, piece as function_piece, functions_behind}
 use Rattle.terminal_model.specs.Functions.{plain_sequence, private_sequence}
-use Rattle.terminal_model.specs.Table.{columns_of, drawn, acted_from, resized}
+use Rattle.terminal_model.specs.Printing.{columns_of, drawn}
+use Rattle.terminal_model.specs.Sizing.{resized}
+use Rattle.terminal_model.specs.Table.{acted_from}
 use Rattle.terminal_model.specs.Reading.{act, act_all, read_unit, read_units, read_byte, reads}
 use Rattle.terminal_model.proofs.rows.coloured_rows.Goals as goal
 

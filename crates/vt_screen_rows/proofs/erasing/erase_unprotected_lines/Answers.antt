@@ -1,7 +1,7 @@
 use Rattle.std.proofs.Common.{◌≡◌, ◌<◌, refl, sym, ap, ◌∙◌, arith, length}
 use Rattle.cells.specs.Page.{line_at}
 use Rattle.cells.proofs.Pages.{length-page_from, width-page_from}
-use Rattle.terminal_model.specs.Table.{unprotected_lines}
+use Rattle.terminal_model.specs.Erasing.{unprotected_lines}
 use Rattle.vt_screen_rows.proofs.Unprotected.{unprotected_none, unprotected_more}
 use Rattle.vt_screen_rows.proofs.erasing.erase_unprotected_lines.Goals as goal
 

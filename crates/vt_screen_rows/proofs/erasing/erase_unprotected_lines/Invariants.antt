@@ -1,6 +1,6 @@
 use Rattle.std.proofs.Common.{◌≡◌}
 use Rattle.cells.specs.Page.{page_from}
-use Rattle.terminal_model.specs.Table.{unprotected_lines}
+use Rattle.terminal_model.specs.Erasing.{unprotected_lines}
 use Rattle.vt_screen_rows.proofs.erasing.erase_unprotected_lines.Given as goal
 
 abbrev pub invariant-loop-line : goal.invariant-loop-line

@@ -1,5 +1,5 @@
 use Rattle.std.proofs.Common.{sym, ap, ◌∙◌}
-use Rattle.terminal_model.specs.Table.{placed_narrow, printed_as}
+use Rattle.terminal_model.specs.Printing.{placed_narrow, printed_as}
 use Rattle.vt_screen_rows.specs.Displays.{screen_of}
 use Rattle.vt_screen_rows.proofs.display.Display.print_as.Goals as goal
 

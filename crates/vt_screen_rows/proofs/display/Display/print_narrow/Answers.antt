@@ -1,5 +1,5 @@
 use Rattle.std.proofs.Common.{ap, ◌∙◌}
-use Rattle.terminal_model.specs.Table.{placed_narrow}
+use Rattle.terminal_model.specs.Printing.{placed_narrow}
 use Rattle.vt_screen_rows.proofs.display.Display.print_narrow.Goals as goal
 
 pub returns-clause-screen : goal.returns-clause-screen

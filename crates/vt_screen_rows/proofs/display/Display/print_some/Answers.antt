@@ -4,7 +4,7 @@ use Rattle.charsets.specs.Units.{is_letter}
 use Rattle.charsets.specs.declared.unit.Unit.TheVariants.{Code}
 use Rattle.terminal_model.specs.declared.action.Action.TheVariants.{Print}
 use Rattle.terminal_model.specs.Screen.{Screen, IsSound}
-use Rattle.terminal_model.specs.Table.{wrapped}
+use Rattle.terminal_model.specs.Printing.{wrapped}
 use Rattle.vt_screen_rows.specs.Displays.{screen_of}
 use Rattle.vt_screen_rows.specs.Runs.{TakesRuns, prints, run_placed}
 use Rattle.vt_screen_rows.proofs.Widths.{acted_fit}

@@ -1,5 +1,5 @@
 use Rattle.std.proofs.Common.{sym, ap, ◌∙◌}
-use Rattle.terminal_model.specs.Table.{wrapped}
+use Rattle.terminal_model.specs.Printing.{wrapped}
 use Rattle.vt_screen_rows.specs.Displays.{screen_of}
 use Rattle.vt_screen_rows.proofs.WideLemmas.{widely_is}
 use Rattle.vt_screen_rows.proofs.display.Display.print_wide.Goals as goal

@@ -1,6 +1,6 @@
 use Rattle.std.proofs.Common.{refl}
 use Rattle.cells.specs.Resizing.{line_resized}
-use Rattle.terminal_model.specs.Table.{resized}
+use Rattle.terminal_model.specs.Sizing.{resized}
 use Rattle.vt_screen_rows.proofs.KeptLines.{reverse-map}
 use Rattle.vt_screen_rows.proofs.display.Display.resized.Goals as goal
 

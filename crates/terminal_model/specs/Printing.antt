@@ -1,0 +1,93 @@
+-- What a printed character does (VT220 manual, chapter 4; UAX #11). "Own" marks a choice of this
+-- project's.
+use Rattle.std.specs.Prelude.{ℕ, zero, suc, ◌+◌, ◌-◌, ◌==◌, Bool, true, false, ◌&&◌, nat_lt, cond}
+use Rattle.std.specs.Prelude.{List, [], ◌∷◌, length, Option, Some, None}
+use Rattle.unicode_width.specs.Width.{char_width}
+use Rattle.cells.specs.declared.cell.Cell.{Cell}
+use Rattle.cells.specs.Glyph.{glyph_columns}
+use Rattle.cells.specs.Line.{narrow_cell, left_cell, right_cell, spliced}
+use Rattle.cells.specs.Page.{page_marked}
+use Rattle.terminal_model.specs.declared.state.Position.{Position}
+use Rattle.terminal_model.specs.declared.state.State.{State}
+use Rattle.terminal_model.specs.Screen.{Screen, line_edited, with_state, with_page}
+use Rattle.terminal_model.specs.Motion.{unjoined, moved_to, indexed}
+
+-- the cursor behind so many printed columns; behind the last column the wrap is pending, with ?7
+-- set
+abbrev pub advanced : State → ℕ → State
+advanced s width =
+    let fits : Bool = nat_lt (s.column + width) s.columns in
+    record s {
+      column = cond fits (s.column + width) (s.columns - 1);
+      is_wrap_pending = cond fits false s.modes.wraps;
+      joining = Some (record { line = s.line; column = s.column });
+    }
+
+-- the column whose old cell follows so many new ones: with IRM set the one that stood at the cursor
+-- (ECMA-48, 7.2.10)
+abbrev pub following : State → ℕ → ℕ
+following s width = cond s.modes.inserts s.column (s.column + width)
+
+-- new cells from the cursor on
+abbrev pub placed : List Cell → Screen → Screen
+placed fresh x =
+    let s : State = x.state in
+    with_page x (advanced s (length fresh))
+    (line_edited s (spliced s.column fresh (following s (length fresh)) s.columns) x.page)
+
+abbrev pub placed_narrow : ℕ → Screen → Screen
+placed_narrow c x = placed (narrow_cell c x.state.rendition x.state.is_protecting ∷ []) x
+
+abbrev pub placed_wide : ℕ → Screen → Screen
+placed_wide c x =
+    placed (left_cell c x.state.rendition x.state.is_protecting
+    ∷ right_cell c x.state.rendition x.state.is_protecting ∷ []) x
+
+-- the wrap: the first column, and index
+abbrev pub wrapped : Bool → Screen → Screen
+wrapped true x = indexed (with_state x (moved_to x.state x.state.line 0))
+wrapped false x = x
+
+-- in the last column no wide character has room
+abbrev pub lacks_room : State → Bool
+lacks_room s = s.column + 1 == s.columns
+
+-- a wide character without room isn't printed, and ends the joining of marks (own)
+abbrev pub wide_or_none : Bool → ℕ → Screen → Screen
+wide_or_none true c x = with_state x (unjoined x.state)
+wide_or_none false c x = placed_wide c x
+
+-- with ?7 set it goes to the next line
+abbrev pub wide_printed : ℕ → Screen → Screen
+wide_printed c x =
+    let w : Screen = wrapped (lacks_room x.state && x.state.modes.wraps) x in
+    wide_or_none (lacks_room w.state) c w
+
+-- a mark joins the cell that was printed last, where nothing came between and it has fewer than
+-- two; else it is dropped (Unicode core specification, 5.13)
+abbrev pub marked_at : Option Position → ℕ → Screen → Screen
+marked_at None c x = x
+marked_at (Some p) c x = record x { page = page_marked p.line p.column c x.page }
+
+-- a character by its width: 0 is a mark, 2 is wide; a pending wrap is done first (VT220 manual:
+-- DECAWM)
+abbrev pub printed_as : ℕ → ℕ → Screen → Screen
+printed_as zero c x = marked_at x.state.joining c x
+printed_as (suc zero) c x = placed_narrow c (wrapped x.state.is_wrap_pending x)
+printed_as (suc (suc more)) c x = wide_printed c (wrapped x.state.is_wrap_pending x)
+
+-- a character of width 3 is drawn as U+FFFD (own)
+abbrev pub drawn_as : Option ℕ → ℕ → ℕ
+drawn_as None c = c
+drawn_as (Some width) c = cond (width == 3) 0xFFFD c
+
+-- the columns that a character takes, and what is drawn of it (UAX #11)
+unfoldable pub columns_of : ℕ → ℕ
+columns_of c = glyph_columns (char_width false c)
+
+unfoldable pub drawn : ℕ → ℕ
+drawn c = drawn_as (char_width false c) c
+
+abbrev pub printed : Option ℕ → Screen → Screen
+printed None x = x
+printed (Some c) x = printed_as (columns_of c) (drawn c) x
