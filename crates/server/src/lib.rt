@@ -4,7 +4,6 @@
 mod acceptor;
 mod fault;
 mod loop_handle;
-mod news_line;
 mod serving;
 mod setup_file;
 mod socket;

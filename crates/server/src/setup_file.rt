@@ -1,7 +1,7 @@
 //! The file of the owner's first commands, and what is told of it.
 
 use crate::fault::ServeFault;
-use refusal_words::RefusedLine;
+use program_words::RefusedLine;
 use setup_lines::{SetupFault, SetupLine, read_setup};
 use std::alloc::Global;
 use std::fs::Files;

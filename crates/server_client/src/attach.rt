@@ -8,7 +8,7 @@ use crate::standing::{Intake, Outlet, Shared, Standing};
 use crate::watching::stand_in;
 use attach_proto::{Reader, Side, Why};
 use clap::ArgMatches;
-use server_words::{of_client, tell};
+use program_words::{of_client, tell};
 use std::alloc::{AllocError, Global};
 use std::fs::{File, Files};
 use std::io::{Read, Write};

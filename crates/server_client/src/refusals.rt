@@ -1,7 +1,7 @@
 //! What the refusals mean that are a number, or a size.
 
 use crate::opening::Way;
-use refusal_words::explain as explain_number;
+use program_words::explain as explain_number;
 use std::io;
 use std::io::Write;
 

@@ -1,11 +1,13 @@
 //! One loop of the server: what it reads of its connections, and what their frames ask for.
 #![tactic(auto)]
 
+mod news_line;
 mod pace;
 mod ration;
 mod requests;
 mod turn;
 
+pub use news_line::NewsLine;
 pub use pace::{LULL, Pace};
 pub use server_peers::{
     End, Gate, Guest, Hub, LoopBody, LoopsFault, News, Open, Peers, Recorder, Seat, Session,

@@ -5,7 +5,7 @@ use std::io::{self, BufRead};
 use trail_audit::{Audit, Came, Ended, Halt, Wrong, next_line, read_end, read_entries};
 
 /// How a file ends.
-#[derive(Clone, Copy, PartialEq, Eq, Debug)]
+#[derive(Clone, Copy)]
 pub enum Finish {
     /// With a last line, which counts its entries.
     Ended { ended: Ended },

@@ -1,14 +1,13 @@
 //! Entries as objects of JSON (RFC 8259), one a line.
 
-use crate::fault::Fault;
 use crate::show::time_of;
 use hub_record::KeptRef;
-use std::io::Write;
+use std::io::{self, Write};
 use trail_audit::Ended;
 use trail_lines::Line;
 
 /// Writes bytes 20 to 7E as a string.
-fn write_string<W: Write>(bytes: &[u8], output: &mut W) -> Result<(), Fault> {
+fn write_string<W: Write>(bytes: &[u8], output: &mut W) -> io::Result<()> {
     output.write_all(b"\"")?;
     for byte in bytes {
         if *byte == b'"' || *byte == b'\\' {
@@ -16,12 +15,11 @@ fn write_string<W: Write>(bytes: &[u8], output: &mut W) -> Result<(), Fault> {
         }
         output.write_all(&[*byte])?;
     }
-    output.write_all(b"\"")?;
-    Ok(())
+    output.write_all(b"\"")
 }
 
 /// Writes a time: milliseconds since 1970, and where it can be the form of RFC 3339.
-fn write_time<W: Write>(ms: u64, output: &mut W) -> Result<(), Fault> {
+fn write_time<W: Write>(ms: u64, output: &mut W) -> io::Result<()> {
     write!(output, ",\"ms\":{ms}")?;
     if let Some(time) = time_of(ms) {
         write!(output, ",\"time\":\"{time}\"")?;
@@ -39,7 +37,7 @@ fn words_of(event: KeptRef<'_>) -> usize {
 }
 
 /// Writes the words of an event as a list.
-fn write_event<W: Write>(text: &[u8], count: usize, output: &mut W) -> Result<(), Fault> {
+fn write_event<W: Write>(text: &[u8], count: usize, output: &mut W) -> io::Result<()> {
     output.write_all(b",\"event\":[")?;
     let mut is_first = true;
     for word in text.split(|byte| *byte == b' ').skip(2).take(count) {
@@ -49,12 +47,11 @@ fn write_event<W: Write>(text: &[u8], count: usize, output: &mut W) -> Result<()
         is_first = false;
         write_string(word, output)?;
     }
-    output.write_all(b"]")?;
-    Ok(())
+    output.write_all(b"]")
 }
 
 /// Writes the words behind a reply that begin with a mark as a list, without their mark.
-fn write_notes<W: Write>(text: &[u8], count: usize, mark: u8, output: &mut W) -> Result<(), Fault> {
+fn write_notes<W: Write>(text: &[u8], count: usize, mark: u8, output: &mut W) -> io::Result<()> {
     output.write_all(b"[")?;
     let mut is_first = true;
     for word in text.split(|byte| *byte == b' ').skip(count) {
@@ -70,12 +67,11 @@ fn write_notes<W: Write>(text: &[u8], count: usize, mark: u8, output: &mut W) ->
         is_first = false;
         write_string(rest, output)?;
     }
-    output.write_all(b"]")?;
-    Ok(())
+    output.write_all(b"]")
 }
 
 /// Writes an entry, whose line this is.
-pub fn write_entry<W: Write>(line: &Line, text: &[u8], output: &mut W) -> Result<(), Fault> {
+pub fn write_entry<W: Write>(line: &Line, text: &[u8], output: &mut W) -> io::Result<()> {
     // Behind the place, the time and the event's words.
     let count = words_of(line.entry.event().get());
     let reply_at = count.saturating_add(2);
@@ -90,16 +86,14 @@ pub fn write_entry<W: Write>(line: &Line, text: &[u8], output: &mut W) -> Result
     write_notes(text, notes_at, b'?', output)?;
     output.write_all(b",\"acts\":")?;
     write_notes(text, notes_at, b'!', output)?;
-    output.write_all(b"}\n")?;
-    Ok(())
+    output.write_all(b"}\n")
 }
 
 /// Writes a last line.
-pub fn write_end<W: Write>(ended: &Ended, output: &mut W) -> Result<(), Fault> {
+pub fn write_end<W: Write>(ended: &Ended, output: &mut W) -> io::Result<()> {
     write!(output, "{{\"end\":{}", ended.entries)?;
     write_time(ended.ms, output)?;
     output.write_all(b",\"why\":")?;
     write_string(ended.cause.word(), output)?;
-    output.write_all(b"}\n")?;
-    Ok(())
+    output.write_all(b"}\n")
 }

@@ -9,15 +9,16 @@ use crate::show::{Form, show_lines, time_of};
 use crate::texts::text_of;
 use crate::who::{users_of, write_rights};
 use crate::why::{Question, write_reasons};
-use crate::words::{Asked, asked_of, read_words};
+use crate::words::{Asked, asked_of};
 use acl::{Leaders, UserId};
 use clap::{ArgMatches, Error};
+use program_words::of_trail;
 use std::alloc::Global;
 use std::io::{BufRead, BufReader, Write};
 use std::rt::Files;
 use std::time::Clock;
-use std::{fs, str};
-use trail_audit::{Audit, Halt, Wrong};
+use std::{fs, io, str};
+use trail_audit::{Audit, Ended, Halt, Wrong};
 use trail_rights::{Decider, Led};
 
 /// The file is legal, and whole.
@@ -52,6 +53,17 @@ fn tell_wrong<W: Write>(
     Ok(ILLEGAL)
 }
 
+/// Writes that a file is whole, and gives the status to exit with.
+fn tell_ended<W: Write>(ended: Ended, count: u64, output: &mut W) -> io::Result<u8> {
+    let why = str::from_utf8(ended.cause.word()).unwrap_or("?");
+    write!(output, "legal: {count} entries\nwhole: it ended ({why})")?;
+    if let Some(time) = time_of(ended.ms) {
+        write!(output, " at {time}")?;
+    }
+    writeln!(output)?;
+    Ok(LEGAL)
+}
+
 /// Writes how a file ends, and gives the status to exit with.
 fn tell_finish<W: Write>(
     finish: Finish,
@@ -60,40 +72,34 @@ fn tell_finish<W: Write>(
     output: &mut W,
 ) -> Result<u8, Fault> {
     match finish {
-        Finish::Stopped { line, wrong } => return tell_wrong(line, wrong, count, owner, output),
+        Finish::Stopped { line, wrong } => tell_wrong(line, wrong, count, owner, output),
         Finish::Miscounted { line } => {
             writeln!(
                 output,
                 "bad: line {line}: the last line doesn't end {count} entries"
             )?;
-            return Ok(ILLEGAL);
+            Ok(ILLEGAL)
         }
         Finish::Continued { line } => {
             writeln!(
                 output,
                 "bad: behind line {line}: more stands behind the last line"
             )?;
-            return Ok(ILLEGAL);
+            Ok(ILLEGAL)
         }
-        Finish::Ended { .. } | Finish::Open | Finish::Torn => {}
-    }
-    writeln!(output, "legal: {count} entries")?;
-    match finish {
-        Finish::Ended { ended } => {
-            let why = str::from_utf8(ended.cause.word()).unwrap_or("?");
-            write!(output, "whole: it ended ({why})")?;
-            if let Some(time) = time_of(ended.ms) {
-                write!(output, " at {time}")?;
-            }
-            writeln!(output)?;
-            Ok(LEGAL)
-        }
+        Finish::Ended { ended } => Ok(tell_ended(ended, count, output)?),
         Finish::Torn => {
-            writeln!(output, "torn: its last line isn't whole")?;
+            writeln!(
+                output,
+                "legal: {count} entries\ntorn: its last line isn't whole"
+            )?;
             Ok(UNENDED)
         }
-        _ => {
-            writeln!(output, "not ended: it has no last line")?;
+        Finish::Open => {
+            writeln!(
+                output,
+                "legal: {count} entries\nnot ended: it has no last line"
+            )?;
             Ok(UNENDED)
         }
     }
@@ -136,7 +142,7 @@ fn show<R: BufRead, W: Write>(
 /// A pass over a file as far as the entry of the place `last`, looking for what the search names.
 fn pass<R: Files + AllocGlobal>(
     rt: &R,
-    asked: &Asked<'_>,
+    asked: Asked<'_>,
     search: Search,
     last: u64,
 ) -> Result<Pass, Fault> {
@@ -145,9 +151,19 @@ fn pass<R: Files + AllocGlobal>(
     read_pass(rt.alloc(), asked.owner, &mut reader, search, last)
 }
 
-/// The place of the last entry that a pass is to read: what stands behind it doesn't count.
-fn last_of(pass: &Pass) -> u64 {
-    pass.watch.audit().count().saturating_sub(1)
+/// A second pass over what a first one has read: what stands behind that doesn't count.
+fn pass_again<R: Files + AllocGlobal>(
+    rt: &R,
+    asked: Asked<'_>,
+    first: &Pass,
+    search: Search,
+) -> Result<Pass, Fault> {
+    let count = first.watch.audit().count();
+    let second = pass(rt, asked, search, count.saturating_sub(1))?;
+    if second.watch.audit().count() != count {
+        return Err(Fault::Changed);
+    }
+    Ok(second)
 }
 
 /// Writes what is wrong in a file, or that it has no entry of the place asked for; nothing where
@@ -168,28 +184,34 @@ fn tell_pass<W: Write>(
     }
 }
 
+/// Writes who may do what after the entries that a pass has read.
+fn tell_rights<R: Files + AllocGlobal, W: Write>(
+    rt: &R,
+    asked: Asked<'_>,
+    first: &Pass,
+    output: &mut W,
+) -> Result<u8, Fault> {
+    let mut search = Search::none(rt.alloc());
+    for user in &users_of(rt.alloc(), first.watch.audit().replay())? {
+        search.leds.push(Led::new(*user))?;
+    }
+    let second = pass_again(rt, asked, first, search)?;
+    write_rights(rt.alloc(), &second, output)?;
+    Ok(LEGAL)
+}
+
 /// Writes who may do what.
 fn who<R: Files + AllocGlobal, W: Write>(
     rt: &R,
-    asked: &Asked<'_>,
+    asked: Asked<'_>,
     output: &mut W,
 ) -> Result<u8, Fault> {
-    let alloc = rt.alloc();
     let last = asked.place.unwrap_or(u64::MAX);
-    let first = pass(rt, asked, Search::none(alloc), last)?;
-    if let Some(status) = tell_pass(&first, asked.place, output)? {
-        return Ok(status);
+    let first = pass(rt, asked, Search::none(rt.alloc()), last)?;
+    match tell_pass(&first, asked.place, output)? {
+        Some(status) => Ok(status),
+        None => tell_rights(rt, asked, &first, output),
     }
-    let mut search = Search::none(alloc);
-    for user in &users_of(alloc, first.watch.audit().replay())? {
-        search.leds.push(Led::new(*user))?;
-    }
-    let second = pass(rt, asked, search, last_of(&first))?;
-    if second.watch.audit().count() != first.watch.audit().count() {
-        return Err(Fault::Changed);
-    }
-    write_rights(alloc, &second, output)?;
-    Ok(LEGAL)
 }
 
 /// The leaders of the only user whose leaders a pass has looked for.
@@ -200,64 +222,89 @@ fn leaders_in(pass: &Pass) -> Leaders {
     }
 }
 
-/// Writes which acts decide a bit.
-fn why<R: Files + AllocGlobal, W: Write>(
+/// Writes which acts decide a bit after the entries that a pass has read.
+fn tell_reasons<R: Files + AllocGlobal, W: Write>(
     rt: &R,
-    asked: &Asked<'_>,
+    asked: Asked<'_>,
     question: Question,
+    first: &Pass,
     output: &mut W,
 ) -> Result<u8, Fault> {
-    let alloc = rt.alloc();
-    let mut search = Search::none(alloc);
-    search.leds.push(Led::new(question.user))?;
-    let first = pass(rt, asked, search, asked.place.unwrap_or(u64::MAX))?;
-    if let Some(status) = tell_pass(&first, asked.place, output)? {
-        return Ok(status);
-    }
     let Question { user, bit, object } = question;
-    let leaders = leaders_in(&first);
-    let mut search = Search::none(alloc);
+    let leaders = leaders_in(first);
+    let mut search = Search::none(rt.alloc());
     search.leds.push(Led::new(user))?;
-    let owner = first.owner;
     search
         .deciders
-        .push(Decider::new(owner, user, bit, object))?;
+        .push(Decider::new(first.owner, user, bit, object))?;
     for leader in leaders.as_slice() {
         search
             .deciders
-            .push(Decider::new(owner, *leader, bit, object))?;
+            .push(Decider::new(first.owner, *leader, bit, object))?;
     }
-    let second = pass(rt, asked, search, last_of(&first))?;
-    let counts = (first.watch.audit().count(), second.watch.audit().count());
-    if counts.0 != counts.1 || leaders_in(&second) != leaders {
+    let second = pass_again(rt, asked, first, search)?;
+    if leaders_in(&second) != leaders {
         return Err(Fault::Changed);
     }
-    write_reasons(alloc, &second, question, output)?;
+    write_reasons(rt.alloc(), &second, question, output)?;
     Ok(LEGAL)
+}
+
+/// Writes which acts decide a bit.
+fn why<R: Files + AllocGlobal, W: Write>(
+    rt: &R,
+    asked: Asked<'_>,
+    question: Question,
+    output: &mut W,
+) -> Result<u8, Fault> {
+    let last = asked.place.unwrap_or(u64::MAX);
+    let mut search = Search::none(rt.alloc());
+    search.leds.push(Led::new(question.user))?;
+    let first = pass(rt, asked, search, last)?;
+    match tell_pass(&first, asked.place, output)? {
+        Some(status) => Ok(status),
+        None => tell_reasons(rt, asked, question, &first, output),
+    }
+}
+
+/// Shows a file, and what comes later, until the trail ends.
+fn follow<R: Clock + Files + AllocGlobal, W: Write>(
+    rt: &R,
+    asked: Asked<'_>,
+    output: &mut W,
+) -> Result<u8, Fault> {
+    let file = fs::open(rt, asked.path)?;
+    let mut reader = BufReader::new(rt.alloc(), Following { rt, file })?;
+    show(rt.alloc(), asked.form, &mut reader, output)
+}
+
+/// Judges a file, or shows it.
+fn read<R: Files + AllocGlobal, W: Write>(
+    rt: &R,
+    way: &str,
+    asked: Asked<'_>,
+    output: &mut W,
+) -> Result<u8, Fault> {
+    let file = fs::open(rt, asked.path)?;
+    let mut reader = BufReader::new(rt.alloc(), file)?;
+    match way {
+        "check" => check(rt.alloc(), asked.owner, &mut reader, output),
+        _ => show(rt.alloc(), asked.form, &mut reader, output),
+    }
 }
 
 /// Does what the words ask.
 fn run<R: Clock + Files + AllocGlobal, W: Write>(
     rt: &R,
     way: &str,
-    asked: &Asked<'_>,
+    asked: Asked<'_>,
     output: &mut W,
 ) -> Result<u8, Fault> {
-    if way == "who" {
-        return who(rt, asked, output);
-    }
-    if let Some(question) = asked.question {
-        return why(rt, asked, question, output);
-    }
-    let file = fs::open(rt, asked.path)?;
-    if asked.follows {
-        let mut reader = BufReader::new(rt.alloc(), Following { rt, file })?;
-        return show(rt.alloc(), asked.form, &mut reader, output);
-    }
-    let mut reader = BufReader::new(rt.alloc(), file)?;
-    match way {
-        "check" => check(rt.alloc(), asked.owner, &mut reader, output),
-        _ => show(rt.alloc(), asked.form, &mut reader, output),
+    match asked.question {
+        Some(question) => why(rt, asked, question, output),
+        None if way == "who" => who(rt, asked, output),
+        None if asked.follows => follow(rt, asked, output),
+        None => read(rt, way, asked, output),
     }
 }
 
@@ -290,7 +337,7 @@ fn do_asked<R: Clock + Files + AllocGlobal, W: Write, E: Write>(
             return TROUBLE;
         }
     };
-    match run(rt, way, &asked, output) {
+    match run(rt, way, asked, output) {
         Ok(status) => status,
         Err(fault) => {
             let path = asked.path;
@@ -312,7 +359,7 @@ pub fn trail<R: Clock + Files + AllocGlobal, W: Write, E: Write>(
     output: &mut W,
     errors: &mut E,
 ) -> u8 {
-    let matches = match read_words(rt.alloc(), words) {
+    let matches = match of_trail(rt.alloc(), words) {
         Ok(matches) => matches,
         Err(error) => return tell(&error, output, errors),
     };

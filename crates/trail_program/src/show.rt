@@ -4,7 +4,7 @@ use crate::fault::Fault;
 use crate::json::{write_end, write_entry};
 use jiff::Timestamp;
 use std::alloc::Global;
-use std::io::{BufRead, Write};
+use std::io::{self, BufRead, Write};
 use trail_audit::{Came, next_line, read_end};
 use trail_lines::{Line, Unread, read_line};
 
@@ -14,15 +14,14 @@ pub fn time_of(ms: u64) -> Option<Timestamp> {
 }
 
 /// Writes a place and a time, and what stands behind them in the line.
-fn show_line<W: Write>(line: &Line, text: &[u8], output: &mut W) -> Result<(), Fault> {
+fn show_line<W: Write>(line: &Line, text: &[u8], output: &mut W) -> io::Result<()> {
     write!(output, "{} ", line.place)?;
     match time_of(line.ms) {
         Some(time) => write!(output, "{time} ")?,
         None => write!(output, "{} ", line.ms)?,
     }
     output.write_all(behind_times(text))?;
-    output.write_all(b"\n")?;
-    Ok(())
+    output.write_all(b"\n")
 }
 
 /// What stands behind the second blank.
@@ -38,7 +37,7 @@ fn behind_times(text: &[u8]) -> &[u8] {
 }
 
 /// How lines are shown.
-#[derive(Clone, Copy, PartialEq, Eq, Debug)]
+#[derive(Clone, Copy, PartialEq, Eq)]
 pub enum Form {
     /// As the file has them, with times that are read.
     Plain,

@@ -7,7 +7,7 @@ use acl::{Bit, CommandName, Object, UserId};
 use command_lang::name_text;
 use hub_replay::Replay;
 use std::alloc::Global;
-use std::io::Write;
+use std::io::{self, Write};
 use trail_rights::{Led, holder, may};
 
 /// The known users, the owner first.
@@ -22,7 +22,7 @@ pub fn users_of(alloc: Global, replay: &Replay) -> Result<Vec<UserId>, Fault> {
 }
 
 /// Writes a user and his leaders.
-fn write_user<W: Write>(led: &Led, output: &mut W) -> Result<(), Fault> {
+fn write_user<W: Write>(led: &Led, output: &mut W) -> io::Result<()> {
     let user = led.user();
     write!(output, "user {}", text_of(&user))?;
     if let Some(leaders) = led.leaders() {
@@ -30,8 +30,7 @@ fn write_user<W: Write>(led: &Led, output: &mut W) -> Result<(), Fault> {
             write!(output, " led by {}", text_of(leader))?;
         }
     }
-    writeln!(output)?;
-    Ok(())
+    writeln!(output)
 }
 
 /// The letter of a bit that a user has, or a hyphen.
@@ -52,7 +51,7 @@ fn write_window<W: Write>(
     users: &[UserId],
     window: u32,
     output: &mut W,
-) -> Result<(), Fault> {
+) -> io::Result<()> {
     let replay = pass.watch.audit().replay();
     write!(output, "window {window}")?;
     match holder(replay, pass.owner, window) {
@@ -68,20 +67,18 @@ fn write_window<W: Write>(
         let execute = letter(replay, *user, Bit::Execute, object);
         write!(output, " {name}:{read}{write}{execute}")?;
     }
-    writeln!(output)?;
-    Ok(())
+    writeln!(output)
 }
 
 /// Writes the commands on which a user has x.
-fn write_commands<W: Write>(replay: &Replay, user: UserId, output: &mut W) -> Result<(), Fault> {
+fn write_commands<W: Write>(replay: &Replay, user: UserId, output: &mut W) -> io::Result<()> {
     write!(output, "commands {}", text_of(&user))?;
     for command in &CommandName::ALL {
         if may(replay, user, Bit::Execute, Object::Command(*command)) {
             write!(output, " {}", name_text(*command))?;
         }
     }
-    writeln!(output)?;
-    Ok(())
+    writeln!(output)
 }
 
 /// Writes users with their leaders, windows with their holders and rights, and commands.

@@ -7,12 +7,12 @@ use crate::texts::text_of;
 use acl::{Act, Bit, CommandName, Object, UserId};
 use command_lang::name_text;
 use std::alloc::Global;
-use std::io::Write;
+use std::io::{self, Write};
 use trail_lines::acts::push_act;
 use trail_rights::{Decider, Mark, may};
 
 /// A user, a bit and an object.
-#[derive(Clone, Copy, Debug)]
+#[derive(Clone, Copy)]
 pub struct Question {
     pub user: UserId,
     pub bit: Bit,
@@ -59,8 +59,8 @@ fn is_there(pass: &Pass, object: Object) -> bool {
     }
 }
 
-/// Writes an act, where it stands, when it was filed and who gave it.
-fn write_act<W: Write>(alloc: Global, mark: Mark, act: &Act, output: &mut W) -> Result<(), Fault> {
+/// Writes where an act stands, when it was filed and who gave it.
+fn write_mark<W: Write>(mark: Mark, output: &mut W) -> io::Result<()> {
     write!(output, "entry {}", mark.place)?;
     if let Some(time) = time_of(mark.ms) {
         write!(output, " at {time}")?;
@@ -68,11 +68,16 @@ fn write_act<W: Write>(alloc: Global, mark: Mark, act: &Act, output: &mut W) -> 
     if let Some(giver) = mark.giver {
         write!(output, " by {}", text_of(&giver))?;
     }
+    output.write_all(b": ")
+}
+
+/// Writes an act, and whence it came.
+fn write_act<W: Write>(alloc: Global, mark: Mark, act: &Act, output: &mut W) -> Result<(), Fault> {
     let mut text = Vec::new(alloc);
     push_act(act, &mut text)?;
-    output.write_all(b": ")?;
+    text.extend_from_slice(b"\n")?;
+    write_mark(mark, output)?;
     output.write_all(text.as_slice())?;
-    writeln!(output)?;
     Ok(())
 }
 

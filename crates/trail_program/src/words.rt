@@ -1,16 +1,13 @@
-//! The words of `mux-trail`.
+//! What the words of `mux-trail` ask for.
 
 use crate::show::Form;
 use crate::why::Question;
 use acl::UserId;
-use clap::{Arg, ArgAction, ArgMatches, Command, Error};
+use clap::ArgMatches;
 use line_fields::read_u64;
-use std::alloc::Global;
-
-const VERSION: &str = "0.1.0";
 
 /// What the words ask of a file.
-#[derive(Drop)]
+#[derive(Clone, Copy)]
 pub struct Asked<'a> {
     pub path: &'a str,
     pub owner: Option<UserId>,
@@ -20,98 +17,6 @@ pub struct Asked<'a> {
     pub form: Form,
     /// What comes later is shown, too, until the trail ends.
     pub follows: bool,
-}
-
-/// A word that must stand there.
-fn word<'a>(alloc: Global, name: &'a str, value: &'a str, help: &'a str) -> Arg<'a> {
-    Arg::new(alloc, name)
-        .value_name(value)
-        .required(true)
-        .help(help)
-}
-
-/// The file of a way.
-fn file<'a>(alloc: Global) -> Arg<'a> {
-    word(alloc, "file", "FILE", "A file with the trail of a session")
-}
-
-/// The owner of a session.
-fn owner<'a>(alloc: Global) -> Arg<'a> {
-    Arg::new(alloc, "owner")
-        .long("owner")
-        .value_name("NAME")
-        .help("The session's owner, where the file's first line isn't to be believed")
-}
-
-/// The place of an entry.
-fn place<'a>(alloc: Global) -> Arg<'a> {
-    Arg::new(alloc, "at")
-        .long("at")
-        .value_name("PLACE")
-        .help("The last entry that counts; else all do")
-}
-
-/// `check`
-fn check<'a>(alloc: Global) -> Result<Command<'a>, Error> {
-    let command = Command::new(alloc, "check")
-        .about("Judges whether the trail is legal")
-        .arg(owner(alloc))?
-        .arg(file(alloc))?;
-    Ok(command)
-}
-
-/// `who`
-fn who<'a>(alloc: Global) -> Result<Command<'a>, Error> {
-    let command = Command::new(alloc, "who")
-        .about("Prints who may do what, and who holds which lock")
-        .arg(owner(alloc))?
-        .arg(place(alloc))?
-        .arg(file(alloc))?;
-    Ok(command)
-}
-
-/// `why`
-fn why<'a>(alloc: Global) -> Result<Command<'a>, Error> {
-    let command = Command::new(alloc, "why")
-        .about("Prints which acts decide whether a user has a bit on an object")
-        .arg(owner(alloc))?
-        .arg(place(alloc))?
-        .arg(file(alloc))?
-        .arg(word(alloc, "user", "USER", "The name of a user"))?
-        .arg(word(alloc, "bit", "BIT", "r, w or x"))?
-        .arg(word(
-            alloc,
-            "object",
-            "OBJECT",
-            "A window's serial, or the name of a command",
-        ))?;
-    Ok(command)
-}
-
-/// The words of `mux-trail`, the program's name first.
-pub fn read_words<'a>(alloc: Global, words: &'a [String]) -> Result<ArgMatches<'a>, Error> {
-    let json = Arg::new(alloc, "json")
-        .long("json")
-        .action(ArgAction::SetTrue)
-        .help("Prints each entry as an object of JSON");
-    let follow = Arg::new(alloc, "follow")
-        .long("follow")
-        .action(ArgAction::SetTrue)
-        .help("Waits for more until the trail ends");
-    let show = Command::new(alloc, "show")
-        .about("Prints the trail's lines, with times that are read")
-        .arg(json)?
-        .arg(follow)?
-        .arg(file(alloc))?;
-    Command::new(alloc, "mux-trail")
-        .version(VERSION)
-        .about("Reads the trail of a session that users shared")
-        .subcommand_required(true)
-        .subcommand(check(alloc)?)?
-        .subcommand(show)?
-        .subcommand(who(alloc)?)?
-        .subcommand(why(alloc)?)?
-        .try_get_matches_from(words)
 }
 
 /// The question of `why`.

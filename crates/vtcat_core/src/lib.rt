@@ -2,34 +2,14 @@
 #![tactic(auto)]
 
 use cells::{Cell, GridFault, Marks, Shape};
-use clap::{Arg, ArgMatches, Command};
-use emulator::{Emulator, Shown};
+use clap::ArgMatches;
+use emulator::{Emulator, MovedPage};
+use program_words::of_cat;
 use std::alloc::Global;
 use std::io::{self, BufWriter, Read, Write};
 
 /// How many bytes are read at once.
 const CHUNK: usize = 65_536;
-
-fn number_word<'a>(alloc: Global, name: &'a str, help: &'a str) -> Arg<'a> {
-    Arg::new(alloc, name)
-        .long(name)
-        .value_parser(clap::value_parser!(u16))
-        .help(help)
-}
-
-fn matches<'a>(alloc: Global, words: &'a [String]) -> Result<ArgMatches<'a>, clap::Error> {
-    Command::new(alloc, "vtcat")
-        .about("Shows the page that a VT220 has when it has read standard input")
-        .arg(number_word(alloc, "rows", "The lines of the page, 2 to 200").required(true))?
-        .arg(number_word(alloc, "cols", "The columns of the page, 2 to 300").required(true))?
-        .arg(number_word(
-            alloc,
-            "keep",
-            "How many lines that scroll off the page are kept",
-        )
-        .default_value("0"))?
-        .try_get_matches_from(words)
-}
 
 fn number(found: &ArgMatches, name: &str) -> usize {
     found.get_one::<u16>(name).map_or(0, usize::from)
@@ -72,7 +52,7 @@ fn write_cell<W: Write>(cell: &Cell, writer: &mut W) -> io::Result<()> {
     }
 }
 
-fn write_page<W: Write>(page: Shown<'_>, writer: &mut W) -> io::Result<()> {
+fn write_page<W: Write>(page: MovedPage<'_>, writer: &mut W) -> io::Result<()> {
     for line in 0..page.rows() {
         writer.write_all(b"|")?;
         for cell in page.line(line) {
@@ -117,7 +97,7 @@ pub fn cat<R: Read + Drop, W: Write, E: Write>(
     writer: &mut W,
     errors: &mut E,
 ) -> u8 {
-    let found = match matches(alloc, words) {
+    let found = match of_cat(alloc, words) {
         Ok(found) => found,
         Err(error) if error.use_stderr() => {
             let _ = write!(errors, "{error}");

@@ -2,7 +2,7 @@
 
 use acl::UserId;
 use attach_proto::Why;
-use server_loop::{Guest, News};
+use server_peers::{Guest, News};
 use std::fmt;
 use std::fmt::{Display, Formatter};
 

@@ -1,5 +1,4 @@
 //! What the refusals of commands mean that are a number.
-#![tactic(auto)]
 
 use std::io::Write;
 use std::{fmt, io};
@@ -65,7 +64,7 @@ pub fn explain<E: Write>(said: &str, line: &str, errors: &mut E) -> io::Result<(
 }
 
 /// A command line that was refused: which one of its file, and why.
-#[derive(Clone, Copy, Debug)]
+#[derive(Clone, Copy)]
 pub struct RefusedLine<'line, 'said> {
     /// Counted from 1.
     pub number: usize,

@@ -1,0 +1,150 @@
+//! Words as rows of a table.
+
+use clap::builder::ValueParser;
+use clap::error::ErrorKind;
+use clap::{Arg, ArgAction, Command, Error};
+use std::alloc::{AllocError, Global};
+use std::io::Write;
+
+/// The version of the programs.
+pub const VERSION: &str = "0.1.0";
+
+/// The largest number of 16 bits.
+pub const MOST: i64 = 65_535;
+
+/// A word of a command line.
+#[derive(Clone, Copy)]
+pub struct Word {
+    pub name: &'static str,
+    pub kind: Kind,
+    pub help: &'static str,
+}
+
+/// A way of a program, named by its first word.
+#[derive(Clone, Copy)]
+pub struct Way {
+    pub name: &'static str,
+    pub about: &'static str,
+    pub words: &'static [Word],
+}
+
+/// How a word is given; `value` stands for its value in help.
+#[derive(Clone, Copy)]
+pub enum Kind {
+    /// `--name`
+    Flag,
+    /// `VALUE`, which must be there.
+    Bare {
+        value: &'static str,
+    },
+    /// `--name VALUE`
+    Text {
+        value: &'static str,
+        need: Need,
+    },
+    /// `--name VALUE`, a number from `least` to `most`.
+    Number {
+        value: &'static str,
+        least: i64,
+        most: i64,
+        need: Need,
+    },
+}
+
+/// Whether a word must be there.
+#[derive(Clone, Copy)]
+pub enum Need {
+    Needed,
+    Free,
+    /// Where it isn't, this is its value.
+    Default(&'static str),
+}
+
+/// The argument, with what its need says.
+fn needing(arg: Arg<'static>, need: Need) -> Arg<'static> {
+    match need {
+        Need::Needed => arg.required(true),
+        Need::Free => arg,
+        Need::Default(value) => arg.default_value(value),
+    }
+}
+
+/// A row's argument.
+fn arg_of(alloc: Global, word: Word) -> Arg<'static> {
+    let Word { name, kind, help } = word;
+    let arg = Arg::new(alloc, name).help(help);
+    match kind {
+        Kind::Flag => arg.long(name).action(ArgAction::SetTrue),
+        Kind::Bare { value } => arg.value_name(value).required(true),
+        Kind::Text { value, need } => needing(arg.long(name).value_name(value), need),
+        Kind::Number {
+            value,
+            least,
+            most,
+            need,
+        } => {
+            let parser = ValueParser::signed(least, most);
+            let arg = arg.long(name).value_name(value).value_parser(parser);
+            needing(arg, need)
+        }
+    }
+}
+
+/// The command, with the words of a table.
+pub fn with_words<'a>(
+    alloc: Global,
+    command: Command<'a>,
+    table: &[Word],
+) -> Result<Command<'a>, AllocError> {
+    let mut command = command;
+    for word in table {
+        command = command.arg(arg_of(alloc, *word))?;
+    }
+    Ok(command)
+}
+
+/// A way's own command: the words that all ways share, and behind them its own.
+fn way_of<'a>(alloc: Global, shared: &[Word], way: &Way) -> Result<Command<'a>, AllocError> {
+    let command = Command::new(alloc, way.name).about(way.about);
+    with_words(alloc, with_words(alloc, command, shared)?, way.words)
+}
+
+/// The command, with a way.
+fn with_way<'a>(
+    alloc: Global,
+    command: Command<'a>,
+    shared: &[Word],
+    way: &Way,
+) -> Result<Command<'a>, AllocError> {
+    command.subcommand(way_of(alloc, shared, way)?)
+}
+
+/// The command, with the ways of a table, which share some words.
+pub fn with_ways<'a>(
+    alloc: Global,
+    command: Command<'a>,
+    shared: &[Word],
+    ways: &[Way],
+) -> Result<Command<'a>, AllocError> {
+    let mut command = command.subcommand_required(true);
+    for way in ways {
+        command = with_way(alloc, command, shared, way)?;
+    }
+    Ok(command)
+}
+
+/// Writes why the words give nothing: the help, with status 0, a mistake, with status 2, or want of
+/// memory, with status 1.
+pub fn tell<O: Write, E: Write>(error: &Error, output: &mut O, errors: &mut E) -> u8 {
+    if error.use_stderr() {
+        let _ = write!(errors, "{error}");
+        return match error.kind() {
+            ErrorKind::OutOfMemory => 1,
+            _ => 2,
+        };
+    }
+    match write!(output, "{error}") {
+        Ok(()) => 0,
+        Err(_) => 1,
+    }
+}
