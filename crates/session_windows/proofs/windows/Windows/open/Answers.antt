@@ -1,0 +1,34 @@
+use Rattle.std.proofs.Common.{◌≡◌, ◌∙◌, sym, ap, subst, true, List, ◌∷◌, ◌++◌, []}
+use Rattle.session_model.specs.Events.{is_window_size}
+use Rattle.session_model.specs.Naming.{is_title}
+use Rattle.session_windows.specs.declared.window.Window.{Window}
+use Rattle.session_windows.specs.Rows.{AreRows}
+use Rattle.session_windows.proofs.Rows.{small_free, rows_added}
+use Rattle.session_windows.proofs.Answering.{one_opened}
+use Rattle.session_windows.proofs.windows.Windows.open.Goals as goal
+
+pub returns-clause-answer : goal.returns-clause-answer
+returns-clause-answer c =
+    let good : is_window_size c.args.rows c.args.cols c.args.keep ≡ true = sym c.is_window_size.ensures ∙ c.if-not-is_window_size.false in
+    let named : is_title c.args.title.now ≡ true = sym c.is_title.ensures ∙ c.if-not-is_title.false in
+    one_opened c.in-Some.number c.args.self.now c.push.new.self c.args.serial c.in-Some.number c.args.rows c.args.cols c.args.keep c.args.title.now c.in_ok-window.window good
+    (λ ms st. sym (c.in-Some.ensures.number ms st)) named c.in_ok-window.ensures.ok
+    (c.in_ok-push.ensures.ok ∙ ap (λ (ws : List Window). ws ++ c.in_ok-window.window ∷ []) c.self.view_is)
+
+pub returns-clause-last : goal.returns-clause-last
+returns-clause-last c = (c.in_ok-window.window, c.in_ok-push.ensures.ok ∙ ap (λ (ws : List Window). ws ++ c.in_ok-window.window ∷ []) c.self.view_is)
+
+pub returns-clause-row : goal.returns-clause-row
+returns-clause-row c = record {
+  window = c.in_ok-window.window;
+  serial_is = c.in_ok-window.ensures.ok.serial_is;
+  number_is = c.in_ok-window.ensures.ok.number_is;
+  small = small_free c.args.self.now c.in-Some.number c.in-Some.ensures.first;
+  last = c.in_ok-push.ensures.ok ∙ ap (λ (ws : List Window). ws ++ c.in_ok-window.window ∷ []) c.self.view_is;
+}
+
+pub invariant_of-self-2 : goal.invariant_of-self-2
+invariant_of-self-2 c =
+    subst AreRows (sym (c.in_ok-push.ensures.ok ∙ ap (λ (ws : List Window). ws ++ c.in_ok-window.window ∷ []) c.self.view_is))
+    (rows_added c.args.self.now c.in_ok-window.window c.args.serial c.in-Some.number c.in-Some.ensures.above c.in-Some.ensures.first
+    c.in_ok-window.ensures.ok.serial_is c.in_ok-window.ensures.ok.number_is (subst AreRows c.self.view_is c.self.invariant))

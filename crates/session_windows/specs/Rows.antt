@@ -1,0 +1,38 @@
+-- What is true of each table of windows, and what a call leaves of it.
+use Rattle.std.specs.Prelude.{ℕ, ◌≡◌, ◌≢◌, ◌<◌, ◌++◌, ◌∷◌, [], List, AllPairs, map}
+use Rattle.session_rows.specs.Finding.{row_of}
+use Rattle.session_windows.specs.declared.window.Window.{Window}
+
+abbrev pub serial_of : Window → ℕ
+serial_of w = w.serial
+
+abbrev pub number_of : Window → ℕ
+number_of w = w.number
+
+-- serials rise, and numbers differ
+pub record AreRows (ws : List Window) : Type 0 where
+  pub rise : AllPairs (λ (earlier : Window) (later : Window). earlier.serial < later.serial) ws
+  pub differ : AllPairs (λ (earlier : Window) (later : Window). earlier.number ≢ later.number) ws
+
+-- a window has the serial and the number that it had
+pub record KeepsName (old new : Window) : Type 0 where
+  pub serial : new.serial ≡ old.serial
+  pub number : new.number ≡ old.number
+
+-- Each serial stays at its place, and the windows of other serials stay as they are.
+pub record ChangesRow (serial : ℕ) (old new : List Window) : Type 0 where
+  pub serials : map serial_of new ≡ map serial_of old
+  pub others : (s : ℕ) → s ≢ serial → row_of serial_of new s ≡ row_of serial_of old s
+
+-- and so does each number
+pub record WritesRow (serial : ℕ) (old new : List Window) : Type 0 where
+  pub row : ChangesRow serial old new
+  pub numbers : map number_of new ≡ map number_of old
+
+-- one window more, of this serial and this number, which is below 40
+pub record AddsRow (serial number : ℕ) (old new : List Window) : Type 0 where
+  pub window : Window
+  pub serial_is : window.serial ≡ serial
+  pub number_is : window.number ≡ number
+  pub small : number < 40
+  pub last : new ≡ old ++ window ∷ []
