@@ -11,7 +11,7 @@ use Rattle.command_lang.specs.Names.{command_named}
 use Rattle.session_model.specs.Deeds.{unless, refused_if, given}
 use Rattle.session_model.specs.Rights.{may_in}
 use Rattle.session_guests.specs.Changing.{changes_rights}
-use Rattle.worked_rows.specs.Setup.{bob}
+use Rattle.session_worked.specs.Setup.{bob}
 use Rattle.guest_rows.specs.Guests as rows
 
 none_of_five : (c : CommandName) → changes_rights c ≡ true → may_in rows.contained bob Execute (object.Command c) ≡ false

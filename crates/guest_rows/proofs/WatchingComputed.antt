@@ -11,7 +11,7 @@ use Rattle.command_lang.specs.Names.{command_named}
 use Rattle.session_model.specs.Deeds.{unless, refused_if, given}
 use Rattle.session_model.specs.Rights.{may_in}
 use Rattle.session_unseen.specs.Watching.{is_watching}
-use Rattle.worked_rows.specs.Setup.{bob}
+use Rattle.session_worked.specs.Setup.{bob}
 use Rattle.guest_rows.specs.Watching as rows
 
 nowhere : (w : ℕ) → may_in rows.watched bob Write (object.Window w) ≡ false

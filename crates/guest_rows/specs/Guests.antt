@@ -12,8 +12,8 @@ use Rattle.session_model.specs.Tables.{Tables, client_at}
 use Rattle.session_model.specs.Rights.{may_in, holder_in}
 use Rattle.session_guests.specs.Contained.{AreGuests}
 use Rattle.session_guests.specs.Locking.{IsPowerless}
-use Rattle.worked_rows.specs.Setup.{bob, eve, several, ordered, after, changes, takes, gives}
-use Rattle.worked_rows.specs.Setup.{then_comes}
+use Rattle.session_worked.specs.Setup.{bob, eve, several, ordered, after, changes, takes, gives}
+use Rattle.session_worked.specs.Setup.{then_comes}
 
 abbrev pub of_bob : List (List ℕ)
 of_bob = codes "bob" ∷ []

@@ -8,7 +8,7 @@ use Rattle.session_model.specs.Tables.{Tables}
 use Rattle.session_model.specs.Run.{tables_from}
 use Rattle.session_model.specs.Events.{Outcome, outcome}
 use Rattle.session_unseen.specs.Hidden.{unhidden}
-use Rattle.worked_rows.specs.Setup.{own, bob, several, after, changes, takes}
+use Rattle.session_worked.specs.Setup.{own, bob, several, after, changes, takes}
 
 -- events in their order, as steps of a run; what draws deliver doesn't matter here
 abbrev pub entry : Tables → EventValue → Entry

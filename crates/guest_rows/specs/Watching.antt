@@ -13,7 +13,7 @@ use Rattle.command_lang.specs.command.Users.TheVariants.{Listed}
 use Rattle.session_model.specs.Tables.{Tables, fresh}
 use Rattle.session_model.specs.Rights.{may_in}
 use Rattle.session_unseen.specs.Watching.{IsSpectator}
-use Rattle.worked_rows.specs.Setup.{own, bob, window, after, changes, takes, gives}
+use Rattle.session_worked.specs.Setup.{own, bob, window, after, changes, takes, gives}
 
 -- own opened a window, and lets others in
 abbrev pub shop : Tables

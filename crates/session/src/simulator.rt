@@ -12,7 +12,7 @@ use crate::player::play;
 use crate::words::{edition_of, owner_of, read_words};
 use clap::Error;
 use clap::error::ErrorKind;
-use refusal_words::RefusedLine;
+use program_words::RefusedLine;
 use script_trail::trail_of;
 use session_setup::{Beginning, Unbegun};
 use setup_lines::{SetupFault, SetupLine, read_setup};

@@ -17,10 +17,10 @@ use Rattle.command_lang.specs.Needs.{needs}
 use Rattle.session_model.specs.Checks.{checks, first_fault}
 use Rattle.session_model.specs.Deeds.{Answer, changing, refused_if}
 use Rattle.session_model.specs.Commands.{does, coding_of, is_taken}
-use Rattle.windows.specs.declared.window.Window.{Window as Row}
-use Rattle.windows.specs.Standing.{StandFor, Change, Answered, changed, serial}
-use Rattle.windows.specs.Standing.{written, written_to, retitled, with_new_number}
-use Rattle.windows.proofs.Callers.{row_done, row_refused_as}
+use Rattle.session_windows.specs.declared.window.Window.{Window as Row}
+use Rattle.session_windows.specs.Standing.{StandFor, Change, Answered, changed, serial}
+use Rattle.session_windows.specs.Standing.{written, written_to, retitled, with_new_number}
+use Rattle.session_windows.proofs.Callers.{row_done, row_refused_as}
 use Rattle.session_state.specs.declared.caller.Caller.{Caller}
 use Rattle.session_state.specs.declared.step_output.StepOutput.{StepOutput}
 use Rattle.session_state.specs.declared.state.State.{State}

@@ -8,6 +8,7 @@ pub mod Inputs
 pub mod KeyReading
 pub mod KeyStepping
 pub mod Lowest
+pub mod Needless
 pub mod Numbered
 pub mod Ordered
 pub mod Outcomes

@@ -7,10 +7,10 @@ use Rattle.session_model.specs.declared.event.Effect.{Effect}
 use Rattle.session_model.specs.declared.event.Event.{Event}
 use Rattle.session_model.specs.declared.event.Event.TheVariants as told
 use Rattle.session_model.specs.declared.verdict.Verdict.{Verdict}
-use Rattle.session_model.specs.Trace.{EventValue, Keys}
+use Rattle.session_model.specs.Trace.{EventValue, Keys, Draw}
 use Rattle.session_model.specs.Trace.{happening, Reply, Entry, Trace, with_step}
 use Rattle.session_model.specs.Tables.{Tables}
-use Rattle.session_model.specs.Events.{outcome}
+use Rattle.session_model.specs.Events.{outcome, done}
 use Rattle.session_model.specs.Run as run
 use Rattle.session_model.specs.Run.{IsRun, IsStep, tables_of}
 use Rattle.session_laws.proofs.Promising.{step_keeps}
@@ -18,7 +18,9 @@ use Rattle.session_state.specs.declared.step_output.StepOutput.{StepOutput}
 use Rattle.session_state.specs.declared.state.State.{State}
 use Rattle.session_state.specs.Stands.{Stands}
 use Rattle.session_core.specs.Taking.{TakenAs}
-use Rattle.session_core.specs.Noted.{Noted}
+use Rattle.session_core.specs.Noted.{Noted, nothing}
+use Rattle.session_core.specs.Drawn.{AreDrawn, AreNoted, draws_one_of}
+use Rattle.session_core.proofs.Needless.{needs_none, one_drawn, stay_drawn}
 use Rattle.session_core.specs.declared.session.Session.{Session}
 use Rattle.session_core.specs.Stands.{StandsFor, Takes, entry_of}
 use Rattle.session_core.specs.Headline.{HasCome, with_steps, AllSteps, Keeps, left_of, Serves, last_reply, replies_of, effects_of, without_part, IsPart, Call, AreSteps, SomeRun, SomeSteps}
@@ -91,11 +93,31 @@ taken_as event reply t new before after old noted no_acts none (e, event_is, rep
 
 -- what the state takes the session takes
 pub step_taken : (h : Trace) (old new : Session) (event : EventValue) (reply : Reply) (noted : Noted) (before after : StepOutput) (past verdicts : List Verdict)
-    → noted ≡ record { acts = after.acts.items; verdicts = verdicts } → before.acts.items ≡ [] → past ≡ [] → StandsFor h old → TakenAs event reply (tables_of h) new.state before after past verdicts
+    → noted ≡ record { acts = after.acts.items; verdicts = verdicts } → before.acts.items ≡ [] → past ≡ [] → StandsFor h old → AreNoted reply event old.drawn.items new.drawn.items
+    → TakenAs event reply (tables_of h) new.state before after past verdicts
     → (made : List Effect) × (after.effects.items ≡ before.effects.items ++ made) × StandsFor (with_step h (entry_of event reply noted made)) new
-step_taken h old new event reply noted before after past verdicts noted_is no_acts none st taken =
+step_taken h old new event reply noted before after past verdicts noted_is no_acts none st drawn taken =
     let made = taken_as event reply (tables_of h) new.state before after past verdicts no_acts none taken in
-    (made.0, made.1, subst (λ n. StandsFor (with_step h (entry_of event reply n made.0)) new) (sym noted_is) (record { run = (st.run, made.2); stands = made.3 }))
+    let e : Entry = entry_of event reply (record { acts = after.acts.items; verdicts = verdicts }) made.0 in
+    let stands : StandsFor (with_step h e) new = record {
+      run = (st.run, made.2);
+      stands = made.3;
+      drawn = stay_drawn (tables_of h) e made.2 old.drawn.items new.drawn.items st.drawn drawn;
+    } in (made.0, made.1, subst (λ n. StandsFor (with_step h (entry_of event reply n made.0)) new) (sym noted_is) stands)
+
+-- a draw that is needless
+pub draw_taken : (h : Trace) (s : Session) (event : EventValue) (reply : Reply) (noted : Noted) → draws_one_of s.drawn.items event ≡ true → done ≡ reply → noted ≡ nothing
+    → StandsFor h s → StandsFor (with_step h (entry_of event reply noted [])) s
+draw_taken h s (Draw client) reply noted one replied noted_is st =
+    let none = needs_none (tables_of h) client (one_drawn (tables_of h) s.drawn.items client one st.drawn) in
+    let stands : StandsFor (with_step h (entry_of (Draw client) done nothing [])) s = record {
+      run = (st.run, none.0);
+      stands = subst (λ t. Stands t s.state) (sym none.1) st.stands;
+      drawn = subst (λ t. AreDrawn t s.drawn.items) (sym none.1) st.drawn;
+    } in
+    subst (λ r. StandsFor (with_step h (entry_of (Draw client) r noted [])) s) replied
+    (subst (λ n. StandsFor (with_step h (entry_of (Draw client) done n [])) s) (sym noted_is) stands)
+draw_taken h s event reply noted one replied noted_is st = absurd (cc (one))
 
 -- ---- calls
 

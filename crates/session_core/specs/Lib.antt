@@ -1,3 +1,4 @@
+pub mod Drawn
 pub mod Dropping
 pub mod Given
 pub mod Headline

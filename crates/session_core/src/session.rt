@@ -15,12 +15,14 @@ ghost use Rattle.session_core.specs.Headline.{SomeRun, SomeSteps, IsRunOf, AllSt
 ghost use Rattle.session_core.specs.Headline.{HasCome, run_call, take_call, IsPartOf, IsViewOf};
 ghost use Rattle.session_core.specs.Headline.{read_by};
 
+use crate::coming::made_so;
+use crate::drawing::{draws_one_of, note_drawn};
 use crate::notes::Notes;
 use crate::step_notes::Step;
 use crate::taking::take;
 use acl::{Edition, UserId};
 use session_clients::Client;
-use session_model::{Effect, Event, Ran, Refusal, Reply};
+use session_model::{CLIENTS, Effect, Event, Ran, Refusal, Reply};
 use session_state::{State, StepOutput};
 use session_view::view_of;
 use std::alloc::Global;
@@ -31,11 +33,17 @@ use view::View;
 pub struct Session {
     alloc: Global,
     state: State,
+    /// Clients that need no draw.
+    drawn: Vec<u32>,
 }
 
 impl Drop for Session {
     fn drop(self) {
-        let Session { alloc: _, state: _ } = self;
+        let Session {
+            alloc: _,
+            state: _,
+            drawn: _,
+        } = self;
     }
 }
 
@@ -91,6 +99,10 @@ impl Session {
         ensures memory { result ≡ Err NoMemory → (self.new ≡ self.old)
             × (effects.new.items ≡ effects.old.items) × (notes.new ≡ notes.old) }
     {
+        if draws_one_of(&self.drawn, event) {
+            *notes = Notes::new(self.alloc);
+            return Ok(made_so(0, 0));
+        }
         let made = StepOutput {
             acts: Vec::new(self.alloc),
             effects: mem::replace(effects, Vec::new(self.alloc)),
@@ -100,9 +112,11 @@ impl Session {
         let reply = take(&mut self.state, event, &mut step);
         let Step { made, verdicts } = step;
         *effects = made.effects;
-        if !wants_memory(&reply) {
-            *notes = Notes::of(made.acts, verdicts);
+        if wants_memory(&reply) {
+            return reply;
         }
+        *notes = Notes::of(made.acts, verdicts);
+        note_drawn(&mut self.drawn, event, &reply);
         reply
     }
 
@@ -192,7 +206,12 @@ impl Session {
         ensures err { IfErr result (λ r. r ≡ NoMemory) }
     {
         let state = State::new(alloc, owner, edition)?;
-        Ok(Session { alloc, state })
+        let drawn = Vec::with_capacity(alloc, CLIENTS)?;
+        Ok(Session {
+            alloc,
+            state,
+            drawn,
+        })
     }
 
     /// Takes one event, in as many steps as it needs.

@@ -12,9 +12,9 @@ use Rattle.session_model.specs.Tables.{Tables, Window, window_at, with_row}
 use Rattle.session_model.specs.Terminals.{terminal_of}
 use Rattle.session_model.specs.Deeds.{input_of}
 use Rattle.session_model.specs.Events.{outputs}
-use Rattle.windows.specs.declared.window.Window.{Window as Row}
-use Rattle.windows.specs.Standing.{StandFor, AnsweredIfRoom, serial, written, written_to, fed_in}
-use Rattle.windows.proofs.Callers.{row_done, row_refused_as}
+use Rattle.session_windows.specs.declared.window.Window.{Window as Row}
+use Rattle.session_windows.specs.Standing.{StandFor, AnsweredIfRoom, serial, written, written_to, fed_in}
+use Rattle.session_windows.proofs.Callers.{row_done, row_refused_as}
 use Rattle.session_rows.proofs.Serials.{serial_is, if_true, if_false}
 use Rattle.session_state.specs.declared.step_output.StepOutput.{StepOutput}
 use Rattle.session_state.specs.declared.state.State.{State}

@@ -17,8 +17,8 @@ use Rattle.session_model.specs.Naming.{free_number, is_title}
 use Rattle.session_model.specs.Checks.{first_fault}
 use Rattle.session_model.specs.Events.{is_window_size, has_place, open_checks, new_window, opens}
 use Rattle.session_model.specs.Sound.{AreFit, Rises, window_serials}
-use Rattle.windows.specs.declared.window.Window.{Window as Row}
-use Rattle.windows.specs.Standing.{StandFor, AnsweredIfRoom, is_above, opened, new_row, numbered}
+use Rattle.session_windows.specs.declared.window.Window.{Window as Row}
+use Rattle.session_windows.specs.Standing.{StandFor, AnsweredIfRoom, is_above, opened, new_row, numbered}
 use Rattle.session_rows.proofs.Serials.{if_true}
 use Rattle.session_state.specs.declared.step_output.StepOutput.{StepOutput}
 use Rattle.session_state.specs.declared.state.State.{State}

@@ -23,7 +23,7 @@ use Rattle.session_model.specs.declared.refusal.WindowsFault.TheVariants.{NoSuch
 use Rattle.session_model.specs.Tables as model
 use Rattle.session_model.specs.Tables.{Tables, others}
 use Rattle.session_model.specs.Naming.{every_command, window_named, names_of}
-use Rattle.windows.specs.declared.window.Window.{Window}
+use Rattle.session_windows.specs.declared.window.Window.{Window}
 
 -- ---- users
 

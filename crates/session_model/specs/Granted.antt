@@ -1,6 +1,6 @@
 -- What a client is granted to see.
-use Rattle.std.specs.Prelude.{ℕ, ◌==◌, List, [], ◌∷◌, ◌++◌, Option, Some, None}
-use Rattle.std.specs.Prelude.{if◌then◌else◌, map, take, reverse, length}
+use Rattle.std.specs.Prelude.{ℕ, ◌==◌, List, [], ◌∷◌, Option, Some, None}
+use Rattle.std.specs.Prelude.{if◌then◌else◌, map}
 use Rattle.std.specs.Str.{chars}
 use Rattle.acl.specs.declared.user_id.UserId.{UserId}
 use Rattle.acl.specs.declared.bits.Bit.TheVariants.{Read}
@@ -10,8 +10,9 @@ use Rattle.regions.specs.declared.shown.Shown.{Shown}
 use Rattle.regions.specs.Shapes.{boxes, separators}
 use Rattle.regions.specs.Pages.{box_of, status_of}
 use Rattle.terminal_model.specs.declared.state.Position.{Position}
-use Rattle.terminal_model.specs.Screen.{Page, Screen}
+use Rattle.terminal_model.specs.Screen.{Screen}
 use Rattle.terminal_model.specs.Shows.{View}
+use Rattle.terminal_model.specs.Scrollback.{moved_back}
 use Rattle.view.specs.Granted as view
 use Rattle.session_model.specs.declared.message.Message.{Message}
 use Rattle.session_model.specs.declared.message.Message.TheVariants as message
@@ -20,11 +21,6 @@ use Rattle.session_model.specs.Rights.{may_in}
 use Rattle.session_model.specs.Texts.{windows_text, clients_text}
 use Rattle.session_model.specs.Keying.{open_line}
 use Rattle.session_model.specs.Terminals.{terminal_of}
-
--- the page moved back by so many kept lines, or by all where they are fewer (GNU Screen manual,
--- "Scrollback")
-abbrev pub moved_back : ℕ → Screen → Page
-moved_back offset x = take (length x.page) (reverse (take offset x.kept) ++ x.page)
 
 -- the cursor's place; none where the page is moved back
 abbrev pub cursor_at : ℕ → Screen → Option Position

@@ -11,8 +11,8 @@ use Rattle.session_model.specs.Deeds.{Deed, Answer, given, unless, refused_if, s
 use Rattle.session_model.specs.Commands.{caller_client, on_client}
 use Rattle.session_rows.specs.Matched.{BothOrNone}
 use Rattle.session_rows.proofs.Matching.{both_back, none_back}
-use Rattle.windows.specs.declared.window.Window.{Window}
-use Rattle.windows.specs.Standing.{WindowStands}
+use Rattle.session_windows.specs.declared.window.Window.{Window}
+use Rattle.session_windows.specs.Standing.{WindowStands}
 use Rattle.session_state.specs.declared.caller.Caller.{Caller}
 use Rattle.session_state.specs.declared.step_output.StepOutput.{StepOutput}
 use Rattle.session_state.specs.declared.state.State.{State}

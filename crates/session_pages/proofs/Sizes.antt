@@ -19,9 +19,9 @@ use Rattle.session_model.specs.Deeds.{Deed, Answer, focused_box, fits, given, wr
 use Rattle.session_model.specs.Commands.{on_client, on_window}
 use Rattle.session_model.specs.Events.{is_client_size, is_window_size}
 use Rattle.session_rows.proofs.Serials.{if_true, serial_is}
-use Rattle.windows.specs.declared.window.Window as code
-use Rattle.windows.specs.Standing.{StandFor, Answered, serial, resized, resized_in, written_to}
-use Rattle.windows.proofs.Callers.{row_done, row_refused_as}
+use Rattle.session_windows.specs.declared.window.Window as code
+use Rattle.session_windows.specs.Standing.{StandFor, Answered, serial, resized, resized_in, written_to}
+use Rattle.session_windows.proofs.Callers.{row_done, row_refused_as}
 use Rattle.session_clients.specs.declared.client.Client.{Client}
 use Rattle.session_clients.specs.Stands.{ClientStands}
 use Rattle.session_state.specs.declared.caller.Caller.{Caller}

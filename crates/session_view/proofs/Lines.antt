@@ -7,7 +7,7 @@ use Rattle.std.proofs.lemmas.List.Elements.{All-from_get_or, All-get_or, All-app
 use Rattle.cells.specs.declared.cell.Cell.{Cell}
 use Rattle.cells.specs.Page.{line_at}
 use Rattle.terminal_model.specs.Screen.{Screen}
-use Rattle.session_model.specs.Granted.{moved_back}
+use Rattle.terminal_model.specs.Scrollback.{moved_back}
 
 all_reverse : {X : Type 0} (P : X → Type 0) (xs : List X) (d : X) → All P xs → All P (reverse xs)
 all_reverse P xs d all =

@@ -7,11 +7,12 @@ use Rattle.view.specs.Granted as view
 use Rattle.session_model.specs.Tables as model
 use Rattle.session_model.specs.Tables.{Tables}
 use Rattle.session_model.specs.Terminals.{terminal_of}
-use Rattle.session_model.specs.Granted.{moved_back, window_read, part_shown}
+use Rattle.terminal_model.specs.Scrollback.{moved_back}
+use Rattle.session_model.specs.Granted.{window_read, part_shown}
 use Rattle.session_rows.specs.Matched.{Matched}
-use Rattle.windows.specs.declared.window.Window.{Window}
-use Rattle.windows.specs.Standing.{WindowStands}
-use Rattle.windows.specs.Showing.{cells_of}
+use Rattle.session_windows.specs.declared.window.Window.{Window}
+use Rattle.session_windows.specs.Standing.{WindowStands}
+use Rattle.session_windows.specs.Showing.{cells_of}
 use Rattle.session_state.specs.declared.state.State.{State}
 use Rattle.session_state.specs.Stands.{Stands}
 use Rattle.session_model.specs.Sound.{AreFit}

@@ -13,9 +13,9 @@ use acl::{Bit, Object, UserId};
 use cells::Cell;
 use regions::Shown;
 use session_state::State;
+use session_windows::Window;
 use std::alloc::{AllocError, Global};
 use view::Pane;
-use windows::Window;
 
 /// What a region shows a user.
 #[derive(Drop)]

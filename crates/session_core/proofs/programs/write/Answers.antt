@@ -4,7 +4,7 @@ use Rattle.session_model.specs.Trace.{Output}
 use Rattle.session_model.specs.Tables.{Window, window_at}
 use Rattle.session_model.specs.Events.{outcome, done, finished, outputs}
 use Rattle.session_rows.proofs.Matching.{both_back}
-use Rattle.windows.specs.Standing.{WindowStands, at_serial}
+use Rattle.session_windows.specs.Standing.{WindowStands, at_serial}
 use Rattle.session_state.specs.declared.step_output.StepOutput.{StepOutput}
 use Rattle.session_core.proofs.Outcomes.{was_done, for_there}
 use Rattle.session_core.proofs.programs.write.Goals as goal
