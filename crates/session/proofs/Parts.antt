@@ -13,7 +13,7 @@ use Rattle.session_model.specs.declared.event.Ran.{Ran}
 use Rattle.session_core.specs.declared.session.Session.{Session}
 use Rattle.session_model.specs.Trace.{EventValue, Reply, Trace, begun}
 use Rattle.session_core.specs.Stands.{StandsFor}
-use Rattle.session_core.specs.Headline.{with_steps, AllSteps, Keeps as KeepsPromise, Serves, SomeRun, left_by, without_part, effects_of, replies_of}
+use Rattle.session_core.specs.Headline.{with_steps, AllSteps, Keeps as KeepsPromise, Serves, SomeRun, untaken_events, without_keys, effects_of, replies_of}
 use Rattle.session_lines.specs.Printed.{effect_line, reply_line}
 use Rattle.session.specs.declared.fault.Fault.{Fault}
 use Rattle.session.specs.declared.fault.Fault.TheVariants.{NotUnderstood, Io, NoMemory}
@@ -31,8 +31,8 @@ use Rattle.session.proofs.Texts.{one_event}
 
 -- ---- one event
 
-pub left_none : (ran : Ran) (event : EventValue) → ran.taken ≡ 1 → left_by ran (event ∷ []) ≡ []
-left_none ran event all = ap (λ n. without_part ran.part (drop n (event ∷ []))) all
+pub left_none : (ran : Ran) (event : EventValue) → ran.taken ≡ 1 → untaken_events ran (event ∷ []) ≡ []
+left_none ran event all = ap (λ n. without_keys ran.part (drop n (event ∷ []))) all
 
 pub event_ran : (h : Trace) (old new : Session) (event : EventValue) (no_effects effects : List Effect) (no_replies replies : List Reply) (left : List EventValue) (a b : Option (List ℕ)) (text : List ℕ)
     → no_effects ≡ [] → no_replies ≡ []

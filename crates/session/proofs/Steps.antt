@@ -1,7 +1,7 @@
 -- Steps one after another.
 use Rattle.std.proofs.Common.{◌≡◌, List, [], ◌∷◌, ◌++◌, refl, ap, subst, append_assoc}
 use Rattle.session_model.specs.Trace.{EventValue, Entry, Trace, with_step}
-use Rattle.session_core.specs.Headline.{with_steps, Serves, left_of}
+use Rattle.session_core.specs.Headline.{with_steps, Serves, untaken_keys}
 
 pub with_steps-append : (h : Trace) (xs ys : List Entry) → with_steps h (xs ++ ys) ≡ with_steps (with_steps h xs) ys
 with_steps-append h [] ys = refl
@@ -12,9 +12,9 @@ pub serves_before : (events : List EventValue) (steps : List Entry) (left more :
 serves_before events [] left more s = ap (λ es. es ++ more) s
 serves_before [] (e ∷ steps) left more s = absurd s
 serves_before (event ∷ events) (e ∷ steps) left more s =
-    (s.0, subst (λ es. Serves es steps (left ++ more)) (append_assoc (left_of e.event e.reply) events more) (serves_before (left_of e.event e.reply ++ events) steps left more s.1))
+    (s.0, subst (λ es. Serves es steps (left ++ more)) (append_assoc (untaken_keys e.event e.reply) events more) (serves_before (untaken_keys e.event e.reply ++ events) steps left more s.1))
 
 pub serves_on : (events : List EventValue) (xs ys : List Entry) (mid left : List EventValue) → Serves events xs mid → Serves mid ys left → Serves events (xs ++ ys) left
 serves_on events [] ys mid left s t = subst (λ es. Serves es ys left) s t
 serves_on [] (x ∷ xs) ys mid left s t = absurd s
-serves_on (event ∷ events) (x ∷ xs) ys mid left s t = (s.0, serves_on (left_of x.event x.reply ++ events) xs ys mid left s.1 t)
+serves_on (event ∷ events) (x ∷ xs) ys mid left s t = (s.0, serves_on (untaken_keys x.event x.reply ++ events) xs ys mid left s.1 t)

@@ -5,7 +5,7 @@ use Rattle.std.specs.List.{flat_map}
 use Rattle.std.proofs.lemmas.Grind.{flat_map-append}
 use Rattle.std.proofs.lemmas.List.{append-nil}
 use Rattle.session_model.specs.Trace.{EventValue, Attach, Detach, Keys, Command, Resize, Open, Output, Closed, Draw, Reply, Entry}
-use Rattle.session_core.specs.Headline.{Serves, left_of, last_reply, replies_of, effects_of}
+use Rattle.session_core.specs.Headline.{Serves, untaken_keys, last_reply, replies_of, effects_of}
 use Rattle.session_lines.specs.Printed.{effect_line, reply_line}
 use Rattle.session.specs.Played.{printed}
 
@@ -22,7 +22,7 @@ keys_left : (client taken : ℕ) (bytes : List ℕ) (b : Bool) → IsLeft (Keys 
 keys_left client taken bytes true = next (Keys client (drop taken bytes)) (λ reply. same_keys client (drop taken bytes) bytes reply)
 keys_left client taken bytes false = none
 
-is_left : (event : EventValue) (reply : Reply) → IsLeft event (left_of event reply)
+is_left : (event : EventValue) (reply : Reply) → IsLeft event (untaken_keys event reply)
 is_left (Keys client bytes) (Ok done) = keys_left client done.taken bytes (nat_lt done.taken (length bytes))
 is_left (Keys client bytes) (Err refusal) = none
 is_left (Attach user rows columns) reply = none
@@ -66,4 +66,4 @@ first_step event e steps _ (next more same) is serves more_steps =
 -- the steps' effects stand together, and the last step's reply ends them
 pub one_event : (event : EventValue) (steps : List Entry) → Serves (event ∷ []) steps [] → printed steps ≡ text_of_steps event steps
 one_event event [] serves = cc
-one_event event (e ∷ steps) serves = first_step event e steps (left_of e.event e.reply) (is_left e.event e.reply) serves.0 serves.1 (λ more s. one_event more steps s)
+one_event event (e ∷ steps) serves = first_step event e steps (untaken_keys e.event e.reply) (is_left e.event e.reply) serves.0 serves.1 (λ more s. one_event more steps s)

@@ -9,7 +9,7 @@ use Rattle.session_model.specs.Granted.{granted_view}
 use Rattle.session_model.specs.Run.{tables_of}
 use Rattle.session_lines.specs.Script.{event_of}
 use Rattle.session_lines.specs.Printed.{effect_line, reply_line, view_lines}
-use Rattle.session_core.specs.Headline.{with_steps, AllSteps, Keeps, Serves, left_of, last_reply}
+use Rattle.session_core.specs.Headline.{with_steps, AllSteps, Keeps, Serves, untaken_keys, last_reply}
 use Rattle.session_core.specs.Stands.{StandsFor}
 use Rattle.session_core.specs.declared.session.Session.{Session}
 use Rattle.session.specs.declared.fault.Fault.{Fault}
@@ -45,7 +45,7 @@ IsBad line = map event_of (filled (line ∷ [])) ≡ None ∷ []
 abbrev pub step_lines : Entry → List ℕ
 step_lines e =
     flat_map effect_line e.effects
-    ++ flat_map (reply_line e.event) (last_reply (left_of e.event e.reply) e.reply)
+    ++ flat_map (reply_line e.event) (last_reply (untaken_keys e.event e.reply) e.reply)
 
 abbrev pub printed : List Entry → List ℕ
 printed steps = flat_map step_lines steps

@@ -14,7 +14,7 @@ use Rattle.session_model.specs.Keying.{is_command, completes, taken}
 use Rattle.session_model.specs.Events.{outcome, keys_outcome, reply_of}
 use Rattle.session_laws.proofs.Outcomes.{found}
 use Rattle.session_rows.proofs.Serials.{if_true, if_false}
-use Rattle.session_core.specs.Headline.{left_of, read_by}
+use Rattle.session_core.specs.Headline.{untaken_keys, read_by}
 
 -- no keys complete nothing
 none_complete : (past keys : List ℕ) → completes past keys 0 ≡ false
@@ -73,28 +73,28 @@ below m n lt = grind (arith, nat_tests, lt)
 
 -- ---- what is left
 
-all_read : (client : ℕ) (bytes : List ℕ) (reply : Reply) → length bytes ≤ read_by reply → left_of (Keys client bytes) reply ≡ []
+all_read : (client : ℕ) (bytes : List ℕ) (reply : Reply) → length bytes ≤ read_by reply → untaken_keys (Keys client bytes) reply ≡ []
 all_read client bytes (Ok done) le = if_false (nat_lt done.taken (length bytes)) _ _ (not_below done.taken (length bytes) le)
 all_read client bytes (Err r) le = refl
 
-none_left : (client : ℕ) (bytes : List ℕ) (reply : Reply) → ReadsSome bytes reply → read_by reply ≡ 0 → left_of (Keys client bytes) reply ≡ []
+none_left : (client : ℕ) (bytes : List ℕ) (reply : Reply) → ReadsSome bytes reply → read_by reply ≡ 0 → untaken_keys (Keys client bytes) reply ≡ []
 none_left client bytes (Err r) some none = refl
 none_left client [] (Ok done) some none = all_read client [] (Ok done) (omega arith)
 none_left client (b ∷ bytes) (Ok done) some none = absurd (omega (arith, some, none))
 
 none_read : (t : Tables) (client : ℕ) (bytes : List ℕ) (reply : Reply) → reply ≡ (outcome t (Keys client bytes)).reply → read_by reply ≡ 0
-    → left_of (Keys client bytes) reply ≡ []
+    → untaken_keys (Keys client bytes) reply ≡ []
 none_read t client bytes reply is none = none_left client bytes reply (reads_some t client bytes reply is) none
 
 -- a step that reads nothing, or all there is, leaves nothing
 pub last_read : (t : Tables) (client : ℕ) (bytes : List ℕ) (reply : Reply) (read : ℕ) → reply ≡ (outcome t (Keys client bytes)).reply → read ≡ read_by reply → (read ≡ 0) ⊎ (length bytes ≤ read)
-    → left_of (Keys client bytes) reply ≡ []
+    → untaken_keys (Keys client bytes) reply ≡ []
 last_read t client bytes reply read is by (inl none) = none_read t client bytes reply is (sym by ∙ none)
 last_read t client bytes reply read is by (inr all) = all_read client bytes reply (omega (arith, by, all))
 
 pub some_left : (client : ℕ) (bytes : List ℕ) (reply : Reply) (read : ℕ) → read ≡ read_by reply → 0 < read → read < length bytes
-    → left_of (Keys client bytes) reply ≡ Keys client (drop read bytes) ∷ []
+    → untaken_keys (Keys client bytes) reply ≡ Keys client (drop read bytes) ∷ []
 some_left client bytes (Ok done) read is some lt =
-    subst (λ n. left_of (Keys client bytes) (Ok done) ≡ Keys client (drop n bytes) ∷ []) (sym is)
+    subst (λ n. untaken_keys (Keys client bytes) (Ok done) ≡ Keys client (drop n bytes) ∷ []) (sym is)
     (if_true (nat_lt done.taken (length bytes)) _ _ (below done.taken (length bytes) (omega (arith, is, lt))))
 some_left client bytes (Err r) read is some lt = absurd (omega (arith, is, some))

@@ -23,7 +23,7 @@ use Rattle.session_core.specs.Drawn.{AreDrawn, AreNoted, draws_one_of}
 use Rattle.session_core.proofs.Needless.{needs_none, one_drawn, stay_drawn}
 use Rattle.session_core.specs.declared.session.Session.{Session}
 use Rattle.session_core.specs.Stands.{StandsFor, Takes, entry_of}
-use Rattle.session_core.specs.Headline.{HasCome, with_steps, AllSteps, Keeps, left_of, Serves, last_reply, replies_of, effects_of, without_part, IsPart, Call, AreSteps, SomeRun, SomeSteps}
+use Rattle.session_core.specs.Headline.{HasCome, with_steps, AllSteps, Keeps, untaken_keys, Serves, last_reply, replies_of, effects_of, without_keys, IsPart, Call, AreSteps, SomeRun, SomeSteps}
 
 -- ---- lists of steps
 
@@ -37,19 +37,19 @@ effects_of-append (x ∷ xs) ys = ap (λ es. x.effects ++ es) (effects_of-append
 
 replies_of-append : (xs ys : List Entry) → replies_of (xs ++ ys) ≡ replies_of xs ++ replies_of ys
 replies_of-append [] ys = refl
-replies_of-append (x ∷ xs) ys = ap (λ es. last_reply (left_of x.event x.reply) x.reply ++ es) (replies_of-append xs ys) ∙ sym (append_assoc _ (replies_of xs) (replies_of ys))
+replies_of-append (x ∷ xs) ys = ap (λ es. last_reply (untaken_keys x.event x.reply) x.reply ++ es) (replies_of-append xs ys) ∙ sym (append_assoc _ (replies_of xs) (replies_of ys))
 
 -- events that come behind are left
 serves_before : (events : List EventValue) (steps : List Entry) (left more : List EventValue) → Serves events steps left → Serves (events ++ more) steps (left ++ more)
 serves_before events [] left more s = ap (λ es. es ++ more) s
 serves_before [] (e ∷ steps) left more s = absurd s
 serves_before (event ∷ events) (e ∷ steps) left more s =
-    (s.0, subst (λ es. Serves es steps (left ++ more)) (append_assoc (left_of e.event e.reply) events more) (serves_before (left_of e.event e.reply ++ events) steps left more s.1))
+    (s.0, subst (λ es. Serves es steps (left ++ more)) (append_assoc (untaken_keys e.event e.reply) events more) (serves_before (untaken_keys e.event e.reply ++ events) steps left more s.1))
 
 serves_on : (events : List EventValue) (xs ys : List Entry) (mid left : List EventValue) → Serves events xs mid → Serves mid ys left → Serves events (xs ++ ys) left
 serves_on events [] ys mid left s t = subst (λ es. Serves es ys left) s t
 serves_on [] (x ∷ xs) ys mid left s t = absurd s
-serves_on (event ∷ events) (x ∷ xs) ys mid left s t = (s.0, serves_on (left_of x.event x.reply ++ events) xs ys mid left s.1 t)
+serves_on (event ∷ events) (x ∷ xs) ys mid left s t = (s.0, serves_on (untaken_keys x.event x.reply ++ events) xs ys mid left s.1 t)
 
 -- ---- what each step keeps
 
@@ -123,7 +123,7 @@ draw_taken h s event reply noted one replied noted_is st = absurd (cc (one))
 
 -- one step, whose reply says what it leaves of its event
 pub one_step : (old new : Session) (event : EventValue) (left : List EventValue) (noted : Noted) (before after : List Effect) (reply : Reply)
-    → ((t : Tables) → reply ≡ (outcome t event).reply → left_of event reply ≡ left) → Takes old event noted before after reply new
+    → ((t : Tables) → reply ≡ (outcome t event).reply → untaken_keys event reply ≡ left) → Takes old event noted before after reply new
     → SomeSteps old (record { events = event ∷ []; effects = before; more_effects = after; replies = []; more_replies = last_reply left reply; left = left }) new
 one_step old new event left noted before after reply leaves takes h st =
     let made = takes h st in
@@ -132,9 +132,9 @@ one_step old new event left noted before after reply leaves takes h st =
       subst (λ es. AreSteps (record { events = event ∷ []; effects = before; more_effects = after; replies = []; more_replies = last_reply es reply; left = es }) (e ∷ []))
           (leaves (tables_of h) made.2.run.1.reply)
           (record {
-            events = (refl, sym (append-nil (left_of event reply)));
+            events = (refl, sym (append-nil (untaken_keys event reply)));
             effects = made.1 ∙ ap (λ es. before ++ es) (sym (append-nil made.0));
-            replies = sym (append-nil (last_reply (left_of event reply) reply));
+            replies = sym (append-nil (last_reply (untaken_keys event reply) reply));
           }),
       made.2,
       tt,
@@ -172,16 +172,16 @@ then_steps old mid new events first left rest left_mid left_new e1 e2 e3 r1 r2 r
 
 -- ---- parts of events
 
-pub without_none : (events : List EventValue) → without_part 0 events ≡ events
+pub without_none : (events : List EventValue) → without_keys 0 events ≡ events
 without_none [] = refl
 without_none (event ∷ events) = on event where
-  on : (event : EventValue) → without_part 0 (event ∷ events) ≡ event ∷ events
+  on : (event : EventValue) → without_keys 0 (event ∷ events) ≡ event ∷ events
   on (Keys client bytes) = refl
   on _ = refl
 
-without_part-append : (part : ℕ) (event : EventValue) (events : List EventValue) → without_part part (event ∷ []) ++ events ≡ without_part part (event ∷ events)
-without_part-append part (Keys client bytes) events = refl
-without_part-append part _ events = refl
+without_keys-append : (part : ℕ) (event : EventValue) (events : List EventValue) → without_keys part (event ∷ []) ++ events ≡ without_keys part (event ∷ events)
+without_keys-append part (Keys client bytes) events = refl
+without_keys-append part _ events = refl
 
 -- a part of the first event alone is one
 pub part_of : (part : ℕ) (event : EventValue) (events : List EventValue) → IsPart part (event ∷ []) → IsPart part (event ∷ events)
@@ -198,7 +198,7 @@ came_to events taken part first rest lt at is = record {
 }
 
 -- keys alone may be read in part
-pub whole_but_keys : (event : Event) (reply : Reply) → ((client : ℕ) (bytes : Bor (List ℕ)) → event ≡ told.Keys client bytes → ⊥) → left_of (happening event) reply ≡ []
+pub whole_but_keys : (event : Event) (reply : Reply) → ((client : ℕ) (bytes : Bor (List ℕ)) → event ≡ told.Keys client bytes → ⊥) → untaken_keys (happening event) reply ≡ []
 whole_but_keys (told.Keys client bytes) reply other = absurd (other client bytes refl)
 whole_but_keys _ reply other = refl
 
@@ -213,13 +213,13 @@ rest_at (e ∷ events) (suc i) event lt =
     subst (λ n. drop i (map happening events) ≡ happening (get_or events i event) ∷ drop n (map happening (e ∷ events))) (sym same) (rest_at events i event (omega arith))
 
 -- the first of them was taken in part
-pub stops_in : (part : ℕ) (first : EventValue) (rest events : List EventValue) → events ≡ first ∷ rest → without_part part events ≡ without_part part (first ∷ []) ++ rest
-stops_in part first rest events is = ap (λ es. without_part part es) is ∙ sym (without_part-append part first rest)
+pub stops_in : (part : ℕ) (first : EventValue) (rest events : List EventValue) → events ≡ first ∷ rest → without_keys part events ≡ without_keys part (first ∷ []) ++ rest
+stops_in part first rest events is = ap (λ es. without_keys part es) is ∙ sym (without_keys-append part first rest)
 
 -- the end of the events
 pub at_end : (old new : Session) (events : List EventValue) (e1 e2 : List Effect) (r1 r2 : List Reply) (n m : ℕ) → n ≡ m
     → SomeSteps old (record { events = events; effects = e1; more_effects = e2; replies = r1; more_replies = r2; left = drop n events }) new
-    → SomeSteps old (record { events = events; effects = e1; more_effects = e2; replies = r1; more_replies = r2; left = without_part 0 (drop m events) }) new
+    → SomeSteps old (record { events = events; effects = e1; more_effects = e2; replies = r1; more_replies = r2; left = without_keys 0 (drop m events) }) new
 at_end old new events e1 e2 r1 r2 n m same some =
-    subst (λ k. SomeSteps old (record { events = events; effects = e1; more_effects = e2; replies = r1; more_replies = r2; left = without_part 0 (drop k events) }) new) same
+    subst (λ k. SomeSteps old (record { events = events; effects = e1; more_effects = e2; replies = r1; more_replies = r2; left = without_keys 0 (drop k events) }) new) same
     (subst (λ es. SomeSteps old (record { events = events; effects = e1; more_effects = e2; replies = r1; more_replies = r2; left = es }) new) (sym (without_none (drop n events))) some)

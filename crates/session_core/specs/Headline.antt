@@ -37,10 +37,10 @@ abbrev pub Keeps : Trace → Entry → Type 0
 Keeps h e = KeepsPromise (tables_of h) e
 
 -- what is left of an event after a step: keys that it did not read
-abbrev pub left_of : EventValue → Reply → List EventValue
-left_of (Keys client bytes) (Ok done) =
+abbrev pub untaken_keys : EventValue → Reply → List EventValue
+untaken_keys (Keys client bytes) (Ok done) =
     if nat_lt done.taken (length bytes) then Keys client (drop done.taken bytes) ∷ [] else []
-left_of _ _ = []
+untaken_keys _ _ = []
 
 -- how many bytes of keys a step read
 abbrev pub read_by : Reply → ℕ
@@ -53,7 +53,7 @@ abbrev pub Serves : List EventValue → List Entry → List EventValue → Type 
 Serves events [] left = left ≡ events
 Serves [] (e ∷ steps) left = ⊥
 Serves (event ∷ events) (e ∷ steps) left =
-    (e.event ≡ event) × Serves (left_of e.event e.reply ++ events) steps left
+    (e.event ≡ event) × Serves (untaken_keys e.event e.reply ++ events) steps left
 
 -- an event's reply is that of its last step
 abbrev pub last_reply : List EventValue → Reply → List Reply
@@ -62,21 +62,21 @@ last_reply (event ∷ events) reply = []
 
 abbrev pub replies_of : List Entry → List Reply
 replies_of [] = []
-replies_of (e ∷ steps) = last_reply (left_of e.event e.reply) e.reply ++ replies_of steps
+replies_of (e ∷ steps) = last_reply (untaken_keys e.event e.reply) e.reply ++ replies_of steps
 
 abbrev pub effects_of : List Entry → List Effect
 effects_of [] = []
 effects_of (e ∷ steps) = e.effects ++ effects_of steps
 
 -- events whose first has lost its first keys
-abbrev pub without_part : ℕ → List EventValue → List EventValue
-without_part part [] = []
-without_part part (Keys client bytes ∷ events) = Keys client (drop part bytes) ∷ events
-without_part part (event ∷ events) = event ∷ events
+abbrev pub without_keys : ℕ → List EventValue → List EventValue
+without_keys part [] = []
+without_keys part (Keys client bytes ∷ events) = Keys client (drop part bytes) ∷ events
+without_keys part (event ∷ events) = event ∷ events
 
 -- what a run that came so far leaves of the events
-abbrev pub left_by : Ran → List EventValue → List EventValue
-left_by ran events = without_part ran.part (drop ran.taken events)
+abbrev pub untaken_events : Ran → List EventValue → List EventValue
+untaken_events ran events = without_keys ran.part (drop ran.taken events)
 
 -- so many bytes are a part of the first of some events: of keys no more than they are, of others
 -- none
@@ -132,13 +132,13 @@ run_call events effects more_effects replies more_replies ran = record {
   more_effects = more_effects;
   replies = replies;
   more_replies = more_replies;
-  left = left_by ran (map happening events);
+  left = untaken_events ran (map happening events);
 }
 
 -- what was taken of one event
-abbrev pub left_by_taken : EventValue → Taken → List EventValue
-left_by_taken event (Whole reply) = []
-left_by_taken event (Part part) = without_part part (event ∷ [])
+abbrev pub untaken_by : EventValue → Taken → List EventValue
+untaken_by event (Whole reply) = []
+untaken_by event (Part part) = without_keys part (event ∷ [])
 
 abbrev pub replies_by_taken : Taken → List Reply
 replies_by_taken (Whole reply) = reply ∷ []
@@ -151,7 +151,7 @@ take_call event effects more_effects taken = record {
   more_effects = more_effects;
   replies = [];
   more_replies = replies_by_taken taken;
-  left = left_by_taken event taken;
+  left = untaken_by event taken;
 }
 
 -- no more of it than there is
