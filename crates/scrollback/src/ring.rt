@@ -13,6 +13,7 @@ use cells::{Cell, Line};
 use circular_buffer::HeapCircularBuffer;
 use std::alloc::{AllocError as NoMemory, Global};
 use std::marker::Model;
+use std::mem;
 
 /// The last `keep` of the lines that it took in, all of one width. All its lines are made with it:
 /// taking one in takes no memory.
@@ -122,14 +123,24 @@ impl Ring {
         ensures stands { Continues self.old self.new line }
         ensures width { length result ≡ self.old.columns }
     {
+        let mut spare = line;
+        self.exchange(&mut spare);
+        spare
+    }
+
+    /// The same, where the one that is handed back takes the place of the other.
+    #[inline(always)]
+    pub fn exchange(&mut self, line: &mut Line)
+        requires { length line.old ≡ self.old.columns }
+        ensures kept { self.new ≡ taken_in self.old line.old }
+        ensures stands { Continues self.old self.new line.old }
+        ensures width { length line.new ≡ self.old.columns }
+    {
         let keep = self.lines.capacity();
-        match self.lines.pop_front() {
-            Some(spare) => {
-                let _ = self.lines.push_back(line);
-                self.count = (self.count + 1).min(keep);
-                spare
-            }
-            None => line,
+        if let Some(spare) = self.lines.pop_front() {
+            let taken = mem::replace(line, spare);
+            let _ = self.lines.push_back(taken);
+            self.count = (self.count + 1).min(keep);
         }
     }
 

@@ -323,7 +323,6 @@ impl Page {
         ensures stands { Continues ring.old ring.new (line_at self.old.lines 0) }
     {
         store::scroll_into(
-            self.alloc,
             self.stored.as_mut_slice(),
             self.places.as_mut_slice(),
             ring,

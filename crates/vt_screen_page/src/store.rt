@@ -13,7 +13,6 @@ ghost use Rattle.vt_screen_page.specs.Store.{IsStore, IsTurned, AreCleared, line
 use cells::{Cell, Line, Shape};
 use scrollback::Ring;
 use std::alloc::{AllocError, Global};
-use std::mem;
 
 /// Lets the places from `top` to `bottom` go round, so that the first `count` of them come last.
 pub fn turn(places: &mut [usize], top: usize, bottom: usize, count: usize)
@@ -103,13 +102,7 @@ pub fn scroll_down(
 
 /// Scrolls the lines of the page from the first one to `bottom` up by one, the first one into a
 /// ring, which hands a line back that becomes the blank one.
-pub fn scroll_into(
-    alloc: Global,
-    stored: &mut [Line],
-    places: &mut [usize],
-    ring: &mut Ring,
-    bottom: usize,
-)
+pub fn scroll_into(stored: &mut [Line], places: &mut [usize], ring: &mut Ring, bottom: usize)
     requires store { IsStore stored.old places.old }
     requires inside { bottom < length places.old }
     requires width { ring.old.columns ≡ length (line_at (lines_in_order stored.old places.old) 0) }
@@ -122,10 +115,9 @@ pub fn scroll_into(
         (line_at (lines_in_order stored.old places.old) 0) }
 {
     let place = places[0];
-    let line = mem::replace(&mut stored[place], Line::empty(alloc));
-    let mut blank = ring.take_in(line);
-    blank.clear();
-    stored[place] = blank;
+    let line = &mut stored[place];
+    ring.exchange(line);
+    line.clear();
     turn(places, 0, bottom, 1);
 }
 
