@@ -6,7 +6,7 @@ use Rattle.session_model.specs.Trace.{EventValue, Draw, Reply}
 use Rattle.session_model.specs.Tables.{Tables, client_at}
 use Rattle.session_model.specs.Run.{IsDraw}
 
--- the client is there, and a Draw that delivers nothing is one of it
+-- the client is there and needs no draw: its terminals show what it is granted to see
 abbrev pub IsDrawn : Tables → ℕ → Type 0
 IsDrawn t client = MatchOption (client_at t client) ⊥ (IsDraw t [])
 
@@ -18,8 +18,8 @@ abbrev pub draws_one_of : List ℕ → EventValue → Bool
 draws_one_of clients (Draw client) = list_any (nat_eq client) clients
 draws_one_of clients event = false
 
--- those that are known to be drawn after a step: what is refused changes nothing, a Draw may add
--- its client, and any other event may have changed what they are to show
+-- which clients are known to need no draw after a step: those of before where it was refused, with
+-- its client where it was a Draw, and none else, since any other event may change what they see
 abbrev pub AreNoted : Reply → EventValue → List ℕ → List ℕ → Type 0
 AreNoted (Err r) event old new = new ≡ old
 AreNoted (Ok done) (Draw client) old new = (new ≡ old ++ client ∷ []) ⊎ (new ≡ old)
