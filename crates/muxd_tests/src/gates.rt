@@ -140,12 +140,7 @@ impl Gate for Latch<'_> {
 
 // Whether two commands that are given at the same time are done. The second loop's is held when the
 // first loop's comes: were the first one held, nobody would take the second connection in.
-fn two_at_once<R: Net + Clock>(
-    rt: &R,
-    alloc: Global,
-    path: &str,
-    held: &Held,
-) -> io::Result<bool> {
+fn two_at_once<R: Net + Clock>(rt: &R, alloc: Global, path: &str, held: &Held) -> io::Result<bool> {
     let mut first = Line::silent(rt, alloc, path)?;
     let mut second = giver(rt, alloc, path, "wall b")?;
     for _ in 0..WAIT {
