@@ -22,38 +22,38 @@ pub record Spells (k : Kind) (bytes : List ℕ) (m : Message) : Type 0 where
 attach_takes : (bytes : List ℕ) (m : Message) → IsBytes bytes → attach_of bytes ≡ Some m → Spells kind.Attach bytes m
 unfolding attach_of
 attach_takes bytes m fits e =
-    let a = bind_some (two_at bytes) (λ rows. two_at rows.1 >>= λ cols. token_at cols.1 >>= λ token. text_of token.1 >>= λ name. Some (Attach rows.0 cols.0 token.0 name)) m e in
-    let b = bind_some (two_at a.0.1) (λ cols. token_at cols.1 >>= λ token. text_of token.1 >>= λ name. Some (Attach a.0.0 cols.0 token.0 name)) m a.2 in
+    let a = bind_some (two_at bytes) (λ rows. two_at rows.1 >>= λ columns. token_at columns.1 >>= λ token. text_of token.1 >>= λ name. Some (Attach rows.0 columns.0 token.0 name)) m e in
+    let b = bind_some (two_at a.0.1) (λ columns. token_at columns.1 >>= λ token. text_of token.1 >>= λ name. Some (Attach a.0.0 columns.0 token.0 name)) m a.2 in
     let d = bind_some (token_at b.0.1) (λ token. text_of token.1 >>= λ name. Some (Attach a.0.0 b.0.0 token.0 name)) m b.2 in
     let f = bind_some (text_of d.0.1) (λ name. Some (Attach a.0.0 b.0.0 d.0.0 name)) m d.2 in
     let rows = two_takes bytes a.0 fits a.1 in
-    let cols = two_takes a.0.1 b.0 rows.0.rest_fits b.1 in
-    let token = token_takes b.0.1 d.0 cols.0.rest_fits d.1 in
+    let columns = two_takes a.0.1 b.0 rows.0.rest_fits b.1 in
+    let token = token_takes b.0.1 d.0 columns.0.rest_fits d.1 in
     let name = text_takes d.0.1 f.0 f.1 in
     let tail : d.0.1 ≡ f.0 = name.0 in
     let whole : bytes ≡ two a.0.0 ++ (two b.0.0 ++ (d.0.0 ++ f.0)) =
-    rows.0.parts ∙ ap (λ (r : List ℕ). two a.0.0 ++ r) (cols.0.parts ∙ ap (λ (r : List ℕ). two b.0.0 ++ r) (token.0.parts ∙ ap (λ (r : List ℕ). d.0.0 ++ r) tail)) in
+    rows.0.parts ∙ ap (λ (r : List ℕ). two a.0.0 ++ r) (columns.0.parts ∙ ap (λ (r : List ℕ). two b.0.0 ++ r) (token.0.parts ∙ ap (λ (r : List ℕ). d.0.0 ++ r) tail)) in
     subst (λ (y : Message). Spells kind.Attach bytes y) (some_is (Attach a.0.0 b.0.0 d.0.0 f.0) m f.2)
     (record { kind_is = refl; payload_is = whole; fields = (token.1, name.1) })
 
 window_takes : (bytes : List ℕ) (m : Message) → IsBytes bytes → window_frame_of bytes ≡ Some m → Spells kind.Window bytes m
 unfolding window_frame_of
 window_takes bytes m fits e =
-    let a = bind_some (two_at bytes) (λ rows. two_at rows.1 >>= λ cols. two_at cols.1 >>= λ keep. token_at keep.1 >>= λ token. name_at token.1 >>= λ name. text_of name.1 >>= λ title. Some (Window rows.0 cols.0 keep.0 token.0 name.0 title)) m e in
-    let b = bind_some (two_at a.0.1) (λ cols. two_at cols.1 >>= λ keep. token_at keep.1 >>= λ token. name_at token.1 >>= λ name. text_of name.1 >>= λ title. Some (Window a.0.0 cols.0 keep.0 token.0 name.0 title)) m a.2 in
+    let a = bind_some (two_at bytes) (λ rows. two_at rows.1 >>= λ columns. two_at columns.1 >>= λ keep. token_at keep.1 >>= λ token. name_at token.1 >>= λ name. text_of name.1 >>= λ title. Some (Window rows.0 columns.0 keep.0 token.0 name.0 title)) m e in
+    let b = bind_some (two_at a.0.1) (λ columns. two_at columns.1 >>= λ keep. token_at keep.1 >>= λ token. name_at token.1 >>= λ name. text_of name.1 >>= λ title. Some (Window a.0.0 columns.0 keep.0 token.0 name.0 title)) m a.2 in
     let k = bind_some (two_at b.0.1) (λ keep. token_at keep.1 >>= λ token. name_at token.1 >>= λ name. text_of name.1 >>= λ title. Some (Window a.0.0 b.0.0 keep.0 token.0 name.0 title)) m b.2 in
     let d = bind_some (token_at k.0.1) (λ token. name_at token.1 >>= λ name. text_of name.1 >>= λ title. Some (Window a.0.0 b.0.0 k.0.0 token.0 name.0 title)) m k.2 in
     let f = bind_some (name_at d.0.1) (λ name. text_of name.1 >>= λ title. Some (Window a.0.0 b.0.0 k.0.0 d.0.0 name.0 title)) m d.2 in
     let g = bind_some (text_of f.0.1) (λ title. Some (Window a.0.0 b.0.0 k.0.0 d.0.0 f.0.0 title)) m f.2 in
     let rows = two_takes bytes a.0 fits a.1 in
-    let cols = two_takes a.0.1 b.0 rows.0.rest_fits b.1 in
-    let keep = two_takes b.0.1 k.0 cols.0.rest_fits k.1 in
+    let columns = two_takes a.0.1 b.0 rows.0.rest_fits b.1 in
+    let keep = two_takes b.0.1 k.0 columns.0.rest_fits k.1 in
     let token = token_takes k.0.1 d.0 keep.0.rest_fits d.1 in
     let name = name_takes d.0.1 f.0 token.0.rest_fits f.1 in
     let title = text_takes f.0.1 g.0 g.1 in
     let tail : d.0.1 ≡ named f.0.0 g.0 = name.parts ∙ ap (λ (r : List ℕ). named f.0.0 r) title.0 in
     let whole : bytes ≡ two a.0.0 ++ (two b.0.0 ++ (two k.0.0 ++ (d.0.0 ++ named f.0.0 g.0))) =
-    rows.0.parts ∙ ap (λ (r : List ℕ). two a.0.0 ++ r) (cols.0.parts ∙ ap (λ (r : List ℕ). two b.0.0 ++ r) (keep.0.parts ∙ ap (λ (r : List ℕ). two k.0.0 ++ r) (token.0.parts ∙ ap (λ (r : List ℕ). d.0.0 ++ r) tail))) in
+    rows.0.parts ∙ ap (λ (r : List ℕ). two a.0.0 ++ r) (columns.0.parts ∙ ap (λ (r : List ℕ). two b.0.0 ++ r) (keep.0.parts ∙ ap (λ (r : List ℕ). two k.0.0 ++ r) (token.0.parts ∙ ap (λ (r : List ℕ). d.0.0 ++ r) tail))) in
     subst (λ (y : Message). Spells kind.Window bytes y) (some_is (Window a.0.0 b.0.0 k.0.0 d.0.0 f.0.0 g.0) m g.2)
     (record { kind_is = refl; payload_is = whole; fields = (token.1, name.short, name.is_text, title.1) })
 
@@ -83,14 +83,14 @@ command_takes bytes m fits e =
 size_takes : (bytes : List ℕ) (s : ℕ × ℕ) → IsBytes bytes → size_of bytes ≡ Some s → (bytes ≡ two s.0 ++ two s.1) × (s.0 < 65536) × (s.1 < 65536)
 unfolding size_of
 size_takes bytes s fits e =
-    let a = bind_some (two_at bytes) (λ rows. two_at rows.1 >>= λ cols. end_at cols.1 >>= λ rest. Some (rows.0, cols.0)) s e in
-    let b = bind_some (two_at a.0.1) (λ cols. end_at cols.1 >>= λ rest. Some (a.0.0, cols.0)) s a.2 in
+    let a = bind_some (two_at bytes) (λ rows. two_at rows.1 >>= λ columns. end_at columns.1 >>= λ rest. Some (rows.0, columns.0)) s e in
+    let b = bind_some (two_at a.0.1) (λ columns. end_at columns.1 >>= λ rest. Some (a.0.0, columns.0)) s a.2 in
     let d = bind_some (end_at b.0.1) (λ rest. Some (a.0.0, b.0.0)) s b.2 in
     let rows = two_takes bytes a.0 fits a.1 in
-    let cols = two_takes a.0.1 b.0 rows.0.rest_fits b.1 in
+    let columns = two_takes a.0.1 b.0 rows.0.rest_fits b.1 in
     let nothing : b.0.1 ≡ [] = end_takes b.0.1 d.0 d.1 in
-    let whole : bytes ≡ two a.0.0 ++ two b.0.0 = rows.0.parts ∙ ap (λ (r : List ℕ). two a.0.0 ++ r) (cols.0.parts ∙ ap (λ (r : List ℕ). two b.0.0 ++ r) nothing) in
-    subst (λ (y : ℕ × ℕ). (bytes ≡ two y.0 ++ two y.1) × (y.0 < 65536) × (y.1 < 65536)) (some_is (a.0.0, b.0.0) s d.2) (whole, rows.1, cols.1)
+    let whole : bytes ≡ two a.0.0 ++ two b.0.0 = rows.0.parts ∙ ap (λ (r : List ℕ). two a.0.0 ++ r) (columns.0.parts ∙ ap (λ (r : List ℕ). two b.0.0 ++ r) nothing) in
+    subst (λ (y : ℕ × ℕ). (bytes ≡ two y.0 ++ two y.1) × (y.0 < 65536) × (y.1 < 65536)) (some_is (a.0.0, b.0.0) s d.2) (whole, rows.1, columns.1)
 
 number_takes : (bytes : List ℕ) (n : ℕ) → IsBytes bytes → number_of bytes ≡ Some n → (bytes ≡ n ∷ []) × (n < 256)
 unfolding number_of
@@ -179,10 +179,10 @@ window_again (Some n) h = let ne : eqb n 0xFF ≡ false = grind arith in rw ne r
 
 pub message_again : (m : Message) → HasFields m → message_of (kind_of m) (payload m) ≡ Some m
 unfolding message_of attach_of window_frame_of command_of
-message_again (Attach rows cols token name) h =
-    rw (two_is rows, two_is cols, token_again token name h.0, text_again name h.1) refl
-message_again (Window rows cols keep token name title) h =
-    rw (two_is rows, two_is cols, two_is keep, token_again token (named name title) h.0, name_again name title h.2, text_again title h.3) refl
+message_again (Attach rows columns token name) h =
+    rw (two_is rows, two_is columns, token_again token name h.0, text_again name h.1) refl
+message_again (Window rows columns keep token name title) h =
+    rw (two_is rows, two_is columns, two_is keep, token_again token (named name title) h.0, name_again name title h.2, text_again title h.3) refl
 message_again (Command window token name line) h =
     rw (token_again token (named name line) h.1, name_again name line h.3, window_again window h.0) refl
 message_again (Keys b) h = rw (some_again b h) refl

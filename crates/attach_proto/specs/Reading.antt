@@ -80,20 +80,20 @@ window_of n = if n == 0xFF then None else Some n
 unfoldable pub attach_of : List ℕ → Option Message
 attach_of bytes = do
   rows ← two_at bytes
-  cols ← two_at rows.1
-  token ← token_at cols.1
+  columns ← two_at rows.1
+  token ← token_at columns.1
   name ← text_of token.1
-  Some (Attach rows.0 cols.0 token.0 name)
+  Some (Attach rows.0 columns.0 token.0 name)
 
 unfoldable pub window_frame_of : List ℕ → Option Message
 window_frame_of bytes = do
   rows ← two_at bytes
-  cols ← two_at rows.1
-  keep ← two_at cols.1
+  columns ← two_at rows.1
+  keep ← two_at columns.1
   token ← token_at keep.1
   name ← name_at token.1
   title ← text_of name.1
-  Some (Window rows.0 cols.0 keep.0 token.0 name.0 title)
+  Some (Window rows.0 columns.0 keep.0 token.0 name.0 title)
 
 unfoldable pub command_of : List ℕ → Option Message
 command_of bytes = do
@@ -105,9 +105,9 @@ command_of bytes = do
 unfoldable pub size_of : List ℕ → Option (ℕ × ℕ)
 size_of bytes = do
   rows ← two_at bytes
-  cols ← two_at rows.1
-  rest ← end_at cols.1
-  Some (rows.0, cols.0)
+  columns ← two_at rows.1
+  rest ← end_at columns.1
+  Some (rows.0, columns.0)
 
 unfoldable pub number_of : List ℕ → Option ℕ
 number_of bytes = do

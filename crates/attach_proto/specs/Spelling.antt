@@ -59,18 +59,18 @@ reason why.Fault = 6
 reason why.TrailFull = 7
 
 abbrev pub kind_of : Message → Kind
-kind_of (Attach rows cols token name) = kind.Attach
-kind_of (Window rows cols keep token name title) = kind.Window
+kind_of (Attach rows columns token name) = kind.Attach
+kind_of (Window rows columns keep token name title) = kind.Window
 kind_of (Command window token name line) = kind.Command
 kind_of (Keys bytes) = kind.Keys
-kind_of (Resize rows cols) = kind.Resize
+kind_of (Resize rows columns) = kind.Resize
 kind_of (Output bytes) = kind.Output
 kind_of Detach = kind.Detach
 kind_of (Welcome number) = kind.Welcome
 kind_of (Draw bytes) = kind.Draw
 kind_of (Input bytes) = kind.Input
 kind_of (Say text) = kind.Say
-kind_of (Size rows cols) = kind.Size
+kind_of (Size rows columns) = kind.Size
 kind_of (Gone w) = kind.Gone
 
 abbrev pub window_byte : Option ℕ → ℕ
@@ -82,19 +82,19 @@ abbrev pub named : List ℕ → List ℕ → List ℕ
 named name rest = length name ∷ (name ++ rest)
 
 abbrev pub payload : Message → List ℕ
-payload (Attach rows cols token name) = two rows ++ (two cols ++ (token ++ name))
-payload (Window rows cols keep token name title) =
-    two rows ++ (two cols ++ (two keep ++ (token ++ named name title)))
+payload (Attach rows columns token name) = two rows ++ (two columns ++ (token ++ name))
+payload (Window rows columns keep token name title) =
+    two rows ++ (two columns ++ (two keep ++ (token ++ named name title)))
 payload (Command window token name line) = window_byte window ∷ (token ++ named name line)
 payload (Keys bytes) = bytes
-payload (Resize rows cols) = two rows ++ two cols
+payload (Resize rows columns) = two rows ++ two columns
 payload (Output bytes) = bytes
 payload Detach = []
 payload (Welcome number) = number ∷ []
 payload (Draw bytes) = bytes
 payload (Input bytes) = bytes
 payload (Say text) = text
-payload (Size rows cols) = two rows ++ two cols
+payload (Size rows columns) = two rows ++ two columns
 payload (Gone w) = reason w ∷ []
 
 -- a kind, a length, and that many bytes
@@ -109,20 +109,20 @@ IsSome bytes = 0 < length bytes
 
 -- its fields have a spelling
 abbrev pub HasFields : Message → Type 0
-HasFields (Attach rows cols token name) = IsToken token × IsText name
-HasFields (Window rows cols keep token name title) =
+HasFields (Attach rows columns token name) = IsToken token × IsText name
+HasFields (Window rows columns keep token name title) =
     IsToken token × (length name < 256) × IsText name × IsText title
 HasFields (Command window token name line) =
     IfSome window (λ n. n < 255) × IsToken token × (length name < 256) × IsText name
 HasFields (Keys bytes) = IsSome bytes
-HasFields (Resize rows cols) = Unit {0}
+HasFields (Resize rows columns) = Unit {0}
 HasFields (Output bytes) = IsSome bytes
 HasFields Detach = Unit {0}
 HasFields (Welcome number) = Unit {0}
 HasFields (Draw bytes) = IsSome bytes
 HasFields (Input bytes) = IsSome bytes
 HasFields (Say text) = IsText text
-HasFields (Size rows cols) = Unit {0}
+HasFields (Size rows columns) = Unit {0}
 HasFields (Gone w) = Unit {0}
 
 -- a frame spells it

@@ -15,14 +15,14 @@ pub enum Message {
     /// A client begins, on a terminal of this size.
     Attach {
         rows: u16,
-        cols: u16,
+        columns: u16,
         token: Token,
         name: Text,
     },
     /// A window begins.
     Window {
         rows: u16,
-        cols: u16,
+        columns: u16,
         keep: u16,
         token: Token,
         name: Text,
@@ -40,7 +40,7 @@ pub enum Message {
     /// A client's terminal has this size now.
     Resize {
         rows: u16,
-        cols: u16,
+        columns: u16,
     },
     /// Bytes that a window's program wrote.
     Output(Bytes),
@@ -57,7 +57,7 @@ pub enum Message {
     /// A window has this size now.
     Size {
         rows: u16,
-        cols: u16,
+        columns: u16,
     },
     /// The peer is let go.
     Gone(Why),

@@ -102,12 +102,12 @@ fn attach_of(alloc: Global, bytes: &[u8]) -> Result<Message, Unread>
     ensures { Gives (λ m. m) result (attach_of bytes.now) }
 {
     let (rows, rest) = two_at(bytes)?;
-    let (cols, rest) = two_at(rest)?;
+    let (columns, rest) = two_at(rest)?;
     let (token, rest) = token_at(rest)?;
     let name = Text::read(alloc, rest)?;
     Ok(Message::Attach {
         rows,
-        cols,
+        columns,
         token,
         name,
     })
@@ -118,14 +118,14 @@ fn window_frame_of(alloc: Global, bytes: &[u8]) -> Result<Message, Unread>
     ensures { Gives (λ m. m) result (window_frame_of bytes.now) }
 {
     let (rows, rest) = two_at(bytes)?;
-    let (cols, rest) = two_at(rest)?;
+    let (columns, rest) = two_at(rest)?;
     let (keep, rest) = two_at(rest)?;
     let (token, rest) = token_at(rest)?;
     let (name, rest) = name_at(alloc, rest)?;
     let title = Text::read(alloc, rest)?;
     Ok(Message::Window {
         rows,
-        cols,
+        columns,
         keep,
         token,
         name,
@@ -155,9 +155,9 @@ fn size_of(bytes: &[u8]) -> Result<(u16, u16), Unread>
     ensures { Gives (λ s. s) result (size_of bytes.now) }
 {
     let (rows, rest) = two_at(bytes)?;
-    let (cols, rest) = two_at(rest)?;
+    let (columns, rest) = two_at(rest)?;
     end_at(rest)?;
-    Ok((rows, cols))
+    Ok((rows, columns))
 }
 
 #[tactic(auto, unfolding(crate::specs::Reading::number_of))]
@@ -190,8 +190,8 @@ fn message_of(alloc: Global, kind: Kind, bytes: &[u8]) -> Result<Message, Unread
         Kind::Command => command_of(alloc, bytes),
         Kind::Keys => Ok(Message::Keys(some_of(alloc, bytes)?)),
         Kind::Resize => {
-            let (rows, cols) = size_of(bytes)?;
-            Ok(Message::Resize { rows, cols })
+            let (rows, columns) = size_of(bytes)?;
+            Ok(Message::Resize { rows, columns })
         }
         Kind::Output => Ok(Message::Output(some_of(alloc, bytes)?)),
         Kind::Detach => {
@@ -203,8 +203,8 @@ fn message_of(alloc: Global, kind: Kind, bytes: &[u8]) -> Result<Message, Unread
         Kind::Input => Ok(Message::Input(some_of(alloc, bytes)?)),
         Kind::Say => Ok(Message::Say(Text::read(alloc, bytes)?)),
         Kind::Size => {
-            let (rows, cols) = size_of(bytes)?;
-            Ok(Message::Size { rows, cols })
+            let (rows, columns) = size_of(bytes)?;
+            Ok(Message::Size { rows, columns })
         }
         Kind::Gone => gone_of(bytes),
     }

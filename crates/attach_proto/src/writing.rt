@@ -124,11 +124,11 @@ fn window_byte(window: Option<u8>) -> u8
     }
 }
 
-fn put_size(out: &mut Vec<u8>, rows: u16, cols: u16) -> Result<(), AllocError>
-    ensures { OnOk result (out.new.items ≡ out.old.items ++ (two rows ++ two cols)) }
+fn put_size(out: &mut Vec<u8>, rows: u16, columns: u16) -> Result<(), AllocError>
+    ensures { OnOk result (out.new.items ≡ out.old.items ++ (two rows ++ two columns)) }
 {
     put_two(out, rows)?;
-    put_two(out, cols)?;
+    put_two(out, columns)?;
     Ok(())
 }
 
@@ -139,23 +139,23 @@ fn put_payload(out: &mut Vec<u8>, message: &Message) -> Result<(), AllocError>
     match message {
         Message::Attach {
             rows,
-            cols,
+            columns,
             token,
             name,
         } => {
-            put_size(out, *rows, *cols)?;
+            put_size(out, *rows, *columns)?;
             put_token(out, token)?;
             put_text(out, name)?;
         }
         Message::Window {
             rows,
-            cols,
+            columns,
             keep,
             token,
             name,
             title,
         } => {
-            put_size(out, *rows, *cols)?;
+            put_size(out, *rows, *columns)?;
             put_two(out, *keep)?;
             put_token(out, token)?;
             put_name(out, name)?;
@@ -177,8 +177,8 @@ fn put_payload(out: &mut Vec<u8>, message: &Message) -> Result<(), AllocError>
         Message::Draw(bytes) => put_bytes(out, bytes)?,
         Message::Input(bytes) => put_bytes(out, bytes)?,
         Message::Say(text) => put_text(out, text)?,
-        Message::Resize { rows, cols } => put_size(out, *rows, *cols)?,
-        Message::Size { rows, cols } => put_size(out, *rows, *cols)?,
+        Message::Resize { rows, columns } => put_size(out, *rows, *columns)?,
+        Message::Size { rows, columns } => put_size(out, *rows, *columns)?,
         Message::Detach => {}
         Message::Welcome(number) => out.push(*number)?,
         Message::Gone(why) => out.push(why.number())?,

@@ -8,11 +8,11 @@ use std::test::Fail;
 const FRAMES_TO_THE_SERVER: [(&[u8], &str); 8] = [
     (
         ATTACH,
-        "[Attach { rows: 24, cols: 80, token: Token, name: Text { text: \"bob\" } }]",
+        "[Attach { rows: 24, columns: 80, token: Token, name: Text { text: \"bob\" } }]",
     ),
     (
         WINDOW,
-        "[Window { rows: 24, cols: 80, keep: 100, token: Token, name: Text { text: \"bob\" }, title: Text { text: \"zero\" } }]",
+        "[Window { rows: 24, columns: 80, keep: 100, token: Token, name: Text { text: \"bob\" }, title: Text { text: \"zero\" } }]",
     ),
     (
         COMMAND,
@@ -28,7 +28,7 @@ const FRAMES_TO_THE_SERVER: [(&[u8], &str); 8] = [
     ),
     (
         b"\x52\x00\x04\x01\x2C\x00\x04",
-        "[Resize { rows: 300, cols: 4 }]",
+        "[Resize { rows: 300, columns: 4 }]",
     ),
     (b"\x4F\x00\x01x", "[Output(Bytes { items: [120] })]"),
     (b"\x44\x00\x00", "[Detach]"),
@@ -44,7 +44,7 @@ const FRAMES_TO_A_PEER: [(&[u8], &str); 8] = [
     ),
     (
         b"\x7A\x00\x04\x00\x16\x01\x00",
-        "[Size { rows: 22, cols: 256 }]",
+        "[Size { rows: 22, columns: 256 }]",
     ),
     (b"\x67\x00\x01\x00", "[Gone(Detached)]"),
     (b"\x67\x00\x01\x06", "[Gone(Fault)]"),

@@ -59,7 +59,7 @@ fn window(alloc: Global, count: usize) -> Result<Message, Fail> {
     let name = letters(alloc, count)?;
     Ok(Message::Window {
         rows: 24,
-        cols: 80,
+        columns: 80,
         keep: 0,
         token: token()?,
         name: Text::new(alloc, name.as_str())?,

@@ -49,12 +49,12 @@ impl Model for Grid {
 }
 
 /// So many blank lines.
-fn blank_lines(alloc: Global, rows: usize, cols: usize) -> Result<Vec<Line>, AllocError>
-    ensures { IfOk result (λ lines. lines.items ≡ replicate rows (replicate cols blank)) }
+fn blank_lines(alloc: Global, rows: usize, columns: usize) -> Result<Vec<Line>, AllocError>
+    ensures { IfOk result (λ lines. lines.items ≡ replicate rows (replicate columns blank)) }
 {
     let mut lines = Vec::with_capacity(alloc, rows)?;
     for row in 0..rows {
-        lines.push(Line::blank(alloc, cols)?)?;
+        lines.push(Line::blank(alloc, columns)?)?;
     }
     Ok(lines)
 }
@@ -71,23 +71,23 @@ fn copied_lines(alloc: Global, lines: &[Line]) -> Result<Vec<Line>, AllocError>
 }
 
 /// Whether a grid may have this size.
-fn is_size(rows: usize, cols: usize) -> bool
-    ensures { IsTrue result ↔ IsGridSize rows cols }
+fn is_size(rows: usize, columns: usize) -> bool
+    ensures { IsTrue result ↔ IsGridSize rows columns }
 {
-    (LEAST..=MOST_ROWS).contains(&rows) && (LEAST..=MOST_COLS).contains(&cols)
+    (LEAST..=MOST_ROWS).contains(&rows) && (LEAST..=MOST_COLS).contains(&columns)
 }
 
 impl Grid {
     /// A grid of blanks. It is `BadSize` outside 2 to 200 lines by 2 to 300 columns.
-    pub fn new(alloc: Global, rows: usize, cols: usize) -> Result<Grid, GridFault>
-        ensures ok { IfOk result (λ grid. grid ≡ replicate rows (replicate cols blank)) }
-        ensures size { IfOk result (λ _. IsGridSize rows cols) }
-        ensures bad_size { (result ≡ Err GridFault.BadSize) ↔ (¬ IsGridSize rows cols) }
+    pub fn new(alloc: Global, rows: usize, columns: usize) -> Result<Grid, GridFault>
+        ensures ok { IfOk result (λ grid. grid ≡ replicate rows (replicate columns blank)) }
+        ensures size { IfOk result (λ _. IsGridSize rows columns) }
+        ensures bad_size { (result ≡ Err GridFault.BadSize) ↔ (¬ IsGridSize rows columns) }
     {
-        if !is_size(rows, cols) {
+        if !is_size(rows, columns) {
             return Err(GridFault::BadSize);
         }
-        match blank_lines(alloc, rows, cols) {
+        match blank_lines(alloc, rows, columns) {
             Ok(lines) => Ok(Grid { lines }),
             Err(_) => Err(GridFault::NoMemory),
         }
@@ -111,7 +111,7 @@ impl Grid {
     }
 
     /// The number of cells of each line.
-    pub fn cols(&self) -> usize
+    pub fn columns(&self) -> usize
         ensures { result ≡ length (line_at self.now 0) }
     {
         self.lines[0].width()

@@ -103,16 +103,6 @@ impl Line {
         Ok(Line { cells, used: 0 })
     }
 
-    /// A line of no cell. No memory is taken.
-    pub fn empty(alloc: Global) -> Line
-        ensures { result ≡ [] }
-    {
-        Line {
-            cells: Vec::new(alloc),
-            used: 0,
-        }
-    }
-
     /// A line of the same cells.
     pub fn copied(&self, alloc: Global) -> Result<Line, AllocError>
         ensures { IfOk result (λ line. line ≡ self.now) }

@@ -63,12 +63,17 @@ impl Model for Emulator {
 impl Emulator {
     /// A terminal that has read nothing, and keeps at most `keep` lines that scroll off its page.
     /// It is `BadSize` outside 2 to 200 lines by 2 to 300 columns, and above 2,000 kept lines.
-    pub fn new(alloc: Global, rows: usize, cols: usize, keep: usize) -> Result<Emulator, GridFault>
-        ensures ok { IfOk result (λ e. StandsFor e (ready (starting rows cols keep))) }
-        ensures size { IfOk result (λ _. IsScreenSize rows cols keep) }
-        ensures bad_size { (result ≡ Err GridFault.BadSize) ↔ (¬ IsScreenSize rows cols keep) }
+    pub fn new(
+        alloc: Global,
+        rows: usize,
+        columns: usize,
+        keep: usize,
+    ) -> Result<Emulator, GridFault>
+        ensures ok { IfOk result (λ e. StandsFor e (ready (starting rows columns keep))) }
+        ensures size { IfOk result (λ _. IsScreenSize rows columns keep) }
+        ensures bad_size { (result ≡ Err GridFault.BadSize) ↔ (¬ IsScreenSize rows columns keep) }
     {
-        let screen = Screen::new(alloc, rows, cols, keep)?;
+        let screen = Screen::new(alloc, rows, columns, keep)?;
         Ok(Emulator {
             decoder: Decoder::new(),
             parser: Parser::new(),
@@ -188,13 +193,13 @@ impl Emulator {
 
     /// Takes another size; what is read of a character or of a sequence stays. `BadSize` as for
     /// `new`; a refusal leaves everything as it was.
-    pub fn resized(&mut self, rows: usize, cols: usize) -> Result<(), GridFault>
-        ensures ok { OnOk result (TakesWriting self.old (Size rows cols) self.new) }
-        ensures size { OnOk result (IsGridSize rows cols) }
+    pub fn resized(&mut self, rows: usize, columns: usize) -> Result<(), GridFault>
+        ensures ok { OnOk result (TakesWriting self.old (Size rows columns) self.new) }
+        ensures size { OnOk result (IsGridSize rows columns) }
         ensures err { OnErr result (self.new ≡ self.old) }
-        ensures bad_size { (result ≡ Err GridFault.BadSize) ↔ (¬ IsGridSize rows cols) }
+        ensures bad_size { (result ≡ Err GridFault.BadSize) ↔ (¬ IsGridSize rows columns) }
     {
-        self.screen.resized(rows, cols)
+        self.screen.resized(rows, columns)
     }
 
     /// Lends the lines of the page, moved back by so many kept lines, or by all where they are
@@ -229,10 +234,10 @@ impl Emulator {
     }
 
     /// The number of columns.
-    pub fn cols(&self) -> usize
+    pub fn columns(&self) -> usize
         ensures { result ≡ self.now.screen.state.columns }
     {
-        self.screen.cols()
+        self.screen.columns()
     }
 
     /// Erases the page and goes home, as if the window had written ED 2 and CUP behind what it

@@ -66,6 +66,6 @@ fn refused_growths_leave_all(rt: HostRuntime) -> Result<(), Fail> {
     assert!(rt; is_kept);
     assert_eq!(rt; emulator.cursor(), (1, 3));
     assert_eq!(rt; emulator.resized(1, 5), Err(GridFault::BadSize));
-    assert_eq!(rt; (emulator.rows(), emulator.cols()), (3, 4));
+    assert_eq!(rt; (emulator.rows(), emulator.columns()), (3, 4));
     Ok(())
 }

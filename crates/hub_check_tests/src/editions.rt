@@ -99,7 +99,7 @@ fn add_keys(
     let attach = Event::Attach {
         user: bob,
         rows: 24,
-        cols: 80,
+        columns: 80,
     };
     let come = Act::Attached {
         client: 0,

@@ -34,7 +34,7 @@ pub(crate) fn opened(alloc: Global, own: UserId) -> Result<Option<Filed>, AllocE
     let event = Event::Open {
         user: own,
         rows: 24,
-        cols: 80,
+        columns: 80,
         keep: 0,
         title: "sh",
     };

@@ -58,7 +58,7 @@ fn attached(alloc: Global, bob: UserId, twist: Twist) -> Result<Option<Filed>, A
     let event = Event::Attach {
         user: bob,
         rows: 24,
-        cols: 80,
+        columns: 80,
     };
     let come = Act::Attached {
         client: 0,

@@ -25,7 +25,7 @@ pub enum KeptRef<'a> {
     Attach {
         user: UserId,
         rows: u16,
-        cols: u16,
+        columns: u16,
     },
     Detach {
         client: u32,
@@ -41,7 +41,7 @@ pub enum KeptRef<'a> {
     Open {
         user: UserId,
         rows: u16,
-        cols: u16,
+        columns: u16,
         keep: u16,
         title: &'a [u8],
     },
@@ -55,10 +55,14 @@ fn lent(kept: &Kept) -> KeptRef<'_>
     ensures { kept_lent result ≡ kept.now }
 {
     match kept {
-        Kept::Attach { user, rows, cols } => KeptRef::Attach {
+        Kept::Attach {
+            user,
+            rows,
+            columns,
+        } => KeptRef::Attach {
             user: *user,
             rows: *rows,
-            cols: *cols,
+            columns: *columns,
         },
         Kept::Detach { client } => KeptRef::Detach { client: *client },
         Kept::Keys { client } => KeptRef::Keys { client: *client },
@@ -70,13 +74,13 @@ fn lent(kept: &Kept) -> KeptRef<'_>
         Kept::Open {
             user,
             rows,
-            cols,
+            columns,
             keep,
             title,
         } => KeptRef::Open {
             user: *user,
             rows: *rows,
-            cols: *cols,
+            columns: *columns,
             keep: *keep,
             title: title.as_slice(),
         },
@@ -89,10 +93,14 @@ fn copied(alloc: Global, kept: &Kept) -> Result<Kept, AllocError>
     ensures { IfOk result (λ copy. copy ≡ kept.now) }
 {
     match kept {
-        Kept::Attach { user, rows, cols } => Ok(Kept::Attach {
+        Kept::Attach {
+            user,
+            rows,
+            columns,
+        } => Ok(Kept::Attach {
             user: *user,
             rows: *rows,
-            cols: *cols,
+            columns: *columns,
         }),
         Kept::Detach { client } => Ok(Kept::Detach { client: *client }),
         Kept::Keys { client } => Ok(Kept::Keys { client: *client }),
@@ -107,7 +115,7 @@ fn copied(alloc: Global, kept: &Kept) -> Result<Kept, AllocError>
         Kept::Open {
             user,
             rows,
-            cols,
+            columns,
             keep,
             title,
         } => {
@@ -115,7 +123,7 @@ fn copied(alloc: Global, kept: &Kept) -> Result<Kept, AllocError>
             Ok(Kept::Open {
                 user: *user,
                 rows: *rows,
-                cols: *cols,
+                columns: *columns,
                 keep: *keep,
                 title,
             })

@@ -15,15 +15,15 @@ fn are_same(bytes: &Bytes, other: &Bytes) -> bool
 }
 
 /// Whether the event is this Attach.
-fn is_attach(event: &Kept, user: UserId, rows: u16, cols: u16) -> bool
-    ensures { (result ≡ true) ↔ (event.now ≡ kept.Attach user rows cols) }
+fn is_attach(event: &Kept, user: UserId, rows: u16, columns: u16) -> bool
+    ensures { (result ≡ true) ↔ (event.now ≡ kept.Attach user rows columns) }
 {
     match event {
         Kept::Attach {
             user: named,
             rows: height,
-            cols: width,
-        } => *named == user && *height == rows && *width == cols,
+            columns: width,
+        } => *named == user && *height == rows && *width == columns,
         _ => false,
     }
 }
@@ -63,20 +63,20 @@ fn is_command(event: &Kept, user: UserId, window: Option<u8>, line: &Bytes) -> b
 }
 
 /// Whether the event is an Open of this user and size.
-fn is_open(event: &Kept, user: UserId, rows: u16, cols: u16, keep: u16, title: &Bytes) -> bool
-    ensures { (result ≡ true) ↔ (event.now ≡ kept.Open user rows cols keep title.now) }
+fn is_open(event: &Kept, user: UserId, rows: u16, columns: u16, keep: u16, title: &Bytes) -> bool
+    ensures { (result ≡ true) ↔ (event.now ≡ kept.Open user rows columns keep title.now) }
 {
     match event {
         Kept::Open {
             user: named,
             rows: height,
-            cols: width,
+            columns: width,
             keep: kept,
             title: given,
         } => {
             *named == user
                 && *height == rows
-                && *width == cols
+                && *width == columns
                 && *kept == keep
                 && are_same(given, title)
         }
@@ -99,17 +99,21 @@ pub fn is_same(event: &Kept, other: &Kept) -> bool
     ensures { (result ≡ true) ↔ (event.now ≡ other.now) }
 {
     match event {
-        Kept::Attach { user, rows, cols } => is_attach(other, *user, *rows, *cols),
+        Kept::Attach {
+            user,
+            rows,
+            columns,
+        } => is_attach(other, *user, *rows, *columns),
         Kept::Detach { client } => is_detach(other, *client),
         Kept::Keys { client } => is_keys(other, *client),
         Kept::Command { user, window, line } => is_command(other, *user, *window, line),
         Kept::Open {
             user,
             rows,
-            cols,
+            columns,
             keep,
             title,
-        } => is_open(other, *user, *rows, *cols, *keep, title),
+        } => is_open(other, *user, *rows, *columns, *keep, title),
         Kept::Closed { window } => is_closed(other, *window),
     }
 }

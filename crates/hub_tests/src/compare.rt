@@ -15,8 +15,8 @@ pub(crate) fn are_same(effect: &Effect, other: &Effect) -> bool {
         (Effect::Say(to, bytes), Effect::Say(at, text)) => {
             to == at && bytes.as_slice() == text.as_slice()
         }
-        (Effect::Size(to, rows, cols), Effect::Size(at, lines, columns)) => {
-            to == at && rows == lines && cols == columns
+        (Effect::Size(to, rows, columns), Effect::Size(at, other_rows, other_columns)) => {
+            to == at && rows == other_rows && columns == other_columns
         }
         (Effect::GoneWindow(to, why), Effect::GoneWindow(at, reason)) => to == at && why == reason,
         (Effect::GoneClient(to, why), Effect::GoneClient(at, reason)) => to == at && why == reason,

@@ -32,7 +32,7 @@ fn plays<L: Roll, R: Wait>(
     let open = Event::Open {
         user: owner,
         rows: 24,
-        cols: 80,
+        columns: 80,
         keep: 0,
         title: "sh",
     };
@@ -56,7 +56,7 @@ fn plays<L: Roll, R: Wait>(
     let attach = Event::Attach {
         user: bob,
         rows: 24,
-        cols: 80,
+        columns: 80,
     };
     let keys = Event::Keys {
         client: 0,
@@ -76,20 +76,28 @@ fn submits<L: Roll, R: Wait>(rt: &R, hub: &Hub<L>, seat: &mut Seat<L>, event: Ev
 /// The event of an entry; of Keys without its bytes.
 fn event_of(kept: KeptRef<'_>) -> Option<Event<'_>> {
     match kept {
-        KeptRef::Attach { user, rows, cols } => Some(Event::Attach { user, rows, cols }),
+        KeptRef::Attach {
+            user,
+            rows,
+            columns,
+        } => Some(Event::Attach {
+            user,
+            rows,
+            columns,
+        }),
         KeptRef::Detach { client } => Some(Event::Detach { client }),
         KeptRef::Keys { client } => Some(Event::Keys { client, bytes: b"" }),
         KeptRef::Command { user, window, line } => Some(Event::Command { user, window, line }),
         KeptRef::Open {
             user,
             rows,
-            cols,
+            columns,
             keep,
             title,
         } => Some(Event::Open {
             user,
             rows,
-            cols,
+            columns,
             keep,
             title: from_utf8(title).ok()?,
         }),

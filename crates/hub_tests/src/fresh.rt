@@ -41,7 +41,7 @@ fn opens<L: Roll, R: Wait>(
         let open = Event::Open {
             user: owner,
             rows: 24,
-            cols: 80,
+            columns: 80,
             keep: 0,
             title: "sh",
         };
@@ -52,7 +52,7 @@ fn opens<L: Roll, R: Wait>(
     let attach = Event::Attach {
         user: bob,
         rows: 24,
-        cols: 80,
+        columns: 80,
     };
     let select = Event::Keys {
         client: 0,

@@ -32,19 +32,19 @@ fn event_at(turn: u32, step: u32, owner: UserId, bob: UserId) -> Event<'static>
         0 => Event::Open {
             user: owner,
             rows: 24,
-            cols: 80,
+            columns: 80,
             keep: 10,
             title: "sh",
         },
         1 => Event::Attach {
             user: owner,
             rows: 24,
-            cols: 80,
+            columns: 80,
         },
         2 => Event::Attach {
             user: bob,
             rows: 10,
-            cols: 40,
+            columns: 40,
         },
         3 => Event::Output {
             window,
@@ -59,7 +59,7 @@ fn event_at(turn: u32, step: u32, owner: UserId, bob: UserId) -> Event<'static>
         7 => Event::Resize {
             client: client + 1,
             rows: 12,
-            cols: 50,
+            columns: 50,
         },
         8 => Event::Keys {
             client: client + 1,

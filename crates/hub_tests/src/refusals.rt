@@ -42,14 +42,14 @@ fn users_come(own: UserId, bob: UserId) -> [Event<'static>; 18] {
     let window = |title| Event::Open {
         user: own,
         rows: 24,
-        cols: 80,
+        columns: 80,
         keep: 5,
         title,
     };
     let client = |user| Event::Attach {
         user,
         rows: 24,
-        cols: 80,
+        columns: 80,
     };
     let typed = |client, bytes| Event::Keys { client, bytes };
     [
@@ -85,7 +85,7 @@ fn users_go(own: UserId) -> [Event<'static>; 12] {
         Event::Resize {
             client: 1,
             rows: 30,
-            cols: 100,
+            columns: 100,
         },
         Event::Draw { client: 0 },
         typed(1, b"\x01:fit\r"),

@@ -14,7 +14,7 @@ pub enum Kept {
     Attach {
         user: UserId,
         rows: u16,
-        cols: u16,
+        columns: u16,
     },
     Detach {
         client: u32,
@@ -30,7 +30,7 @@ pub enum Kept {
     Open {
         user: UserId,
         rows: u16,
-        cols: u16,
+        columns: u16,
         keep: u16,
         title: Bytes,
     },
@@ -61,7 +61,15 @@ impl Kept {
         ensures plain { copies (happening event.entry) ≡ false → is_ok result ≡ true }
     {
         let kept = match event {
-            Event::Attach { user, rows, cols } => Kept::Attach { user, rows, cols },
+            Event::Attach {
+                user,
+                rows,
+                columns,
+            } => Kept::Attach {
+                user,
+                rows,
+                columns,
+            },
             Event::Detach { client } => Kept::Detach { client },
             Event::Keys { client, .. } => Kept::Keys { client },
             Event::Command { user, window, line } => {
@@ -71,7 +79,7 @@ impl Kept {
             Event::Open {
                 user,
                 rows,
-                cols,
+                columns,
                 keep,
                 title,
             } => {
@@ -79,7 +87,7 @@ impl Kept {
                 Kept::Open {
                     user,
                     rows,
-                    cols,
+                    columns,
                     keep,
                     title,
                 }

@@ -59,7 +59,7 @@ fn joined<R: Net + Clock>(rt: &R, alloc: Global, first: &Message) -> io::Result<
 fn client<R: Net + Clock>(rt: &R, alloc: Global, name: &str, digits: &str) -> io::Result<Line> {
     let attach = Message::Attach {
         rows: ROWS,
-        cols: COLS,
+        columns: COLS,
         token: token(digits)?,
         name: Text::new(alloc, name)?,
     };
@@ -69,7 +69,7 @@ fn client<R: Net + Clock>(rt: &R, alloc: Global, name: &str, digits: &str) -> io
 fn window<R: Net + Clock>(rt: &R, alloc: Global) -> io::Result<Line> {
     let open = Message::Window {
         rows: ROWS,
-        cols: COLS,
+        columns: COLS,
         keep: 10,
         token: token(OWN)?,
         name: Text::new(alloc, "own")?,

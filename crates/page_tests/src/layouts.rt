@@ -30,12 +30,12 @@ struct Row {
     focus: usize,
 }
 
-fn rect(line: u16, column: u16, rows: u16, cols: u16) -> Rect {
+fn rect(line: u16, column: u16, rows: u16, columns: u16) -> Rect {
     Rect {
         line,
         column,
         rows,
-        cols,
+        columns,
     }
 }
 
@@ -185,7 +185,7 @@ fn play(alloc: Global, layout: &mut Layout, step: Step) -> Result<(), RegionFaul
         Step::Remove => layout.remove()?,
         Step::Only => layout.only(),
         Step::Close(serial) => layout.close_window(serial),
-        Step::Resized(rows, cols) => layout.resized(rows, cols),
+        Step::Resized(rows, columns) => layout.resized(rows, columns),
     }
     Ok(())
 }
@@ -196,7 +196,7 @@ fn are(rects: &[Rect], places: &[Place]) -> bool {
             rect.line,
             rect.column,
             rect.rows,
-            rect.cols,
+            rect.columns,
         ) == *place)
 }
 
@@ -209,13 +209,13 @@ fn gives(alloc: Global, layout: &mut Layout, row: &Row) -> Result<bool, RegionFa
     for step in row.steps {
         play(alloc, layout, *step)?;
     }
-    let (rows, cols) = row.size;
-    let rects = layout.rects(alloc, rows, cols)?;
+    let (rows, columns) = row.size;
+    let rects = layout.rects(alloc, rows, columns)?;
     Ok(
         are(rects.boxes.as_slice(), row.boxes)
             && are(rects.separators.as_slice(), row.separators)
             && rects.focus == row.focus
-            && rects.status == rect(rows, 1, 1, cols)
+            && rects.status == rect(rows, 1, 1, columns)
             && shows(layout, row.shown)
             && layout.focus() == row.focus
             && row.shown.get(row.focus).copied() == Some(layout.focused()),

@@ -58,13 +58,18 @@ fn faults_have_texts_and_numbers(rt: HostRuntime) -> Result<(), Fail> {
 
 #[test]
 fn sizes_of_grids(rt: HostRuntime) {
-    for (rows, cols) in [(1, 80), (201, 80), (24, 1), (24, 301)] {
-        assert!(rt; matches!(Grid::new(rt.alloc(), rows, cols), Err(GridFault::BadSize)));
+    for (rows, columns) in [(1, 80), (201, 80), (24, 1), (24, 301)] {
+        assert!(rt;
+            matches!(
+                Grid::new(rt.alloc(), rows, columns),
+                Err(GridFault::BadSize)
+            )
+        );
     }
-    for (rows, cols) in [(2, 2), (200, 300)] {
-        match Grid::new(rt.alloc(), rows, cols) {
-            Ok(grid) => assert_eq!(rt; (grid.rows(), grid.cols()), (rows, cols)),
-            Err(_) => panic!(rt; "a grid of {rows} by {cols}"),
+    for (rows, columns) in [(2, 2), (200, 300)] {
+        match Grid::new(rt.alloc(), rows, columns) {
+            Ok(grid) => assert_eq!(rt; (grid.rows(), grid.columns()), (rows, columns)),
+            Err(_) => panic!(rt; "a grid of {rows} by {columns}"),
         }
     }
 }

@@ -53,7 +53,7 @@ fn a_page_is_scrolled(rt: HostRuntime) -> Result<(), Fail> {
 fn the_first_line_goes_into_the_ring(rt: HostRuntime) -> Result<(), Fail> {
     let mut page = three_lines(&rt)?;
     let mut ring = Ring::new(rt.alloc(), 2, 2)?;
-    if page.rows() == 3 && page.cols() == ring.cols() {
+    if page.rows() == 3 && page.columns() == ring.columns() {
         page.scroll_into(&mut ring, 2);
     }
     assert_eq!(rt; letters(&page), [Some('b'), Some('c'), Some(' ')]);
@@ -66,9 +66,9 @@ fn the_first_line_goes_into_the_ring(rt: HostRuntime) -> Result<(), Fail> {
 fn a_page_is_resized(rt: HostRuntime) -> Result<(), Fail> {
     let mut page = three_lines(&rt)?;
     assert_eq!(rt; page.resized(1, 80), Err(GridFault::BadSize));
-    assert_eq!(rt; (page.rows(), page.cols()), (3, 2));
+    assert_eq!(rt; (page.rows(), page.columns()), (3, 2));
     page.resized(2, 5)?;
-    assert_eq!(rt; (page.rows(), page.cols()), (2, 5));
+    assert_eq!(rt; (page.rows(), page.columns()), (2, 5));
     assert_eq!(rt; letters(&page), [Some('a'), Some('b'), None]);
     Ok(())
 }

@@ -32,7 +32,7 @@ fn the_last_lines_stay(rt: HostRuntime) -> Result<(), Fail> {
     let spare = ring.take_in(line_of(&rt, 'c')?);
     assert_eq!(rt; spare.width(), 3);
     assert_eq!(rt; letters(&ring), [Some('c'), Some('b'), None]);
-    assert_eq!(rt; (ring.len(), ring.cols()), (2, 3));
+    assert_eq!(rt; (ring.len(), ring.columns()), (2, 3));
     Ok(())
 }
 

@@ -49,7 +49,7 @@ fn first_bytes(alloc: Global, view: &View, out: &mut Vec<u8>) -> Result<(), Allo
     ensures { OnOk result (IsDrawable view.now → FirstBytes view.now out.old.items out.new.items) }
 {
     out.extend_from_slice(RESET)?;
-    let Ok(blank) = View::blank(alloc, view.rows(), view.cols()) else {
+    let Ok(blank) = View::blank(alloc, view.rows(), view.columns()) else {
         return Err(AllocError);
     };
     let mut pen = Pen {

@@ -12,7 +12,7 @@ use view::{Cursor, KeyModes, View};
 /// A terminal's size, and the view that it shows, if that is known.
 pub struct Shadow {
     pub(crate) rows: u16,
-    pub(crate) cols: u16,
+    pub(crate) columns: u16,
     pub(crate) known: Option<View>,
 }
 
@@ -20,7 +20,7 @@ impl Drop for Shadow {
     fn drop(self) {
         let Shadow {
             rows: _,
-            cols: _,
+            columns: _,
             known: _,
         } = self;
     }
@@ -31,21 +31,21 @@ impl Model for Shadow {
 
     ghost Value = { Knowledge };
 
-    ghost view = { λ s. knowledge_of s.rows s.cols s.known };
+    ghost view = { λ s. knowledge_of s.rows s.columns s.known };
 
-    ghost invariant = { λ s. IsSound (knowledge_of s.rows s.cols s.known) };
+    ghost invariant = { λ s. IsSound (knowledge_of s.rows s.columns s.known) };
 }
 
 impl Shadow {
     ghost use Rattle.redraw.specs.Shadow.{Knowledge};
 
     /// A terminal of this size, in any state.
-    pub fn unknown(rows: u16, cols: u16) -> Shadow
-        ensures { result ≡ record { rows = rows; columns = cols; known = None } }
+    pub fn unknown(rows: u16, columns: u16) -> Shadow
+        ensures { result ≡ record { rows = rows; columns = columns; known = None } }
     {
         Shadow {
             rows,
-            cols,
+            columns,
             known: None,
         }
     }
@@ -58,10 +58,10 @@ impl Shadow {
     }
 
     /// The number of its columns.
-    pub fn cols(&self) -> u16
+    pub fn columns(&self) -> u16
         ensures { result ≡ self.now.columns }
     {
-        self.cols
+        self.columns
     }
 }
 

@@ -171,7 +171,7 @@ impl Page {
             line: 1,
             column: 1,
             rows: 24,
-            cols: 80,
+            columns: 80,
         })?;
         let rects = Rects {
             boxes,

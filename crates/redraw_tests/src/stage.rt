@@ -103,8 +103,8 @@ pub struct Stage {
     text: usize,
 }
 
-fn terminal(alloc: Global, rows: usize, cols: usize) -> Result<Emulator, Fail> {
-    match Emulator::new(alloc, rows, cols, 0) {
+fn terminal(alloc: Global, rows: usize, columns: usize) -> Result<Emulator, Fail> {
+    match Emulator::new(alloc, rows, columns, 0) {
         Ok(emulator) => Ok(emulator),
         Err(_) => Err(Fail::from("no terminal")),
     }
@@ -255,7 +255,7 @@ fn composed<'a>(
     second: Pane<'a>,
     text: &[u8],
 ) -> Result<View, AllocError>
-    ensures { IfOk result (HasSize rects.now.status.line rects.now.status.cols) }
+    ensures { IfOk result (HasSize rects.now.status.line rects.now.status.columns) }
 {
     compose(alloc, rects, &[first, second, Pane::Empty], text)
 }

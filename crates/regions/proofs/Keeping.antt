@@ -12,15 +12,15 @@ both a b p q = rw (p, q) refl
 
 -- more room is room
 bigger : (s : Shape) (r c m n : ℕ) → r ≤ m → c ≤ n → fits s r c ≡ true → fits s m n ≡ true
-bigger region r c m n rows cols h =
+bigger region r c m n rows columns h =
     let t = both_true (ltb 1 r) (ltb 1 c) h in
     let high : 1 < r = ltb-true _ _ t.0 in
     let broad : 1 < c = ltb-true _ _ t.1 in
     both (ltb 1 m) (ltb 1 n) (lt-ltb 1 m (omega arith)) (lt-ltb 1 n (omega arith))
-bigger (split Below a b) r c m n rows cols h =
+bigger (split Below a b) r c m n rows columns h =
     let t = both_true (fits a ((r + 1) / 2) c) (fits b (r / 2) c) h in
-    both (fits a ((m + 1) / 2) n) (fits b (m / 2) n) (bigger a ((r + 1) / 2) c ((m + 1) / 2) n (omega arith) cols t.0) (bigger b (r / 2) c (m / 2) n (omega arith) cols t.1)
-bigger (split Right a b) r c m n rows cols h =
+    both (fits a ((m + 1) / 2) n) (fits b (m / 2) n) (bigger a ((r + 1) / 2) c ((m + 1) / 2) n (omega arith) columns t.0) (bigger b (r / 2) c (m / 2) n (omega arith) columns t.1)
+bigger (split Right a b) r c m n rows columns h =
     let t = both_true (fits a r ((c - 1) / 2)) (fits b r (c / 2)) h in
     both (fits a m ((n - 1) / 2)) (fits b m (n / 2)) (bigger a r ((c - 1) / 2) m ((n - 1) / 2) rows (omega arith) t.0) (bigger b r (c / 2) m (n / 2) rows (omega arith) t.1)
 
@@ -54,11 +54,11 @@ fits_without (split Right a b) n r c h =
     ]
 
 -- a region less leaves room for the others
-pub without_keeps_room : (s : Shape) (n rows cols : ℕ) → has_room s rows cols ≡ true → has_room (without n s) rows cols ≡ true
-without_keeps_room s n rows cols h = room_fits (without n s) rows cols ∙ fits_without s n (rows - 1) cols (sym (room_fits s rows cols) ∙ h)
+pub without_keeps_room : (s : Shape) (n rows columns : ℕ) → has_room s rows columns ≡ true → has_room (without n s) rows columns ≡ true
+without_keeps_room s n rows columns h = room_fits (without n s) rows columns ∙ fits_without s n (rows - 1) columns (sym (room_fits s rows columns) ∙ h)
 
 -- where all have room, one alone has
-pub alone_has_room : (s : Shape) (rows cols : ℕ) → has_room s rows cols ≡ true → has_room region rows cols ≡ true
-alone_has_room s rows cols h =
-    let f : fits s (rows - 1) cols ≡ true = sym (room_fits s rows cols) ∙ h in
-    room_fits region rows cols ∙ both (ltb 1 (rows - 1)) (ltb 1 cols) (lt-ltb _ _ (tall s (rows - 1) cols f)) (lt-ltb _ _ (wide s (rows - 1) cols f))
+pub alone_has_room : (s : Shape) (rows columns : ℕ) → has_room s rows columns ≡ true → has_room region rows columns ≡ true
+alone_has_room s rows columns h =
+    let f : fits s (rows - 1) columns ≡ true = sym (room_fits s rows columns) ∙ h in
+    room_fits region rows columns ∙ both (ltb 1 (rows - 1)) (ltb 1 columns) (lt-ltb _ _ (tall s (rows - 1) columns f)) (lt-ltb _ _ (wide s (rows - 1) columns f))

@@ -28,16 +28,16 @@ rows_join : (a m n x : ℕ) (k : Bool) → one_if (among a (m + n) x && k) ≡ o
 rows_join a m n x true = rw (and_true (among a (m + n) x), and_true (among a m x), and_true (among (a + m) n x)) (among_parts a m n x)
 rows_join a m n x false = rw (and_false (among a (m + n) x), and_false (among a m x), and_false (among (a + m) n x)) refl
 
-cols_join : (a m n x : ℕ) (k : Bool) → one_if (k && among a (m + n) x) ≡ one_if (k && among a m x) + one_if (k && among (a + m) n x)
-cols_join a m n x true = among_parts a m n x
-cols_join a m n x false = refl
+columns_join : (a m n x : ℕ) (k : Bool) → one_if (k && among a (m + n) x) ≡ one_if (k && among a m x) + one_if (k && among (a + m) n x)
+columns_join a m n x true = among_parts a m n x
+columns_join a m n x false = refl
 
 -- a place of r, by the rows of its two parts
 by_rows : (r : Rect) (m n l c : ℕ) → m + n ≡ r.rows → one_if (has r l c) ≡ one_if (has (record r { rows = m }) l c) + one_if (has (record r { line = r.line + m; rows = n }) l c)
-by_rows r m n l c e = rw (← e) (rows_join r.line m n l (among r.column r.cols c))
+by_rows r m n l c e = rw (← e) (rows_join r.line m n l (among r.column r.columns c))
 
-by_cols : (r : Rect) (m n l c : ℕ) → m + n ≡ r.cols → one_if (has r l c) ≡ one_if (has (record r { cols = m }) l c) + one_if (has (record r { column = r.column + m; cols = n }) l c)
-by_cols r m n l c e = rw (← e) (cols_join r.column m n c (among r.line r.rows l))
+by_columns : (r : Rect) (m n l c : ℕ) → m + n ≡ r.columns → one_if (has r l c) ≡ one_if (has (record r { columns = m }) l c) + one_if (has (record r { column = r.column + m; columns = n }) l c)
+by_columns r m n l c e = rw (← e) (columns_join r.column m n c (among r.line r.rows l))
 
 map_append : (f : Rect → Rect) (xs ys : List Rect) → map f (xs ++ ys) ≡ map f xs ++ map f ys
 map_append f [] ys = refl
@@ -50,13 +50,13 @@ abbrev total : Shape → Rect → ℕ → ℕ → ℕ
 total s r l c = times (map inner (boxes s r)) l c + (times (map caption (boxes s r)) l c + times (separators s r) l c)
 
 -- a rectangle's regions, captions and separators cover its places once
-covers : (s : Shape) (r : Rect) (l c : ℕ) → fits s r.rows r.cols ≡ true → total s r l c ≡ one_if (has r l c)
+covers : (s : Shape) (r : Rect) (l c : ℕ) → fits s r.rows r.columns ≡ true → total s r l c ≡ one_if (has r l c)
 covers region r l c h =
-    let tall : 1 < r.rows = ltb-true _ _ (both_true (ltb 1 r.rows) (ltb 1 r.cols) h).0 in
+    let tall : 1 < r.rows = ltb-true _ _ (both_true (ltb 1 r.rows) (ltb 1 r.columns) h).0 in
     let e : (r.rows - 1) + 1 ≡ r.rows = omega arith in
     omega (arith, by_rows r (r.rows - 1) 1 l c e)
 covers (split Below a b) r l c h =
-    let t = both_true (fits a ((r.rows + 1) / 2) r.cols) (fits b (r.rows / 2) r.cols) h in
+    let t = both_true (fits a ((r.rows + 1) / 2) r.columns) (fits b (r.rows / 2) r.columns) h in
     let e : (r.rows + 1) / 2 + r.rows / 2 ≡ r.rows = omega arith in
     omega (
       arith,
@@ -68,37 +68,37 @@ covers (split Below a b) r l c h =
       times_append (separators a (upper r)) (separators b (lower r)) l c,
     )
 covers (split Right a b) r l c h =
-    let t = both_true (fits a r.rows ((r.cols - 1) / 2)) (fits b r.rows (r.cols / 2)) h in
-    let wide_enough : 1 < r.cols = wide (split Right a b) r.rows r.cols h in
-    let e : (r.cols - 1) / 2 + (1 + r.cols / 2) ≡ r.cols = omega arith in
-    let rest : Rect = record r { column = r.column + (r.cols - 1) / 2; cols = 1 + r.cols / 2 } in
+    let t = both_true (fits a r.rows ((r.columns - 1) / 2)) (fits b r.rows (r.columns / 2)) h in
+    let wide_enough : 1 < r.columns = wide (split Right a b) r.rows r.columns h in
+    let e : (r.columns - 1) / 2 + (1 + r.columns / 2) ≡ r.columns = omega arith in
+    let rest : Rect = record r { column = r.column + (r.columns - 1) / 2; columns = 1 + r.columns / 2 } in
     omega (
       arith,
       covers a (left r) l c t.0,
       covers b (right r) l c t.1,
-      by_cols r ((r.cols - 1) / 2) (1 + r.cols / 2) l c e,
-      by_cols rest 1 (r.cols / 2) l c refl,
+      by_columns r ((r.columns - 1) / 2) (1 + r.columns / 2) l c e,
+      by_columns rest 1 (r.columns / 2) l c refl,
       times_map inner (boxes a (left r)) (boxes b (right r)) l c,
       times_map caption (boxes a (left r)) (boxes b (right r)) l c,
       times_append (separators a (left r)) (separators b (right r)) l c,
     )
 
-pub page_once : (s : Shape) (rows cols : ℕ) → has_room s rows cols ≡ true → TilesPage rows cols (parts (boxes s (box_of rows cols)) (separators s (box_of rows cols)) (status_of rows cols))
-page_once s rows cols h l c =
-    let box = box_of rows cols in
+pub page_once : (s : Shape) (rows columns : ℕ) → has_room s rows columns ≡ true → TilesPage rows columns (parts (boxes s (box_of rows columns)) (separators s (box_of rows columns)) (status_of rows columns))
+page_once s rows columns h l c =
+    let box = box_of rows columns in
     let bs = boxes s box in
-    let f : fits s (rows - 1) cols ≡ true = sym (room_fits s rows cols) ∙ h in
-    let high : 1 < rows - 1 = tall s (rows - 1) cols f in
+    let f : fits s (rows - 1) columns ≡ true = sym (room_fits s rows columns) ∙ h in
+    let high : 1 < rows - 1 = tall s (rows - 1) columns f in
     let e : (rows - 1) + 1 ≡ rows = omega arith in
     let below : 1 + (rows - 1) ≡ rows = omega arith in
-    let page : Rect = record { line = 1; column = 1; rows = rows; cols = cols } in
-    let joined : one_if (has page l c) ≡ one_if (has box l c) + one_if (has (status_of rows cols) l c) =
-    subst (λ (n : ℕ). one_if (has page l c) ≡ one_if (has box l c) + one_if (has (record { line = n; column = 1; rows = 1; cols = cols }) l c)) below (by_rows page (rows - 1) 1 l c e) in
+    let page : Rect = record { line = 1; column = 1; rows = rows; columns = columns } in
+    let joined : one_if (has page l c) ≡ one_if (has box l c) + one_if (has (status_of rows columns) l c) =
+    subst (λ (n : ℕ). one_if (has page l c) ≡ one_if (has box l c) + one_if (has (record { line = n; column = 1; rows = 1; columns = columns }) l c)) below (by_rows page (rows - 1) 1 l c e) in
     omega (
       arith,
       covers s box l c f,
       joined,
-      times_append (map inner bs ++ (map caption bs ++ separators s box)) (status_of rows cols ∷ []) l c,
+      times_append (map inner bs ++ (map caption bs ++ separators s box)) (status_of rows columns ∷ []) l c,
       times_append (map inner bs) (map caption bs ++ separators s box) l c,
       times_append (map caption bs) (separators s box) l c,
     )

@@ -40,7 +40,7 @@ put_in_focus s l = record l { shown = slice_set l.shown l.focus s }
 
 -- On a page of this size the focused region stays alone where one would be too small.
 abbrev pub resized : ℕ → ℕ → Arrangement → Arrangement
-resized rows cols l = if has_room l.shape rows cols then l else kept_alone l
+resized rows columns l = if has_room l.shape rows columns then l else kept_alone l
 
 -- The focused region is the first half, and keeps the focus; the second half is new and empty.
 abbrev pub split_focused : Way → Arrangement → Arrangement
@@ -68,18 +68,18 @@ next_focus l = if l.focus + 1 == length l.shown then 0 else l.focus + 1
 
 -- why a split is refused: 16 regions at most, each with room
 abbrev pub split_fault : Way → Arrangement → ℕ → ℕ → Option RegionFault
-split_fault way l rows cols =
+split_fault way l rows columns =
     if length l.shown == 16 then Some TooMany
-    else (if has_room (split_at way l.focus l.shape) rows cols then None else Some TooSmall)
+    else (if has_room (split_at way l.focus l.shape) rows columns then None else Some TooSmall)
 
 -- why one failed: what is refused, or memory
 abbrev pub split_error : Way → Arrangement → ℕ → ℕ → RegionFault
-split_error way l rows cols = unwrap_or (split_fault way l rows cols) NoMemory
+split_error way l rows columns = unwrap_or (split_fault way l rows columns) NoMemory
 
 -- a split that isn't refused
 abbrev pub IsSplit : Way → ℕ → ℕ → Arrangement → Arrangement → Type 0
-IsSplit way rows cols old new =
-    (split_fault way old rows cols ≡ None) × (new ≡ split_focused way old)
+IsSplit way rows columns old new =
+    (split_fault way old rows columns ≡ None) × (new ≡ split_focused way old)
 
 abbrev pub shows : ℕ → Option ℕ → Bool
 shows serial None = false

@@ -13,33 +13,33 @@ abbrev pub rows_of_box : ℕ → ℕ
 rows_of_box rows = rows - 1
 
 abbrev pub box_of : ℕ → ℕ → Rect
-box_of rows cols = record { line = 1; column = 1; rows = rows_of_box rows; cols = cols }
+box_of rows columns = record { line = 1; column = 1; rows = rows_of_box rows; columns = columns }
 
 abbrev pub status_of : ℕ → ℕ → Rect
-status_of rows cols = record { line = rows; column = 1; rows = 1; cols = cols }
+status_of rows columns = record { line = rows; column = 1; rows = 1; columns = columns }
 
 -- one row beside the caption, and two columns
 abbrev pub is_roomy : Rect → Bool
-is_roomy r = nat_lt 1 r.rows && nat_lt 1 r.cols
+is_roomy r = nat_lt 1 r.rows && nat_lt 1 r.columns
 
 abbrev pub has_room : Shape → ℕ → ℕ → Bool
-has_room s rows cols = list_all is_roomy (boxes s (box_of rows cols))
+has_room s rows columns = list_all is_roomy (boxes s (box_of rows columns))
 
 -- a page of any size on which the one shape has room has it for the other too
 abbrev pub KeepsRoom : Shape → Shape → Type 0
 KeepsRoom old new =
-    (rows cols : ℕ) → has_room old rows cols ≡ true → has_room new rows cols ≡ true
+    (rows columns : ℕ) → has_room old rows columns ≡ true → has_room new rows columns ≡ true
 
 -- why there are no rectangles of a page
 abbrev pub rects_error : Shape → ℕ → ℕ → RegionFault
-rects_error s rows cols = if has_room s rows cols then NoMemory else TooSmall
+rects_error s rows columns = if has_room s rows columns then NoMemory else TooSmall
 
 -- the rectangles of a page that is split so
-pub record IsRects (s : Shape) (focus rows cols : ℕ) (r : Rects) : Type 0 where
-  pub boxes_are : r.boxes.items ≡ boxes s (box_of rows cols)
-  pub separators_are : r.separators.items ≡ separators s (box_of rows cols)
+pub record IsRects (s : Shape) (focus rows columns : ℕ) (r : Rects) : Type 0 where
+  pub boxes_are : r.boxes.items ≡ boxes s (box_of rows columns)
+  pub separators_are : r.separators.items ≡ separators s (box_of rows columns)
   pub focus_is : r.focus ≡ focus
-  pub status_is : r.status ≡ status_of rows cols
+  pub status_is : r.status ≡ status_of rows columns
 
 -- A box ends in its caption.
 abbrev pub inner : Rect → Rect
@@ -55,8 +55,9 @@ parts boxes separators status =
 
 -- those of a page that is split so
 abbrev pub page_parts : Shape → ℕ → ℕ → List Rect
-page_parts s rows cols =
-    parts (boxes s (box_of rows cols)) (separators s (box_of rows cols)) (status_of rows cols)
+page_parts s rows columns =
+    parts (boxes s (box_of rows columns)) (separators s (box_of rows columns))
+    (status_of rows columns)
 
 -- ---- places
 
@@ -65,7 +66,7 @@ abbrev pub among : ℕ → ℕ → ℕ → Bool
 among first n x = nat_le first x && nat_lt x (first + n)
 
 abbrev pub has : Rect → ℕ → ℕ → Bool
-has r line column = among r.line r.rows line && among r.column r.cols column
+has r line column = among r.line r.rows line && among r.column r.columns column
 
 abbrev pub one_if : Bool → ℕ
 one_if b = if b then 1 else 0
@@ -77,9 +78,9 @@ times (r ∷ rs) line column = one_if (has r line column) + times rs line column
 
 -- These cover each place of the page once, and no other place.
 abbrev pub TilesPage : ℕ → ℕ → List Rect → Type 0
-TilesPage rows cols rs =
-    (line column : ℕ) → times rs line column ≡ one_if (among 1 rows line && among 1 cols column)
+TilesPage rows columns rs =
+    (line column : ℕ) → times rs line column ≡ one_if (among 1 rows line && among 1 columns column)
 
 -- So do the boxes with their captions, the separators and the status line.
 abbrev pub RectsTile : ℕ → ℕ → Rects → Type 0
-RectsTile rows cols r = TilesPage rows cols (parts r.boxes.items r.separators.items r.status)
+RectsTile rows columns r = TilesPage rows columns (parts r.boxes.items r.separators.items r.status)

@@ -28,13 +28,13 @@ lower r = record r { line = r.line + (r.rows + 1) / 2; rows = r.rows / 2 }
 -- Between halves side by side stands one column, over all rows; the first has the rounded-down half
 -- of the other columns.
 abbrev pub left : Rect → Rect
-left r = record r { cols = (r.cols - 1) / 2 }
+left r = record r { columns = (r.columns - 1) / 2 }
 
 abbrev pub between : Rect → Rect
-between r = record r { column = r.column + (r.cols - 1) / 2; cols = 1 }
+between r = record r { column = r.column + (r.columns - 1) / 2; columns = 1 }
 
 abbrev pub right : Rect → Rect
-right r = record r { column = r.column + (r.cols - 1) / 2 + 1; cols = r.cols / 2 }
+right r = record r { column = r.column + (r.columns - 1) / 2 + 1; columns = r.columns / 2 }
 
 -- the boxes of the regions, in the order of the splits
 abbrev pub boxes : Shape → Rect → List Rect
@@ -50,9 +50,9 @@ separators (split Right a b) r = between r ∷ (separators a (left r) ++ separat
 
 -- each box has one row beside its caption, and two columns
 abbrev pub fits : Shape → ℕ → ℕ → Bool
-fits region rows cols = nat_lt 1 rows && nat_lt 1 cols
-fits (split Below a b) rows cols = fits a ((rows + 1) / 2) cols && fits b (rows / 2) cols
-fits (split Right a b) rows cols = fits a rows ((cols - 1) / 2) && fits b rows (cols / 2)
+fits region rows columns = nat_lt 1 rows && nat_lt 1 columns
+fits (split Below a b) rows columns = fits a ((rows + 1) / 2) columns && fits b (rows / 2) columns
+fits (split Right a b) rows columns = fits a rows ((columns - 1) / 2) && fits b rows (columns / 2)
 
 -- ---- what changes a shape
 

@@ -10,8 +10,8 @@ ghost use Rattle.regions.specs.Pages.{has_room, page_parts, TilesPage};
 /// Regions, captions, separators and the status line cover each place of a page once, and no other
 /// place, where each region has room.
 pub fn each_place_once()
-    ensures { (s : Shape) (rows cols : ℕ) → has_room s rows cols ≡ true →
-        TilesPage rows cols (page_parts s rows cols) }
+    ensures { (s : Shape) (rows columns : ℕ) → has_room s rows columns ≡ true →
+        TilesPage rows columns (page_parts s rows columns) }
 {}
 
 /// A region that was split off is removed without a trace.

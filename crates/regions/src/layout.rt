@@ -129,11 +129,12 @@ impl Layout {
     }
 
     /// The page has this size now: where a region would be too small, the focused one stays alone.
-    pub fn resized(&mut self, rows: u16, cols: u16)
-        ensures fits { self.new ≡ resized rows cols self.old }
-        ensures room { has_room region rows cols ≡ true → has_room self.new.shape rows cols ≡ true }
+    pub fn resized(&mut self, rows: u16, columns: u16)
+        ensures fits { self.new ≡ resized rows columns self.old }
+        ensures room { has_room region rows columns ≡ true →
+            has_room self.new.shape rows columns ≡ true }
     {
-        if !self.tree.has_room(rows, cols) {
+        if !self.tree.has_room(rows, columns) {
             self.only();
         }
     }
@@ -144,17 +145,17 @@ impl Layout {
         alloc: Global,
         way: Way,
         rows: u16,
-        cols: u16,
+        columns: u16,
     ) -> Result<(), RegionFault>
-        ensures ok { OnOk result (IsSplit way rows cols self.old self.new) }
-        ensures room { OnOk result (has_room self.new.shape rows cols ≡ true) }
+        ensures ok { OnOk result (IsSplit way rows columns self.old self.new) }
+        ensures room { OnOk result (has_room self.new.shape rows columns ≡ true) }
         ensures err { OnErr result (self.new ≡ self.old) }
-        ensures fault { IfErr result (λ f. f ≡ split_error way self.old rows cols) }
+        ensures fault { IfErr result (λ f. f ≡ split_error way self.old rows columns) }
     {
         if self.shown.len() == REGIONS {
             return Err(RegionFault::TooMany);
         }
-        if !self.tree.has_room_split(self.focus, way, rows, cols) {
+        if !self.tree.has_room_split(self.focus, way, rows, columns) {
             return Err(RegionFault::TooSmall);
         }
         let halves = Node::halves(alloc, way)?;
@@ -182,18 +183,18 @@ impl Layout {
     }
 
     /// The rectangles on a page of this size.
-    pub fn rects(&self, alloc: Global, rows: u16, cols: u16) -> Result<Rects, RegionFault>
-        ensures ok { IfOk result (IsRects self.now.shape self.now.focus rows cols) }
-        ensures room { OnOk result (has_room self.now.shape rows cols ≡ true) }
-        ensures fault { IfErr result (λ f. f ≡ rects_error self.now.shape rows cols) }
+    pub fn rects(&self, alloc: Global, rows: u16, columns: u16) -> Result<Rects, RegionFault>
+        ensures ok { IfOk result (IsRects self.now.shape self.now.focus rows columns) }
+        ensures room { OnOk result (has_room self.now.shape rows columns ≡ true) }
+        ensures fault { IfErr result (λ f. f ≡ rects_error self.now.shape rows columns) }
         // One box a region, the focused one among them.
         ensures each { IfOk result (λ r. length r.boxes.items ≡ length self.now.shown) }
         ensures focused { IfOk result (λ r. r.focus < length r.boxes.items) }
         // They cover each place of the page once.
-        ensures tiles { IfOk result (λ r. RectsTile rows cols r) }
+        ensures tiles { IfOk result (λ r. RectsTile rows columns r) }
     {
-        let page = Rect::of_layout(rows, cols);
-        if !self.tree.has_room(rows, cols) {
+        let page = Rect::of_layout(rows, columns);
+        if !self.tree.has_room(rows, columns) {
             return Err(RegionFault::TooSmall);
         }
         let mut boxes = Vec::new(alloc);
@@ -204,7 +205,7 @@ impl Layout {
             boxes,
             separators,
             focus: self.focus,
-            status: Rect::of_status(rows, cols),
+            status: Rect::of_status(rows, columns),
         })
     }
 }

@@ -44,61 +44,61 @@ impl Node {
     }
 
     /// Whether each region has room in a box of this size.
-    fn fits(&self, rows: u16, cols: u16) -> bool
+    fn fits(&self, rows: u16, columns: u16) -> bool
         requires { rows < 65535 }
-        ensures { result ≡ fits (shape self.now) rows cols }
+        ensures { result ≡ fits (shape self.now) rows columns }
     {
         match self {
-            Node::Region => 1 < rows && 1 < cols,
+            Node::Region => 1 < rows && 1 < columns,
             Node::Split(Way::Below, upper, lower) => {
-                upper.fits((rows + 1) / 2, cols) && lower.fits(rows / 2, cols)
+                upper.fits((rows + 1) / 2, columns) && lower.fits(rows / 2, columns)
             }
             Node::Split(Way::Right, left, right) => {
-                left.fits(rows, cols.saturating_sub(1) / 2) && right.fits(rows, cols / 2)
+                left.fits(rows, columns.saturating_sub(1) / 2) && right.fits(rows, columns / 2)
             }
         }
     }
 
     /// Whether each region has room on a page of this size.
-    pub fn has_room(&self, rows: u16, cols: u16) -> bool
-        ensures { result ≡ has_room (shape self.now) rows cols }
+    pub fn has_room(&self, rows: u16, columns: u16) -> bool
+        ensures { result ≡ has_room (shape self.now) rows columns }
     {
-        self.fits(rows.saturating_sub(1), cols)
+        self.fits(rows.saturating_sub(1), columns)
     }
 
     /// Whether each region has room on a page of this size once the region `at` is split.
-    pub fn has_room_split(&self, at: usize, way: Way, rows: u16, cols: u16) -> bool
+    pub fn has_room_split(&self, at: usize, way: Way, rows: u16, columns: u16) -> bool
         requires { regions (shape self.now) ≤ 16 }
-        ensures { result ≡ has_room (split_at way at (shape self.now)) rows cols }
+        ensures { result ≡ has_room (split_at way at (shape self.now)) rows columns }
     {
-        self.fits_split(at, way, rows.saturating_sub(1), cols)
+        self.fits_split(at, way, rows.saturating_sub(1), columns)
     }
 
     /// Whether each region has room in a box of this size once the region `at` is split.
-    fn fits_split(&self, at: usize, way: Way, rows: u16, cols: u16) -> bool
+    fn fits_split(&self, at: usize, way: Way, rows: u16, columns: u16) -> bool
         requires few { regions (shape self.now) ≤ 16 }
         requires rows { rows < 65535 }
-        ensures { result ≡ fits (split_at way at (shape self.now)) rows cols }
+        ensures { result ≡ fits (split_at way at (shape self.now)) rows columns }
     {
         match self {
             Node::Region => match way {
-                Way::Below => 1 < (rows + 1) / 2 && 1 < cols && 1 < rows / 2 && 1 < cols,
+                Way::Below => 1 < (rows + 1) / 2 && 1 < columns && 1 < rows / 2 && 1 < columns,
                 Way::Right => {
-                    1 < rows && 1 < cols.saturating_sub(1) / 2 && 1 < rows && 1 < cols / 2
+                    1 < rows && 1 < columns.saturating_sub(1) / 2 && 1 < rows && 1 < columns / 2
                 }
             },
             Node::Split(Way::Below, upper, lower) => {
                 let first = upper.regions();
                 let (height, rest) = ((rows + 1) / 2, rows / 2);
                 if at < first {
-                    upper.fits_split(at, way, height, cols) && lower.fits(rest, cols)
+                    upper.fits_split(at, way, height, columns) && lower.fits(rest, columns)
                 } else {
-                    upper.fits(height, cols) && lower.fits_split(at - first, way, rest, cols)
+                    upper.fits(height, columns) && lower.fits_split(at - first, way, rest, columns)
                 }
             }
             Node::Split(Way::Right, left, right) => {
                 let first = left.regions();
-                let (width, rest) = (cols.saturating_sub(1) / 2, cols / 2);
+                let (width, rest) = (columns.saturating_sub(1) / 2, columns / 2);
                 if at < first {
                     left.fits_split(at, way, rows, width) && right.fits(rows, rest)
                 } else {
@@ -113,8 +113,8 @@ impl Node {
     pub fn put_boxes(&self, r: Rect, out: &mut Vec<Rect>) -> Result<(), AllocError>
         requires rows { r.rows < 65535 }
         requires lines { r.line + r.rows ≤ 65535 }
-        requires columns { r.column + r.cols ≤ 65536 }
-        requires room { fits (shape self.now) r.rows r.cols ≡ true }
+        requires columns { r.column + r.columns ≤ 65536 }
+        requires room { fits (shape self.now) r.rows r.columns ≡ true }
         ensures { OnOk result (out.new.items ≡ out.old.items ++ boxes (shape self.now) r) }
     {
         match self {
@@ -136,8 +136,8 @@ impl Node {
     pub fn put_separators(&self, r: Rect, out: &mut Vec<Rect>) -> Result<(), AllocError>
         requires rows { r.rows < 65535 }
         requires lines { r.line + r.rows ≤ 65535 }
-        requires columns { r.column + r.cols ≤ 65536 }
-        requires room { fits (shape self.now) r.rows r.cols ≡ true }
+        requires columns { r.column + r.columns ≤ 65536 }
+        requires room { fits (shape self.now) r.rows r.columns ≡ true }
         ensures { OnOk result (out.new.items ≡ out.old.items ++ separators (shape self.now) r) }
     {
         match self {

@@ -19,16 +19,16 @@ pub struct Rects {
 
 impl Rects {
     /// One region over the whole page, but for the status line in the last row.
-    pub fn lone(alloc: Global, rows: u16, cols: u16) -> Result<Rects, AllocError>
-        ensures { IfOk result (IsRects region 0 rows cols) }
+    pub fn lone(alloc: Global, rows: u16, columns: u16) -> Result<Rects, AllocError>
+        ensures { IfOk result (IsRects region 0 rows columns) }
     {
         let mut boxes = Vec::new(alloc);
-        boxes.push(Rect::of_layout(rows, cols))?;
+        boxes.push(Rect::of_layout(rows, columns))?;
         Ok(Rects {
             boxes,
             separators: Vec::new(alloc),
             focus: 0,
-            status: Rect::of_status(rows, cols),
+            status: Rect::of_status(rows, columns),
         })
     }
 }

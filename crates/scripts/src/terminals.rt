@@ -20,11 +20,11 @@ pub fn delivered(alloc: Global, printed: &str, client: usize) -> Result<Vec<u8>,
 /// What a terminal of a size and in a state shows after these bytes, as `--show` prints it.
 pub fn shown_after(
     alloc: Global,
-    (rows, cols): (usize, usize),
+    (rows, columns): (usize, usize),
     state: &[u8],
     bytes: &[u8],
 ) -> Result<String, AllocError> {
-    let mut terminal = Emulator::new(alloc, rows, cols, 0).map_err(|_| AllocError)?;
+    let mut terminal = Emulator::new(alloc, rows, columns, 0).map_err(|_| AllocError)?;
     read(alloc, &mut terminal, state)?;
     read(alloc, &mut terminal, bytes)?;
     shown(alloc, &terminal)

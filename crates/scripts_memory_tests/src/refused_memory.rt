@@ -19,7 +19,7 @@ fn play_first_run(
     let open = Event::Open {
         user: owner,
         rows: 2,
-        cols: 5,
+        columns: 5,
         keep: 0,
         title: "sh",
     };
@@ -27,7 +27,7 @@ fn play_first_run(
     let attach = Event::Attach {
         user: owner,
         rows: 4,
-        cols: 20,
+        columns: 20,
     };
     play_out(session, attach, effects, replies);
     let output = Event::Output {
@@ -105,8 +105,8 @@ fn is_same_effect(one: &Effect, other: &Effect) -> bool {
         | (Effect::Say(to, bytes), Effect::Say(also, others)) => {
             to == also && bytes.as_slice() == others.as_slice()
         }
-        (Effect::Size(to, rows, cols), Effect::Size(also, other_rows, other_cols)) => {
-            to == also && rows == other_rows && cols == other_cols
+        (Effect::Size(to, rows, columns), Effect::Size(also, other_rows, other_columns)) => {
+            to == also && rows == other_rows && columns == other_columns
         }
         (Effect::GoneWindow(from, why), Effect::GoneWindow(also, other_why))
         | (Effect::GoneClient(from, why), Effect::GoneClient(also, other_why)) => {
@@ -176,14 +176,14 @@ fn users_come(own: UserId, bob: UserId) -> [Event<'static>; 24] {
     let window = |title| Event::Open {
         user: own,
         rows: 24,
-        cols: 80,
+        columns: 80,
         keep: 5,
         title,
     };
     let client = |user| Event::Attach {
         user,
         rows: 24,
-        cols: 80,
+        columns: 80,
     };
     let typed = |client, bytes| Event::Keys { client, bytes };
     [
@@ -229,7 +229,7 @@ fn users_go(own: UserId) -> [Event<'static>; 24] {
         Event::Resize {
             client: 0,
             rows: 30,
-            cols: 100,
+            columns: 100,
         },
         Event::Draw { client: 0 },
         typed(

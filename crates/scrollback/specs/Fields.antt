@@ -9,7 +9,7 @@ abbrev pub kept_lines : Inside → Kept
 kept_lines ring =
     record {
       keep = ring.lines.capacity;
-      columns = ring.cols;
+      columns = ring.columns;
       lines = keep_last ring.count ring.lines.items;
     }
 
@@ -18,4 +18,4 @@ pub record IsRing (ring : Inside) : Type 0 where
   pub full : length ring.lines.items ≡ ring.lines.capacity
   pub inside : ring.count ≤ ring.lines.capacity
   pub width : (n : ℕ) → n < length ring.lines.items
-      → length (slice_index_or ring.lines.items n []) ≡ ring.cols
+      → length (slice_index_or ring.lines.items n []) ≡ ring.columns

@@ -23,7 +23,7 @@ pub struct Ring {
     /// Always `keep` lines. The last `count` of them were taken in.
     lines: HeapCircularBuffer<Line>,
     count: usize,
-    cols: usize,
+    columns: usize,
 }
 
 impl Model for Ring {
@@ -41,14 +41,14 @@ impl Model for Ring {
 fn blank_lines(
     alloc: Global,
     keep: usize,
-    cols: usize,
+    columns: usize,
 ) -> Result<HeapCircularBuffer<Line>, NoMemory>
     ensures { IfOk result
-        (λ lines. lines ≡ buffer_of (replicate keep (replicate cols blank)) keep) }
+        (λ lines. lines ≡ buffer_of (replicate keep (replicate columns blank)) keep) }
 {
     let mut lines = HeapCircularBuffer::with_capacity(alloc, keep)?;
     for row in 0..keep {
-        let _ = lines.push_back(Line::blank(alloc, cols)?);
+        let _ = lines.push_back(Line::blank(alloc, columns)?);
     }
     Ok(lines)
 }
@@ -58,14 +58,14 @@ fn append_resized(
     alloc: Global,
     buffer: &mut HeapCircularBuffer<Line>,
     lines: &[Line],
-    cols: usize,
+    columns: usize,
 ) -> Result<(), NoMemory>
     requires { length buffer.old.items + length lines.now ≤ buffer.old.capacity }
-    ensures { OnOk result (buffer.new
-        ≡ buffer_of (buffer.old.items ++ map (line_resized cols) lines.now) buffer.old.capacity) }
+    ensures { OnOk result (buffer.new ≡ buffer_of
+        (buffer.old.items ++ map (line_resized columns) lines.now) buffer.old.capacity) }
 {
     for line in lines {
-        let _ = buffer.push_back(line.resized(alloc, cols)?);
+        let _ = buffer.push_back(line.resized(alloc, columns)?);
     }
     Ok(())
 }
@@ -74,30 +74,30 @@ fn append_resized(
 fn resized_buffer(
     alloc: Global,
     lines: &HeapCircularBuffer<Line>,
-    cols: usize,
+    columns: usize,
 ) -> Result<HeapCircularBuffer<Line>, NoMemory>
     requires { length lines.now.items ≡ lines.now.capacity }
     ensures { IfOk result (λ resized. resized
-        ≡ buffer_of (map (line_resized cols) lines.now.items) lines.now.capacity) }
+        ≡ buffer_of (map (line_resized columns) lines.now.items) lines.now.capacity) }
 {
     let mut resized = HeapCircularBuffer::with_capacity(alloc, lines.capacity())?;
     let (front, back) = lines.as_slices();
-    append_resized(alloc, &mut resized, front, cols)?;
-    append_resized(alloc, &mut resized, back, cols)?;
+    append_resized(alloc, &mut resized, front, columns)?;
+    append_resized(alloc, &mut resized, back, columns)?;
     Ok(resized)
 }
 
 impl Ring {
-    /// A ring that keeps at most `keep` lines of `cols` cells, and has taken in none.
-    pub fn new(alloc: Global, keep: usize, cols: usize) -> Result<Ring, NoMemory>
-        ensures value { IfOk result (λ ring. ring ≡ no_lines keep cols) }
+    /// A ring that keeps at most `keep` lines of `columns` cells, and has taken in none.
+    pub fn new(alloc: Global, keep: usize, columns: usize) -> Result<Ring, NoMemory>
+        ensures value { IfOk result (λ ring. ring ≡ no_lines keep columns) }
         ensures stands { IfOk result (λ ring. StandsFor ring []) }
     {
         Ok(Ring {
             alloc,
-            lines: blank_lines(alloc, keep, cols)?,
+            lines: blank_lines(alloc, keep, columns)?,
             count: 0,
-            cols,
+            columns,
         })
     }
 
@@ -110,10 +110,10 @@ impl Ring {
     }
 
     /// The number of cells of each line.
-    pub fn cols(&self) -> usize
+    pub fn columns(&self) -> usize
         ensures { result ≡ self.now.columns }
     {
-        self.cols
+        self.columns
     }
 
     /// Takes in a line of its width, and hands one of that width back for use. No memory is taken.
@@ -156,14 +156,14 @@ impl Ring {
 
     /// Gives its lines another width: each is cut or filled with blanks. A refusal leaves all as it
     /// was.
-    pub fn resized(&mut self, cols: usize) -> Result<(), NoMemory>
-        ensures ok { OnOk result (self.new ≡ resized_lines self.old cols) }
-        ensures stands { OnOk result (ContinuesResized self.old self.new cols) }
+    pub fn resized(&mut self, columns: usize) -> Result<(), NoMemory>
+        ensures ok { OnOk result (self.new ≡ resized_lines self.old columns) }
+        ensures stands { OnOk result (ContinuesResized self.old self.new columns) }
         ensures err { OnErr result (self.new ≡ self.old) }
     {
-        let lines = resized_buffer(self.alloc, &self.lines, cols)?;
+        let lines = resized_buffer(self.alloc, &self.lines, columns)?;
         self.lines = lines;
-        self.cols = cols;
+        self.columns = columns;
         Ok(())
     }
 }

@@ -32,7 +32,7 @@ fn shared_of<R: Net + Files<File = File> + AllocGlobal, I: Drop, O: Drop>(
     output: O,
 ) -> Result<Shared<I, O>, ClientFault> {
     let alloc = rt.alloc();
-    let (rows, cols) = match way {
+    let (rows, columns) = match way {
         Way::Command => (0, 0),
         Way::Attach | Way::Window => (number(matches, "rows")?, number(matches, "cols")?),
     };
@@ -44,7 +44,7 @@ fn shared_of<R: Net + Files<File = File> + AllocGlobal, I: Drop, O: Drop>(
     Ok(Shared {
         way,
         rows,
-        cols,
+        columns,
         stream,
         sending: Mutex::new(()),
         intake: Mutex::new(Intake {

@@ -53,13 +53,13 @@ fn first_message<R: AllocGlobal>(
     Ok(match way {
         Way::Attach => Message::Attach {
             rows: number(matches, "rows")?,
-            cols: number(matches, "cols")?,
+            columns: number(matches, "cols")?,
             token,
             name,
         },
         Way::Window => Message::Window {
             rows: number(matches, "rows")?,
-            cols: number(matches, "cols")?,
+            columns: number(matches, "cols")?,
             keep: number(matches, "keep")?,
             token,
             name,

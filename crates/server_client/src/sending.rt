@@ -59,7 +59,7 @@ fn send_sizes<R: Wait + AllocGlobal, I, O>(
         if let Some(size) = size {
             let message = Message::Resize {
                 rows: size.rows,
-                cols: size.cols,
+                columns: size.columns,
             };
             shared.send(rt, rt.alloc(), &message)?;
         }

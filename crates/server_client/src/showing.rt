@@ -32,8 +32,8 @@ impl Standing {
         Ok(())
     }
 
-    fn put_size(&mut self, rows: u16, cols: u16) -> Result<(), ClientFault> {
-        writeln!(self.sizes, "{rows} {cols}")?;
+    fn put_size(&mut self, rows: u16, columns: u16) -> Result<(), ClientFault> {
+        writeln!(self.sizes, "{rows} {columns}")?;
         Ok(())
     }
 }
@@ -55,7 +55,7 @@ fn welcome<
     }
     if shared.way == Way::Window {
         let mut standing = shared.standing.lock(rt);
-        standing.put_size(shared.rows, shared.cols)?;
+        standing.put_size(shared.rows, shared.columns)?;
     }
     start_sending(rt, shared, input)
 }
@@ -93,9 +93,9 @@ fn take<
             let mut standing = shared.standing.lock(rt);
             standing.put(shared.way, bytes.as_slice())?;
         }
-        Message::Size { rows, cols } => {
+        Message::Size { rows, columns } => {
             let mut standing = shared.standing.lock(rt);
-            standing.put_size(*rows, *cols)?;
+            standing.put_size(*rows, *columns)?;
         }
         // Once a peer is welcome, its status line says what the session says.
         Message::Say(text) if intake.input.is_some() => {

@@ -54,7 +54,7 @@ pub struct Outlet<O> {
 pub struct Shared<I, O> {
     pub way: Way,
     pub rows: u16,
-    pub cols: u16,
+    pub columns: u16,
     pub stream: UnixStream,
     /// Is held while a frame is written: a frame goes whole.
     pub sending: Mutex<()>,

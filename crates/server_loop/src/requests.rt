@@ -49,11 +49,11 @@ impl<S: Read + Write + Drop, G: Gate + Drop, L: Roll> Loop<S, G, L> {
             (Role::Window(window), Message::Output(_)) => {
                 return self.output(rt, shared, key, window, asked);
             }
-            (Role::Client(client), Message::Resize { rows, cols }) => {
+            (Role::Client(client), Message::Resize { rows, columns }) => {
                 let event = Event::Resize {
                     client,
                     rows: *rows,
-                    cols: *cols,
+                    columns: *columns,
                 };
                 self.change(rt, shared, key, event)
             }
@@ -198,17 +198,17 @@ impl<S: Read + Write + Drop, G: Gate + Drop, L: Roll> Loop<S, G, L> {
     ) {
         let user = newcomer.user;
         match message {
-            Message::Attach { rows, cols, .. } => {
+            Message::Attach { rows, columns, .. } => {
                 let event = Event::Attach {
                     user,
                     rows: *rows,
-                    cols: *cols,
+                    columns: *columns,
                 };
                 self.join(rt, shared, newcomer, event)
             }
             Message::Window {
                 rows,
-                cols,
+                columns,
                 keep,
                 title,
                 ..
@@ -216,7 +216,7 @@ impl<S: Read + Write + Drop, G: Gate + Drop, L: Roll> Loop<S, G, L> {
                 let event = Event::Open {
                     user,
                     rows: *rows,
-                    cols: *cols,
+                    columns: *columns,
                     keep: *keep,
                     title: title.as_str(),
                 };

@@ -73,6 +73,6 @@ pub fn put(alloc: Global, turn: &mut Turn, sending: Sending) -> Result<(), Write
             Ok(())
         }
         Sending::Say(text) => put_text(alloc, turn, text),
-        Sending::Size(rows, cols) => put_message(alloc, turn, &Message::Size { rows, cols }),
+        Sending::Size(rows, columns) => put_message(alloc, turn, &Message::Size { rows, columns }),
     }
 }

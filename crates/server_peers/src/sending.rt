@@ -87,11 +87,11 @@ impl<S: Read + Write + Drop, G: Gate + Drop, L: Roll> Peers<S, G, L> {
                     Role::Client(*client),
                     Sending::Say(text.as_slice()),
                 ),
-                Effect::Size(window, rows, cols) => self.hand(
+                Effect::Size(window, rows, columns) => self.hand(
                     rt,
                     shared,
                     Role::Window(*window),
-                    Sending::Size(*rows, *cols),
+                    Sending::Size(*rows, *columns),
                 ),
                 Effect::GoneWindow(window, reason) => self.let_go(Role::Window(*window), *reason),
                 Effect::GoneClient(client, reason) => self.let_go(Role::Client(*client), *reason),

@@ -78,16 +78,17 @@ pub fn check_attach(
     state: &State,
     user: UserId,
     rows: u16,
-    cols: u16,
+    columns: u16,
     verdicts: &mut Vec<Verdict>,
 ) -> Result<(), Refusal>
     ensures { (t : Tables) → Stands t state.now
-        → Checked t (attach_checks t user rows cols) result verdicts.old.items verdicts.new.items }
+        → Checked t (attach_checks t user rows columns) result
+        verdicts.old.items verdicts.new.items }
 {
     let checks = [
         Some(Check::Must(is_known(state, user), Refusal::UnknownUser)),
         Some(Check::Must(is_let_in(state, user), Refusal::NotMultiuser)),
-        Some(Check::Must(is_client_size(rows, cols), Refusal::BadSize)),
+        Some(Check::Must(is_client_size(rows, columns), Refusal::BadSize)),
         Some(Check::Must(has_seat(state), Refusal::TooManyClients)),
     ];
     check_all(state, &checks, verdicts)
@@ -97,14 +98,14 @@ pub fn check_attach(
 pub fn check_resize(
     state: &State,
     rows: u16,
-    cols: u16,
+    columns: u16,
     verdicts: &mut Vec<Verdict>,
 ) -> Result<(), Refusal>
     ensures { (t : Tables) → Stands t state.now
-        → Checked t (must (is_client_size rows cols) BadSize ∷ []) result
+        → Checked t (must (is_client_size rows columns) BadSize ∷ []) result
         verdicts.old.items verdicts.new.items }
 {
-    let checks = [Some(Check::Must(is_client_size(rows, cols), Refusal::BadSize))];
+    let checks = [Some(Check::Must(is_client_size(rows, columns), Refusal::BadSize))];
     check_all(state, &checks, verdicts)
 }
 
@@ -117,7 +118,7 @@ pub fn check_open(
     verdicts: &mut Vec<Verdict>,
 ) -> Result<(), Refusal>
     ensures { (t : Tables) → Stands t state.now
-        → Checked t (open_checks t user size.rows size.cols size.keep title.now) result
+        → Checked t (open_checks t user size.rows size.columns size.keep title.now) result
         verdicts.old.items verdicts.new.items }
 {
     let full = Refusal::Windows(WindowsFault::Full);
@@ -129,7 +130,7 @@ pub fn check_open(
         Some(screen),
         Some(Check::Must(is_let_in(state, user), Refusal::NotMultiuser)),
         Some(Check::Must(
-            is_window_size(size.rows, size.cols, size.keep),
+            is_window_size(size.rows, size.columns, size.keep),
             Refusal::BadSize,
         )),
         Some(Check::Must(has_place, full)),

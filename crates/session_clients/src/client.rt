@@ -52,11 +52,11 @@ impl Client {
         serial: u32,
         user: UserId,
         rows: u16,
-        cols: u16,
+        columns: u16,
         window: Option<u32>,
     ) -> Result<Client, AllocError>
-        requires { is_client_size rows cols ≡ true }
-        ensures { IfOk result (ClientStands (attached serial user rows cols window)) }
+        requires { is_client_size rows columns ≡ true }
+        ensures { IfOk result (ClientStands (attached serial user rows columns window)) }
     {
         let layout = Layout::new(alloc, Shown { window, back: 0 })?;
         Ok(Client {
@@ -67,7 +67,7 @@ impl Client {
             last: window,
             former: None,
             message: Message::Silence,
-            shadow: Shadow::unknown(rows, cols),
+            shadow: Shadow::unknown(rows, columns),
         })
     }
 
@@ -126,8 +126,8 @@ impl Client {
             self.old.shadow.columns) }
     {
         let rows = self.shadow.rows();
-        let cols = self.shadow.cols();
-        self.layout.split(alloc, way, rows, cols)?;
+        let columns = self.shadow.columns();
+        self.layout.split(alloc, way, rows, columns)?;
         self.see();
         Ok(())
     }
@@ -145,9 +145,9 @@ impl Client {
     /// Closes its focused region.
     pub(crate) fn remove_region(&mut self) -> Result<(), RegionFault>
         ensures ok { OnOk result (self.new ≡ moved_to (remove_focused self.old.layout) self.old) }
-        ensures room { OnOk result ((rows cols : ℕ)
-            → has_room self.old.layout.shape rows cols ≡ true
-            → has_room (remove_focused self.old.layout).shape rows cols ≡ true) }
+        ensures room { OnOk result ((rows columns : ℕ)
+            → has_room self.old.layout.shape rows columns ≡ true
+            → has_room (remove_focused self.old.layout).shape rows columns ≡ true) }
         ensures err { OnErr result (self.new ≡ self.old) }
         ensures fault { IsRemoval result self.old.layout.shown }
     {
@@ -172,11 +172,11 @@ impl Client {
     }
 
     /// Its terminal has another size now, and may show anything.
-    pub(crate) fn resize(&mut self, rows: u16, cols: u16)
-        ensures { self.new ≡ fitted rows cols self.old }
+    pub(crate) fn resize(&mut self, rows: u16, columns: u16)
+        ensures { self.new ≡ fitted rows columns self.old }
     {
-        self.layout.resized(rows, cols);
-        self.shadow = Shadow::unknown(rows, cols);
+        self.layout.resized(rows, columns);
+        self.shadow = Shadow::unknown(rows, columns);
     }
 
     /// Takes a reader and a message, and hands back those that it had.

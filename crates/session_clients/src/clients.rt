@@ -99,15 +99,15 @@ impl Clients {
         serial: u32,
         user: UserId,
         rows: u16,
-        cols: u16,
+        columns: u16,
         window: Option<u32>,
     ) -> Result<(), AllocError>
-        requires { is_client_size rows cols ≡ true }
+        requires { is_client_size rows columns ≡ true }
         ensures ok { OnOk result
-            (Attaches (attached serial user rows cols window) self.old self.new) }
+            (Attaches (attached serial user rows columns window) self.old self.new) }
         ensures err { OnErr result (self.new ≡ self.old) }
     {
-        let client = Client::new(alloc, serial, user, rows, cols, window)?;
+        let client = Client::new(alloc, serial, user, rows, columns, window)?;
         self.rows.push(client)
     }
 
@@ -219,14 +219,14 @@ impl Clients {
     }
 
     /// A client's terminal has another size now, and may show anything.
-    pub fn resize(&mut self, serial: u32, rows: u16, cols: u16)
-        requires { is_client_size rows cols ≡ true }
-        ensures { Changes (resized rows cols) serial self.old self.new }
+    pub fn resize(&mut self, serial: u32, rows: u16, columns: u16)
+        requires { is_client_size rows columns ≡ true }
+        ensures { Changes (resized rows columns) serial self.old self.new }
     {
         let Some(client) = self.rows.get_mut(serial) else {
             return;
         };
-        client.resize(rows, cols);
+        client.resize(rows, columns);
     }
 
     /// Puts a reader and a message into a client's row, and hands back those that stood there: done

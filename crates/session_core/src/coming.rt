@@ -32,17 +32,17 @@ pub(crate) fn attach_client(
     state: &mut State,
     user: UserId,
     rows: u16,
-    cols: u16,
+    columns: u16,
     step: &mut Step,
 ) -> Reply
-    ensures step { Steps (Attach user rows cols) state.old result state.new
+    ensures step { Steps (Attach user rows columns) state.old result state.new
         step.old.made step.new.made step.old.verdicts.items step.new.verdicts.items }
     ensures err { OnErr result (IsAsBefore state.old state.new step.old.made step.new.made) }
 {
     let focuses = Focuses::of(state);
-    check_attach(state, user, rows, cols, &mut step.verdicts)?;
+    check_attach(state, user, rows, columns, &mut step.verdicts)?;
     step.made.acts.reserve(256)?;
-    let client = attach(state, user, rows, cols, &mut step.made)?;
+    let client = attach(state, user, rows, columns, &mut step.made)?;
     leave(state, &focuses, &mut step.made);
     Ok(made_so(client, 0))
 }
@@ -52,10 +52,10 @@ pub(crate) fn resize_client(
     state: &mut State,
     client: u32,
     rows: u16,
-    cols: u16,
+    columns: u16,
     step: &mut Step,
 ) -> Reply
-    ensures step { Steps (Resize client rows cols) state.old result state.new
+    ensures step { Steps (Resize client rows columns) state.old result state.new
         step.old.made step.new.made step.old.verdicts.items step.new.verdicts.items }
     ensures err { OnErr result (IsAsBefore state.old state.new step.old.made step.new.made) }
 {
@@ -63,9 +63,9 @@ pub(crate) fn resize_client(
         return Err(Refusal::NoWindow);
     };
     let focuses = Focuses::of(state);
-    check_resize(state, rows, cols, &mut step.verdicts)?;
+    check_resize(state, rows, columns, &mut step.verdicts)?;
     step.made.acts.reserve(256)?;
-    resize(state, client, rows, cols, &mut step.made);
+    resize(state, client, rows, columns, &mut step.made);
     leave(state, &focuses, &mut step.made);
     Ok(made_so(0, 0))
 }
@@ -78,7 +78,7 @@ pub(crate) fn open_window(
     title: &str,
     step: &mut Step,
 ) -> Reply
-    ensures step { Steps (Open user size.rows size.cols size.keep title.now)
+    ensures step { Steps (Open user size.rows size.columns size.keep title.now)
         state.old result state.new step.old.made step.new.made
         step.old.verdicts.items step.new.verdicts.items }
     ensures err { OnErr result (IsAsBefore state.old state.new step.old.made step.new.made) }

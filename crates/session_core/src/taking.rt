@@ -26,19 +26,31 @@ pub fn take(state: &mut State, event: Event, step: &mut Step) -> Reply
         step.old.made step.new.made }
 {
     match event {
-        Event::Attach { user, rows, cols } => attach_client(state, user, rows, cols, step),
+        Event::Attach {
+            user,
+            rows,
+            columns,
+        } => attach_client(state, user, rows, columns, step),
         Event::Detach { client } => let_go(state, client, &mut step.made),
         Event::Keys { client, bytes } => give_keys(state, client, bytes, step),
         Event::Command { user, window, line } => give_line(state, user, window, line, step),
-        Event::Resize { client, rows, cols } => resize_client(state, client, rows, cols, step),
+        Event::Resize {
+            client,
+            rows,
+            columns,
+        } => resize_client(state, client, rows, columns, step),
         Event::Open {
             user,
             rows,
-            cols,
+            columns,
             keep,
             title,
         } => {
-            let size = WindowSize { rows, cols, keep };
+            let size = WindowSize {
+                rows,
+                columns,
+                keep,
+            };
             open_window(state, user, size, title, step)
         }
         Event::Output { window, bytes } => write(state, window, bytes, &mut step.made),

@@ -51,14 +51,14 @@ pub fn attach(
     state: &mut State,
     user: UserId,
     rows: u16,
-    cols: u16,
+    columns: u16,
     made: &mut StepOutput,
 ) -> Result<u32, Refusal>
     requires { HasRoomToAct made.old }
-    ensures answer { Attaches user rows cols state.old result state.new made.old made.new }
+    ensures answer { Attaches user rows columns state.old result state.new made.old made.new }
     ensures whole { IsWhole result state.old state.new made.old made.new }
 {
-    if !is_client_size(rows, cols) {
+    if !is_client_size(rows, columns) {
         return Err(Refusal::BadSize);
     }
     let Some(client) = serial_from(state.next_client) else {
@@ -67,7 +67,7 @@ pub fn attach(
     let window = first_window(state);
     state
         .clients
-        .attach(state.alloc, client, user, rows, cols, window)?;
+        .attach(state.alloc, client, user, rows, columns, window)?;
     state.next_client += 1;
     made.acts.push(Act::Attached { client, user }).unwrap();
     enter(state, user, window, made);
@@ -75,15 +75,15 @@ pub fn attach(
 }
 
 /// A client's terminal has another size, whose check has passed. No other size changes anything.
-pub fn resize(state: &mut State, client: u32, rows: u16, cols: u16, made: &mut StepOutput)
+pub fn resize(state: &mut State, client: u32, rows: u16, columns: u16, made: &mut StepOutput)
     requires { HasRoomToAct made.old }
-    ensures answer { Resizes client rows cols state.old state.new made.old made.new }
-    ensures kept { is_client_size rows cols ≡ false
+    ensures answer { Resizes client rows columns state.old state.new made.old made.new }
+    ensures kept { is_client_size rows columns ≡ false
         → IsAsBefore state.old state.new made.old made.new }
     ensures room { HasRoomToLeave made.new }
 {
-    if !is_client_size(rows, cols) {
+    if !is_client_size(rows, columns) {
         return;
     }
-    state.clients.resize(client, rows, cols);
+    state.clients.resize(client, rows, columns);
 }

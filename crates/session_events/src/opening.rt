@@ -18,17 +18,21 @@ pub fn open(
     made: &mut StepOutput,
 ) -> Result<(u32, u8), Refusal>
     requires { HasRoomToAct made.old }
-    ensures answer { Opens user size.rows size.cols size.keep title.now state.old result state.new
-        made.old made.new }
+    ensures answer { Opens user size.rows size.columns size.keep title.now
+        state.old result state.new made.old made.new }
     ensures whole { IsWhole result state.old state.new made.old made.new }
 {
     let Some(window) = serial_from(state.next_window) else {
         return Err(Refusal::Windows(WindowsFault::Full));
     };
-    let WindowSize { rows, cols, keep } = size;
+    let WindowSize {
+        rows,
+        columns,
+        keep,
+    } = size;
     let number = state
         .windows
-        .open(state.alloc, window, rows, cols, keep, title)?;
+        .open(state.alloc, window, rows, columns, keep, title)?;
     state.next_window += 1;
     made.acts.push(Act::Opened { by: user, window }).unwrap();
     state.acl.window_opened(user, window);

@@ -27,7 +27,7 @@ inputs_append [] b w = refl
 inputs_append (Input at bytes ∷ a) b w = ap (λ bs. (if at == w then bytes else []) ++ bs) (inputs_append a b w) ∙ sym (append_assoc (if at == w then bytes else []) (inputs a w) (inputs b w))
 inputs_append (Deliver to bytes ∷ a) b w = inputs_append a b w
 inputs_append (Say to bytes ∷ a) b w = inputs_append a b w
-inputs_append (Size at rows cols ∷ a) b w = inputs_append a b w
+inputs_append (Size at rows columns ∷ a) b w = inputs_append a b w
 inputs_append (GoneWindow at why ∷ a) b w = inputs_append a b w
 inputs_append (GoneClient at why ∷ a) b w = inputs_append a b w
 
@@ -37,7 +37,7 @@ never_same (Say to bytes) said is = absurd (cc (is))
 never_same e [] is = refl
 never_same (Input at bytes) (s ∷ said) is = never_same (Input at bytes) said is
 never_same (Deliver at bytes) (s ∷ said) is = never_same (Deliver at bytes) said is
-never_same (Size at rows cols) (s ∷ said) is = never_same (Size at rows cols) said is
+never_same (Size at rows columns) (s ∷ said) is = never_same (Size at rows columns) said is
 never_same (GoneWindow at why) (s ∷ said) is = never_same (GoneWindow at why) said is
 never_same (GoneClient at why) (s ∷ said) is = never_same (GoneClient at why) said is
 

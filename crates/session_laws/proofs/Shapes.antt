@@ -136,7 +136,7 @@ module _ (t : Tables) (k : Caller) where
   shape (command.Scrollview n) = on_page _ _ (λ d is. keeps_page d _ (refl, refl) is
       (λ has opens all. set_all (Shows has) d.layout.shown d.layout.focus (record (shown_in_focus d) { back = n }) (get_all (Shows has) d.layout.shown d.layout.focus empty tt all) all)
       (scrolled_place d.layout.shown d.layout.focus n))
-  shape command.Fit = on_page _ _ (λ d is. on_own _ _ (λ w at. by_given (Shape t k _) _ _ _ refl (λ box there. by_refused (Shape t k _) _ _ _ refl (λ no. fitted w (box.rows - 1) box.cols refl at))))
+  shape command.Fit = on_page _ _ (λ d is. on_own _ _ (λ w at. by_given (Shape t k _) _ _ _ refl (λ box there. by_refused (Shape t k _) _ _ _ refl (λ no. fitted w (box.rows - 1) box.columns refl at))))
   shape (command.Title bytes) = on_own _ _ (λ w at. by_refused (Shape t k _) _ _ _ refl (λ no. titled w bytes refl at))
   shape (command.Number n) = on_own _ _ (λ w at. by_refused (Shape t k _) (is_taken t w n) _ _ refl (λ free. numbered w n refl at free))
   shape command.Clear = on_own _ _ (λ w at. writes_to w written.Clear refl at)

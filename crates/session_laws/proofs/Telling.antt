@@ -57,7 +57,7 @@ same_say (Say at said) to bytes is =
     ap (λ n. Say n said) (sym here) ∙ ap (Say to) (sym alike)
 same_say (Input at said) to bytes is = absurd (cc (is))
 same_say (Deliver at said) to bytes is = absurd (cc (is))
-same_say (Size at rows cols) to bytes is = absurd (cc (is))
+same_say (Size at rows columns) to bytes is = absurd (cc (is))
 same_say (GoneWindow at why) to bytes is = absurd (cc (is))
 same_say (GoneClient at why) to bytes is = absurd (cc (is))
 

@@ -67,7 +67,7 @@ fn push_effect(effect: &Effect, out: &mut String) -> Result<(), AllocError>
             write!(out, "say {client} ")?;
             push_text(bytes.as_slice(), out)
         }
-        Effect::Size(window, rows, cols) => writeln!(out, "size {window} {rows} {cols}"),
+        Effect::Size(window, rows, columns) => writeln!(out, "size {window} {rows} {columns}"),
         Effect::GoneWindow(window, why) => push_gone("window", *window, *why, out),
         Effect::GoneClient(client, why) => push_gone("client", *client, *why, out),
     }

@@ -54,11 +54,11 @@ fn read_attach(rest: &[u8]) -> Option<Event<'static>>
     ensures { option_map happening result ≡ attach_in (fields 2 rest.now) }
 {
     let (user, rest) = cut(rest)?;
-    let (rows, cols) = cut(rest)?;
+    let (rows, columns) = cut(rest)?;
     Some(Event::Attach {
         user: UserId::of(user)?,
         rows: read_number(rows)?,
-        cols: read_number(cols)?,
+        columns: read_number(columns)?,
     })
 }
 
@@ -145,11 +145,11 @@ fn read_resize(rest: &[u8]) -> Option<Event<'static>>
     ensures { option_map happening result ≡ resize_in (fields 2 rest.now) }
 {
     let (client, rest) = cut(rest)?;
-    let (rows, cols) = cut(rest)?;
+    let (rows, columns) = cut(rest)?;
     Some(Event::Resize {
         client: read_serial(client)?,
         rows: read_number(rows)?,
-        cols: read_number(cols)?,
+        columns: read_number(columns)?,
     })
 }
 
@@ -158,7 +158,7 @@ fn read_resize(rest: &[u8]) -> Option<Event<'static>>
 struct Opening<'a> {
     user: UserId,
     rows: u16,
-    cols: u16,
+    columns: u16,
     keep: u16,
     title: &'a [u8],
 }
@@ -167,16 +167,16 @@ impl<'a> Opening<'a> {
     fn read(rest: &'a [u8]) -> Option<Opening<'a>>
         ensures none { result ≡ None → open_in (fields 4 rest.now) ≡ None }
         ensures some { IfSome result (λ o. open_in (fields 4 rest.now)
-            ≡ option_map (Open o.user o.rows o.cols o.keep) (title_of o.title.now)) }
+            ≡ option_map (Open o.user o.rows o.columns o.keep) (title_of o.title.now)) }
     {
         let (user, rest) = cut(rest)?;
         let (rows, rest) = cut(rest)?;
-        let (cols, rest) = cut(rest)?;
+        let (columns, rest) = cut(rest)?;
         let (keep, title) = cut(rest)?;
         Some(Opening {
             user: UserId::of(user)?,
             rows: read_number(rows)?,
-            cols: read_number(cols)?,
+            columns: read_number(columns)?,
             keep: read_number(keep)?,
             title,
         })
@@ -196,7 +196,7 @@ fn read_open<'a>(rest: &[u8], text: &'a mut Vec<u8>) -> Result<Option<Event<'a>>
     Ok(Some(Event::Open {
         user: opening.user,
         rows: opening.rows,
-        cols: opening.cols,
+        columns: opening.columns,
         keep: opening.keep,
         title,
     }))

@@ -168,8 +168,8 @@ writes t w what = changing (with_window t (record w { writing = w.writing ++ wha
 abbrev pub fits : Tables → Window → Rect → Answer
 fits t w box =
     refused_if (nat_lt (box.rows - 1) 2) (Regions TooSmall)
-    (record (writes t w (written.Size (box.rows - 1) box.cols)) {
-      effects = Size w.serial (box.rows - 1) box.cols ∷ [];
+    (record (writes t w (written.Size (box.rows - 1) box.columns)) {
+      effects = Size w.serial (box.rows - 1) box.columns ∷ [];
     })
 
 -- bytes for a window's program, if there are any

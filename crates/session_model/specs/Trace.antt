@@ -23,12 +23,12 @@ pub data EventValue : Type 0 where
   Draw : (client : ℕ) → EventValue
 
 abbrev pub happening : Event → EventValue
-happening (event.Attach user rows cols) = Attach user rows cols
+happening (event.Attach user rows columns) = Attach user rows columns
 happening (event.Detach client) = Detach client
 happening (event.Keys client bytes) = Keys client bytes.now
 happening (event.Command user window line) = Command user window line.now
-happening (event.Resize client rows cols) = Resize client rows cols
-happening (event.Open user rows cols keep title) = Open user rows cols keep title.now
+happening (event.Resize client rows columns) = Resize client rows columns
+happening (event.Open user rows columns keep title) = Open user rows columns keep title.now
 happening (event.Output window bytes) = Output window bytes.now
 happening (event.Closed window) = Closed window
 happening (event.Draw client) = Draw client

@@ -13,7 +13,7 @@ pub enum Event<'a> {
     Attach {
         user: UserId,
         rows: u16,
-        cols: u16,
+        columns: u16,
     },
     /// A client goes.
     Detach {
@@ -34,13 +34,13 @@ pub enum Event<'a> {
     Resize {
         client: u32,
         rows: u16,
-        cols: u16,
+        columns: u16,
     },
     /// A window of 2 to 200 lines by 2 to 300 columns that keeps up to 2,000 lines above its page.
     Open {
         user: UserId,
         rows: u16,
-        cols: u16,
+        columns: u16,
         keep: u16,
         title: &'a str,
     },

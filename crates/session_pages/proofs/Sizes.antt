@@ -33,27 +33,27 @@ use Rattle.session_pages.proofs.Answering.{given_some, refused, not_refused, on_
 use Rattle.session_pages.proofs.Paging.{Gives}
 
 -- a rectangle of at most so many rows and columns
-pub record IsWithin (rows cols : ℕ) (r : Rect) : Type 0 where
+pub record IsWithin (rows columns : ℕ) (r : Rect) : Type 0 where
   pub rows_fit : r.rows ≤ rows
-  pub cols_fit : r.cols ≤ cols
+  pub columns_fit : r.columns ≤ columns
 
 abbrev AreWithin : ℕ → ℕ → List Rect → Type 0
-AreWithin rows cols rs = AllByRecursion (IsWithin rows cols) rs
+AreWithin rows columns rs = AllByRecursion (IsWithin rows columns) rs
 
-of_append : (rows cols : ℕ) (a b : List Rect) → AreWithin rows cols a → AreWithin rows cols b → AreWithin rows cols (a ++ b)
-of_append rows cols [] b x y = y
-of_append rows cols (r ∷ a) b x y = (x.0, of_append rows cols a b x.1 y)
+of_append : (rows columns : ℕ) (a b : List Rect) → AreWithin rows columns a → AreWithin rows columns b → AreWithin rows columns (a ++ b)
+of_append rows columns [] b x y = y
+of_append rows columns (r ∷ a) b x y = (x.0, of_append rows columns a b x.1 y)
 
-boxes_within : (s : Shape) (rows cols : ℕ) (r : Rect) → IsWithin rows cols r → AreWithin rows cols (boxes s r)
-boxes_within region rows cols r in_it = (in_it, tt)
-boxes_within (split Below a b) rows cols r in_it =
-    of_append rows cols (boxes a (upper r)) (boxes b (lower r))
-    (boxes_within a rows cols (upper r) (record { rows_fit = omega (arith, in_it.rows_fit); cols_fit = in_it.cols_fit }))
-    (boxes_within b rows cols (lower r) (record { rows_fit = omega (arith, in_it.rows_fit); cols_fit = in_it.cols_fit }))
-boxes_within (split Right a b) rows cols r in_it =
-    of_append rows cols (boxes a (left r)) (boxes b (right r))
-    (boxes_within a rows cols (left r) (record { rows_fit = in_it.rows_fit; cols_fit = omega (arith, in_it.cols_fit) }))
-    (boxes_within b rows cols (right r) (record { rows_fit = in_it.rows_fit; cols_fit = omega (arith, in_it.cols_fit) }))
+boxes_within : (s : Shape) (rows columns : ℕ) (r : Rect) → IsWithin rows columns r → AreWithin rows columns (boxes s r)
+boxes_within region rows columns r in_it = (in_it, tt)
+boxes_within (split Below a b) rows columns r in_it =
+    of_append rows columns (boxes a (upper r)) (boxes b (lower r))
+    (boxes_within a rows columns (upper r) (record { rows_fit = omega (arith, in_it.rows_fit); columns_fit = in_it.columns_fit }))
+    (boxes_within b rows columns (lower r) (record { rows_fit = omega (arith, in_it.rows_fit); columns_fit = in_it.columns_fit }))
+boxes_within (split Right a b) rows columns r in_it =
+    of_append rows columns (boxes a (left r)) (boxes b (right r))
+    (boxes_within a rows columns (left r) (record { rows_fit = in_it.rows_fit; columns_fit = omega (arith, in_it.columns_fit) }))
+    (boxes_within b rows columns (right r) (record { rows_fit = in_it.rows_fit; columns_fit = omega (arith, in_it.columns_fit) }))
 
 one_of : (P : Rect → Type 0) (rs : List Rect) (i : ℕ) (r : Rect) → slice_get rs i ≡ Some r → AllByRecursion P rs → P r
 one_of P [] i r at all = absurd (cc (at))
@@ -83,22 +83,22 @@ le_true m n is = grind (arith, nat_tests, is)
 
 -- a region with two rows beside its caption has the size of a window
 window_sized : (m : model.Client) (r : Rect) → is_client_size m.rows m.columns ≡ true → has_room m.layout.shape m.rows m.columns ≡ true → focused_box m ≡ Some r → 2 ≤ r.rows - 1
-    → is_window_size (r.rows - 1) r.cols 0 ≡ true
+    → is_window_size (r.rows - 1) r.columns 0 ≡ true
 window_sized m r sized room at tall =
     let page : Rect = box_of m.rows m.columns in
     let in_page = one_of (IsWithin m.rows m.columns) (boxes m.layout.shape page) m.layout.focus r at
-    (boxes_within m.layout.shape m.rows m.columns page (record { rows_fit = omega arith; cols_fit = omega arith })) in
+    (boxes_within m.layout.shape m.rows m.columns page (record { rows_fit = omega arith; columns_fit = omega arith })) in
     let roomy = one_of (λ q. is_roomy q ≡ true) (boxes m.layout.shape page) m.layout.focus r at (each_true is_roomy (boxes m.layout.shape page) room) in
-    let broad : 1 < r.cols = lt_is 1 r.cols (both_true (nat_lt 1 r.rows) (nat_lt 1 r.cols) roomy).1 in
+    let broad : 1 < r.columns = lt_is 1 r.columns (both_true (nat_lt 1 r.rows) (nat_lt 1 r.columns) roomy).1 in
     let a = both_true (nat_le 4 m.rows && nat_le m.rows 200 && nat_le 20 m.columns) (nat_le m.columns 300) sized in
     let b = both_true (nat_le 4 m.rows && nat_le m.rows 200) (nat_le 20 m.columns) a.0 in
     let high : m.rows ≤ 200 = le_is m.rows 200 (both_true (nat_le 4 m.rows) (nat_le m.rows 200) b.0).1 in
     let wide : m.columns ≤ 300 = le_is m.columns 300 a.1 in
     let n : ℕ = r.rows - 1 in
-    and_true (nat_le 2 n && nat_le n 200 && nat_le 2 r.cols && nat_le r.cols 300) (nat_le 0 2000)
-    (and_true (nat_le 2 n && nat_le n 200 && nat_le 2 r.cols) (nat_le r.cols 300)
-    (and_true (nat_le 2 n && nat_le n 200) (nat_le 2 r.cols) (and_true (nat_le 2 n) (nat_le n 200) (le_true 2 n tall) (le_true n 200 (omega (arith, high, in_page.rows_fit)))) (le_true 2 r.cols (omega (arith, broad))))
-    (le_true r.cols 300 (omega (arith, wide, in_page.cols_fit)))) refl
+    and_true (nat_le 2 n && nat_le n 200 && nat_le 2 r.columns && nat_le r.columns 300) (nat_le 0 2000)
+    (and_true (nat_le 2 n && nat_le n 200 && nat_le 2 r.columns) (nat_le r.columns 300)
+    (and_true (nat_le 2 n && nat_le n 200) (nat_le 2 r.columns) (and_true (nat_le 2 n) (nat_le n 200) (le_true 2 n tall) (le_true n 200 (omega (arith, high, in_page.rows_fit)))) (le_true 2 r.columns (omega (arith, broad))))
+    (le_true r.columns 300 (omega (arith, wide, in_page.columns_fit)))) refl
 
 lt_true : (m n : ℕ) → m < n → nat_lt m n ≡ true
 lt_true m n is = grind (arith, nat_tests, is)
@@ -130,7 +130,7 @@ module _ (t : Tables) (k : Caller) (client : ℕ) (c : Client) (m : model.Client
   rows = r.rows - 1
 
   abbrev fitted : Deed
-  fitted = record (writes t w (terminal.Size rows r.cols)) { effects = Size w.serial rows r.cols ∷ [] }
+  fitted = record (writes t w (terminal.Size rows r.columns)) { effects = Size w.serial rows r.columns ∷ [] }
 
   fits_is : fit_row t k ≡ fits t w r
   fits_is =
@@ -141,23 +141,23 @@ module _ (t : Tables) (k : Caller) (client : ℕ) (c : Client) (m : model.Client
   too_small small = fits_is ∙ refused (nat_lt rows 2) (Regions TooSmall) fitted (lt_true rows 2 small)
 
   module _ (tall : 2 ≤ rows) where
-    sized : resized rows r.cols w ≡ Ok (written_to (terminal.Size rows r.cols) w)
-    sized = if_true (is_window_size rows r.cols 0) _ _ (window_sized m r stands.sized stands.room place tall)
+    sized : resized rows r.columns w ≡ Ok (written_to (terminal.Size rows r.columns) w)
+    sized = if_true (is_window_size rows r.columns 0) _ _ (window_sized m r stands.sized stands.room place tall)
 
     -- a window of the size is refused for want of memory alone
-    pub for_memory : (why : Refusal) → (why ≡ NoMemory) ⊎ (resized_in s rows r.cols t.windows ≡ Err why) → why ≡ NoMemory
+    pub for_memory : (why : Refusal) → (why ≡ NoMemory) ⊎ (resized_in s rows r.columns t.windows ≡ Err why) → why ≡ NoMemory
     for_memory why (inl full) = full
     for_memory why (inr other) =
-        let refusal = row_refused_as t.windows s (resized rows r.cols) w there why other in
-        let never : Ok (written_to (terminal.Size rows r.cols) w) ≡ Err why = sym sized ∙ refusal in
+        let refusal = row_refused_as t.windows s (resized rows r.columns) w there why other in
+        let never : Ok (written_to (terminal.Size rows r.columns) w) ≡ Err why = sym sized ∙ refusal in
         absurd (cc (never))
 
-    pub fits_there : {A : Type 0} (a : A) (old : State) (new : List code.Window) (before after : StepOutput) → Stands t old → Answered (resized_in s rows r.cols t.windows) (Ok a) new
-        → after.acts.items ≡ before.acts.items → after.effects.items ≡ before.effects.items ++ Size s rows r.cols ∷ []
+    pub fits_there : {A : Type 0} (a : A) (old : State) (new : List code.Window) (before after : StepOutput) → Stands t old → Answered (resized_in s rows r.columns t.windows) (Ok a) new
+        → after.acts.items ≡ before.acts.items → after.effects.items ≡ before.effects.items ++ Size s rows r.columns ∷ []
         → Answers t (fit_row t k) (Ok None) (record old { windows = new }) before after
     fits_there a old new before after st answer acts effects =
-        let did = row_done t.windows s (resized rows r.cols) w there a new answer in
-        let made : Window = written_to (terminal.Size rows r.cols) w in
+        let did = row_done t.windows s (resized rows r.columns) w there a new answer in
+        let made : Window = written_to (terminal.Size rows r.columns) w in
         let same : did.0 ≡ made = let e : Ok did.0 ≡ Ok made = sym did.1 ∙ sized in cc (e) in
         let at : w.serial ≡ s = serial_is serial t.windows s w there in (
           fitted,
@@ -174,6 +174,6 @@ module _ (t : Tables) (k : Caller) (client : ℕ) (c : Client) (m : model.Client
               next_client_is = st.next_client_is;
             };
             acts = acts ∙ sym (append-nil before.acts.items);
-            effects = effects ∙ ap (λ n. before.effects.items ++ Size n rows r.cols ∷ []) (sym at);
+            effects = effects ∙ ap (λ n. before.effects.items ++ Size n rows r.columns ∷ []) (sym at);
           },
         )

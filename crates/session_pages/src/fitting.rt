@@ -19,8 +19,8 @@ fn focused_box(alloc: Global, client: &Client) -> Result<Rect, Refusal>
     ensures value { IsFocusedBox client.now result }
 {
     let rows = client.shadow.rows();
-    let cols = client.shadow.cols();
-    match client.layout.rects(alloc, rows, cols) {
+    let columns = client.shadow.columns();
+    match client.layout.rects(alloc, rows, columns) {
         Ok(rects) => Ok(rects.boxes[rects.focus]),
         Err(fault) => Err(refusal_of(fault)),
     }
@@ -50,9 +50,9 @@ pub fn fit(
         return Err(Refusal::Regions(RegionFault::TooSmall));
     }
     made.effects.reserve(1)?;
-    state.windows.resize(window, rows, region.cols)?;
+    state.windows.resize(window, rows, region.columns)?;
     made.effects
-        .push(Effect::Size(window, rows, region.cols))
+        .push(Effect::Size(window, rows, region.columns))
         .unwrap();
     Ok(None)
 }

@@ -1,6 +1,5 @@
 -- Rows that are lent to be changed.
-use Rattle.std.proofs.Common.{◌≡◌, ℕ, ◌-◌, ◌<◌, List, [], ◌∷◌, ◌++◌, arith, length, Option, Some, None, get_or, take, drop, ap, sym, ◌∙◌, IsSome, MutBor}
-use Rattle.std.proofs.lemmas.List.{length-append}
+use Rattle.std.proofs.Common.{◌≡◌, ℕ, ◌<◌, List, ◌++◌, length, Option, Some, None, get_or, take, drop, ap, sym, ◌∙◌, IsSome, MutBor}
 use Rattle.std.proofs.Math.Seq.{take-append_seam}
 use Rattle.std.specs.Prelude.{◌==◌, IfSome, OnSome}
 use Rattle.std.specs.List.{position}
@@ -25,9 +24,3 @@ over_all rows items n len same w = ap (λ k. take k (w ++ drop (length w) items)
 
 pub over_same : {A : Type 0} (old rows : List A) → length rows ≡ length old → over old rows ≡ rows
 over_same old rows len = ap (λ n. take n (rows ++ drop (length rows) old)) (sym len) ∙ take-append_seam rows (drop (length rows) old)
-
--- the rows before the one that was added last
-pub before_last : {A : Type 0} (rows : List A) (row : A) → take (length (rows ++ row ∷ []) - 1) (rows ++ row ∷ []) ≡ rows
-before_last rows row =
-    let len : length (rows ++ row ∷ []) - 1 ≡ length rows = simp length-append (omega arith) in
-    ap (λ n. take n (rows ++ row ∷ [])) len ∙ take-append_seam rows (row ∷ [])

@@ -1,7 +1,7 @@
 //! Rows by rising serials.
 
-ghost use Rattle.std.specs.Prelude.{◌≡◌, ◌++◌, ◌∷◌, ◌==◌, ◌<◌, [], length, filter, not, take, ◌-◌};
-ghost use Rattle.std.specs.Prelude.{option_copied, option_to_list, OnOk, OnErr, IfSome};
+ghost use Rattle.std.specs.Prelude.{◌≡◌, ◌++◌, ◌∷◌, ◌==◌, ◌<◌, [], length, filter, not};
+ghost use Rattle.std.specs.Prelude.{option_copied, OnOk, OnErr, IfSome};
 ghost use Rattle.std.specs.List.{position};
 ghost use Rattle.std.specs.List.Retain.{IsFiltered};
 ghost use Rattle.std.specs.Fn.{CalledAt};
@@ -21,8 +21,7 @@ pub trait Serial {
         ensures { result ≡ serial_of self.now };
 }
 
-// No `reserve`: what a list has room for is no part of its value. A row is pushed, and taken back
-// where a later growth is refused.
+// No `reserve`: what a list has room for is no part of its value.
 /// Rows, in the order in which they came. Contracts see them as a list.
 #[derive(Drop)]
 pub struct Rows<R> {
@@ -122,14 +121,6 @@ impl<R: Serial + Drop> Rows<R> {
     {
         self.items.push(row)?;
         Ok(())
-    }
-
-    /// Takes back the row that was added last.
-    pub fn pop(&mut self) -> Option<R>
-        ensures row { self.old ≡ self.new ++ option_to_list result }
-        ensures rest { self.new ≡ take (length self.old - 1) self.old }
-    {
-        self.items.pop()
     }
 
     /// Removes all rows.

@@ -7,13 +7,13 @@ ghost use Rattle.session_model.specs.Events.{is_client_size};
 #[derive(Clone, Copy, PartialEq, Eq, Debug)]
 pub struct WindowSize {
     pub rows: u16,
-    pub cols: u16,
+    pub columns: u16,
     pub keep: u16,
 }
 
 /// Whether a client's terminal may have so many lines and columns: 4 to 200 by 20 to 300.
-pub fn is_client_size(rows: u16, cols: u16) -> bool
-    ensures { result ≡ is_client_size rows cols }
+pub fn is_client_size(rows: u16, columns: u16) -> bool
+    ensures { result ≡ is_client_size rows columns }
 {
-    4 <= rows && rows <= 200 && 20 <= cols && cols <= 300
+    4 <= rows && rows <= 200 && 20 <= columns && columns <= 300
 }

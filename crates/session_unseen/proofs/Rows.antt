@@ -165,7 +165,7 @@ module _ (shown : ℕ → Bool) (seeing : UserId → Bool) where
 
   fits_cut : (t : Tables) (w : Window) (box : Rect) → fits (less t) (f w) box ≡ cut_answer (fits t w box)
   fits_cut t w box =
-      refused_cut _ _ _ _ (ap (λ (d : Deed). record d { effects = Size w.serial (box.rows - 1) box.cols ∷ [] }) (writes_cut t w (written.Size (box.rows - 1) box.cols) refl))
+      refused_cut _ _ _ _ (ap (λ (d : Deed). record d { effects = Size w.serial (box.rows - 1) box.columns ∷ [] }) (writes_cut t w (written.Size (box.rows - 1) box.columns) refl))
 
   tells_cut : (bytes : List ℕ) (t : Tables) → tells bytes (less t) ≡ cut_deed shown seeing (tells bytes t)
   tells_cut bytes t =

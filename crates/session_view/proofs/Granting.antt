@@ -84,15 +84,15 @@ pub view_is : (s : State) (c : Client) (r : Rects) (parts : List view.Part) (sta
     → IsRects c.layout.shape c.layout.focus c.shadow.rows c.shadow.columns r
     → length r.boxes.items ≡ length c.layout.shown → r.focus < length r.boxes.items
     → ((t : Tables) → Stands t s → AreFit t → parts ≡ map (part_shown t c.user) c.layout.shown)
-    → SaysStatus s c status → IfOk result (HasSize r.status.line r.status.cols)
-    → IfOk result (λ v. (shape : Shape) (rows cols : ℕ)
-    → view.AreParts shape rows cols r parts → v ≡ view.view_of r parts status)
-    → IfOk result (λ v. (shape : Shape) (rows cols : ℕ)
-    → view.AreParts shape rows cols r parts → view.AreDrawable parts → IsDrawable v)
+    → SaysStatus s c status → IfOk result (HasSize r.status.line r.status.columns)
+    → IfOk result (λ v. (shape : Shape) (rows columns : ℕ)
+    → view.AreParts shape rows columns r parts → v ≡ view.view_of r parts status)
+    → IfOk result (λ v. (shape : Shape) (rows columns : ℕ)
+    → view.AreParts shape rows columns r parts → view.AreDrawable parts → IsDrawable v)
     → IfOk result (IsViewFor s c)
 view_is s c r parts status (Ok v) rects each inside shown says size exact drawable = λ t m st fit is.
     let page : HasSize c.shadow.rows c.shadow.columns v =
-    subst (λ (box : Rect). HasSize box.line box.cols v) rects.status_is size in
+    subst (λ (box : Rect). HasSize box.line box.columns v) rects.status_is size in
     granted_is t s m c st is r rects parts status v each inside (shown t st fit)
     (says t m st fit is) page (exact m.layout.shape m.rows m.columns) (drawable m.layout.shape m.rows m.columns)
 view_is s c r parts status (Err e) rects each inside shown says size exact drawable = tt

@@ -19,8 +19,8 @@ pub(crate) fn view_for(state: &State, client: &Client) -> Result<View, AllocErro
     ensures granted { IfOk result (IsViewFor state.now client.now) }
 {
     let rows = client.shadow.rows();
-    let cols = client.shadow.cols();
-    let Ok(rects) = client.layout.rects(state.alloc, rows, cols) else {
+    let columns = client.shadow.columns();
+    let Ok(rects) = client.layout.rects(state.alloc, rows, columns) else {
         return Err(AllocError);
     };
     let parts = parts(state, client.user, client.layout.shown())?;

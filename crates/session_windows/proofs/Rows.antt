@@ -1,10 +1,10 @@
 -- What keeps the rows of a table of windows: serials rise, and numbers differ.
-use Rattle.std.proofs.Common.{◌≡◌, ◌≢◌, ℕ, zero, suc, ◌<◌, ◌≤◌, Bool, true, false, List, [], ◌∷◌, ◌++◌, Option, Some, None, length, map, take, min, filter, not, inl, inr, get_or, refl, ap, sym, subst, ◌∙◌, arith, ⊎_elim}
+use Rattle.std.proofs.Common.{◌≡◌, ◌≢◌, ℕ, zero, suc, ◌<◌, ◌≤◌, Bool, true, false, List, [], ◌∷◌, ◌++◌, Option, Some, None, length, map, filter, not, inl, inr, get_or, refl, ap, sym, subst, ◌∙◌, arith, ⊎_elim}
 use Rattle.std.specs.Prelude.{◌⊎◌, ◌==◌, ◌&&◌, ◌||◌, ◌+◌, nat_lt, if◌then◌else◌, AllPairs, find}
 use Rattle.std.proofs.lemmas.Bool.Decides.{nat_tests}
 use Rattle.std.specs.List.{list_any, range_with_len}
 use Rattle.std.specs.Option.{option_map_or}
-use Rattle.std.proofs.lemmas.List.{get_or-map, get_or-take, length-map, length-take}
+use Rattle.std.proofs.lemmas.List.{get_or-map, length-map}
 use Rattle.std.proofs.lemmas.List.Kept.{AllPairs-filter}
 use Rattle.std.proofs.lemmas.List.Quantifiers.{all_pairs_push}
 use Rattle.session_rows.specs.Finding.{row_of, with_row}
@@ -31,21 +31,6 @@ pub rows_kept : (p : Window → Bool) (ws : List Window) → AreRows ws → AreR
 rows_kept p ws are = record {
   rise = AllPairs-filter Before p ws are.rise;
   differ = AllPairs-filter Apart p ws are.differ;
-}
-
-pairs_taken : (R : Window → Window → Type 0) (n : ℕ) (ws : List Window) → AllPairs R ws → AllPairs R (take n ws)
-pairs_taken R n ws are i j d before inside =
-    let size : length (take n ws) ≡ min n (length ws) = length-take n ws in
-    let short : length (take n ws) ≤ length ws = rw size (omega arith) in
-    let within : j < min n (length ws) = subst (λ k. j < k) size inside in
-    let below : j < n = omega (arith, within) in
-    subst (λ v. R v (get_or (take n ws) j d)) (sym (get_or-take n ws i d (omega arith)))
-    (subst (R (get_or ws i d)) (sym (get_or-take n ws j d below)) (are i j d before (omega arith)))
-
-pub rows_taken : (n : ℕ) (ws : List Window) → AreRows ws → AreRows (take n ws)
-rows_taken n ws are = record {
-  rise = pairs_taken Before n ws are.rise;
-  differ = pairs_taken Apart n ws are.differ;
 }
 
 -- ---- a row that changes at its place

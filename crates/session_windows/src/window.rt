@@ -33,10 +33,10 @@ impl Serial for Window {
 
 /// Whether a window may have so many lines and columns, and keep so many lines above its page: 2 to
 /// 200 lines by 2 to 300 columns, and at most 2,000 lines.
-pub fn is_window_size(rows: u16, cols: u16, keep: u16) -> bool
-    ensures { result ≡ is_window_size rows cols keep }
+pub fn is_window_size(rows: u16, columns: u16, keep: u16) -> bool
+    ensures { result ≡ is_window_size rows columns keep }
 {
-    2 <= rows && rows <= 200 && 2 <= cols && cols <= 300 && keep <= 2000
+    2 <= rows && rows <= 200 && 2 <= columns && columns <= 300 && keep <= 2000
 }
 
 impl Window {
@@ -52,15 +52,16 @@ impl Window {
         serial: u32,
         number: u8,
         rows: u16,
-        cols: u16,
+        columns: u16,
         keep: u16,
         title: &str,
     ) -> Result<Window, Refusal>
-        requires { is_window_size rows cols keep ≡ true }
-        ensures ok { IfOk result (WindowStands (new_row serial number rows cols keep title.now)) }
+        requires { is_window_size rows columns keep ≡ true }
+        ensures ok { IfOk result
+            (WindowStands (new_row serial number rows columns keep title.now)) }
         ensures err { IfErr result (λ refusal. refusal ≡ NoMemory) }
     {
-        let emulator = match Emulator::new(alloc, rows as usize, cols as usize, keep as usize) {
+        let emulator = match Emulator::new(alloc, rows as usize, columns as usize, keep as usize) {
             Ok(emulator) => emulator,
             Err(GridFault::BadSize) => return Err(Refusal::BadSize),
             Err(GridFault::NoMemory) => return Err(Refusal::NoMemory),
@@ -93,15 +94,15 @@ impl Window {
     }
 
     /// Takes another size. A refusal leaves all as it was.
-    pub(crate) fn resize(&mut self, rows: u16, cols: u16) -> Result<(), Refusal>
-        ensures answer { Resizes rows cols self.old result self.new }
+    pub(crate) fn resize(&mut self, rows: u16, columns: u16) -> Result<(), Refusal>
+        ensures answer { Resizes rows columns self.old result self.new }
         ensures name { KeepsName self.old self.new }
         ensures err { OnErr result (self.new ≡ self.old) }
     {
-        if !is_window_size(rows, cols, 0) {
+        if !is_window_size(rows, columns, 0) {
             return Err(Refusal::BadSize);
         }
-        match self.emulator.resized(rows as usize, cols as usize) {
+        match self.emulator.resized(rows as usize, columns as usize) {
             Ok(()) => Ok(()),
             Err(_) => Err(Refusal::NoMemory),
         }

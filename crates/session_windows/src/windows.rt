@@ -1,6 +1,6 @@
 //! The open windows.
 
-ghost use Rattle.std.specs.Prelude.{◌≡◌, ◌∷◌, ◌++◌, [], true, List, Some, length, option_copied};
+ghost use Rattle.std.specs.Prelude.{◌≡◌, [], true, Some, length, option_copied};
 ghost use Rattle.std.specs.Prelude.{IfOk, IfSome, OnOk, OnErr};
 ghost use Rattle.terminal_model.specs.Writing.{Clear, Reset, Encoding};
 
@@ -156,17 +156,17 @@ impl Windows {
         alloc: Global,
         serial: u32,
         rows: u16,
-        cols: u16,
+        columns: u16,
         keep: u16,
         title: &str,
     ) -> Result<u8, Refusal>
-        ensures answer { Opens serial rows cols keep title.now self.old result self.new }
+        ensures answer { Opens serial rows columns keep title.now self.old result self.new }
         ensures number { IfOk result (IsFree self.old) }
         ensures row { IfOk result (λ number. AddsRow serial number self.old self.new) }
         ensures last { OnOk result (IsOneMore self.old self.new) }
         ensures err { OnErr result (self.new ≡ self.old) }
     {
-        if !is_window_size(rows, cols, keep) {
+        if !is_window_size(rows, columns, keep) {
             return Err(Refusal::BadSize);
         }
         let Some(number) = self.number_for(serial) else {
@@ -175,16 +175,9 @@ impl Windows {
         if !is_title(title) {
             return Err(Refusal::Windows(WindowsFault::BadTitle));
         }
-        let window = Window::new(alloc, serial, number, rows, cols, keep, title)?;
+        let window = Window::new(alloc, serial, number, rows, columns, keep, title)?;
         self.rows.push(window)?;
         Ok(number)
-    }
-
-    /// Takes back the window that was opened last, as if it had never been opened.
-    pub fn take_back(&mut self)
-        ensures { (ws : List Window) (w : Window) → self.old ≡ ws ++ w ∷ [] → self.new ≡ ws }
-    {
-        let _window = self.rows.pop();
     }
 
     /// Closes the window of a serial.
@@ -250,15 +243,15 @@ impl Windows {
     }
 
     /// Gives the window of a serial another size. A refusal leaves all as it was.
-    pub fn resize(&mut self, serial: u32, rows: u16, cols: u16) -> Result<(), Refusal>
-        ensures answer { AnswersIfRoom (resized_in serial rows cols) self.old result self.new }
+    pub fn resize(&mut self, serial: u32, rows: u16, columns: u16) -> Result<(), Refusal>
+        ensures answer { AnswersIfRoom (resized_in serial rows columns) self.old result self.new }
         ensures alone { WritesRow serial self.old self.new }
         ensures err { OnErr result (self.new ≡ self.old) }
     {
         let Some(window) = self.rows.get_mut(serial) else {
             return Err(Refusal::NoWindow);
         };
-        window.resize(rows, cols)
+        window.resize(rows, columns)
     }
 
     /// Erases the page of the window of a serial, and goes home there.

@@ -22,11 +22,11 @@ number_of word = if is_number word then Some (digits_value 10 word) else None
 
 -- 4 to 200 lines by 20 to 300 columns
 abbrev pub is_size : ℕ → ℕ → Bool
-is_size rows cols = nat_le 4 rows && nat_le rows 200 && nat_le 20 cols && nat_le cols 300
+is_size rows columns = nat_le 4 rows && nat_le rows 200 && nat_le 20 columns && nat_le columns 300
 
 abbrev pub size_by : Option ℕ → Option ℕ → Option Size
-size_by (Some rows) (Some cols) =
-    if is_size rows cols then Some (record { rows = rows; cols = cols }) else None
+size_by (Some rows) (Some columns) =
+    if is_size rows columns then Some (record { rows = rows; columns = columns }) else None
 size_by _ _ = None
 
 -- the numbers before the first blank and behind it

@@ -49,17 +49,17 @@ fn read_number(word: &[u8]) -> Option<u16>
 }
 
 /// Whether a client's terminal may have so many lines and columns.
-fn is_size(rows: u16, cols: u16) -> bool
-    ensures { result ≡ is_size rows cols }
+fn is_size(rows: u16, columns: u16) -> bool
+    ensures { result ≡ is_size rows columns }
 {
-    (4..=200).contains(&rows) && (20..=300).contains(&cols)
+    (4..=200).contains(&rows) && (20..=300).contains(&columns)
 }
 
 /// The lines and columns of a client's terminal: 4 to 200 by 20 to 300.
 #[derive(Clone, Copy, Debug, PartialEq, Eq)]
 pub struct Size {
     pub rows: u16,
-    pub cols: u16,
+    pub columns: u16,
 }
 
 impl Size {
@@ -70,8 +70,8 @@ impl Size {
     {
         let at = first_blank(line)?;
         let rows = read_number(&line[..at])?;
-        let cols = read_number(&line[at + 1..])?;
-        is_size(rows, cols).then_some(Size { rows, cols })
+        let columns = read_number(&line[at + 1..])?;
+        is_size(rows, columns).then_some(Size { rows, columns })
     }
 }
 

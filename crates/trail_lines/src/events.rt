@@ -56,12 +56,12 @@ fn push_text(bytes: &[u8], out: &mut Vec<u8>) -> Result<(), AllocError>
 }
 
 /// Appends a size: lines and columns.
-fn push_size(rows: u16, cols: u16, out: &mut Vec<u8>) -> Result<(), AllocError>
+fn push_size(rows: u16, columns: u16, out: &mut Vec<u8>) -> Result<(), AllocError>
     ensures { OnOk result (out.new.items
-        ≡ out.old.items ++ field blank (decimal rows) (field blank (decimal cols) [])) }
+        ≡ out.old.items ++ field blank (decimal rows) (field blank (decimal columns) [])) }
 {
     push_count(u64::from(rows), out)?;
-    push_count(u64::from(cols), out)
+    push_count(u64::from(columns), out)
 }
 
 /// Appends an event's fields.
@@ -70,10 +70,14 @@ pub fn push_event(event: KeptRef<'_>, out: &mut Vec<u8>) -> Result<(), AllocErro
         ≡ out.old.items ++ event_then (kept_lent event.entry) []) }
 {
     match event {
-        KeptRef::Attach { user, rows, cols } => {
+        KeptRef::Attach {
+            user,
+            rows,
+            columns,
+        } => {
             out.extend_from_slice(b"attach ")?;
             push_user(user, out)?;
-            push_size(rows, cols, out)
+            push_size(rows, columns, out)
         }
         KeptRef::Detach { client } => {
             out.extend_from_slice(b"detach ")?;
@@ -92,13 +96,13 @@ pub fn push_event(event: KeptRef<'_>, out: &mut Vec<u8>) -> Result<(), AllocErro
         KeptRef::Open {
             user,
             rows,
-            cols,
+            columns,
             keep,
             title,
         } => {
             out.extend_from_slice(b"open ")?;
             push_user(user, out)?;
-            push_size(rows, cols, out)?;
+            push_size(rows, columns, out)?;
             push_count(u64::from(keep), out)?;
             push_text(title, out)
         }
@@ -146,8 +150,18 @@ fn attach_at(alloc: Global, bytes: &[u8]) -> Result<(KeptEvent, &[u8]), Unread>
 {
     let (user, rest) = user_at(bytes, b' ').ok_or(Unread::Malformed)?;
     let (rows, rest) = u16_at(rest, b' ').ok_or(Unread::Malformed)?;
-    let (cols, rest) = u16_at(rest, b' ').ok_or(Unread::Malformed)?;
-    Ok((keep(alloc, Event::Attach { user, rows, cols })?, rest))
+    let (columns, rest) = u16_at(rest, b' ').ok_or(Unread::Malformed)?;
+    Ok((
+        keep(
+            alloc,
+            Event::Attach {
+                user,
+                rows,
+                columns,
+            },
+        )?,
+        rest,
+    ))
 }
 
 /// `CLIENT`
@@ -196,9 +210,9 @@ fn shape_at(bytes: &[u8]) -> Option<((u16, u16, u16), &[u8])>
     ensures { option_map (λ p. (p.0, p.1.now)) result ≡ shape_at bytes.now }
 {
     let (rows, rest) = u16_at(bytes, b' ')?;
-    let (cols, rest) = u16_at(rest, b' ')?;
+    let (columns, rest) = u16_at(rest, b' ')?;
     let (keep, rest) = u16_at(rest, b' ')?;
-    Some(((rows, cols, keep), rest))
+    Some(((rows, columns, keep), rest))
 }
 
 /// `USER ROWS COLS KEEP TEXT`
@@ -206,14 +220,14 @@ fn open_at(alloc: Global, bytes: &[u8]) -> Result<(KeptEvent, &[u8]), Unread>
     ensures { Gives (λ p. (p.0, p.1.now)) result (open_at bytes.now) }
 {
     let (user, rest) = user_at(bytes, b' ').ok_or(Unread::Malformed)?;
-    let ((rows, cols, keep_lines), rest) = shape_at(rest).ok_or(Unread::Malformed)?;
+    let ((rows, columns, keep_lines), rest) = shape_at(rest).ok_or(Unread::Malformed)?;
     let (title, rest) = cut(rest, b' ').ok_or(Unread::Malformed)?;
     let title = read_text(alloc, title)?;
     let title = title_of(title.as_slice()).ok_or(Unread::Malformed)?;
     let event = Event::Open {
         user,
         rows,
-        cols,
+        columns,
         keep: keep_lines,
         title,
     };

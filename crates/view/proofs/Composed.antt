@@ -54,19 +54,19 @@ rects_append [] qs = refl
 rects_append (p ∷ ps) qs = ap (λ (rs : List Rect). p.rect ∷ rs) (rects_append ps qs)
 
 abbrev pub nowhere : Piece
-nowhere = record { rect = record { line = 0; column = 0; rows = 0; cols = 0 }; cell = λ row column. blank }
+nowhere = record { rect = record { line = 0; column = 0; rows = 0; columns = 0 }; cell = λ row column. blank }
 
 abbrev pub piece_at : List Piece → ℕ → Piece
 piece_at ps n = get_or ps n nowhere
 
 abbrev pub Tiles : List Piece → ℕ → ℕ → Type 0
-Tiles all rows cols = (l c : ℕ) → times (rects_of all) l c ≡ one_if (among 1 rows l && among 1 cols c)
+Tiles all rows columns = (l c : ℕ) → times (rects_of all) l c ≡ one_if (among 1 rows l && among 1 columns c)
 
 few : (b : Bool) → one_if b ≤ 1
 few true = omega arith
 few false = omega arith
 
-module _ (all : List Piece) (rows cols : ℕ) (tiles : Tiles all rows cols) (n : ℕ) (lt : n < length all) where
+module _ (all : List Piece) (rows columns : ℕ) (tiles : Tiles all rows columns) (n : ℕ) (lt : n < length all) where
   split_at : take n all ++ (piece_at all n ∷ drop (n + 1) all) ≡ all
   split_at = sym (ap (λ (qs : List Piece). take n all ++ qs) (drop_more all n nowhere lt)) ∙ take-append-drop n all
 
@@ -80,26 +80,26 @@ module _ (all : List Piece) (rows cols : ℕ) (tiles : Tiles all rows cols) (n :
   one l c h = rw h refl
 
   clear : (l c : ℕ) → has (piece_at all n).rect l c ≡ true → times (rects_of (take n all)) l c ≡ 0
-  clear l c h = omega (arith, whole l c, tiles l c, one l c h, few (among 1 rows l && among 1 cols c))
+  clear l c h = omega (arith, whole l c, tiles l c, one l c h, few (among 1 rows l && among 1 columns c))
 
-  on_page : (l c : ℕ) → has (piece_at all n).rect l c ≡ true → among 1 rows l && among 1 cols c ≡ true
-  on_page l c h = go (among 1 rows l && among 1 cols c) (tiles l c)
+  on_page : (l c : ℕ) → has (piece_at all n).rect l c ≡ true → among 1 rows l && among 1 columns c ≡ true
+  on_page l c h = go (among 1 rows l && among 1 columns c) (tiles l c)
     where
       go : (b : Bool) → times (rects_of all) l c ≡ one_if b → b ≡ true
       go true e = refl
       go false e = absurd (omega (arith, whole l c, e, one l c h))
 
-  module _ (v : View) (high : length v.page ≡ rows) (wide : length (line_at v.page 0) ≡ cols) where
+  module _ (v : View) (high : length v.page ≡ rows) (wide : length (line_at v.page 0) ≡ columns) where
     pub inside : (l c : ℕ) → has (piece_at all n).rect l c ≡ true → IsOnPage v.page l c
     inside l c h =
-        let page : Rect = record { line = 1; column = 1; rows = rows; cols = cols } in
+        let page : Rect = record { line = 1; column = 1; rows = rows; columns = columns } in
         let i : InRect page l c = has_in page l c (on_page l c h) in
         record { below = i.above; above = omega (arith, i.below); right = i.left; left = omega (arith, i.right) }
 
-    pub is_placed : 0 < (piece_at all n).rect.rows → 0 < (piece_at all n).rect.cols → IsPlaced (piece_at all n).rect v.page
+    pub is_placed : 0 < (piece_at all n).rect.rows → 0 < (piece_at all n).rect.columns → IsPlaced (piece_at all n).rect v.page
     is_placed r c = record { tall = r; wide = c; inside = inside }
 
-    pub is_free : Holds (take n all) v → 0 < (piece_at all n).rect.cols → IsFree (piece_at all n).rect v.page
+    pub is_free : Holds (take n all) v → 0 < (piece_at all n).rect.columns → IsFree (piece_at all n).rect v.page
     is_free holds some = record {
       wide = some;
       inside = inside;
@@ -155,12 +155,12 @@ boxes_parts : (rs : List Rect) (l c : ℕ) → list_all is_roomy rs ≡ true →
 boxes_parts [] l c h = omega arith
 boxes_parts (r ∷ rs) l c h =
     let t = both (is_roomy r) (list_all is_roomy rs) h in
-    let tall : 1 < r.rows = ltb-true 1 r.rows (both (ltb 1 r.rows) (ltb 1 r.cols) t.0).0 in
+    let tall : 1 < r.rows = ltb-true 1 r.rows (both (ltb 1 r.rows) (ltb 1 r.columns) t.0).0 in
     omega (arith, box_parts r l c (omega (arith, tall)), boxes_parts rs l c t.1)
 
-pub parts_tile : (rows cols : ℕ) (boxes separators : List Rect) (status : Rect) → list_all is_roomy boxes ≡ true → TilesPage rows cols (parts boxes separators status)
-    → (l c : ℕ) → times (boxes ++ (separators ++ status ∷ [])) l c ≡ one_if (among 1 rows l && among 1 cols c)
-parts_tile rows cols boxes separators status roomy tiles l c =
+pub parts_tile : (rows columns : ℕ) (boxes separators : List Rect) (status : Rect) → list_all is_roomy boxes ≡ true → TilesPage rows columns (parts boxes separators status)
+    → (l c : ℕ) → times (boxes ++ (separators ++ status ∷ [])) l c ≡ one_if (among 1 rows l && among 1 columns c)
+parts_tile rows columns boxes separators status roomy tiles l c =
     omega (
       arith,
       tiles l c,

@@ -23,8 +23,8 @@ use Rattle.view.proofs.Glyphs.{IsDrawnRow, text_drawn, line_drawn, same_drawn, d
 
 -- ---- the rows of one piece
 
-narrow_row : (cell : Cell) (cols : ℕ) → cell.shape ≡ Narrow → IsDrawableCell cell → IsDrawnRow cols (λ k. cell)
-narrow_row cell cols narrow d = record {
+narrow_row : (cell : Cell) (columns : ℕ) → cell.shape ≡ Narrow → IsDrawableCell cell → IsDrawnRow columns (λ k. cell)
+narrow_row cell columns narrow d = record {
   printed = λ k. d;
   halves = λ k h left. let not : is_left Narrow ≡ true = ap is_left (sym narrow) ∙ left in cc;
 }
@@ -38,19 +38,19 @@ line_of lines n d = ⊎_elim
     (λ (h : length lines ≤ n). rw (get_or_past lines n [] h) no_line)
     (cases_lt n (length lines))
 
-part_drawn : (part : Part) (rows cols row : ℕ) → HasDrawableLines part → IsDrawnRow cols (part_cell part rows cols row)
-part_drawn vacant rows cols row d = narrow_row blank cols refl drawable_blank
-part_drawn (unread n) rows cols row d = narrow_row blank cols refl drawable_blank
-part_drawn (read w) rows cols row d = line_drawn w.is_inverted (line_at w.lines (first_shown rows w.cursor + row)) cols (line_of w.lines (first_shown rows w.cursor + row) d)
+part_drawn : (part : Part) (rows columns row : ℕ) → HasDrawableLines part → IsDrawnRow columns (part_cell part rows columns row)
+part_drawn vacant rows columns row d = narrow_row blank columns refl drawable_blank
+part_drawn (unread n) rows columns row d = narrow_row blank columns refl drawable_blank
+part_drawn (read w) rows columns row d = line_drawn w.is_inverted (line_at w.lines (first_shown rows w.cursor + row)) columns (line_of w.lines (first_shown rows w.cursor + row) d)
 
-box_drawn : (box : Rect) (focused : Bool) (part : Part) (row : ℕ) → HasDrawableLines part → all_scalars (caption_text part) ≡ true → IsDrawnRow box.cols (box_cell box focused part row)
+box_drawn : (box : Rect) (focused : Bool) (part : Part) (row : ℕ) → HasDrawableLines part → all_scalars (caption_text part) ≡ true → IsDrawnRow box.columns (box_cell box focused part row)
 box_drawn box focused part row d text = ⊎_elim
-    (λ (e : row + 1 ≡ box.rows). same_drawn _ _ box.cols (λ k. rw (eq-eqb (row + 1) box.rows e) refl) (text_drawn (caption_rendition focused) (caption_text part) box.cols text))
-    (λ (ne : row + 1 ≡ box.rows → ⊥). same_drawn _ _ box.cols (λ k. rw (ne_eqb (row + 1) box.rows ne) refl) (part_drawn part (box.rows - 1) box.cols row d))
+    (λ (e : row + 1 ≡ box.rows). same_drawn _ _ box.columns (λ k. rw (eq-eqb (row + 1) box.rows e) refl) (text_drawn (caption_rendition focused) (caption_text part) box.columns text))
+    (λ (ne : row + 1 ≡ box.rows → ⊥). same_drawn _ _ box.columns (λ k. rw (ne_eqb (row + 1) box.rows ne) refl) (part_drawn part (box.rows - 1) box.columns row d))
     (cases_eq (row + 1) box.rows)
 
 pub record IsDrawn (p : Piece) : Type 0 where
-  rows : (row : ℕ) → IsDrawnRow p.rect.cols (p.cell row)
+  rows : (row : ℕ) → IsDrawnRow p.rect.columns (p.cell row)
 
 -- ---- several pieces
 
@@ -71,7 +71,7 @@ drawn_regions r ps (n ∷ ns) d = (d n, drawn_regions r ps ns d)
 drawn_separators : (rs : List Rect) → AllDrawn (map separator_piece rs)
 unfolding AllDrawn
 drawn_separators [] = tt
-drawn_separators (r ∷ rs) = (record { rows = λ row. narrow_row (narrow_cell 0x7C reverse false) r.cols refl (drawable_narrow 0x7C reverse bar_glyph) }, drawn_separators rs)
+drawn_separators (r ∷ rs) = (record { rows = λ row. narrow_row (narrow_cell 0x7C reverse false) r.columns refl (drawable_narrow 0x7C reverse bar_glyph) }, drawn_separators rs)
 
 -- captions beyond the parts are those of empty regions
 every_text : (ps : List Part) → ((n : ℕ) → n < length ps → all_scalars (caption_text (part_at ps n)) ≡ true) → (n : ℕ) → all_scalars (caption_text (part_at ps n)) ≡ true
@@ -86,7 +86,7 @@ pieces_drawn r ps text d captions status =
     drawn_append (map (region_piece r ps) (range_with_len 0 (length r.boxes.items))) _
     (drawn_regions r ps (range_with_len 0 (length r.boxes.items)) (λ n. record { rows = λ row. box_drawn (box_at r n) (n == r.focus) (part_at ps n) row (d n) (every_text ps captions n) }))
     (drawn_append (map separator_piece r.separators.items) (status_piece r.status text ∷ []) (drawn_separators r.separators.items)
-    (record { rows = λ row. text_drawn plain (chars (utf8_lossy text)) r.status.cols status }, tt))
+    (record { rows = λ row. text_drawn plain (chars (utf8_lossy text)) r.status.columns status }, tt))
 
 printed_of : (ps : List Piece) (l c : ℕ) → AllDrawn ps → IsDrawableCell (cell_of ps l c)
 unfolding AllDrawn
@@ -132,12 +132,12 @@ few : (b : Bool) → one_if b ≤ 1
 few true = omega arith
 few false = omega arith
 
-pub view_drawn : (ps : List Piece) (rows cols : ℕ) (v : View) → Tiles ps rows cols → AllDrawn ps → Holds ps v → IsDrawable v
-view_drawn ps rows cols v tiles d holds = record {
+pub view_drawn : (ps : List Piece) (rows columns : ℕ) (v : View) → Tiles ps rows columns → AllDrawn ps → Holds ps v → IsDrawable v
+view_drawn ps rows columns v tiles d holds = record {
   lines = λ line h. record {
     printed = λ c k. subst IsDrawableCell (sym (holds.cells_are line c)) (printed_of ps (line + 1) (c + 1) d);
     halves = λ c left.
-        let once : (i j : ℕ) → times (rects_of ps) i j ≤ 1 = λ i j. omega (arith, tiles i j, few (among 1 rows i && among 1 cols j)) in
+        let once : (i j : ℕ) → times (rects_of ps) i j ≤ 1 = λ i j. omega (arith, tiles i j, few (among 1 rows i && among 1 columns j)) in
         let here : cell_at (line_at v.page line) c ≡ cell_of ps (line + 1) (c + 1) = holds.cells_are line c in
         let half = halves_of ps d once (line + 1) (c + 1) (ap (λ (x : Cell). is_left x.shape) (sym here) ∙ left) in
         let e : suc c + 1 ≡ suc (c + 1) = omega arith in

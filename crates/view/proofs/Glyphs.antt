@@ -145,33 +145,33 @@ pub record AreDrawn (whole : ℕ → Cell) : Type 0 where
   pub halves : (k : ℕ) → is_left (whole k).shape ≡ true → unprotected (whole (suc k)) ≡ right_cell (whole k).character (whole k).rendition false
 
 -- the same of a row of so many
-pub record IsDrawnRow (cols : ℕ) (cell : ℕ → Cell) : Type 0 where
+pub record IsDrawnRow (columns : ℕ) (cell : ℕ → Cell) : Type 0 where
   pub printed : (k : ℕ) → IsDrawableCell (cell k)
-  pub halves : (k : ℕ) → k < cols → is_left (cell k).shape ≡ true → (suc k < cols) × (unprotected (cell (suc k)) ≡ right_cell (cell k).character (cell k).rendition false)
+  pub halves : (k : ℕ) → k < columns → is_left (cell k).shape ≡ true → (suc k < columns) × (unprotected (cell (suc k)) ≡ right_cell (cell k).character (cell k).rendition false)
 
 uncut_is : (b : Bool) (cell other : Cell) → IsDrawableCell cell → IsDrawableCell other → IsDrawableCell (cond b other cell)
 uncut_is true cell other p q = q
 uncut_is false cell other p q = p
 
-uncut_right_half : (cols k : ℕ) (cell other : Cell) → is_left cell.shape ≡ false → uncut cols k cell other ≡ cell
-uncut_right_half cols k cell other h = rw (h, and_false (eqb (k + 1) cols)) refl
+uncut_right_half : (columns k : ℕ) (cell other : Cell) → is_left cell.shape ≡ false → uncut columns k cell other ≡ cell
+uncut_right_half columns k cell other h = rw (h, and_false (eqb (k + 1) columns)) refl
 
 not_left : (cell : Cell) (c : ℕ) (r : Rendition) → unprotected cell ≡ right_cell c r false → is_left cell.shape ≡ false
 not_left cell c r e = ap (λ (x : Cell). is_left x.shape) e
 
-pub cut_drawn : (whole : ℕ → Cell) (cols : ℕ) (other : Cell) → AreDrawn whole → IsDrawableCell other → is_left other.shape ≡ false → IsDrawnRow cols (λ k. uncut cols k (whole k) other)
-cut_drawn whole cols other drawn ok ol = record {
-  printed = λ k. uncut_is ((k + 1 == cols) && is_left (whole k).shape) (whole k) other (drawn.printed k) ok;
+pub cut_drawn : (whole : ℕ → Cell) (columns : ℕ) (other : Cell) → AreDrawn whole → IsDrawableCell other → is_left other.shape ≡ false → IsDrawnRow columns (λ k. uncut columns k (whole k) other)
+cut_drawn whole columns other drawn ok ol = record {
+  printed = λ k. uncut_is ((k + 1 == columns) && is_left (whole k).shape) (whole k) other (drawn.printed k) ok;
   halves = λ k h left.
-      let inside : k + 1 ≡ cols → ⊥ = λ e. clash _ left (uncut_last cols k (whole k) other e ol) in
-      let same : uncut cols k (whole k) other ≡ whole k = uncut_before cols k (whole k) other inside in
+      let inside : k + 1 ≡ columns → ⊥ = λ e. clash _ left (uncut_last columns k (whole k) other e ol) in
+      let same : uncut columns k (whole k) other ≡ whole k = uncut_before columns k (whole k) other inside in
       let half = drawn.halves k (rw same at left) in
-      let next : uncut cols (suc k) (whole (suc k)) other ≡ whole (suc k) = uncut_right_half cols (suc k) (whole (suc k)) other (not_left (whole (suc k)) _ _ half) in
+      let next : uncut columns (suc k) (whole (suc k)) other ≡ whole (suc k) = uncut_right_half columns (suc k) (whole (suc k)) other (not_left (whole (suc k)) _ _ half) in
       (omega (arith, inside), ap unprotected next ∙ half ∙ ap (λ (x : Cell). right_cell x.character x.rendition false) (sym same));
 }
 
-pub same_drawn : (f g : ℕ → Cell) (cols : ℕ) → ((k : ℕ) → f k ≡ g k) → IsDrawnRow cols f → IsDrawnRow cols g
-same_drawn f g cols same row = record {
+pub same_drawn : (f g : ℕ → Cell) (columns : ℕ) → ((k : ℕ) → f k ≡ g k) → IsDrawnRow columns f → IsDrawnRow columns g
+same_drawn f g columns same row = record {
   printed = λ k. subst IsDrawableCell (same k) (row.printed k);
   halves = λ k h left.
       let half = row.halves k h (ap (λ (x : Cell). is_left x.shape) (same k) ∙ left) in
@@ -202,14 +202,14 @@ text_whole r cs h = record {
       (spaced (text_cells r cs) r k);
 }
 
-pub text_drawn : (r : Rendition) (cs : List ℕ) (cols : ℕ) → all_scalars cs ≡ true → IsDrawnRow cols (text_at r cs cols)
-text_drawn r cs cols h = cut_drawn (λ k. get_or (text_cells r cs) k (narrow_cell 0x20 r false)) cols (narrow_cell 0x20 r false) (text_whole r cs h) (drawable_narrow 0x20 r space_glyph) refl
+pub text_drawn : (r : Rendition) (cs : List ℕ) (columns : ℕ) → all_scalars cs ≡ true → IsDrawnRow columns (text_at r cs columns)
+text_drawn r cs columns h = cut_drawn (λ k. get_or (text_cells r cs) k (narrow_cell 0x20 r false)) columns (narrow_cell 0x20 r false) (text_whole r cs h) (drawable_narrow 0x20 r space_glyph) refl
 
 -- ---- a line of a window
 
-pub line_drawn : (inverted : Bool) (line : List Cell) (cols : ℕ) → IsDrawableLine line → IsDrawnRow cols (line_cell inverted line cols)
-line_drawn inverted line cols is = same_drawn (λ k. uncut cols k (shown_line inverted line k) blank) (line_cell inverted line cols) cols (λ k. sym (line_is inverted line cols k))
-    (cut_drawn (shown_line inverted line) cols blank (record { printed = print; halves = half }) drawable_blank refl)
+pub line_drawn : (inverted : Bool) (line : List Cell) (columns : ℕ) → IsDrawableLine line → IsDrawnRow columns (line_cell inverted line columns)
+line_drawn inverted line columns is = same_drawn (λ k. uncut columns k (shown_line inverted line k) blank) (line_cell inverted line columns) columns (λ k. sym (line_is inverted line columns k))
+    (cut_drawn (shown_line inverted line) columns blank (record { printed = print; halves = half }) drawable_blank refl)
   where
     print : (k : ℕ) → IsDrawableCell (shown_line inverted line k)
     print k = ⊎_elim

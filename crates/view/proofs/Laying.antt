@@ -23,7 +23,7 @@ pub record InRect (r : Rect) (l c : ℕ) : Type 0 where
   pub above : r.line ≤ l
   pub below : l < r.line + r.rows
   pub left : r.column ≤ c
-  pub right : c < r.column + r.cols
+  pub right : c < r.column + r.columns
 
 both : (a b : Bool) → (a && b) ≡ true → (a ≡ true) × (b ≡ true)
 both true true h = (refl, refl)
@@ -32,18 +32,18 @@ both false b h = cc
 
 pub has_in : (r : Rect) (l c : ℕ) → has r l c ≡ true → InRect r l c
 has_in r l c h =
-    let rows = both (among r.line r.rows l) (among r.column r.cols c) h in
+    let rows = both (among r.line r.rows l) (among r.column r.columns c) h in
     let line = both (leb r.line l) (ltb l (r.line + r.rows)) rows.0 in
-    let column = both (leb r.column c) (ltb c (r.column + r.cols)) rows.1 in
+    let column = both (leb r.column c) (ltb c (r.column + r.columns)) rows.1 in
     record {
       above = leb-true r.line l line.0;
       below = ltb-true l (r.line + r.rows) line.1;
       left = leb-true r.column c column.0;
-      right = ltb-true c (r.column + r.cols) column.1;
+      right = ltb-true c (r.column + r.columns) column.1;
     }
 
 pub in_has : (r : Rect) (l c : ℕ) → InRect r l c → has r l c ≡ true
-in_has r l c i = rw (le-leb r.line l i.above, lt-ltb l (r.line + r.rows) i.below, le-leb r.column c i.left, lt-ltb c (r.column + r.cols) i.right) refl
+in_has r l c i = rw (le-leb r.line l i.above, lt-ltb l (r.line + r.rows) i.below, le-leb r.column c i.left, lt-ltb c (r.column + r.columns) i.right) refl
 
 pub not_has : (r : Rect) (l c : ℕ) → (InRect r l c → ⊥) → has r l c ≡ false
 not_has r l c none = ⊎_elim (λ (t : has r l c ≡ true). absurd (none (has_in r l c t))) (λ (f : has r l c ≡ false). f) (cases_Bool (has r l c))
@@ -87,13 +87,13 @@ pub free_corner : (r : Rect) (page : List (List Cell)) → IsFree r page → 0 <
 free_corner r page free some = free.inside r.line r.column (in_has r r.line r.column (record { above = omega arith; below = omega arith; left = omega arith; right = omega (arith, free.wide) }))
 
 -- a row of cells in a free rectangle of one row
-module _ (r : Rect) (old : View) (line column : ℕ) (cells : List Cell) (grid : IsGrid old.page) (free : IsFree r old.page) (one : r.rows ≡ 1) (paired : IsPaired cells) (wide : length cells ≡ r.cols)
+module _ (r : Rect) (old : View) (line column : ℕ) (cells : List Cell) (grid : IsGrid old.page) (free : IsFree r old.page) (one : r.rows ≡ 1) (paired : IsPaired cells) (wide : length cells ≡ r.columns)
     (l_is : r.line ≡ line + 1) (c_is : r.column ≡ column + 1) where
   corner : IsOnPage old.page r.line r.column
   corner = free.inside r.line r.column (in_has r r.line r.column (record { above = omega arith; below = omega arith; left = omega arith; right = omega (arith, free.wide) }))
 
-  last : IsOnPage old.page r.line (r.column + (r.cols - 1))
-  last = free.inside r.line (r.column + (r.cols - 1)) (in_has r r.line (r.column + (r.cols - 1)) (record { above = omega arith; below = omega arith; left = omega arith; right = omega (arith, free.wide) }))
+  last : IsOnPage old.page r.line (r.column + (r.columns - 1))
+  last = free.inside r.line (r.column + (r.columns - 1)) (in_has r r.line (r.column + (r.columns - 1)) (record { above = omega arith; below = omega arith; left = omega arith; right = omega (arith, free.wide) }))
 
   pub line_inside : line < length old.page
   line_inside = omega (arith, corner.above)
@@ -180,7 +180,7 @@ row_is_free p n old mid free lt lays = record {
       ∙ free.blanks l c (in_has p.rect (l + 1) (c + 1) (record { above = omega (arith, i.above); below = omega (arith, i.below); left = i.left; right = i.right }));
 }
 
-pub one_more_row : (p : Piece) (n : ℕ) (old mid new : View) (cells : List Cell) → Lays (first_rows p n) old mid → Lays (row_piece (row_of p.rect n) cells) mid new → IsRow (p.cell n) p.rect.cols cells → Lays (first_rows p (n + 1)) old new
+pub one_more_row : (p : Piece) (n : ℕ) (old mid new : View) (cells : List Cell) → Lays (first_rows p n) old mid → Lays (row_piece (row_of p.rect n) cells) mid new → IsRow (p.cell n) p.rect.columns cells → Lays (first_rows p (n + 1)) old new
 one_more_row p n old mid new cells first next row = record {
   rows_are = next.rows_are ∙ first.rows_are;
   columns_are = next.columns_are ∙ first.columns_are;

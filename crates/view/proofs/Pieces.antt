@@ -36,16 +36,16 @@ use Rattle.view.proofs.Composed.{Holds, Tiles, rects_of, nowhere, piece_at, part
 -- ---- separators are one column wide
 
 AreNarrow : List Rect → Type 0
-AreNarrow rs = (k : ℕ) (d : Rect) → k < length rs → (get_or rs k d).cols ≡ 1
+AreNarrow rs = (k : ℕ) (d : Rect) → k < length rs → (get_or rs k d).columns ≡ 1
 
 narrow_append : (xs ys : List Rect) → AreNarrow xs → AreNarrow ys → AreNarrow (xs ++ ys)
 unfolding AreNarrow
 narrow_append xs ys p q k d h = ⊎_elim
-    (λ (lt : k < length xs). ap (λ (r : Rect). r.cols) (get_or_append_left xs ys d k lt) ∙ p k d lt)
+    (λ (lt : k < length xs). ap (λ (r : Rect). r.columns) (get_or_append_left xs ys d k lt) ∙ p k d lt)
     (λ (ge : length xs ≤ k).
     let e : length xs + (k - length xs) ≡ k = omega arith in
     let within : k - length xs < length ys = omega (arith, length-append xs ys, h) in
-    ap (λ (i : ℕ). (get_or (xs ++ ys) i d).cols) (sym e) ∙ ap (λ (r : Rect). r.cols) (get_or-append-add xs ys (k - length xs) d) ∙ q (k - length xs) d within)
+    ap (λ (i : ℕ). (get_or (xs ++ ys) i d).columns) (sym e) ∙ ap (λ (r : Rect). r.columns) (get_or-append-add xs ys (k - length xs) d) ∙ q (k - length xs) d within)
     (cases_lt k (length xs))
 
 narrow : (s : Shape) (r : Rect) → AreNarrow (separators s r)
@@ -130,30 +130,30 @@ module _ (r : Rects) (ps : List Part) (text : List ℕ) where
       ∙ ap (λ (xs : List Rect). r.boxes.items ++ xs) (rects-append (map separator_piece r.separators.items) (status_piece r.status text ∷ [])
       ∙ ap (λ (xs : List Rect). xs ++ r.status ∷ []) (separators_rects r.separators.items))
 
-  module _ (s : Shape) (rows cols : ℕ) (is : AreParts s rows cols r ps) where
+  module _ (s : Shape) (rows columns : ℕ) (is : AreParts s rows columns r ps) where
     all_roomy : list_all is_roomy r.boxes.items ≡ true
     all_roomy = ap (λ (rs : List Rect). list_all is_roomy rs) is.rects.boxes_are ∙ is.room
 
-    tiled : TilesPage rows cols (parts r.boxes.items r.separators.items r.status)
-    tiled = subst (λ (bs : List Rect). TilesPage rows cols (parts bs r.separators.items r.status)) (sym is.rects.boxes_are)
-        (subst (λ (ss : List Rect). TilesPage rows cols (parts (boxes s (box_of rows cols)) ss r.status)) (sym is.rects.separators_are)
-        (subst (λ (t : Rect). TilesPage rows cols (parts (boxes s (box_of rows cols)) (separators s (box_of rows cols)) t)) (sym is.rects.status_is)
-        (page_once s rows cols is.room)))
+    tiled : TilesPage rows columns (parts r.boxes.items r.separators.items r.status)
+    tiled = subst (λ (bs : List Rect). TilesPage rows columns (parts bs r.separators.items r.status)) (sym is.rects.boxes_are)
+        (subst (λ (ss : List Rect). TilesPage rows columns (parts (boxes s (box_of rows columns)) ss r.status)) (sym is.rects.separators_are)
+        (subst (λ (t : Rect). TilesPage rows columns (parts (boxes s (box_of rows columns)) (separators s (box_of rows columns)) t)) (sym is.rects.status_is)
+        (page_once s rows columns is.room)))
 
-    pub pieces_tile : Tiles (pieces r ps text) rows cols
-    pieces_tile l c = ap (λ (rs : List Rect). times rs l c) pieces_rects ∙ parts_tile rows cols r.boxes.items r.separators.items r.status all_roomy tiled l c
+    pub pieces_tile : Tiles (pieces r ps text) rows columns
+    pieces_tile l c = ap (λ (rs : List Rect). times rs l c) pieces_rects ∙ parts_tile rows columns r.boxes.items r.separators.items r.status all_roomy tiled l c
 
-    pub box_roomy : (n : ℕ) (d : Rect) → n < boxes_number → (1 < (get_or r.boxes.items n d).rows) × (1 < (get_or r.boxes.items n d).cols)
+    pub box_roomy : (n : ℕ) (d : Rect) → n < boxes_number → (1 < (get_or r.boxes.items n d).rows) × (1 < (get_or r.boxes.items n d).columns)
     box_roomy n d h =
         let b = get_or r.boxes.items n d in
-        let t = both_true (ltb 1 b.rows) (ltb 1 b.cols) (roomy_at r.boxes.items n d all_roomy h) in
-        (ltb-true 1 b.rows t.0, ltb-true 1 b.cols t.1)
+        let t = both_true (ltb 1 b.rows) (ltb 1 b.columns) (roomy_at r.boxes.items n d all_roomy h) in
+        (ltb-true 1 b.rows t.0, ltb-true 1 b.columns t.1)
 
-    pub separator_narrow : (n : ℕ) (d : Rect) → n < separators_number → (get_or r.separators.items n d).cols ≡ 1
+    pub separator_narrow : (n : ℕ) (d : Rect) → n < separators_number → (get_or r.separators.items n d).columns ≡ 1
     unfolding AreNarrow
     separator_narrow n d h =
-        ap (λ (rs : List Rect). (get_or rs n d).cols) is.rects.separators_are
-        ∙ narrow s (box_of rows cols) n d (rw (← is.rects.separators_are) h)
+        ap (λ (rs : List Rect). (get_or rs n d).columns) is.rects.separators_are
+        ∙ narrow s (box_of rows columns) n d (rw (← is.rects.separators_are) h)
 
     pub status_rows : r.status.rows ≡ 1
     status_rows = ap (λ (t : Rect). t.rows) is.rects.status_is
@@ -161,25 +161,25 @@ module _ (r : Rects) (ps : List Part) (text : List ℕ) where
     pub status_line : r.status.line ≡ rows
     status_line = ap (λ (t : Rect). t.line) is.rects.status_is
 
-    pub status_cols : r.status.cols ≡ cols
-    status_cols = ap (λ (t : Rect). t.cols) is.rects.status_is
+    pub status_columns : r.status.columns ≡ columns
+    status_columns = ap (λ (t : Rect). t.columns) is.rects.status_is
 
-    pub cols_some : 1 < cols
-    cols_some = wide s (rows - 1) cols (sym (room_fits s rows cols) ∙ is.room)
+    pub columns_some : 1 < columns
+    columns_some = wide s (rows - 1) columns (sym (room_fits s rows columns) ∙ is.room)
 
 -- ---- the page that holds them
 
-pub page-is : (ps : List Piece) (v : View) (rows cols : ℕ) → IsGrid v.page → length v.page ≡ rows → length (line_at v.page 0) ≡ cols → Holds ps v → v.page ≡ page_of rows cols (λ line column. cell_of ps (line + 1) (column + 1))
-page-is ps v rows cols grid high wide_is holds =
+pub page-is : (ps : List Piece) (v : View) (rows columns : ℕ) → IsGrid v.page → length v.page ≡ rows → length (line_at v.page 0) ≡ columns → Holds ps v → v.page ≡ page_of rows columns (λ line column. cell_of ps (line + 1) (column + 1))
+page-is ps v rows columns grid high wide_is holds =
     let cell : ℕ → ℕ → Cell = λ line column. cell_of ps (line + 1) (column + 1) in
-    ext_get_or [] v.page (page_of rows cols cell) (high ∙ sym (length-map-range_with_len (λ line. map (cell line) (range_with_len 0 cols)) 0 rows)) (λ l h.
+    ext_get_or [] v.page (page_of rows columns cell) (high ∙ sym (length-map-range_with_len (λ line. map (cell line) (range_with_len 0 columns)) 0 rows)) (λ l h.
     let lt : l < rows = rw high at h in
-    let line : List Cell = map (cell l) (range_with_len 0 cols) in
-    let breadth : length (line_at v.page l) ≡ cols = grid.well_formed.width l h ∙ wide_is in
-    ext_get_or blank (line_at v.page l) line (breadth ∙ sym (length-map-range_with_len (cell l) 0 cols)) (λ c k.
-    let inside : c < cols = rw breadth at k in
-    holds.cells_are l c ∙ sym (get_or-map-range_with_len (cell l) 0 cols c c blank inside (omega arith)))
-    ∙ sym (get_or-map-range_with_len (λ n. map (cell n) (range_with_len 0 cols)) 0 rows l l [] lt (omega arith)))
+    let line : List Cell = map (cell l) (range_with_len 0 columns) in
+    let breadth : length (line_at v.page l) ≡ columns = grid.well_formed.width l h ∙ wide_is in
+    ext_get_or blank (line_at v.page l) line (breadth ∙ sym (length-map-range_with_len (cell l) 0 columns)) (λ c k.
+    let inside : c < columns = rw breadth at k in
+    holds.cells_are l c ∙ sym (get_or-map-range_with_len (cell l) 0 columns c c blank inside (omega arith)))
+    ∙ sym (get_or-map-range_with_len (λ n. map (cell n) (range_with_len 0 columns)) 0 rows l l [] lt (omega arith)))
 
 -- ---- so many pieces are laid over a blank page
 
@@ -188,32 +188,32 @@ pub record Stage (r : Rects) (ps : List Part) (text : List ℕ) (n : ℕ) (v : V
   pub rest : v ≡ record { page = v.page; cursor = None; has_application_arrows = false; has_application_keypad = false }
   pub captions : (k : ℕ) → k < n → k < length r.boxes.items → all_scalars (caption_text (part_at ps k)) ≡ true
 
-pub no_stage : (r : Rects) (ps : List Part) (text : List ℕ) (v : View) (rows cols : ℕ) → v ≡ record { page = blank_page rows cols; cursor = None; has_application_arrows = false; has_application_keypad = false } → Stage r ps text 0 v
-no_stage r ps text v rows cols e = record {
-  holds = record { cells_are = λ l c. ap (λ (x : View). place x.page l c) e ∙ blank-at rows cols l c };
+pub no_stage : (r : Rects) (ps : List Part) (text : List ℕ) (v : View) (rows columns : ℕ) → v ≡ record { page = blank_page rows columns; cursor = None; has_application_arrows = false; has_application_keypad = false } → Stage r ps text 0 v
+no_stage r ps text v rows columns e = record {
+  holds = record { cells_are = λ l c. ap (λ (x : View). place x.page l c) e ∙ blank-at rows columns l c };
   rest = e ∙ ap (λ (p : Page). record { page = p; cursor = None; has_application_arrows = false; has_application_keypad = false }) (sym (ap (λ (x : View). x.page) e));
   captions = λ k h b. absurd (omega arith);
 }
 
-module _ (r : Rects) (ps : List Part) (text : List ℕ) (s : Shape) (rows cols : ℕ) (is : AreParts s rows cols r ps) where
+module _ (r : Rects) (ps : List Part) (text : List ℕ) (s : Shape) (rows columns : ℕ) (is : AreParts s rows columns r ps) where
   abbrev all : List Piece
   all = pieces r ps text
 
-  module _ (n : ℕ) (lt : n < length (pieces r ps text)) (old : View) (size : HasSize r.status.line r.status.cols old) where
+  module _ (n : ℕ) (lt : n < length (pieces r ps text)) (old : View) (size : HasSize r.status.line r.status.columns old) where
     high : length old.page ≡ rows
-    high = size.rows_are ∙ status_line r ps text s rows cols is
+    high = size.rows_are ∙ status_line r ps text s rows columns is
 
-    broad : length (line_at old.page 0) ≡ cols
-    broad = size.columns_are ∙ status_cols r ps text s rows cols is
+    broad : length (line_at old.page 0) ≡ columns
+    broad = size.columns_are ∙ status_columns r ps text s rows columns is
 
-    next : (p : Piece) (new : View) → piece_at (pieces r ps text) n ≡ p → 0 < p.rect.cols → (n < length r.boxes.items → all_scalars (caption_text (part_at ps n)) ≡ true) → Stage r ps text n old → (IsFree p.rect old.page → Lays p old new) → Stage r ps text (n + 1) new
+    next : (p : Piece) (new : View) → piece_at (pieces r ps text) n ≡ p → 0 < p.rect.columns → (n < length r.boxes.items → all_scalars (caption_text (part_at ps n)) ≡ true) → Stage r ps text n old → (IsFree p.rect old.page → Lays p old new) → Stage r ps text (n + 1) new
     next p new e some caption stage lays =
         let free : IsFree p.rect old.page = subst (λ (q : Piece). IsFree q.rect old.page) e
-        (is_free (pieces r ps text) rows cols (pieces_tile r ps text s rows cols is) n lt old high broad stage.holds (subst (λ (q : Piece). 0 < q.rect.cols) (sym e) some))
+        (is_free (pieces r ps text) rows columns (pieces_tile r ps text s rows columns is) n lt old high broad stage.holds (subst (λ (q : Piece). 0 < q.rect.columns) (sym e) some))
         in
         let put : Lays (piece_at (pieces r ps text) n) old new = subst (λ (q : Piece). Lays q old new) (sym e) (lays free) in
         record {
-          holds = laid_more (pieces r ps text) rows cols (pieces_tile r ps text s rows cols is) n lt old new stage.holds put;
+          holds = laid_more (pieces r ps text) rows columns (pieces_tile r ps text s rows columns is) n lt old new stage.holds put;
           rest = put.rest ∙ ap (λ (v : View). record v { page = new.page }) stage.rest;
           captions = λ k h b. ⊎_elim
               (λ (before : k < n). stage.captions k before b)
@@ -221,11 +221,11 @@ module _ (r : Rects) (ps : List Part) (text : List ℕ) (s : Shape) (rows cols :
               (cases_lt k n);
         }
 
-    placed : (p : Piece) → piece_at (pieces r ps text) n ≡ p → 0 < p.rect.rows → 0 < p.rect.cols → IsPlaced p.rect old.page
+    placed : (p : Piece) → piece_at (pieces r ps text) n ≡ p → 0 < p.rect.rows → 0 < p.rect.columns → IsPlaced p.rect old.page
     placed p e tall some = subst (λ (q : Piece). IsPlaced q.rect old.page) e
-        (is_placed (pieces r ps text) rows cols (pieces_tile r ps text s rows cols is) n lt old high broad (subst (λ (q : Piece). 0 < q.rect.rows) (sym e) tall) (subst (λ (q : Piece). 0 < q.rect.cols) (sym e) some))
+        (is_placed (pieces r ps text) rows columns (pieces_tile r ps text s rows columns is) n lt old high broad (subst (λ (q : Piece). 0 < q.rect.rows) (sym e) tall) (subst (λ (q : Piece). 0 < q.rect.columns) (sym e) some))
 
-  pub box_stage : (n : ℕ) (rect : Rect) (part : Part) (old new : View) → n < length r.boxes.items → rect ≡ box_at r n → part ≡ part_at ps n → HasSize r.status.line r.status.cols old → Stage r ps text n old
+  pub box_stage : (n : ℕ) (rect : Rect) (part : Part) (old new : View) → n < length r.boxes.items → rect ≡ box_at r n → part ≡ part_at ps n → HasSize r.status.line r.status.columns old → Stage r ps text n old
       → (HasPairedLines part → IsFree rect old.page → Lays (record { rect = rect; cell = box_cell rect (n == r.focus) part }) old new) → (0 < rect.rows → all_scalars (caption_text part) ≡ true) → Stage r ps text (n + 1) new
   box_stage n rect part old new lt re pe size stage lays characters =
       let inside : n < length (pieces r ps text) = omega (arith, lt, pieces_length r ps text) in
@@ -233,35 +233,35 @@ module _ (r : Rects) (ps : List Part) (text : List ℕ) (s : Shape) (rows cols :
       subst (λ (x : Rect). HasPairedLines (part_at ps n) → IsFree x old.page → Lays (record { rect = x; cell = box_cell x (n == r.focus) (part_at ps n) }) old new) re
       (subst (λ (y : Part). HasPairedLines y → IsFree rect old.page → Lays (record { rect = rect; cell = box_cell rect (n == r.focus) y }) old new) pe lays)
       in
-      let room = box_roomy r ps text s rows cols is n r.status lt in
+      let room = box_roomy r ps text s rows columns is n r.status lt in
       next n inside old size (region_piece r ps n) new (region_at r ps text n lt) (omega (arith, room.1))
       (λ h. subst (λ (y : Part). all_scalars (caption_text y) ≡ true) pe (characters (rw re (omega (arith, room.0))))) stage (here (is.paired n))
 
-  pub separator_stage : (n : ℕ) (rect d : Rect) (old new : View) → n < length r.separators.items → rect ≡ get_or r.separators.items n d → HasSize r.status.line r.status.cols old → Stage r ps text (length r.boxes.items + n) old
-      → (rect.cols ≡ 1 → IsFree rect old.page → Lays (separator_piece rect) old new) → Stage r ps text (length r.boxes.items + (n + 1)) new
+  pub separator_stage : (n : ℕ) (rect d : Rect) (old new : View) → n < length r.separators.items → rect ≡ get_or r.separators.items n d → HasSize r.status.line r.status.columns old → Stage r ps text (length r.boxes.items + n) old
+      → (rect.columns ≡ 1 → IsFree rect old.page → Lays (separator_piece rect) old new) → Stage r ps text (length r.boxes.items + (n + 1)) new
   separator_stage n rect d old new lt re size stage lays =
       let inside : length r.boxes.items + n < length (pieces r ps text) = omega (arith, lt, pieces_length r ps text) in
-      let one : rect.cols ≡ 1 = ap (λ (x : Rect). x.cols) re ∙ separator_narrow r ps text s rows cols is n d lt in
+      let one : rect.columns ≡ 1 = ap (λ (x : Rect). x.columns) re ∙ separator_narrow r ps text s rows columns is n d lt in
       let more : length r.boxes.items + n + 1 ≡ length r.boxes.items + (n + 1) = omega arith in
       subst (λ (k : ℕ). Stage r ps text k new) more
       (next (length r.boxes.items + n) inside old size (separator_piece rect) new (separator_at r ps text n d lt ∙ ap separator_piece (sym re)) (omega (arith, one)) (λ h. absurd (omega arith)) stage (lays one))
 
-  pub status_stage : (n : ℕ) (old new : View) → n ≡ length r.separators.items → HasSize r.status.line r.status.cols old → Stage r ps text (length r.boxes.items + n) old
+  pub status_stage : (n : ℕ) (old new : View) → n ≡ length r.separators.items → HasSize r.status.line r.status.columns old → Stage r ps text (length r.boxes.items + n) old
       → (r.status.rows ≡ 1 → IsFree r.status old.page → Lays (status_piece r.status text) old new) → Stage r ps text (length (pieces r ps text)) new
   status_stage n old new e size stage lays =
       let inside : length r.boxes.items + n < length (pieces r ps text) = omega (arith, e, pieces_length r ps text) in
       let more : length r.boxes.items + n + 1 ≡ length (pieces r ps text) = omega (arith, e, pieces_length r ps text) in
-      let some : 0 < r.status.cols = rw (status_cols r ps text s rows cols is) (omega (arith, cols_some r ps text s rows cols is)) in
+      let some : 0 < r.status.columns = rw (status_columns r ps text s rows columns is) (omega (arith, columns_some r ps text s rows columns is)) in
       subst (λ (k : ℕ). Stage r ps text k new) more
-      (next (length r.boxes.items + n) inside old size (status_piece r.status text) new (ap (λ (k : ℕ). piece_at (pieces r ps text) (length r.boxes.items + k)) e ∙ status_at r ps text) some (λ h. absurd (omega arith)) stage (lays (status_rows r ps text s rows cols is)))
+      (next (length r.boxes.items + n) inside old size (status_piece r.status text) new (ap (λ (k : ℕ). piece_at (pieces r ps text) (length r.boxes.items + k)) e ∙ status_at r ps text) some (λ h. absurd (omega arith)) stage (lays (status_rows r ps text s rows columns is)))
 
-  pub focus_placed : (v : View) → HasSize r.status.line r.status.cols v → IsPlaced (box_at r r.focus) v.page
+  pub focus_placed : (v : View) → HasSize r.status.line r.status.columns v → IsPlaced (box_at r r.focus) v.page
   focus_placed v size =
       let inside : r.focus < length (pieces r ps text) = omega (arith, is.focus, pieces_length r ps text) in
-      let room = box_roomy r ps text s rows cols is r.focus r.status is.focus in
+      let room = box_roomy r ps text s rows columns is r.focus r.status is.focus in
       placed r.focus inside v size (region_piece r ps r.focus) (region_at r ps text r.focus is.focus) (omega (arith, room.0)) (omega (arith, room.1))
 
-  pub composed : (old new : View) → HasSize r.status.line r.status.cols old → IsGrid old.page → Stage r ps text (length (pieces r ps text)) old → FocusesOn (box_at r r.focus) (part_at ps r.focus) old new → new ≡ view_of r ps text
+  pub composed : (old new : View) → HasSize r.status.line r.status.columns old → IsGrid old.page → Stage r ps text (length (pieces r ps text)) old → FocusesOn (box_at r r.focus) (part_at ps r.focus) old new → new ≡ view_of r ps text
   unfolding view_in
   composed old new size grid stage focused =
       let holds : Holds (pieces r ps text) old = subst (λ (xs : List Piece). Holds xs old) (take-length (pieces r ps text)) stage.holds in
@@ -270,20 +270,20 @@ module _ (r : Rects) (ps : List Part) (text : List ℕ) (s : Shape) (rows cols :
         cursor = cursor_of (box_at r r.focus) (part_at ps r.focus);
         has_application_arrows = arrows_of (part_at ps r.focus);
         has_application_keypad = keypad_of (part_at ps r.focus);
-      }) (page-is (pieces r ps text) old r.status.line r.status.cols grid size.rows_are size.columns_are holds)
+      }) (page-is (pieces r ps text) old r.status.line r.status.columns grid size.rows_are size.columns_are holds)
 
 -- ---- the parts of panes
 
 pub part_is : (panes : List Pane) (k : ℕ) (p : Pane) → k < length panes → p ≡ get_or panes k p → part_of p ≡ part_at (map part_of panes) k
 part_is panes k p lt e = ap part_of e ∙ sym (get_or-map part_of panes k p vacant lt)
 
-pub all_there : (r : Rects) (panes : List Pane) (s : Shape) (rows cols k : ℕ) → AreParts s rows cols r (map part_of panes) → k < length r.boxes.items → k < length panes
-all_there r panes s rows cols k is lt = let n : length (map part_of panes) ≡ length panes = length-map panes part_of in omega (arith, is.each, n, lt)
+pub all_there : (r : Rects) (panes : List Pane) (s : Shape) (rows columns k : ℕ) → AreParts s rows columns r (map part_of panes) → k < length r.boxes.items → k < length panes
+all_there r panes s rows columns k is lt = let n : length (map part_of panes) ≡ length panes = length-map panes part_of in omega (arith, is.each, n, lt)
 
-module _ (r : Rects) (ps : List Part) (text : List ℕ) (s : Shape) (rows cols : ℕ) (is : AreParts s rows cols r ps) where
+module _ (r : Rects) (ps : List Part) (text : List ℕ) (s : Shape) (rows columns : ℕ) (is : AreParts s rows columns r ps) where
   pub drawable_view : (old new : View) → Stage r ps text (length (pieces r ps text)) old → new.page ≡ old.page → AreDrawable ps → all_scalars (chars (utf8_lossy text)) ≡ true → IsDrawable new
   drawable_view old new stage same drawable status =
       let holds : Holds (pieces r ps text) old = subst (λ (xs : List Piece). Holds xs old) (take-length (pieces r ps text)) stage.holds in
       let captions : (n : ℕ) → n < length ps → all_scalars (caption_text (part_at ps n)) ≡ true = λ n h. stage.captions n (omega (arith, h, is.each, pieces_length r ps text)) (omega (arith, h, is.each)) in
-      let drawn = view_drawn (pieces r ps text) rows cols old (pieces_tile r ps text s rows cols is) (pieces_drawn r ps text drawable captions status) holds in
+      let drawn = view_drawn (pieces r ps text) rows columns old (pieces_tile r ps text s rows columns is) (pieces_drawn r ps text drawable captions status) holds in
       record { lines = λ line h. subst (λ (p : Page). IsDrawableLine (line_at p line)) (sym same) (drawn.lines line (rw (← same) h)) }

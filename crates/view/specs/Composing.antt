@@ -19,17 +19,18 @@ use Rattle.view.specs.View.{place_of}
 -- the granted view, where these are the parts of a page
 abbrev pub ShowsParts : Rects → List Part → List ℕ → View → Type 0
 ShowsParts r parts status v =
-    (s : Shape) (rows cols : ℕ) → AreParts s rows cols r parts → v ≡ view_of r parts status
+    (s : Shape) (rows columns : ℕ) → AreParts s rows columns r parts → v ≡ view_of r parts status
 
 -- a view that a terminal can show, where these are the parts of a page and it can show their lines
 abbrev pub ShowsDrawable : Rects → List Part → View → Type 0
 ShowsDrawable r parts v =
-    (s : Shape) (rows cols : ℕ) → AreParts s rows cols r parts → AreDrawable parts → IsDrawable v
+    (s : Shape) (rows columns : ℕ) →
+    AreParts s rows columns r parts → AreDrawable parts → IsDrawable v
 
 -- Paired cells, one for each column, are laid over a row of a rectangle where it is free.
 abbrev pub LaysRow : Rect → ℕ → List Cell → View → View → Type 0
 LaysRow rect row cells old new =
-    IsFree (row_of rect row) old.page → IsPaired cells → length cells ≡ rect.cols
+    IsFree (row_of rect row) old.page → IsPaired cells → length cells ≡ rect.columns
     → Lays (row_piece (row_of rect row) cells) old new
 
 -- The box of a region whose lines are paired is laid over a rectangle where it is free.
@@ -40,7 +41,7 @@ LaysBox rect is_focused part old new =
 -- A separator, which is one column, is laid over a rectangle where it is free.
 abbrev pub LaysSeparator : Rect → View → View → Type 0
 LaysSeparator rect old new =
-    rect.cols ≡ 1 → IsFree rect old.page → Lays (separator_piece rect) old new
+    rect.columns ≡ 1 → IsFree rect old.page → Lays (separator_piece rect) old new
 
 -- The status line, which is one row, is laid over a rectangle where it is free.
 abbrev pub LaysStatus : Rect → List ℕ → View → View → Type 0
@@ -65,5 +66,5 @@ FocusesOnFocused r panes old new =
 abbrev pub IsCursorOf : Rect → Part → Cursor → Type 0
 IsCursorOf rect part cursor =
     0 < rect.line → rect.line + rect.rows ≤ 65535
-    → 0 < rect.column → rect.column + rect.cols ≤ 65535
+    → 0 < rect.column → rect.column + rect.columns ≤ 65535
     → place_of cursor ≡ cursor_of rect part

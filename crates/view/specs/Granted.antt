@@ -85,20 +85,20 @@ shown_cell is_inverted cell = record cell {
 -- a place that shows this column of a line, among so many columns: a blank outside the window and
 -- in place of a cut half
 abbrev pub line_cell : Bool → List Cell → ℕ → ℕ → Cell
-line_cell is_inverted line cols column =
+line_cell is_inverted line columns column =
     if nat_lt column (length line)
-    then uncut cols column (shown_cell is_inverted (cell_at line column)) blank
+    then uncut columns column (shown_cell is_inverted (cell_at line column)) blank
     else blank
 
 abbrev pub window_cell : Window → ℕ → ℕ → ℕ → ℕ → Cell
-window_cell w rows cols row column =
-    line_cell w.is_inverted (line_at w.lines (first_shown rows w.cursor + row)) cols column
+window_cell w rows columns row column =
+    line_cell w.is_inverted (line_at w.lines (first_shown rows w.cursor + row)) columns column
 
 -- Nothing of a window that may not be read is shown but its number.
 abbrev pub part_cell : Part → ℕ → ℕ → ℕ → ℕ → Cell
-part_cell vacant rows cols row column = blank
-part_cell (unread number) rows cols row column = blank
-part_cell (read w) rows cols row column = window_cell w rows cols row column
+part_cell vacant rows columns row column = blank
+part_cell (unread number) rows columns row column = blank
+part_cell (read w) rows columns row column = window_cell w rows columns row column
 
 -- number, one blank, title; `?` in place of a title that may not be read; `--` where no window is
 abbrev pub caption_text : Part → List ℕ
@@ -115,13 +115,13 @@ caption_rendition is_focused = record reverse { is_bold = is_focused }
 
 -- a column of the caption, in so many columns
 abbrev pub caption_cell : Bool → Part → ℕ → ℕ → Cell
-caption_cell is_focused part cols column =
-    text_at (caption_rendition is_focused) (caption_text part) cols column
+caption_cell is_focused part columns column =
+    text_at (caption_rendition is_focused) (caption_text part) columns column
 
 abbrev pub box_cell : Rect → Bool → Part → ℕ → ℕ → Cell
 box_cell box is_focused part row column =
-    if row + 1 == box.rows then caption_cell is_focused part box.cols column
-    else part_cell part (box.rows - 1) box.cols row column
+    if row + 1 == box.rows then caption_cell is_focused part box.columns column
+    else part_cell part (box.rows - 1) box.columns row column
 
 -- ---- the pieces of a page
 
@@ -173,7 +173,7 @@ separator_piece rect = record { rect = rect; cell = λ row column. narrow_cell 0
 abbrev pub status_piece : Rect → List ℕ → Piece
 status_piece rect text = record {
   rect = rect;
-  cell = λ row column. text_at plain (chars (utf8_lossy text)) rect.cols column;
+  cell = λ row column. text_at plain (chars (utf8_lossy text)) rect.columns column;
 }
 
 abbrev pub pieces_in : Layout → List Part → List ℕ → List Piece
@@ -197,8 +197,8 @@ cell_of (p ∷ ps) line column =
 -- ---- the view
 
 abbrev pub page_of : ℕ → ℕ → (ℕ → ℕ → Cell) → List (List Cell)
-page_of rows cols cell =
-    map (λ line. map (cell line) (range_with_len 0 cols)) (range_with_len 0 rows)
+page_of rows columns cell =
+    map (λ line. map (cell line) (range_with_len 0 columns)) (range_with_len 0 rows)
 
 -- The cursor of a window that may be read is shown where its mode shows it and its place lies in
 -- the region.
@@ -206,7 +206,7 @@ abbrev pub cursor_in : Rect → Window → Option Position → Option Position
 cursor_in box w None = None
 cursor_in box w (Some p) =
     let row : ℕ = p.line - first_shown (box.rows - 1) w.cursor in
-    if w.shows_cursor && (nat_lt row (box.rows - 1) && nat_lt p.column box.cols)
+    if w.shows_cursor && (nat_lt row (box.rows - 1) && nat_lt p.column box.columns)
     then Some (record { line = box.line - 1 + row; column = box.column - 1 + p.column }) else None
 
 abbrev pub cursor_of : Rect → Part → Option Position
@@ -235,7 +235,7 @@ key_modes_of part = record {
 -- the page down to its status line; its cells count from 0
 abbrev pub page_in : Layout → List Piece → List (List Cell)
 page_in l ps =
-    page_of l.status.line l.status.cols (λ line column. cell_of ps (line + 1) (column + 1))
+    page_of l.status.line l.status.columns (λ line column. cell_of ps (line + 1) (column + 1))
 
 unfoldable pub view_in : Layout → List Part → List ℕ → View
 view_in l parts status = record {
@@ -261,9 +261,9 @@ HasPairedLines (read w) = EachLine IsPaired w.lines
 
 -- the rectangles of a page on which each region has room, one part a region, and lines in which
 -- halves are paired
-pub record AreParts (s : Shape) (rows cols : ℕ) (r : Rects) (parts : List Part) : Type 0 where
-  pub rects : IsRects s r.focus rows cols r
-  pub room : has_room s rows cols ≡ true
+pub record AreParts (s : Shape) (rows columns : ℕ) (r : Rects) (parts : List Part) : Type 0 where
+  pub rects : IsRects s r.focus rows columns r
+  pub room : has_room s rows columns ≡ true
   pub focus : r.focus < length r.boxes.items
   pub each : length parts ≡ length r.boxes.items
   pub paired : (n : ℕ) → HasPairedLines (part_at parts n)

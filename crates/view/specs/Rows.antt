@@ -13,9 +13,9 @@ use Rattle.view.specs.Granted.{shown_cell, window_cell, part_cell, caption_cell,
 use Rattle.view.specs.Texts.{uncut}
 
 -- so many cells, one for each column
-pub record IsRow (cell : ℕ → Cell) (cols : ℕ) (cells : List Cell) : Type 0 where
-  pub width : length cells ≡ cols
-  pub cells_are : (column : ℕ) → column < cols → cell_at cells column ≡ cell column
+pub record IsRow (cell : ℕ → Cell) (columns : ℕ) (cells : List Cell) : Type 0 where
+  pub width : length cells ≡ columns
+  pub cells_are : (column : ℕ) → column < columns → cell_at cells column ≡ cell column
 
 -- a column of a line as it is shown, wherever the line is cut, and blanks behind it
 abbrev pub whole_cell : Bool → List Cell → ℕ → Cell
@@ -30,20 +30,21 @@ cut_cell line column = uncut (length line) column (cell_at line column) blank
 
 -- a row, of so many, of a window
 abbrev pub IsWindowRow : Window → ℕ → ℕ → ℕ → List Cell → Type 0
-IsWindowRow w rows cols row cells = IsRow (window_cell w rows cols row) cols cells
+IsWindowRow w rows columns row cells = IsRow (window_cell w rows columns row) columns cells
 
 -- a row, of so many, above a caption
 abbrev pub IsPartRow : Part → ℕ → ℕ → ℕ → List Cell → Type 0
-IsPartRow part rows cols row cells = IsRow (part_cell part rows cols row) cols cells
+IsPartRow part rows columns row cells = IsRow (part_cell part rows columns row) columns cells
 
 -- the row of a region's caption
 abbrev pub IsCaptionRow : Bool → Part → ℕ → List Cell → Type 0
-IsCaptionRow is_focused part cols cells = IsRow (caption_cell is_focused part cols) cols cells
+IsCaptionRow is_focused part columns cells =
+    IsRow (caption_cell is_focused part columns) columns cells
 
 -- a row of a region's box
 abbrev pub IsBoxRow : Rect → Bool → Part → ℕ → List Cell → Type 0
 IsBoxRow rect is_focused part row cells =
-    IsRow (box_cell rect is_focused part row) rect.cols cells
+    IsRow (box_cell rect is_focused part row) rect.columns cells
 
 -- ---- pieces
 
@@ -57,12 +58,12 @@ pub record IsOnPage (page : List (List Cell)) (line column : ℕ) : Type 0 where
 -- a rectangle of a page, which has a place for rows, and one for columns
 pub record IsPlaced (r : Rect) (page : List (List Cell)) : Type 0 where
   pub tall : 0 < r.rows
-  pub wide : 0 < r.cols
+  pub wide : 0 < r.columns
   pub inside : (line column : ℕ) → has r line column ≡ true → IsOnPage page line column
 
 -- a rectangle of a page, in which nothing but blanks stands
 pub record IsFree (r : Rect) (page : List (List Cell)) : Type 0 where
-  pub wide : 0 < r.cols
+  pub wide : 0 < r.columns
   pub inside : (line column : ℕ) → has r line column ≡ true → IsOnPage page line column
   pub blanks : (line column : ℕ) → has r (line + 1) (column + 1) ≡ true
       → place page line column ≡ blank

@@ -23,11 +23,12 @@ text_cells r (c ∷ cs) = char_cells r c ++ text_cells r cs
 
 -- a cell in a column of so many: at the edge another one stands in place of half a wide character
 abbrev pub uncut : ℕ → ℕ → Cell → Cell → Cell
-uncut cols column cell other = if (column + 1 == cols) && is_left cell.shape then other else cell
+uncut columns column cell other =
+    if (column + 1 == columns) && is_left cell.shape then other else cell
 
 -- a column, from 0, of a text in so many columns: cut at the edge, with blanks of its rendition
 -- behind it
 abbrev pub text_at : Rendition → List ℕ → ℕ → ℕ → Cell
-text_at r text cols column =
+text_at r text columns column =
     let space : Cell = narrow_cell 32 r false in
-    uncut cols column (slice_index_or (text_cells r text) column space) space
+    uncut columns column (slice_index_or (text_cells r text) column space) space

@@ -34,8 +34,8 @@ key_modes v = record {
 
 -- a blank page without a cursor, and the modes as a terminal starts
 abbrev pub blank_view : ℕ → ℕ → View
-blank_view rows cols = record {
-  page = replicate rows (replicate cols blank);
+blank_view rows columns = record {
+  page = replicate rows (replicate columns blank);
   cursor = None;
   has_application_arrows = false;
   has_application_keypad = false;

@@ -27,12 +27,12 @@ pub fn compose(
     panes: &[Pane],
     status: &[u8],
 ) -> Result<View, AllocError>
-    ensures size { IfOk result (λ v. HasSize rects.now.status.line rects.now.status.cols v) }
+    ensures size { IfOk result (λ v. HasSize rects.now.status.line rects.now.status.columns v) }
     ensures exact { IfOk result (λ v. ShowsParts rects.now (parts_of panes.now) status.now v) }
     ensures drawable { IfOk result (λ v. ShowsDrawable rects.now (parts_of panes.now) v) }
 {
     let page = rects.status;
-    let Ok(mut view) = View::blank(alloc, page.line as usize, page.cols as usize) else {
+    let Ok(mut view) = View::blank(alloc, page.line as usize, page.columns as usize) else {
         return Err(AllocError);
     };
     for place in 0..rects.boxes.len() {
@@ -71,7 +71,7 @@ impl View {
         ensures lays { OnOk result (LaysBox rect is_focused (part_of pane.now) self.old self.new) }
         ensures characters { OnOk result (0 < rect.rows → HasScalarCaption (part_of pane.now)) }
     {
-        let mut cells = Vec::with_capacity(alloc, rect.cols as usize)?;
+        let mut cells = Vec::with_capacity(alloc, rect.columns as usize)?;
         for row in 0..rect.rows {
             box_row(rect, pane, is_focused, row, &mut cells)?;
             self.put_row(rect, row, &cells);
@@ -95,7 +95,8 @@ impl View {
         ensures characters { OnOk result (all_scalars (chars (utf8_lossy text.now)) ≡ true) }
     {
         let text = String::from_utf8_lossy(alloc, text)?;
-        let cells = text_row(alloc, text.as_str(), rect.cols as usize, Rendition::PLAIN)?;
+        let columns = rect.columns as usize;
+        let cells = text_row(alloc, text.as_str(), columns, Rendition::PLAIN)?;
         self.put_row(rect, 0, &cells);
         Ok(())
     }
@@ -147,11 +148,11 @@ fn cursor_in(rect: Rect, contents: &Contents) -> Cursor
     ensures { IsCursorOf rect (read (window_of contents.now)) result }
 {
     let rows = rect.rows.saturating_sub(1) as usize;
-    let cols = rect.cols as usize;
+    let columns = rect.columns as usize;
     match contents.cursor {
         Some((line, column)) => {
             let row = line.saturating_sub(first_shown(contents, rows));
-            if contents.shows_cursor && row < rows && column < cols {
+            if contents.shows_cursor && row < rows && column < columns {
                 Cursor::Shown {
                     line: rect.line.saturating_sub(1).saturating_add(row as u16),
                     column: rect.column.saturating_sub(1).saturating_add(column as u16),

@@ -79,17 +79,17 @@ pub(crate) fn first_shown(contents: &Contents, rows: usize) -> usize
 /// The cells of a line in so many columns, wherever they end, and blanks behind it.
 fn whole_row(
     line: &[Cell],
-    cols: usize,
+    columns: usize,
     is_inverted: bool,
     row: &mut Vec<Cell>,
 ) -> Result<(), AllocError>
-    ensures { OnOk result (IsRow (whole_cell is_inverted line.now) cols row.new.items) }
+    ensures { OnOk result (IsRow (whole_cell is_inverted line.now) columns row.new.items) }
 {
-    let kept = line.len().min(cols);
+    let kept = line.len().min(columns);
     row.clear();
     row.extend_from_slice(&line[..kept])?;
     show_cells(row.as_mut_slice(), is_inverted);
-    row.resize(cols, Cell::BLANK)?;
+    row.resize(columns, Cell::BLANK)?;
     Ok(())
 }
 
@@ -97,22 +97,22 @@ fn whole_row(
 fn cut_end(row: &mut [Cell])
     ensures { IsRow (cut_cell row.old) (length row.old) row.new }
 {
-    let cols = row.len();
-    if 0 < cols && row[cols - 1].is_left() {
-        row[cols - 1] = Cell::BLANK;
+    let columns = row.len();
+    if 0 < columns && row[columns - 1].is_left() {
+        row[columns - 1] = Cell::BLANK;
     }
 }
 
 /// The cells of a line in so many columns.
 fn line_row(
     line: &[Cell],
-    cols: usize,
+    columns: usize,
     is_inverted: bool,
     row: &mut Vec<Cell>,
 ) -> Result<(), AllocError>
-    ensures { OnOk result (IsRow (line_cell is_inverted line.now cols) cols row.new.items) }
+    ensures { OnOk result (IsRow (line_cell is_inverted line.now columns) columns row.new.items) }
 {
-    whole_row(line, cols, is_inverted, row)?;
+    whole_row(line, columns, is_inverted, row)?;
     cut_end(row.as_mut_slice());
     Ok(())
 }
@@ -121,17 +121,17 @@ fn line_row(
 fn window_row(
     contents: &Contents,
     rows: usize,
-    cols: usize,
+    columns: usize,
     row: usize,
     cells: &mut Vec<Cell>,
 ) -> Result<(), AllocError>
     ensures { OnOk result
-        (IsWindowRow (window_of contents.now) rows cols row cells.new.items) }
+        (IsWindowRow (window_of contents.now) rows columns row cells.new.items) }
 {
     let place = first_shown(contents, rows).saturating_add(row);
     match contents.lines.get(place) {
-        Some(line) => line_row(line, cols, contents.is_inverted, cells),
-        None => line_row(&[], cols, contents.is_inverted, cells),
+        Some(line) => line_row(line, columns, contents.is_inverted, cells),
+        None => line_row(&[], columns, contents.is_inverted, cells),
     }
 }
 
@@ -139,15 +139,15 @@ fn window_row(
 fn part_row(
     pane: &Pane,
     rows: usize,
-    cols: usize,
+    columns: usize,
     row: usize,
     cells: &mut Vec<Cell>,
 ) -> Result<(), AllocError>
-    ensures { OnOk result (IsPartRow (part_of pane.now) rows cols row cells.new.items) }
+    ensures { OnOk result (IsPartRow (part_of pane.now) rows columns row cells.new.items) }
 {
     match pane {
-        Pane::Readable(contents) => window_row(contents, rows, cols, row, cells),
-        _ => line_row(&[], cols, false, cells),
+        Pane::Readable(contents) => window_row(contents, rows, columns, row, cells),
+        _ => line_row(&[], columns, false, cells),
     }
 }
 
@@ -173,10 +173,10 @@ fn caption_text(alloc: Global, pane: &Pane) -> Result<String, AllocError>
 fn caption_row(
     alloc: Global,
     pane: &Pane,
-    cols: usize,
+    columns: usize,
     is_focused: bool,
 ) -> Result<Vec<Cell>, AllocError>
-    ensures row { IfOk result (λ r. IsCaptionRow is_focused (part_of pane.now) cols r.items) }
+    ensures row { IfOk result (λ r. IsCaptionRow is_focused (part_of pane.now) columns r.items) }
     ensures characters { OnOk result (HasScalarCaption (part_of pane.now)) }
 {
     let text = caption_text(alloc, pane)?;
@@ -184,7 +184,7 @@ fn caption_row(
         is_bold: is_focused,
         ..REVERSE
     };
-    text_row(alloc, text.as_str(), cols, rendition)
+    text_row(alloc, text.as_str(), columns, rendition)
 }
 
 /// A row of a region's box: of its window, or its caption. It takes the place of some cells, so that
@@ -200,11 +200,11 @@ pub(crate) fn box_row(
     ensures row { OnOk result (IsBoxRow rect is_focused (part_of pane.now) row cells.new.items) }
     ensures characters { OnOk result (row + 1 ≡ rect.rows → HasScalarCaption (part_of pane.now)) }
 {
-    let cols = rect.cols as usize;
+    let columns = rect.columns as usize;
     if row + 1 == rect.rows {
         let alloc = *cells.allocator();
-        *cells = caption_row(alloc, pane, cols, is_focused)?;
+        *cells = caption_row(alloc, pane, columns, is_focused)?;
         return Ok(());
     }
-    part_row(pane, rect.rows as usize - 1, cols, row as usize, cells)
+    part_row(pane, rect.rows as usize - 1, columns, row as usize, cells)
 }

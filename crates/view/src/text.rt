@@ -24,11 +24,11 @@ fn visible(character: char) -> char
 }
 
 /// A cell in a column of so many, or another one where it is half a wide character at the edge.
-fn uncut(cell: Cell, column: usize, cols: usize, other: Cell) -> Cell
-    requires { column < cols }
-    ensures { result ≡ uncut_of cols column cell other }
+fn uncut(cell: Cell, column: usize, columns: usize, other: Cell) -> Cell
+    requires { column < columns }
+    ensures { result ≡ uncut_of columns column cell other }
 {
-    if column + 1 == cols && cell.is_left() {
+    if column + 1 == columns && cell.is_left() {
         other
     } else {
         cell
@@ -56,12 +56,12 @@ fn push_character(
 fn text_cells(
     alloc: Global,
     text: &str,
-    cols: usize,
+    columns: usize,
     rendition: Rendition,
 ) -> Result<Vec<Cell>, AllocError>
     ensures { IfOk result (λ cells. cells.items ≡ text_cells_of rendition (chars text.now)) }
 {
-    let mut cells = Vec::with_capacity(alloc, cols)?;
+    let mut cells = Vec::with_capacity(alloc, columns)?;
     for character in text.chars() {
         push_character(&mut cells, character, rendition)?;
     }
@@ -73,25 +73,26 @@ fn cut_end(row: &mut [Cell], space: Cell)
     ensures { IsRow (λ column. uncut_of (length row.old) column (cell_at row.old column) space)
         (length row.old) row.new }
 {
-    let cols = row.len();
-    if 0 < cols {
-        row[cols - 1] = uncut(row[cols - 1], cols - 1, cols, space);
+    let columns = row.len();
+    if 0 < columns {
+        row[columns - 1] = uncut(row[columns - 1], columns - 1, columns, space);
     }
 }
 
-/// The cells of a row of `cols` columns that holds this text, cut at the edge and filled with
+/// The cells of a row of `columns` columns that holds this text, cut at the edge and filled with
 /// blanks of its rendition.
 pub(crate) fn text_row(
     alloc: Global,
     text: &str,
-    cols: usize,
+    columns: usize,
     rendition: Rendition,
 ) -> Result<Vec<Cell>, AllocError>
-    ensures { IfOk result (λ row. IsRow (text_at rendition (chars text.now) cols) cols row.items) }
+    ensures { IfOk result
+        (λ row. IsRow (text_at rendition (chars text.now) columns) columns row.items) }
 {
-    let mut row = text_cells(alloc, text, cols, rendition)?;
+    let mut row = text_cells(alloc, text, columns, rendition)?;
     let space = Cell::narrow(' ', rendition, false);
-    row.resize(cols, space)?;
+    row.resize(columns, space)?;
     cut_end(row.as_mut_slice(), space);
     Ok(row)
 }

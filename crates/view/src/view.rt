@@ -57,13 +57,13 @@ impl View {
 
     /// A blank page of this size, its cursor hidden. It is `BadSize` outside 2 to 200 lines by 2 to
     /// 300 columns.
-    pub fn blank(alloc: Global, rows: usize, cols: usize) -> Result<View, GridFault>
-        ensures ok { IfOk result (λ v. v ≡ blank_view rows cols) }
-        ensures size { IfOk result (HasSize rows cols) }
-        ensures bad_size { (result ≡ Err GridFault.BadSize) ↔ (¬ IsGridSize rows cols) }
+    pub fn blank(alloc: Global, rows: usize, columns: usize) -> Result<View, GridFault>
+        ensures ok { IfOk result (λ v. v ≡ blank_view rows columns) }
+        ensures size { IfOk result (HasSize rows columns) }
+        ensures bad_size { (result ≡ Err GridFault.BadSize) ↔ (¬ IsGridSize rows columns) }
     {
         Ok(View {
-            grid: Grid::new(alloc, rows, cols)?,
+            grid: Grid::new(alloc, rows, columns)?,
             cursor: Cursor::Hidden,
             modes: KeyModes::NORMAL,
         })
@@ -97,11 +97,11 @@ impl View {
     }
 
     /// The number of cells of each row.
-    pub fn cols(&self) -> usize
+    pub fn columns(&self) -> usize
         ensures value { result ≡ length (line_at self.now.page 0) }
         ensures few { result ≤ 300 }
     {
-        self.grid.cols()
+        self.grid.columns()
     }
 
     /// The cells of a row, counted from 0.
@@ -136,9 +136,8 @@ impl View {
     {
         self.cursor = match cursor {
             Cursor::Shown { line, column }
-                if (line as usize) < self.grid.rows() && (column as usize) < self.grid.cols() => {
-                cursor
-            }
+                if (line as usize) < self.grid.rows() && (column as usize) < self.grid.columns() =>
+                { cursor }
             _ => Cursor::Hidden,
         };
     }
@@ -149,8 +148,8 @@ impl View {
         ensures size { KeepsSize self.old self.new }
         ensures value { PutsCells line column cells.now self.old self.new }
     {
-        let cols = self.grid.cols();
-        if line < self.grid.rows() && column <= cols && cells.len() <= cols - column {
+        let columns = self.grid.columns();
+        if line < self.grid.rows() && column <= columns && cells.len() <= columns - column {
             self.grid.write(line, column, cells);
         }
     }

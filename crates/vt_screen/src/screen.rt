@@ -48,16 +48,16 @@ impl Model for Screen {
 impl Screen {
     /// A screen as it starts, which keeps at most `keep` of the lines that scroll off its page. It
     /// is `BadSize` outside 2 to 200 lines by 2 to 300 columns, and above 2,000 lines to keep.
-    pub fn new(alloc: Global, rows: usize, cols: usize, keep: usize) -> Result<Screen, GridFault>
-        ensures ok { IfOk result (λ screen. screen.screen ≡ starting rows cols keep) }
+    pub fn new(alloc: Global, rows: usize, columns: usize, keep: usize) -> Result<Screen, GridFault>
+        ensures ok { IfOk result (λ screen. screen.screen ≡ starting rows columns keep) }
         ensures places { IfOk result (λ screen. screen.places ≡ range_with_len 0 rows) }
-        ensures size { IfOk result (λ _. IsScreenSize rows cols keep) }
-        ensures bad_size { (result ≡ Err GridFault.BadSize) ↔ (¬ IsScreenSize rows cols keep) }
+        ensures size { IfOk result (λ _. IsScreenSize rows columns keep) }
+        ensures bad_size { (result ≡ Err GridFault.BadSize) ↔ (¬ IsScreenSize rows columns keep) }
     {
         if keep > MAX_KEEP {
             return Err(GridFault::BadSize);
         }
-        let display = Display::new(alloc, rows, cols, keep)?;
+        let display = Display::new(alloc, rows, columns, keep)?;
         Ok(Screen { display })
     }
 
@@ -151,14 +151,14 @@ impl Screen {
     /// saved place go to the nearest place, no wrap is pending, and margins and tab stops start
     /// anew. It is `BadSize` outside 2 to 200 lines by 2 to 300 columns; a refusal leaves
     /// everything as it was.
-    pub fn resized(&mut self, rows: usize, cols: usize) -> Result<(), GridFault>
-        ensures ok { OnOk result (self.new.screen ≡ resized rows cols self.old.screen) }
+    pub fn resized(&mut self, rows: usize, columns: usize) -> Result<(), GridFault>
+        ensures ok { OnOk result (self.new.screen ≡ resized rows columns self.old.screen) }
         ensures places { OnOk result (self.new.places ≡ range_with_len 0 rows) }
-        ensures size { OnOk result (IsGridSize rows cols) }
+        ensures size { OnOk result (IsGridSize rows columns) }
         ensures err { OnErr result (self.new ≡ self.old) }
-        ensures bad_size { (result ≡ Err GridFault.BadSize) ↔ (¬ IsGridSize rows cols) }
+        ensures bad_size { (result ≡ Err GridFault.BadSize) ↔ (¬ IsGridSize rows columns) }
     {
-        self.display.resized(rows, cols)?;
+        self.display.resized(rows, columns)?;
         Ok(())
     }
 
@@ -171,7 +171,7 @@ impl Screen {
     }
 
     /// The number of columns.
-    pub fn cols(&self) -> usize
+    pub fn columns(&self) -> usize
         ensures { result ≡ self.now.screen.state.columns }
     {
         self.display.state.columns

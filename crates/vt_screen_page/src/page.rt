@@ -42,35 +42,35 @@ impl Model for Page {
 }
 
 /// Whether a page may have this size.
-fn is_size(rows: usize, cols: usize) -> bool
-    ensures { IsTrue result ↔ IsGridSize rows cols }
+fn is_size(rows: usize, columns: usize) -> bool
+    ensures { IsTrue result ↔ IsGridSize rows columns }
 {
-    (2..=200).contains(&rows) && (2..=300).contains(&cols)
+    (2..=200).contains(&rows) && (2..=300).contains(&columns)
 }
 
 impl Page {
     /// A page of blanks. It is `BadSize` outside 2 to 200 lines by 2 to 300 columns.
-    pub fn new(alloc: Global, rows: usize, cols: usize) -> Result<Page, GridFault>
+    pub fn new(alloc: Global, rows: usize, columns: usize) -> Result<Page, GridFault>
         ensures ok { IfOk result
-            (λ page. page ≡ placed_in_order rows (replicate rows (replicate cols blank))) }
-        ensures size { IfOk result (λ _. IsGridSize rows cols) }
-        ensures bad_size { (result ≡ Err GridFault.BadSize) ↔ (¬ IsGridSize rows cols) }
+            (λ page. page ≡ placed_in_order rows (replicate rows (replicate columns blank))) }
+        ensures size { IfOk result (λ _. IsGridSize rows columns) }
+        ensures bad_size { (result ≡ Err GridFault.BadSize) ↔ (¬ IsGridSize rows columns) }
     {
-        if !is_size(rows, cols) {
+        if !is_size(rows, columns) {
             return Err(GridFault::BadSize);
         }
-        match Page::blank(alloc, rows, cols) {
+        match Page::blank(alloc, rows, columns) {
             Ok(page) => Ok(page),
             Err(_) => Err(GridFault::NoMemory),
         }
     }
 
-    fn blank(alloc: Global, rows: usize, cols: usize) -> Result<Page, AllocError>
-        requires { IsGridSize rows cols }
+    fn blank(alloc: Global, rows: usize, columns: usize) -> Result<Page, AllocError>
+        requires { IsGridSize rows columns }
         ensures { IfOk result
-            (λ page. page ≡ placed_in_order rows (replicate rows (replicate cols blank))) }
+            (λ page. page ≡ placed_in_order rows (replicate rows (replicate columns blank))) }
     {
-        let stored = store::blank_lines(alloc, rows, cols)?;
+        let stored = store::blank_lines(alloc, rows, columns)?;
         let places = store::places_in_order(alloc, rows)?;
         Ok(Page {
             alloc,
@@ -88,7 +88,7 @@ impl Page {
     }
 
     /// The number of cells of each line.
-    pub fn cols(&self) -> usize
+    pub fn columns(&self) -> usize
         ensures { result ≡ length (line_at self.now.lines 0) }
     {
         self.stored[self.places[0]].width()
@@ -332,32 +332,32 @@ impl Page {
 
     /// The page in another size. It keeps the upper left part: what is added is blank, and so is a
     /// half that is cut off from its other half. It is `BadSize` as in `new`.
-    pub fn with_size(&self, rows: usize, cols: usize) -> Result<Page, GridFault>
+    pub fn with_size(&self, rows: usize, columns: usize) -> Result<Page, GridFault>
         ensures ok { IfOk result
-            (λ page. page ≡ placed_in_order rows (page_resized rows cols self.now.lines)) }
-        ensures size { IfOk result (λ _. IsGridSize rows cols) }
-        ensures bad_size { (result ≡ Err GridFault.BadSize) ↔ (¬ IsGridSize rows cols) }
+            (λ page. page ≡ placed_in_order rows (page_resized rows columns self.now.lines)) }
+        ensures size { IfOk result (λ _. IsGridSize rows columns) }
+        ensures bad_size { (result ≡ Err GridFault.BadSize) ↔ (¬ IsGridSize rows columns) }
     {
-        if !is_size(rows, cols) {
+        if !is_size(rows, columns) {
             return Err(GridFault::BadSize);
         }
-        match self.in_size(rows, cols) {
+        match self.in_size(rows, columns) {
             Ok(page) => Ok(page),
             Err(_) => Err(GridFault::NoMemory),
         }
     }
 
-    fn in_size(&self, rows: usize, cols: usize) -> Result<Page, AllocError>
-        requires { IsGridSize rows cols }
+    fn in_size(&self, rows: usize, columns: usize) -> Result<Page, AllocError>
+        requires { IsGridSize rows columns }
         ensures { IfOk result
-            (λ page. page ≡ placed_in_order rows (page_resized rows cols self.now.lines)) }
+            (λ page. page ≡ placed_in_order rows (page_resized rows columns self.now.lines)) }
     {
         let stored = store::resized_lines(
             self.alloc,
             self.stored.as_slice(),
             self.places.as_slice(),
             rows,
-            cols,
+            columns,
         )?;
         let places = store::places_in_order(self.alloc, rows)?;
         Ok(Page {
@@ -368,13 +368,13 @@ impl Page {
     }
 
     /// Gives the page another size, as `with_size`. A refusal leaves it as it was.
-    pub fn resized(&mut self, rows: usize, cols: usize) -> Result<(), GridFault>
+    pub fn resized(&mut self, rows: usize, columns: usize) -> Result<(), GridFault>
         ensures ok { OnOk result
-            (self.new ≡ placed_in_order rows (page_resized rows cols self.old.lines)) }
+            (self.new ≡ placed_in_order rows (page_resized rows columns self.old.lines)) }
         ensures err { OnErr result (self.new ≡ self.old) }
-        ensures bad_size { (result ≡ Err GridFault.BadSize) ↔ (¬ IsGridSize rows cols) }
+        ensures bad_size { (result ≡ Err GridFault.BadSize) ↔ (¬ IsGridSize rows columns) }
     {
-        let page = self.with_size(rows, cols)?;
+        let page = self.with_size(rows, columns)?;
         *self = page;
         Ok(())
     }

@@ -143,12 +143,12 @@ pub fn places_in_order(alloc: Global, rows: usize) -> Result<Vec<usize>, AllocEr
 }
 
 /// So many blank lines.
-pub fn blank_lines(alloc: Global, rows: usize, cols: usize) -> Result<Vec<Line>, AllocError>
-    ensures { IfOk result (λ lines. lines.items ≡ replicate rows (replicate cols blank)) }
+pub fn blank_lines(alloc: Global, rows: usize, columns: usize) -> Result<Vec<Line>, AllocError>
+    ensures { IfOk result (λ lines. lines.items ≡ replicate rows (replicate columns blank)) }
 {
     let mut lines = Vec::with_capacity(alloc, rows)?;
     for row in 0..rows {
-        lines.push(Line::blank(alloc, cols)?)?;
+        lines.push(Line::blank(alloc, columns)?)?;
     }
     Ok(lines)
 }
@@ -159,16 +159,16 @@ fn resized_line(
     stored: &[Line],
     places: &[usize],
     row: usize,
-    cols: usize,
+    columns: usize,
 ) -> Result<Line, AllocError>
     requires { (k : ℕ) → k < length places.now → slice_index places.now k < length stored.now }
     ensures { IfOk result
-        (λ line. line ≡ line_resized cols (line_at (lines_in_order stored.now places.now) row)) }
+        (λ line. line ≡ line_resized columns (line_at (lines_in_order stored.now places.now) row)) }
 {
     if row < places.len() {
-        stored[places[row]].resized(alloc, cols)
+        stored[places[row]].resized(alloc, columns)
     } else {
-        Line::blank(alloc, cols)
+        Line::blank(alloc, columns)
     }
 }
 
@@ -178,15 +178,15 @@ pub fn resized_lines(
     stored: &[Line],
     places: &[usize],
     rows: usize,
-    cols: usize,
+    columns: usize,
 ) -> Result<Vec<Line>, AllocError>
     requires { (k : ℕ) → k < length places.now → slice_index places.now k < length stored.now }
     ensures { IfOk result
-        (λ lines. lines.items ≡ page_resized rows cols (lines_in_order stored.now places.now)) }
+        (λ lines. lines.items ≡ page_resized rows columns (lines_in_order stored.now places.now)) }
 {
     let mut lines = Vec::with_capacity(alloc, rows)?;
     for row in 0..rows {
-        lines.push(resized_line(alloc, stored, places, row, cols)?)?;
+        lines.push(resized_line(alloc, stored, places, row, columns)?)?;
     }
     Ok(lines)
 }

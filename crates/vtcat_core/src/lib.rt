@@ -70,8 +70,8 @@ fn show<R: Read + Drop, W: Write>(
     writer: &mut W,
 ) -> io::Result<()> {
     let rows = number(found, "rows");
-    let cols = number(found, "cols");
-    let made = Emulator::new(alloc, rows, cols, number(found, "keep"));
+    let columns = number(found, "cols");
+    let made = Emulator::new(alloc, rows, columns, number(found, "keep"));
     let mut emulator = match made {
         Ok(emulator) => emulator,
         Err(GridFault::BadSize) => return Err(fault("bad size")),

@@ -17,8 +17,8 @@ returns c nd =
     let few : IsGridSize rows columns = c.rows.ensures.grid.size in
     let cleared : View = record { page = blank_page rows columns; cursor = None; has_application_arrows = false; has_application_keypad = false } in
     let is : z ≡ cleared = c.in-Ok.ensures.ok
-    ∙ ap (λ (n : ℕ). record cleared { page = replicate n (replicate c.cols.result blank) }) c.rows.ensures.value
-    ∙ ap (λ (n : ℕ). record cleared { page = replicate rows (replicate n blank) }) c.cols.ensures.value in
+    ∙ ap (λ (n : ℕ). record cleared { page = replicate n (replicate c.columns.result blank) }) c.rows.ensures.value
+    ∙ ap (λ (n : ℕ). record cleared { page = replicate rows (replicate n blank) }) c.columns.ensures.value in
     let painted = c.in_ok-paint.ensures (subst (λ (k : View). HaveHalves k.page) (sym is) (blank_halves rows columns)) nd in
     let painted' = subst (λ (k : View). Takes k.page v.page (Stage rows columns (record { line = 0; column = 0; rendition = Some plain }) k.page k.has_application_arrows k.has_application_keypad true)
     (λ x y. Final rows columns c.paint.new.pen v.page v.has_application_arrows v.has_application_keypad v.cursor y) c.extend_from_slice.new.self.items c.paint.new.out.items) is painted in

@@ -11,14 +11,14 @@ pub returns-clause-step : goal.returns-clause-step
 returns-clause-step c = λ t st fit.
     let user = c.args.user in
     let rows = c.args.rows in
-    let cols = c.args.cols in
+    let columns = c.args.columns in
     let before = c.args.step.now.made in
     let first : StepOutput = record before { acts = c.reserve.new.self } in
-    let cs : List Check = attach_checks t user rows cols in
-    let d : Deed = attaches t (new_client t user rows cols) in
+    let cs : List Check = attach_checks t user rows columns in
+    let d : Deed = attaches t (new_client t user rows columns) in
     let passed = c.in_ok-check_attach.ensures t st in
     let done = c.in_ok-client.ensures.answer t st fit passed.none in
-    was_passed t cs d (outcome t (Attach user rows cols)) (reply_of 0 t.next_client 0 None)
+    was_passed t cs d (outcome t (Attach user rows columns)) (reply_of 0 t.next_client 0 None)
     (Ok c.made_so.result) c.attach.new.state c.leave.new.state before first c.attach.new.made
     c.leave.new.made c.args.step.now.verdicts.items c.check_attach.new.verdicts.items refl passed.none
     (ap (λ (n : ℕ). reply_of 0 n 0 None) (sym done.0) ∙ sym c.made_so.ensures)

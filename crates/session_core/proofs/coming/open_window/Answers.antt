@@ -12,17 +12,17 @@ pub returns-clause-step : goal.returns-clause-step
 returns-clause-step c = λ t st fit.
     let user = c.args.user in
     let rows = c.args.size.rows in
-    let cols = c.args.size.cols in
+    let columns = c.args.size.columns in
     let keep = c.args.size.keep in
     let title = c.args.title.now in
     let before = c.args.step.now.made in
     let first : StepOutput = record before { acts = c.reserve.new.self } in
-    let cs : List Check = open_checks t user rows cols keep title in
-    let w : Window = new_window t rows cols keep title in
+    let cs : List Check = open_checks t user rows columns keep title in
+    let w : Window = new_window t rows columns keep title in
     let d : Deed = opens t user w in
     let passed = c.in_ok-check_open.ensures t st in
     let done = c.in_ok-window.ensures.answer t st fit passed.none in
-    was_passed t cs d (outcome t (Open user rows cols keep title)) (reply_of 0 w.serial w.number None)
+    was_passed t cs d (outcome t (Open user rows columns keep title)) (reply_of 0 w.serial w.number None)
     (Ok c.made_so.result) c.open.new.state c.leave.new.state before first c.open.new.made
     c.leave.new.made c.args.step.now.verdicts.items c.check_open.new.verdicts.items refl passed.none
     (ap (λ (p : ℕ × ℕ). reply_of 0 p.0 p.1 None) (sym done.0) ∙ sym c.made_so.ensures)

@@ -17,16 +17,16 @@ pub returns-clause-step : goal.returns-clause-step
 returns-clause-step c = λ t st fit.
     let client = c.args.client in
     let rows = c.args.rows in
-    let cols = c.args.cols in
+    let columns = c.args.columns in
     let before = c.args.step.now.made in
     let first : StepOutput = record before { acts = c.reserve.new.self } in
     let row = both_back ClientStands (client_at t client) (option_copied c.get.result)
     c.in-Some._client.now (c.get.ensures.stands t.clients st.clients) (ap option_copied c.in-Some.is) in
-    let cs : List Check = must (is_client_size rows cols) BadSize ∷ [] in
-    let deed : Client → Deed = λ m. changing (with_client t (resized rows cols m)) in
+    let cs : List Check = must (is_client_size rows columns) BadSize ∷ [] in
+    let deed : Client → Deed = λ m. changing (with_client t (resized rows columns m)) in
     let passed = c.in_ok-check_resize.ensures t st in
     let did = c.resize.ensures.answer t row.0 st fit row.1 passed.none in
-    was_passed t cs (deed row.0) (outcome t (Resize client rows cols)) done (Ok c.made_so.result)
+    was_passed t cs (deed row.0) (outcome t (Resize client rows columns)) done (Ok c.made_so.result)
     c.resize.new.state c.leave.new.state before first c.resize.new.made c.leave.new.made
     c.args.step.now.verdicts.items c.check_resize.new.verdicts.items
     (for_there t (λ (m : Client). where_passed t cs done (deed m)) (client_at t client) row.0 row.1)

@@ -7,7 +7,7 @@ use Rattle.session_core.proofs.taking.take.Goals as goal
 pub returns-in-Attach-clause-step : goal.returns-in-Attach-clause-step
 returns-in-Attach-clause-step c =
     taken (happening c.args.event)
-    (Attach c.in-Attach.user c.in-Attach.rows c.in-Attach.cols)
+    (Attach c.in-Attach.user c.in-Attach.rows c.in-Attach.columns)
     c.args.state.now c.attach_client.new.state c.attach_client.result c.args.step.now.made c.attach_client.new.step.made
     c.args.step.now.verdicts.items c.attach_client.new.step.verdicts.items (ap happening c.in-Attach.is) refl
     c.attach_client.ensures.step
@@ -39,7 +39,7 @@ returns-in-Command-clause-step c =
 pub returns-in-Resize-clause-step : goal.returns-in-Resize-clause-step
 returns-in-Resize-clause-step c =
     taken (happening c.args.event)
-    (Resize c.in-Resize.client c.in-Resize.rows c.in-Resize.cols)
+    (Resize c.in-Resize.client c.in-Resize.rows c.in-Resize.columns)
     c.args.state.now c.resize_client.new.state c.resize_client.result c.args.step.now.made c.resize_client.new.step.made
     c.args.step.now.verdicts.items c.resize_client.new.step.verdicts.items (ap happening c.in-Resize.is) refl
     c.resize_client.ensures.step
@@ -47,7 +47,7 @@ returns-in-Resize-clause-step c =
 pub returns-in-Open-clause-step : goal.returns-in-Open-clause-step
 returns-in-Open-clause-step c =
     taken (happening c.args.event)
-    (Open c.in-Open.user c.in-Open.rows c.in-Open.cols c.in-Open.keep c.in-Open.title.now)
+    (Open c.in-Open.user c.in-Open.rows c.in-Open.columns c.in-Open.keep c.in-Open.title.now)
     c.args.state.now c.open_window.new.state c.open_window.result c.args.step.now.made c.open_window.new.step.made
     c.args.step.now.verdicts.items c.open_window.new.step.verdicts.items (ap happening c.in-Open.is) refl
     c.open_window.ensures.step

@@ -16,7 +16,7 @@ returns-clause-answer c = λ t st fit passed.
     (sym c.serial_from.ensures ∙ c.in-Some.is)
     ∙ st.next_client_is in (
       serial_is,
-      attached_done t c.args.user c.args.rows c.args.cols s st client c.first_window-window.result
+      attached_done t c.args.user c.args.rows c.args.columns s st client c.first_window-window.result
           c.attach.new.self serial_is (c.first_window-window.ensures t st) c.in_ok-attach.ensures.ok
           c.enter.new.state before (record before { acts = c.push.new.self }) c.enter.new.made fit
           (pushed c.push.result c.unwrap.result c.push.new.self.items

@@ -14,7 +14,7 @@ pub returns-in_default-clause-answer : goal.returns-in_default-clause-answer
 returns-in_default-clause-answer c = λ t st fit passed.
     let s = c.args.state.now in
     let may =
-    may_open t c.args.user c.args.size.rows c.args.size.cols c.args.size.keep c.args.title.now passed in
+    may_open t c.args.user c.args.size.rows c.args.size.columns c.args.size.keep c.args.title.now passed in
     let none : nat_lt s.next_window (2 ^ 32) ≡ false =
     one_left (nat_lt s.next_window (2 ^ 32)) s.next_window
     (sym c.serial_from.ensures ∙ c.in_default.is) in
@@ -31,8 +31,8 @@ returns-in_err-number-clause-answer c = λ t st fit passed.
     (sym c.serial_from.ensures ∙ c.in-Some.is)
     ∙ st.next_window_is in
     rw (p.1, p.2)
-    (unopened t c.args.user c.args.size.rows c.args.size.cols c.args.size.keep c.args.title.now
-    (may_open t c.args.user c.args.size.rows c.args.size.cols c.args.size.keep c.args.title.now passed)
+    (unopened t c.args.user c.args.size.rows c.args.size.columns c.args.size.keep c.args.title.now
+    (may_open t c.args.user c.args.size.rows c.args.size.columns c.args.size.keep c.args.title.now passed)
     c.in-Some.window serial_is (next_above t c.in-Some.window fit serial_is)
     c.in_err-number.field-0.0
     (c.in_err-number.ensures.answer t.windows st.windows))
@@ -43,7 +43,7 @@ returns-clause-answer c = λ t st fit passed.
     let before = c.args.made.now in
     let user = c.args.user in
     let window = c.in-Some.window in
-    let may = may_open t user c.args.size.rows c.args.size.cols c.args.size.keep c.args.title.now passed in
+    let may = may_open t user c.args.size.rows c.args.size.columns c.args.size.keep c.args.title.now passed in
     let serial_is : window ≡ t.next_window =
     taken_is (nat_lt s.next_window (2 ^ 32)) s.next_window window
     (sym c.serial_from.ensures ∙ c.in-Some.is)
@@ -55,12 +55,12 @@ returns-clause-answer c = λ t st fit passed.
     let few : open_count t.acts < 40 = subst (λ n. n < 40) (sym fit.agree.count_is) may.few in (
       ap (λ (n : ℕ). (n, c.in_ok-number.number)) serial_is
           ∙ ap (λ (n : ℕ). (t.next_window, n)) number_is,
-      opened_done t user c.args.size.rows c.args.size.cols c.args.size.keep c.args.title.now may window serial_is
+      opened_done t user c.args.size.rows c.args.size.columns c.args.size.keep c.args.title.now may window serial_is
           (next_above t window fit serial_is) s c.window_opened.new.self c.opened.new.self c.open.new.self before
           (record before { acts = c.push.new.self }) st
           (c.window_opened.ensures t.edition t.owner t.acts st.acl may.known unopened few)
           (c.opened.ensures t.edition t.owner t.acts st.locks unopened few)
-          (opened_rows t user c.args.size.rows c.args.size.cols c.args.size.keep c.args.title.now may window serial_is
+          (opened_rows t user c.args.size.rows c.args.size.columns c.args.size.keep c.args.title.now may window serial_is
           (next_above t window fit serial_is) c.in_ok-number.number c.open.new.self
           (c.in_ok-number.ensures.answer t.windows st.windows))
           (pushed c.push.result c.unwrap.result c.push.new.self.items

@@ -34,7 +34,7 @@ returns-clause-answer c = λ gives t st fit free.
     let by = giver_there t c.args.caller c.args.client c.args.state.now st gives in
     let stands = row_stands by.0 c.in-Some.row.now _ _ (c.get.ensures.stands t.clients st.clients) by.1.at (ap option_copied c.in-Some.is) in
     let row = window_there t c.args.caller.window c.window_of.result c.in-Some-window_of.window (c.window_of.ensures t st) c.in-Some-window_of.is in
-    let size = Size c.in-Some-window_of.window (c.in_ok-region.region.rows - 1) c.in_ok-region.region.cols in
+    let size = Size c.in-Some-window_of.window (c.in_ok-region.region.rows - 1) c.in_ok-region.region.columns in
     fits_there t c.args.caller c.args.client c.in-Some.row.now by.0 by.1 stands c.in-Some-window_of.window row.0 row.1 row.2 c.in_ok-region.region (c.in_ok-region.ensures.value by.0 stands) c.if-rows-lt2.false
     c.in_ok-resize.field-0 c.args.state.now c.resize.new.self c.args.made.now _ st (c.in_ok-resize.ensures.answer t.windows st.windows) refl
     (c.push.ensures.items ∙ (if_true (is_ok c.push.result) _ _ (ap is_ok c.unwrap.ensures) ∙ ap (λ xs. xs ++ size ∷ []) c.reserve.ensures.items))

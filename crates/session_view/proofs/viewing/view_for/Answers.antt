@@ -20,7 +20,7 @@ returns-clause-granted c =
     c.rows-rows.ensures
     (subst
     (λ n. IsRects row.layout.shape row.layout.focus c.rows-rows.result n c.in-Ok.rects)
-    c.cols-cols.ensures c.in-Ok.ensures.ok))
+    c.columns-columns.ensures c.in-Ok.ensures.ok))
     c.in-Ok.ensures.each c.in-Ok.ensures.focused
     (λ t st fit.
     ap (map part_of) c.deref-2.ensures.value

@@ -7,12 +7,12 @@ use Rattle.view.proofs.composing.compose.Given as goal
 
 abbrev pub invariant-loop-place : goal.invariant-loop-place
 invariant-loop-place l = record {
-  size : HasSize l.rects.status.line l.rects.status.cols l.view;
-  stage : (s : Shape) (rows cols : ℕ) → AreParts s rows cols l.rects (map part_of l.panes) → Stage l.rects (map part_of l.panes) l.status l.place l.view;
+  size : HasSize l.rects.status.line l.rects.status.columns l.view;
+  stage : (s : Shape) (rows columns : ℕ) → AreParts s rows columns l.rects (map part_of l.panes) → Stage l.rects (map part_of l.panes) l.status l.place l.view;
 }
 
 abbrev pub invariant-loop-separator : goal.invariant-loop-separator
 invariant-loop-separator l = record {
-  size : HasSize l.rects.status.line l.rects.status.cols l.view;
-  stage : (s : Shape) (rows cols : ℕ) → AreParts s rows cols l.rects (map part_of l.panes) → Stage l.rects (map part_of l.panes) l.status (length l.rects.boxes.items + l.separator-index) l.view;
+  size : HasSize l.rects.status.line l.rects.status.columns l.view;
+  stage : (s : Shape) (rows columns : ℕ) → AreParts s rows columns l.rects (map part_of l.panes) → Stage l.rects (map part_of l.panes) l.status (length l.rects.boxes.items + l.separator-index) l.view;
 }

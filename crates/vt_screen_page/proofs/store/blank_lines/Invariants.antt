@@ -3,4 +3,4 @@ use Rattle.cells.specs.Line.{blank}
 use Rattle.vt_screen_page.proofs.store.blank_lines.Given as goal
 
 abbrev pub invariant-loop-row : goal.invariant-loop-row
-invariant-loop-row l = l.lines.items ≡ replicate l.row (replicate l.cols blank)
+invariant-loop-row l = l.lines.items ≡ replicate l.row (replicate l.columns blank)

@@ -4,4 +4,4 @@ use Rattle.vt_screen_page.specs.Store.{lines_in_order}
 use Rattle.vt_screen_page.proofs.store.resized_lines.Given as goal
 
 abbrev pub invariant-loop-row : goal.invariant-loop-row
-invariant-loop-row l = l.lines.items ≡ page_resized l.row l.cols (lines_in_order l.stored l.places)
+invariant-loop-row l = l.lines.items ≡ page_resized l.row l.columns (lines_in_order l.stored l.places)

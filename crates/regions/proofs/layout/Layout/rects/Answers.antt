@@ -8,11 +8,11 @@ use Rattle.regions.proofs.layout.Layout.rects.Goals as goal
 
 pub put_boxes-requires-clause-room : goal.put_boxes-requires-clause-room
 put_boxes-requires-clause-room c =
-    rw c.of_layout-page.ensures (sym (room_fits (shape c.self.inside.tree) c.args.rows c.args.cols) ∙ sym c.has_room.ensures ∙ c.if-not-has_room.false)
+    rw c.of_layout-page.ensures (sym (room_fits (shape c.self.inside.tree) c.args.rows c.args.columns) ∙ sym c.has_room.ensures ∙ c.if-not-has_room.false)
 
 pub put_separators-requires-clause-room : goal.put_separators-requires-clause-room
 put_separators-requires-clause-room c =
-    rw c.of_layout-page.ensures (sym (room_fits (shape c.self.inside.tree) c.args.rows c.args.cols) ∙ sym c.has_room.ensures ∙ c.if-not-has_room.false)
+    rw c.of_layout-page.ensures (sym (room_fits (shape c.self.inside.tree) c.args.rows c.args.columns) ∙ sym c.has_room.ensures ∙ c.if-not-has_room.false)
 
 pub returns-clause-each : goal.returns-clause-each
 returns-clause-each c = rw (c.in_ok-put_boxes.ensures, c.new-boxes.ensures.items) (length_boxes (shape c.self.inside.tree) c.of_layout-page.result ∙ c.self.invariant.0 ∙ ap (λ (a : Arrangement). length a.shown) c.self.view_is)
@@ -24,4 +24,4 @@ returns-clause-focused c =
 pub returns-clause-tiles : goal.returns-clause-tiles
 returns-clause-tiles c =
     rw (c.in_ok-put_boxes.ensures, c.new-boxes.ensures.items, c.in_ok-put_separators.ensures, c.new-separators.ensures.items, c.of_status.ensures, c.of_layout-page.ensures)
-    (page_once (shape c.self.inside.tree) c.args.rows c.args.cols (sym c.has_room.ensures ∙ c.if-not-has_room.false))
+    (page_once (shape c.self.inside.tree) c.args.rows c.args.columns (sym c.has_room.ensures ∙ c.if-not-has_room.false))

@@ -31,14 +31,14 @@ invariant_of-self c =
     let after : c.push_back.new.self ≡ buffer (drop 1 items ++ c.args.line.now ∷ []) keep =
     swapped c.pop_front.new.self c.push_back.new.self items keep c.args.line.now c.replace-taken.result c.self.invariant.full some c.in-Some.ensures.items c.replace-taken.ensures.value c.push_back.ensures.items in
     let n : c.min-self-inside.result ≡ min (c.self.inside.count + 1) keep = c.min-self-inside.ensures ∙ ap (min (c.self.inside.count + 1)) c.capacity-keep.ensures.capacity in
-    let width : length c.args.line.now ≡ c.self.inside.cols = c.requires ∙ sym (ap (λ (k : Kept). k.columns) c.self.view_is) in
+    let width : length c.args.line.now ≡ c.self.inside.columns = c.requires ∙ sym (ap (λ (k : Kept). k.columns) c.self.view_is) in
     let room : c.push_back.new.self.capacity ≡ keep = ap (λ (b : Buffer (List Cell)). b.capacity) after in
     let many : length c.push_back.new.self.items ≡ length items = ap (λ (b : Buffer (List Cell)). length b.items) after ∙ length_next items c.args.line.now some in
     record {
       full = many ∙ c.self.invariant.full ∙ sym room;
       inside = omega (arith, n, room);
       width = λ k h. ap (λ (b : Buffer (List Cell)). length (get_or b.items k [])) after
-          ∙ widths_next items c.args.line.now c.self.inside.cols some width c.self.invariant.width k (rw many at h);
+          ∙ widths_next items c.args.line.now c.self.inside.columns some width c.self.invariant.width k (rw many at h);
     }
 
 pub returns-in-Some-clause-kept : goal.returns-in-Some-clause-kept
@@ -49,9 +49,9 @@ returns-in-Some-clause-kept c =
     let after : c.push_back.new.self ≡ buffer (drop 1 items ++ c.args.line.now ∷ []) keep =
     swapped c.pop_front.new.self c.push_back.new.self items keep c.args.line.now c.replace-taken.result c.self.invariant.full some c.in-Some.ensures.items c.replace-taken.ensures.value c.push_back.ensures.items in
     let n : c.min-self-inside.result ≡ min (c.self.inside.count + 1) keep = c.min-self-inside.ensures ∙ ap (min (c.self.inside.count + 1)) c.capacity-keep.ensures.capacity in
-    ap (λ (b : Buffer (List Cell)). kept_of b c.min-self-inside.result c.self.inside.cols) after
-    ∙ ap (λ k. kept_of (buffer (drop 1 items ++ c.args.line.now ∷ []) keep) k c.self.inside.cols) n
-    ∙ ap (λ (ls : List (List Cell)). kept_with keep c.self.inside.cols ls)
+    ap (λ (b : Buffer (List Cell)). kept_of b c.min-self-inside.result c.self.inside.columns) after
+    ∙ ap (λ k. kept_of (buffer (drop 1 items ++ c.args.line.now ∷ []) keep) k c.self.inside.columns) n
+    ∙ ap (λ (ls : List (List Cell)). kept_with keep c.self.inside.columns ls)
     (keep_next keep c.self.inside.count items c.args.line.now c.self.invariant.full (rw (sym c.self.invariant.full) some) c.self.invariant.inside)
     ∙ ap (λ (k : Kept). taken_in k c.args.line.now) c.self.view_is
 
@@ -76,7 +76,7 @@ none_kept popped (x ∷ items) keep count columns line full none is = absurd cc
 
 pub returns-in_default-clause-kept : goal.returns-in_default-clause-kept
 returns-in_default-clause-kept c =
-    none_kept c.pop_front.new.self c.self.inside.lines.items c.self.inside.lines.capacity c.self.inside.count c.self.inside.cols c.args.line.now c.self.invariant.full c.in_default.ensures.value c.in_default.ensures.items
+    none_kept c.pop_front.new.self c.self.inside.lines.items c.self.inside.lines.capacity c.self.inside.count c.self.inside.columns c.args.line.now c.self.invariant.full c.in_default.ensures.value c.in_default.ensures.items
     ∙ ap (λ (k : Kept). taken_in k c.args.line.now) c.self.view_is
 
 pub returns-in_default-clause-stands : goal.returns-in_default-clause-stands

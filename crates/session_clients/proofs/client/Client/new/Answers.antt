@@ -16,5 +16,5 @@ returns c =
       message = Silence;
       shadow = c.unknown.result;
     } in
-    new_stands made (record { rows = c.args.rows; columns = c.args.cols; known = None }) c.requires
+    new_stands made (record { rows = c.args.rows; columns = c.args.columns; known = None }) c.requires
     c.new-2.ensures.stands c.unknown.ensures c.in_ok-layout.ensures refl refl

@@ -10,7 +10,7 @@ use Rattle.session_clients.proofs.clients.Clients.attach.Goals as goal
 pub returns-clause-ok : goal.returns-clause-ok
 returns-clause-ok c =
     let m : model.Client =
-    attached c.args.serial c.args.user c.args.rows c.args.cols c.args.window in
+    attached c.args.serial c.args.user c.args.rows c.args.columns c.args.window in
     let made : Client = c.in_ok-client.client in
     on_ok c.push.result (λ is.
     let now = is ∙ ap (λ (cs : List Client). cs ++ made ∷ []) c.self.view_is in record {

@@ -8,26 +8,26 @@ use Rattle.session_lines.proofs.Cutting.{five}
 use Rattle.session_lines.proofs.script.Opening.read.Goals as goal
 use Rattle.session_lines.proofs.script.Opening.read.Goals.{In_ok-keep}
 
-in_fields : (c : In_ok-keep) → open_in (fields 4 c.args.rest.now) ≡ with_five Open (named_by c.in_ok-user.user.now) (number_of c.in_ok-rows.rows.now) (number_of c.in_ok-cols.cols.now) (number_of c.in_ok-keep.keep.now) (title_of c.in_ok-keep.title.now)
-in_fields c = ap open_in (five _ _ _ _ _ _ _ _ _ (c.in_ok-user.ensures 3) (c.in_ok-rows.ensures 2) (c.in_ok-cols.ensures 1) (c.in_ok-keep.ensures 0))
+in_fields : (c : In_ok-keep) → open_in (fields 4 c.args.rest.now) ≡ with_five Open (named_by c.in_ok-user.user.now) (number_of c.in_ok-rows.rows.now) (number_of c.in_ok-columns.columns.now) (number_of c.in_ok-keep.keep.now) (title_of c.in_ok-keep.title.now)
+in_fields c = ap open_in (five _ _ _ _ _ _ _ _ _ (c.in_ok-user.ensures 3) (c.in_ok-rows.ensures 2) (c.in_ok-columns.ensures 1) (c.in_ok-keep.ensures 0))
 
 pub returns-in_err-of-clause-none : goal.returns-in_err-of-clause-none
 returns-in_err-of-clause-none c = λ _.
     let rows = number_of c.in_ok-rows.rows.now in
-    let cols = number_of c.in_ok-cols.cols.now in
+    let columns = number_of c.in_ok-columns.columns.now in
     let keep = number_of c.in_ok-keep.keep.now in
     let title = title_of c.in_ok-keep.title.now in
     in_fields (goal.at.returns-in_err-of-clause-none c).In_ok-keep
-    ∙ ap (λ user. with_five Open user rows cols keep title) (sym c.in_err-of.ensures.named)
+    ∙ ap (λ user. with_five Open user rows columns keep title) (sym c.in_err-of.ensures.named)
 
 pub returns-in_err-read_number-clause-none : goal.returns-in_err-read_number-clause-none
 returns-in_err-read_number-clause-none c = λ _.
     let user = named_by c.in_ok-user.user.now in
-    let cols = number_of c.in_ok-cols.cols.now in
+    let columns = number_of c.in_ok-columns.columns.now in
     let keep = number_of c.in_ok-keep.keep.now in
     let title = title_of c.in_ok-keep.title.now in
     in_fields (goal.at.returns-in_err-read_number-clause-none c).In_ok-keep
-    ∙ ap (λ rows. with_five Open user rows cols keep title) (sym c.in_err-read_number.ensures) ∙ five-no_second Open user cols keep title
+    ∙ ap (λ rows. with_five Open user rows columns keep title) (sym c.in_err-read_number.ensures) ∙ five-no_second Open user columns keep title
 
 pub returns-in_err-read_number-2-clause-none : goal.returns-in_err-read_number-2-clause-none
 returns-in_err-read_number-2-clause-none c = λ _.
@@ -36,22 +36,22 @@ returns-in_err-read_number-2-clause-none c = λ _.
     let keep = number_of c.in_ok-keep.keep.now in
     let title = title_of c.in_ok-keep.title.now in
     in_fields (goal.at.returns-in_err-read_number-2-clause-none c).In_ok-keep
-    ∙ ap (λ cols. with_five Open user rows cols keep title) (sym c.in_err-read_number-2.ensures) ∙ five-no_third Open user rows keep title
+    ∙ ap (λ columns. with_five Open user rows columns keep title) (sym c.in_err-read_number-2.ensures) ∙ five-no_third Open user rows keep title
 
 pub returns-in_err-read_number-3-clause-none : goal.returns-in_err-read_number-3-clause-none
 returns-in_err-read_number-3-clause-none c = λ _.
     let user = named_by c.in_ok-user.user.now in
     let rows = number_of c.in_ok-rows.rows.now in
-    let cols = number_of c.in_ok-cols.cols.now in
+    let columns = number_of c.in_ok-columns.columns.now in
     let title = title_of c.in_ok-keep.title.now in
     in_fields (goal.at.returns-in_err-read_number-3-clause-none c).In_ok-keep
-    ∙ ap (λ keep. with_five Open user rows cols keep title) (sym c.in_err-read_number-3.ensures) ∙ five-no_fourth Open user rows cols title
+    ∙ ap (λ keep. with_five Open user rows columns keep title) (sym c.in_err-read_number-3.ensures) ∙ five-no_fourth Open user rows columns title
 
 pub returns-clause-some : goal.returns-clause-some
 returns-clause-some c =
     let user = c.in_ok-of.ensures.named in
     let rows = c.in_ok-read_number.ensures in
-    let cols = c.in_ok-read_number-2.ensures in
+    let columns = c.in_ok-read_number-2.ensures in
     let keep = c.in_ok-read_number-3.ensures in
     let title = title_of c.in_ok-keep.title.now in
-    in_fields (goal.at.returns-clause-some c).In_ok-keep ∙ sym (λ i. with_five Open (user i) (rows i) (cols i) (keep i) title)
+    in_fields (goal.at.returns-clause-some c).In_ok-keep ∙ sym (λ i. with_five Open (user i) (rows i) (columns i) (keep i) title)

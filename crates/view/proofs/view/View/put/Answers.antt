@@ -5,8 +5,8 @@ use Rattle.cells.specs.Page.{line_at, edited}
 use Rattle.cells.proofs.Pages.{IsGrid-page_from, length-page_from, width-page_from}
 use Rattle.view.proofs.view.View.put.Goals as goal
 
-pub returns-then-cells-cols : goal.returns-then-cells-cols
-returns-then-cells-cols c =
+pub returns-then-cells-columns : goal.returns-then-cells-columns
+returns-then-cells-columns c =
     let page : List (List Cell) = c.self.inside.grid in
     let source = spliced c.args.column c.args.cells.now (c.args.column + length c.args.cells.now) (length (line_at page c.args.line)) in
     rw (c.write.ensures, ← c.self.view_is) record {

@@ -24,7 +24,7 @@ loop-row-preserved c =
       };
       lays = λ lines free.
           let now : List Cell = c.deref.result.now in
-          let row : IsRow (piece.cell c.loop-row.row) c.args.rect.cols now = subst (λ (cells : List Cell). IsRow (piece.cell c.loop-row.row) c.args.rect.cols cells) (sym c.deref.ensures.value) c.in_ok-box_row.ensures.row in
+          let row : IsRow (piece.cell c.loop-row.row) c.args.rect.columns now = subst (λ (cells : List Cell). IsRow (piece.cell c.loop-row.row) c.args.rect.columns cells) (sym c.deref.ensures.value) c.in_ok-box_row.ensures.row in
           let before = inv.lays lines free in
           one_more_row piece c.loop-row.row c.args.self.now c.loop-row.self c.put_row.new.self now before
           (c.put_row.ensures.lays (row_is_free piece c.loop-row.row c.args.self.now c.loop-row.self free c.loop-row-test.true before) (box_pairs c.args.rect c.args.is_focused (part_of c.args.pane.now) c.loop-row.row now lines row) row.width)

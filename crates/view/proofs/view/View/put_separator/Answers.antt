@@ -25,7 +25,7 @@ loop-row-preserved c =
       lays = λ narrow free.
           let cells : List Cell = c.narrow-bar.result ∷ [] in
           let same : cells ≡ narrow_cell 0x7C reverse false ∷ [] = ap (λ (bar : Cell). bar ∷ []) c.narrow-bar.ensures in
-          let row : IsRow (piece.cell c.loop-row.row) c.args.rect.cols cells = bar_row cells (narrow_cell 0x7C reverse false) c.args.rect.cols same narrow in
+          let row : IsRow (piece.cell c.loop-row.row) c.args.rect.columns cells = bar_row cells (narrow_cell 0x7C reverse false) c.args.rect.columns same narrow in
           let before = inv.lays narrow free in
           one_more_row piece c.loop-row.row c.args.self.now c.loop-row.self c.put_row.new.self cells before
           (c.put_row.ensures.lays (row_is_free piece c.loop-row.row c.args.self.now c.loop-row.self free c.loop-row-test.true before) (bar_pairs cells (narrow_cell 0x7C reverse false) refl same) row.width)
