@@ -4,3 +4,4 @@ pub mod Payloads
 pub mod Frames
 pub mod Rests
 pub mod Joining
+pub mod Differences

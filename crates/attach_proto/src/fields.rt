@@ -1,6 +1,6 @@
 //! What messages hold. Contracts see each field as its list of bytes.
 
-ghost use Rattle.std.specs.Prelude.{◌≡◌, ◌==◌, IfOk};
+ghost use Rattle.std.specs.Prelude.{◌≡◌, ◌==◌, ◌↔◌, IfOk, IsTrue};
 ghost use Rattle.std.specs.List.{list_all};
 ghost use Rattle.attach_proto.specs.Texts.{Gives, token_of, text_of, IsToken, IsText, is_token};
 ghost use Rattle.attach_proto.specs.Texts.{is_digit};
@@ -83,7 +83,8 @@ impl Text {
     }
 }
 
-const TOKEN_LEN: usize = 64;
+/// How many digits a token has.
+pub const TOKEN_LEN: usize = 64;
 
 /// The 64 digits, `0` to `9` and `a` to `f`, by which a peer shows whose it is.
 #[derive(Drop)]
@@ -128,6 +129,17 @@ fn is_token(bytes: &[u8]) -> bool
     bytes.len() == TOKEN_LEN && are_digits(bytes)
 }
 
+// Each byte is looked at, wherever the first difference stands, so that the time doesn't tell it.
+fn are_same(ours: &[u8; TOKEN_LEN], theirs: &[u8; TOKEN_LEN]) -> bool
+    ensures { IsTrue result ↔ (ours.now ≡ theirs.now) }
+{
+    let mut difference = 0;
+    for i in 0..TOKEN_LEN {
+        difference |= ours[i] ^ theirs[i];
+    }
+    difference == 0
+}
+
 impl Token {
     /// The token of these bytes, if they are 64 such digits.
     pub fn read(bytes: &[u8]) -> Option<Token>
@@ -139,6 +151,22 @@ impl Token {
         let mut digits = [0; TOKEN_LEN];
         digits.copy_from_slice(bytes);
         Some(Token { digits })
+    }
+
+    /// A token of the same digits.
+    pub fn copied(&self) -> Token
+        ensures { result ≡ self.now }
+    {
+        Token {
+            digits: self.digits,
+        }
+    }
+
+    /// Whether the other one has the same digits. The time doesn't depend on where they differ.
+    pub fn is(&self, other: &Token) -> bool
+        ensures { IsTrue result ↔ (self.now ≡ other.now) }
+    {
+        are_same(&self.digits, &other.digits)
     }
 
     pub fn as_slice(&self) -> &[u8]

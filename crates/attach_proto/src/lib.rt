@@ -13,7 +13,7 @@ mod why;
 mod writing;
 
 pub use fault::{ProtoFault, WriteFault};
-pub use fields::{Bytes, Text, Token};
+pub use fields::{Bytes, TOKEN_LEN, Text, Token};
 pub use kind::Kind;
 pub use laws::{longest_list, one_reading, spelled_apart, spelled_ones_are_read};
 pub use message::Message;

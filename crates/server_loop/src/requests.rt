@@ -139,7 +139,7 @@ impl<S: Read + Write + Drop, G: Gate + Drop, L: Roll> Loop<S, G, L> {
             Some(users) => users,
             None => &shared.users,
         };
-        authenticate(users, name.as_str().as_bytes(), token.as_slice()).ok()
+        authenticate(users, name.as_str().as_bytes(), token).ok()
     }
 
     // A connection is told why it can't begin, and goes.

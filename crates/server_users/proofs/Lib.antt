@@ -1,4 +1,3 @@
-pub mod Differences
 pub mod Lines
 pub mod Seen
 pub mod Spelled

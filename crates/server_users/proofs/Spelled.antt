@@ -3,7 +3,8 @@ use Rattle.std.proofs.Common.{◌≡◌, ℕ, Bool, true, false, ◌&&◌, ◌==
 use Rattle.std.specs.List.{list_all}
 use Rattle.std.proofs.lemmas.Bool.{eqb-true}
 use Rattle.std.proofs.lemmas.List.{drop_at, take_at}
-use Rattle.server_users.specs.Entries.{Entry, IsUser, is_digit, spelled}
+use Rattle.attach_proto.specs.Texts.{is_digit}
+use Rattle.server_users.specs.Entries.{Entry, IsUser, spelled}
 
 -- lists that end in equally many are cut at the same place
 cut_same : (xs ys zs ws : List ℕ) → xs ++ ys ≡ zs ++ ws → length ys ≡ length ws

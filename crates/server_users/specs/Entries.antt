@@ -1,23 +1,17 @@
 -- The users' file: lines of a name, one blank and a token.
-use Rattle.std.specs.Prelude.{◌≡◌, ◌⊎◌, ℕ, ◌+◌, ◌<◌, Bool, true, ◌&&◌, ◌||◌, nat_le, ◌==◌, List, []}
+use Rattle.std.specs.Prelude.{◌≡◌, ◌⊎◌, ℕ, ◌+◌, ◌<◌, true, List, []}
 use Rattle.std.specs.Prelude.{◌∷◌, ◌++◌, length, map, All, Contains}
-use Rattle.std.specs.List.{flat_map, list_all}
+use Rattle.std.specs.List.{flat_map}
 use Rattle.acl.specs.Names.{is_name}
+use Rattle.attach_proto.specs.Texts.{IsToken}
 
 pub record Entry : Type 0 where
   pub name : List ℕ
   pub token : List ℕ
 
--- 0 to 9, a to f
-abbrev pub is_digit : ℕ → Bool
-is_digit b = (nat_le 0x30 b && nat_le b 0x39) || (nat_le 0x61 b && nat_le b 0x66)
-
-abbrev pub is_token : List ℕ → Bool
-is_token bytes = (length bytes == 64) && list_all is_digit bytes
-
 pub record IsUser (u : Entry) : Type 0 where
   pub name : is_name u.name ≡ true
-  pub token : is_token u.token ≡ true
+  pub token : IsToken u.token
 
 abbrev pub names : List Entry → List (List ℕ)
 names us = map (λ (u : Entry). u.name) us

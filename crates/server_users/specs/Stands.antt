@@ -9,7 +9,7 @@ use Rattle.server_users.specs.declared.fault.AuthFault.TheVariants.{BadUser, Bad
 use Rattle.server_users.specs.Entries.{Entry, BreaksAt, names}
 
 abbrev pub entry_of : User → Entry
-entry_of u = record { name = name_of u.id; token = u.token.digits }
+entry_of u = record { name = name_of u.id; token = u.token }
 
 abbrev pub entries_of : List User → List Entry
 entries_of us = map entry_of us

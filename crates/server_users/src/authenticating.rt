@@ -8,8 +8,9 @@ use crate::fault::AuthFault;
 use crate::user::User;
 use crate::users::{Users, has_name};
 use acl::UserId;
+use attach_proto::Token;
 
-fn holder(users: &[User], name: &[u8], token: &[u8]) -> Option<UserId>
+fn holder(users: &[User], name: &[u8], token: &Token) -> Option<UserId>
     ensures some { IsSome result
         ↔ Contains (entries_of users.now) (record { name = name.now; token = token.now }) }
     ensures named { IfSome result (λ user. name_of user ≡ name.now) }
@@ -23,7 +24,7 @@ fn holder(users: &[User], name: &[u8], token: &[u8]) -> Option<UserId>
 }
 
 /// The user of this name, who shows this token. The time doesn't depend on where a token differs.
-pub fn authenticate(users: &Users, name: &[u8], token: &[u8]) -> Result<UserId, AuthFault>
+pub fn authenticate(users: &Users, name: &[u8], token: &Token) -> Result<UserId, AuthFault>
     ensures ok { IsOk result ↔ Contains users.now (record { name = name.now; token = token.now }) }
     ensures named { IfOk result (λ user. name_of user ≡ name.now) }
     ensures refused { IfErr result (Refuses users.now name.now) }

@@ -3,7 +3,6 @@
 
 mod authenticating;
 mod fault;
-mod token;
 mod user;
 mod users;
 

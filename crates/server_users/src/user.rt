@@ -5,11 +5,11 @@ ghost use Rattle.acl.specs.Names.{name_of};
 ghost use Rattle.server_users.specs.Entries.{Entry, IsUser, spelled};
 ghost use Rattle.server_users.specs.Stands.{entry_of};
 
-use crate::token::{DIGITS, Token, is_token};
 use acl::UserId;
+use attach_proto::{TOKEN_LEN, Token};
 
 /// Who may connect, and how they show who they are.
-#[derive(Clone, Copy, Debug)]
+#[derive(Debug, Drop)]
 pub struct User {
     pub id: UserId,
     pub token: Token,
@@ -20,14 +20,8 @@ fn user_of(name: &[u8], digits: &[u8]) -> Option<User>
         × (entry_of u ≡ record { name = name.now; token = digits.now })) }
     ensures none { result ≡ None → IsUser (record { name = name.now; token = digits.now }) → ⊥ }
 {
-    if !is_token(digits) {
-        return None;
-    }
+    let token = Token::read(digits)?;
     let id = UserId::of(name)?;
-    let mut token = Token {
-        digits: [0; DIGITS],
-    };
-    token.digits.copy_from_slice(digits);
     Some(User { id, token })
 }
 
@@ -38,15 +32,25 @@ impl User {
             IsUser (entry_of u) × (spelled (entry_of u) ≡ line.now)) }
         ensures none { result ≡ None → (u : Entry) → IsUser u → spelled u ≡ line.now → ⊥ }
     {
-        if line.len() < DIGITS {
+        if line.len() < TOKEN_LEN {
             return None;
         }
-        let (front, digits) = line.split_at(line.len() - DIGITS);
+        let (front, digits) = line.split_at(line.len() - TOKEN_LEN);
         let (blank, name) = front.split_last()?;
         if *blank != b' ' {
             return None;
         }
         user_of(name, digits)
+    }
+
+    /// The same user.
+    pub fn copied(&self) -> User
+        ensures { result ≡ self.now }
+    {
+        User {
+            id: self.id,
+            token: self.token.copied(),
+        }
     }
 
     /// Whether the user has this name.
@@ -58,7 +62,7 @@ impl User {
 
     /// Whether the user has this name and this token. The time doesn't depend on where a token
     /// differs.
-    pub fn shows(&self, name: &[u8], token: &[u8]) -> bool
+    pub fn shows(&self, name: &[u8], token: &Token) -> bool
         ensures { IsTrue result
             ↔ (entry_of self.now ≡ record { name = name.now; token = token.now }) }
     {

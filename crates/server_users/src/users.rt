@@ -100,7 +100,10 @@ impl Users {
     pub fn copy(&self, alloc: Global) -> Result<Users, AllocError>
         ensures { IfOk result (λ copy. copy ≡ self.now) }
     {
-        let list = Vec::from_slice(alloc, self.list.as_slice())?;
+        let mut list = Vec::with_capacity(alloc, self.list.len())?;
+        for user in &self.list {
+            list.push(user.copied())?;
+        }
         Ok(Users { list })
     }
 

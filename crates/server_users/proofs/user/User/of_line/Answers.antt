@@ -1,6 +1,6 @@
 use Rattle.std.proofs.Common.{◌≡◌, ◌∙◌, subst, arith, true}
 use Rattle.acl.specs.Names.{is_name}
-use Rattle.server_users.specs.Entries.{is_token}
+use Rattle.attach_proto.specs.Texts.{IsToken}
 use Rattle.server_users.proofs.Spelled.{parts}
 use Rattle.server_users.proofs.user.User.of_line.Goals as goal
 
@@ -13,6 +13,5 @@ returns-clause-none c = λ e u is s.
     c.user_of.ensures.none e (record {
       name = subst
           (λ n. is_name n ≡ true) same.0 is.name;
-      token = subst
-          (λ n. is_token n ≡ true) same.1 is.token;
+      token = subst IsToken same.1 is.token;
     })
