@@ -1,4 +1,4 @@
-use Rattle.std.proofs.Common.{◌∙◌, sym, refl, arith}
+use Rattle.std.proofs.Common.{◌∙◌, ap, sym, refl, arith}
 use Rattle.std.proofs.lemmas.Bool.{false≢true}
 use Rattle.server_users.specs.Stands.{entry_of}
 use Rattle.server_users.proofs.Seen.{not_yet, here, nowhere}
@@ -6,16 +6,16 @@ use Rattle.server_users.proofs.authenticating.holder.Goals as goal
 
 pub returns-then-shows-clause-some : goal.returns-then-shows-clause-some
 returns-then-shows-clause-some c = (
-  λ _. here entry_of c.args.users.now c.loop-user.user-index _ _ (omega arith)
-      (c.shows.ensures.0 c.if-shows.true),
+  λ _. here entry_of c.args.users.now c.loop-user.user-index c.user-item.result _ (omega arith)
+      (ap entry_of (sym c.user-item.is) ∙ c.shows.ensures.0 c.if-shows.true),
   λ _. refl,
 )
 
 pub loop-user-preserved : goal.loop-user-preserved
 loop-user-preserved c =
-    not_yet entry_of c.args.users.now c.loop-user.user-index _ _
+    not_yet entry_of c.args.users.now c.loop-user.user-index c.user-item.result _
     (omega arith) c.loop-user.invariant (λ e. false≢true (sym c.if-shows.false
-    ∙ c.shows.ensures.1 e))
+    ∙ c.shows.ensures.1 (ap entry_of c.user-item.is ∙ e)))
 
 pub returns-clause-some : goal.returns-clause-some
 returns-clause-some c = (

@@ -1,4 +1,4 @@
-use Rattle.std.proofs.Common.{◌∙◌, subst, sym, refl, arith, Contains}
+use Rattle.std.proofs.Common.{◌∙◌, ap, subst, sym, refl, arith, Contains}
 use Rattle.std.proofs.lemmas.Bool.{false≢true}
 use Rattle.server_users.proofs.Seen.{name_at, names_are, not_yet, here, nowhere}
 use Rattle.server_users.proofs.users.has_name.Goals as goal
@@ -6,15 +6,16 @@ use Rattle.server_users.proofs.users.has_name.Goals as goal
 pub returns-then-is_named : goal.returns-then-is_named
 returns-then-is_named c = (
   λ _. subst (λ ns. Contains ns c.args.name.now) (sym (names_are c.args.users.now))
-      (here name_at c.args.users.now c.loop-user.user-index _ _ (omega arith)
-      (c.is_named.ensures.0 c.if-is_named.true)),
+      (here name_at c.args.users.now c.loop-user.user-index c.user-item.result _ (omega arith)
+      (ap name_at (sym c.user-item.is) ∙ c.is_named.ensures.0 c.if-is_named.true)),
   λ _. refl,
 )
 
 pub loop-user-preserved : goal.loop-user-preserved
 loop-user-preserved c =
-    not_yet name_at c.args.users.now c.loop-user.user-index _ _ (omega arith) c.loop-user.invariant
-    (λ e. false≢true (sym c.if-is_named.false ∙ c.is_named.ensures.1 e))
+    not_yet name_at c.args.users.now c.loop-user.user-index c.user-item.result _ (omega arith)
+    c.loop-user.invariant
+    (λ e. false≢true (sym c.if-is_named.false ∙ c.is_named.ensures.1 (ap name_at c.user-item.is ∙ e)))
 
 pub returns : goal.returns
 returns c = (
