@@ -16,7 +16,7 @@ const LEAST: usize = 2;
 
 const MOST_ROWS: usize = 200;
 
-const MOST_COLS: usize = 300;
+const MOST_COLUMNS: usize = 300;
 
 /// Why there is no grid.
 #[derive(Clone, Copy, Debug, PartialEq, Eq, Error)]
@@ -49,7 +49,7 @@ impl Model for Grid {
 }
 
 /// So many blank lines.
-fn blank_lines(alloc: Global, rows: usize, columns: usize) -> Result<Vec<Line>, AllocError>
+pub fn blank_lines(alloc: Global, rows: usize, columns: usize) -> Result<Vec<Line>, AllocError>
     ensures { IfOk result (λ lines. lines.items ≡ replicate rows (replicate columns blank)) }
 {
     let mut lines = Vec::with_capacity(alloc, rows)?;
@@ -70,11 +70,11 @@ fn copied_lines(alloc: Global, lines: &[Line]) -> Result<Vec<Line>, AllocError>
     Ok(copies)
 }
 
-/// Whether a grid may have this size.
-fn is_size(rows: usize, columns: usize) -> bool
+/// Whether a grid may have this size: 2 to 200 lines by 2 to 300 columns.
+pub fn is_grid_size(rows: usize, columns: usize) -> bool
     ensures { IsTrue result ↔ IsGridSize rows columns }
 {
-    (LEAST..=MOST_ROWS).contains(&rows) && (LEAST..=MOST_COLS).contains(&columns)
+    (LEAST..=MOST_ROWS).contains(&rows) && (LEAST..=MOST_COLUMNS).contains(&columns)
 }
 
 impl Grid {
@@ -84,7 +84,7 @@ impl Grid {
         ensures size { IfOk result (λ _. IsGridSize rows columns) }
         ensures bad_size { (result ≡ Err GridFault.BadSize) ↔ (¬ IsGridSize rows columns) }
     {
-        if !is_size(rows, columns) {
+        if !is_grid_size(rows, columns) {
             return Err(GridFault::BadSize);
         }
         match blank_lines(alloc, rows, columns) {

@@ -18,7 +18,7 @@ const TRIES: usize = 1000;
 /// The size of a client's terminal.
 pub const ROWS: u16 = 24;
 
-pub const COLS: u16 = 80;
+pub const COLUMNS: u16 = 80;
 
 /// The owner's token.
 pub const OWN: &str = "0000000000000000000000000000000000000000000000000000000000000000";
@@ -67,7 +67,7 @@ pub fn token(digits: &str) -> io::Result<Token> {
 }
 
 fn terminal(alloc: Global) -> io::Result<Emulator> {
-    Emulator::new(alloc, usize::from(ROWS), usize::from(COLS), 0).map_err(|_| fault())
+    Emulator::new(alloc, usize::from(ROWS), usize::from(COLUMNS), 0).map_err(|_| fault())
 }
 
 // Whether a line has these characters, and blanks behind them.

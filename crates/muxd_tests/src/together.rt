@@ -1,6 +1,6 @@
 //! A server of two loops, an owner, a second user and a window.
 
-use crate::line::{COLS, Line, OWN, ROWS, command, token, write_private};
+use crate::line::{COLUMNS, Line, OWN, ROWS, command, token, write_private};
 use attach_proto::{Message, Text, Why};
 use server::{Host, Open, serve_through};
 use std::alloc::Global;
@@ -59,7 +59,7 @@ fn joined<R: Net + Clock>(rt: &R, alloc: Global, first: &Message) -> io::Result<
 fn client<R: Net + Clock>(rt: &R, alloc: Global, name: &str, digits: &str) -> io::Result<Line> {
     let attach = Message::Attach {
         rows: ROWS,
-        columns: COLS,
+        columns: COLUMNS,
         token: token(digits)?,
         name: Text::new(alloc, name)?,
     };
@@ -69,7 +69,7 @@ fn client<R: Net + Clock>(rt: &R, alloc: Global, name: &str, digits: &str) -> io
 fn window<R: Net + Clock>(rt: &R, alloc: Global) -> io::Result<Line> {
     let open = Message::Window {
         rows: ROWS,
-        columns: COLS,
+        columns: COLUMNS,
         keep: 10,
         token: token(OWN)?,
         name: Text::new(alloc, "own")?,

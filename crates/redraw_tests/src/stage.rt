@@ -13,7 +13,7 @@ use view::{Contents, Cursor, KeyModes, Pane, View, compose};
 /// The client's lines and columns.
 pub const ROWS: u16 = 10;
 
-pub const COLS: u16 = 24;
+pub const COLUMNS: u16 = 24;
 
 /// What windows print: text, wide characters, marks, erasures, shifts, renditions and modes.
 const PRINTED: [&[u8]; 38] = [
@@ -121,7 +121,7 @@ pub fn read(terminal: &mut Emulator, alloc: Global, bytes: &[u8]) -> Result<(), 
 
 /// A terminal of the client's size in some state.
 pub fn terminal_in_some_state(alloc: Global, dice: &mut Dice) -> Result<Emulator, Fail> {
-    let mut made = terminal(alloc, ROWS as usize, COLS as usize)?;
+    let mut made = terminal(alloc, ROWS as usize, COLUMNS as usize)?;
     read(&mut made, alloc, STATES[dice.below(STATES.len())])?;
     Ok(made)
 }
@@ -187,8 +187,8 @@ fn contents<'a>(number: u8, window: &Emulator, lines: &'a [&'a [Cell]]) -> Conte
 impl Stage {
     pub fn new(alloc: Global) -> Result<Stage, Fail> {
         let mut layout = Layout::new(alloc, Shown::EMPTY)?;
-        if layout.split(alloc, Way::Right, ROWS, COLS).is_err()
-            || layout.split(alloc, Way::Below, ROWS, COLS).is_err()
+        if layout.split(alloc, Way::Right, ROWS, COLUMNS).is_err()
+            || layout.split(alloc, Way::Below, ROWS, COLUMNS).is_err()
         {
             return Err(Fail::from("no regions"));
         }
@@ -219,7 +219,7 @@ impl Stage {
     pub fn view(&self, alloc: Global) -> Result<View, Fail>
         ensures { IfOk result (HasSize 10 24) }
     {
-        let Ok(rects) = self.layout.rects(alloc, ROWS, COLS) else {
+        let Ok(rects) = self.layout.rects(alloc, ROWS, COLUMNS) else {
             return Err(Fail::from("no rectangles"));
         };
         let text = match self.text {

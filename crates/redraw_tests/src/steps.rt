@@ -3,7 +3,7 @@
 ghost use Rattle.std.specs.Prelude.{◌≡◌, OnOk};
 ghost use Rattle.view.specs.View.{HasSize};
 
-use crate::stage::{COLS, Dice, ROWS, Stage, read, shows, terminal_in_some_state};
+use crate::stage::{COLUMNS, Dice, ROWS, Stage, read, shows, terminal_in_some_state};
 use emulator::Emulator;
 use redraw::{Shadow, frame_keeping};
 use std::alloc::Global;
@@ -36,7 +36,12 @@ fn drawn_from_unknown(alloc: Global, view: View, dice: &mut Dice) -> Result<Emul
     requires { HasSize 10 24 view }
 {
     let mut terminal = terminal_in_some_state(alloc, dice)?;
-    draw(alloc, view, &mut Shadow::unknown(ROWS, COLS), &mut terminal)?;
+    draw(
+        alloc,
+        view,
+        &mut Shadow::unknown(ROWS, COLUMNS),
+        &mut terminal,
+    )?;
     Ok(terminal)
 }
 
@@ -73,7 +78,7 @@ fn both_ways_lead_to_the_view(rt: HostRuntime) -> Result<(), Fail> {
     let alloc = rt.alloc();
     let mut dice = Dice::new(1);
     let mut stage = Stage::new(alloc)?;
-    let mut shadow = Shadow::unknown(ROWS, COLS);
+    let mut shadow = Shadow::unknown(ROWS, COLUMNS);
     let mut terminal = terminal_in_some_state(alloc, &mut dice)?;
     for step in 0..STEPS {
         stage.step(alloc, &mut dice)?;

@@ -1,7 +1,7 @@
 //! The page of a screen.
 
 ghost use Rattle.std.specs.Prelude.{◌≡◌, ℕ, ◌+◌, ◌*◌, ◌-◌, ◌<◌, ◌≤◌, ◌↔◌, [], ◌∷◌, length, replicate};
-ghost use Rattle.std.specs.Prelude.{IfOk, OnOk, OnErr, Err, IsTrue, slice_index};
+ghost use Rattle.std.specs.Prelude.{IfOk, OnOk, OnErr, Err, slice_index};
 ghost use Rattle.cells.specs.Line.{blank, unprotected_erased, narrow_cells};
 ghost use Rattle.cells.specs.Wide.{wide_cells};
 ghost use Rattle.cells.specs.Page.{IsGrid, IsGridSize, line_at, page_from, page_marked};
@@ -12,7 +12,7 @@ ghost use Rattle.scrollback.specs.Kept.{taken_in, Continues};
 ghost use Rattle.vt_screen_page.specs.Store.{placed_in_order, turned};
 
 use crate::store;
-use cells::{Cell, GridFault, Line, Rendition, Shape};
+use cells::{Cell, GridFault, Line, Rendition, Shape, blank_lines, is_grid_size};
 use scrollback::Ring;
 use std::alloc::{AllocError, Global};
 use std::marker::Model;
@@ -41,13 +41,6 @@ impl Model for Page {
     ghost invariant = { λ page. IsStore page.stored.items page.places.items };
 }
 
-/// Whether a page may have this size.
-fn is_size(rows: usize, columns: usize) -> bool
-    ensures { IsTrue result ↔ IsGridSize rows columns }
-{
-    (2..=200).contains(&rows) && (2..=300).contains(&columns)
-}
-
 impl Page {
     /// A page of blanks. It is `BadSize` outside 2 to 200 lines by 2 to 300 columns.
     pub fn new(alloc: Global, rows: usize, columns: usize) -> Result<Page, GridFault>
@@ -56,7 +49,7 @@ impl Page {
         ensures size { IfOk result (λ _. IsGridSize rows columns) }
         ensures bad_size { (result ≡ Err GridFault.BadSize) ↔ (¬ IsGridSize rows columns) }
     {
-        if !is_size(rows, columns) {
+        if !is_grid_size(rows, columns) {
             return Err(GridFault::BadSize);
         }
         match Page::blank(alloc, rows, columns) {
@@ -70,7 +63,7 @@ impl Page {
         ensures { IfOk result
             (λ page. page ≡ placed_in_order rows (replicate rows (replicate columns blank))) }
     {
-        let stored = store::blank_lines(alloc, rows, columns)?;
+        let stored = blank_lines(alloc, rows, columns)?;
         let places = store::places_in_order(alloc, rows)?;
         Ok(Page {
             alloc,
@@ -338,7 +331,7 @@ impl Page {
         ensures size { IfOk result (λ _. IsGridSize rows columns) }
         ensures bad_size { (result ≡ Err GridFault.BadSize) ↔ (¬ IsGridSize rows columns) }
     {
-        if !is_size(rows, columns) {
+        if !is_grid_size(rows, columns) {
             return Err(GridFault::BadSize);
         }
         match self.in_size(rows, columns) {

@@ -3,7 +3,6 @@
 ghost use Rattle.std.specs.Prelude.{◌≡◌, ℕ, ◌+◌, ◌-◌, ◌<◌, ◌≤◌, ◌++◌, length, map, replicate};
 ghost use Rattle.std.specs.Prelude.{IfOk, drop, slice_index, take};
 ghost use Rattle.std.specs.List.{range_with_len};
-ghost use Rattle.cells.specs.Line.{blank};
 ghost use Rattle.cells.specs.Page.{line_at, page_from};
 ghost use Rattle.cells.specs.Moves.{scrolled_up, scrolled_down, erased_lines};
 ghost use Rattle.scrollback.specs.Kept.{taken_in, Continues};
@@ -140,17 +139,6 @@ pub fn places_in_order(alloc: Global, rows: usize) -> Result<Vec<usize>, AllocEr
         places.push(row)?;
     }
     Ok(places)
-}
-
-/// So many blank lines.
-pub fn blank_lines(alloc: Global, rows: usize, columns: usize) -> Result<Vec<Line>, AllocError>
-    ensures { IfOk result (λ lines. lines.items ≡ replicate rows (replicate columns blank)) }
-{
-    let mut lines = Vec::with_capacity(alloc, rows)?;
-    for row in 0..rows {
-        lines.push(Line::blank(alloc, columns)?)?;
-    }
-    Ok(lines)
 }
 
 /// A line of a page in another width, or a blank one below the last.

@@ -1,6 +1,0 @@
-use Rattle.std.proofs.Common.{◌≡◌, replicate}
-use Rattle.cells.specs.Line.{blank}
-use Rattle.vt_screen_page.proofs.store.blank_lines.Given as goal
-
-abbrev pub invariant-loop-row : goal.invariant-loop-row
-invariant-loop-row l = l.lines.items ≡ replicate l.row (replicate l.columns blank)
