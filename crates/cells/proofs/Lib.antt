@@ -8,7 +8,7 @@ pub mod Putting
 pub mod Grids
 pub mod Runs
 pub mod Used
-pub mod OverBlanks
+pub mod OverPlain
 pub mod Looks
 pub mod Wides
 pub mod WideRuns

@@ -42,7 +42,7 @@ module _ (rendition : Rendition) (is_protected : Bool) where
   IsPaired-with_run at codes cells paired = IsPaired-cells_from (spliced at (narrow_cells codes rendition is_protected) (at + length codes) (length cells)) cells paired
 
   module _ (at : ℕ) (codes : List ℕ) (cells : List Cell) (room : at + length codes ≤ length cells) where
-    run_inside : (j : ℕ) → j < length codes → cell_at (with_run at codes cells) (at + j) ≡ fresh_at (narrow_cells codes rendition is_protected) j
+    pub run_inside : (j : ℕ) → j < length codes → cell_at (with_run at codes cells) (at + j) ≡ fresh_at (narrow_cells codes rendition is_protected) j
     run_inside j h =
         let fresh : List Cell = narrow_cells codes rendition is_protected in
         let n : length fresh ≡ length codes = length-narrow_cells codes rendition is_protected in
@@ -50,7 +50,7 @@ module _ (rendition : Rendition) (is_protected : Bool) where
         ∙ cell_at-cells_from (spliced at fresh (at + length fresh) (length cells)) cells (at + j) (omega arith)
         ∙ settled_new at fresh cells (rw n room) j (rw n h)
 
-    run_outside : 0 < length codes → IsPaired cells → (k : ℕ) → (k < at) ⊎ (at + length codes ≤ k) → k < length cells
+    pub run_outside : 0 < length codes → IsPaired cells → (k : ℕ) → (k < at) ⊎ (at + length codes ≤ k) → k < length cells
         → cell_at (with_run at codes cells) k ≡ cell_at (cut_of (at + length codes) (cut_of at cells)) k
     run_outside some paired k h within =
         let fresh : List Cell = narrow_cells codes rendition is_protected in

@@ -13,7 +13,7 @@ use Rattle.cells.proofs.Putting.{IsPaired-set}
 settled_blank : (cells : List Cell) (before here after : Source) → taken cells here ≡ blank → settled cells before here after ≡ blank
 settled_blank cells before here after e = ap (λ (x : Cell). kept x.shape x (are_halves here after) (are_halves before here)) e
 
-IsBlankFrom-cells_from : (source : ℕ → Source) (used : ℕ) (cells : List Cell) → ((k : ℕ) → used ≤ k → k < length cells → taken cells (source k) ≡ blank) → IsBlankFrom used (cells_from source cells)
+pub IsBlankFrom-cells_from : (source : ℕ → Source) (used : ℕ) (cells : List Cell) → ((k : ℕ) → used ≤ k → k < length cells → taken cells (source k) ≡ blank) → IsBlankFrom used (cells_from source cells)
 unfolding settled_at
 IsBlankFrom-cells_from source used cells each k h = ⊎_elim
     (λ (inside : k < length cells). cell_at-cells_from source cells k inside ∙ settled_blank cells (source_before source k) (source k) (source_after source (length cells) k) (each k h inside))

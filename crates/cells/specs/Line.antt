@@ -204,3 +204,17 @@ fresh_at fresh column =
     kept (cell_at fresh column).shape (cell_at fresh column)
     (is_left (cell_at fresh column).shape && is_right (cell_at fresh (suc column)).shape)
     (right_follows fresh column)
+
+-- a character of width 1 without rendition, marks or protection
+abbrev pub IsPlain : Cell → Type 0
+IsPlain cell = cell ≡ narrow_cell cell.character plain false
+
+-- the cells from a column on are such characters
+abbrev pub ArePlainFrom : ℕ → List Cell → Type 0
+ArePlainFrom from cells = (column : ℕ) → from ≤ column → IsPlain (cell_at cells column)
+
+-- what a line keeps beside its cells: from which column on it is blank, and whether it is known that
+-- all its cells are plain
+pub record IsNoted (used : ℕ) (is_plain : Bool) (cells : List Cell) : Type 0 where
+  pub used_part : IsUsed used cells
+  pub plain : is_plain ≡ true → ArePlainFrom 0 cells

@@ -5,7 +5,7 @@ ghost use Rattle.std.specs.Prelude.{IsTrue};
 ghost use Rattle.std.specs.List.{copy_within};
 ghost use Rattle.cells.specs.Line.{cells_from, cells_spliced, IsPaired, cut_of, blank};
 ghost use Rattle.cells.specs.Line.{unprotected_erased, fresh_at, narrow_cell, narrow_cells};
-ghost use Rattle.cells.specs.Line.{IsBlankFrom, plain, left_cell, right_cell};
+ghost use Rattle.cells.specs.Line.{ArePlainFrom, plain, left_cell, right_cell};
 ghost use Rattle.cells.specs.Put.{AreNarrow, AreNarrowIn, IsPut};
 ghost use Rattle.cells.specs.Wide.{wide_cells};
 
@@ -267,12 +267,13 @@ fn space_halves(rendition: Rendition, is_protected: bool) -> (Cell, Cell)
     (left, Cell::right(' ', rendition, is_protected))
 }
 
-/// Puts a run of characters of width 1, without rendition or protection, in place of as many blanks
-/// of a line's end: there the characters alone differ. `codes` has their code points. They are put
-/// in eight at a time, so that a turn of the loop costs little beside them.
-pub fn put_run_over_blanks(cells: &mut [Cell], at: usize, codes: &[u8])
+/// Puts a run of characters of width 1, without rendition or protection, in place of as many cells of
+/// a line's end that differ from blanks in the character alone: that alone is written. `codes` has
+/// their code points. They are put in eight at a time, so that a turn of the loop costs little beside
+/// them.
+pub fn put_run_over_plain(cells: &mut [Cell], at: usize, codes: &[u8])
     requires paired { IsPaired cells.old }
-    requires blank { IsBlankFrom at cells.old }
+    requires plain { ArePlainFrom at cells.old }
     requires room { at + length codes.now ≤ length cells.old }
     ensures { cells.new ≡ cells_spliced at
         (narrow_cells codes.now plain false) (at + length codes.now) cells.old }
@@ -289,6 +290,24 @@ pub fn put_run_over_blanks(cells: &mut [Cell], at: usize, codes: &[u8])
     }
     for column in 8 * eights..codes.len() {
         cells[at + column].character = codes[column] as char;
+    }
+}
+
+/// Blanks the cells from `from` on and below `end`, which differ from blanks in the character alone.
+pub fn blank_plain(cells: &mut [Cell], from: usize, end: usize)
+    requires plain { ArePlainFrom from cells.old }
+    requires inside { end ≤ length cells.old }
+    ensures { IsPut from (replicate (end - from) blank) cells.old cells.new }
+{
+    let count = end.saturating_sub(from);
+    let eights = count / 8;
+    for eight in 0..eights {
+        for place in 0..8 {
+            cells[from + (8 * eight + place)].character = ' ';
+        }
+    }
+    for column in 8 * eights..count {
+        cells[from + column].character = ' ';
     }
 }
 

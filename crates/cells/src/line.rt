@@ -1,10 +1,11 @@
 //! A line of cells.
 
 ghost use Rattle.std.specs.Prelude.{◌≡◌, ◌+◌, ◌*◌, ◌-◌, ◌<◌, ◌≤◌, min, [], ◌∷◌, length, replicate, IfOk};
+ghost use Rattle.std.specs.Prelude.{IsTrue, false};
 ghost use Rattle.std.specs.Prelude.{slice_set};
 ghost use Rattle.cells.specs.Line.{cells_from, cells_spliced, cell_at, marked, IsPaired};
 ghost use Rattle.cells.specs.Line.{IsBlankFrom, blank, unprotected_erased, narrow_cell};
-ghost use Rattle.cells.specs.Line.{narrow_cells};
+ghost use Rattle.cells.specs.Line.{narrow_cells, ArePlainFrom, plain};
 ghost use Rattle.cells.specs.Wide.{wide_cells};
 ghost use Rattle.cells.specs.Resizing.{line_resized};
 
@@ -28,12 +29,18 @@ fn blanks(alloc: Global, width: usize) -> Result<Vec<Cell>, AllocError>
     Ok(cells)
 }
 
-/// Makes every cell a blank, where those from `used` on are blank already.
-fn clear_used(cells: &mut [Cell], used: usize)
+/// Makes every cell a blank, where those from `used` on are blank already. Where all differ from
+/// blanks in the character alone, that alone is written.
+fn clear_used(cells: &mut [Cell], used: usize, is_plain: bool)
     requires inside { used ≤ length cells.old }
     requires blank { IsBlankFrom used cells.old }
+    requires plain { IsTrue is_plain → ArePlainFrom 0 cells.old }
     ensures { cells.new ≡ replicate (length cells.old) blank }
 {
+    if is_plain {
+        edits::blank_plain(cells, 0, used);
+        return;
+    }
     if used > BLANKS.len() {
         cells.fill(Cell::BLANK);
         return;
@@ -41,19 +48,40 @@ fn clear_used(cells: &mut [Cell], used: usize)
     cells[..used].copy_from_slice(&BLANKS[..used]);
 }
 
-/// Puts in a run of characters of width 1, each in a copy of a space. The cells from `used` on are
-/// blank.
-fn put_run_behind(cells: &mut [Cell], used: usize, at: usize, codes: &[u8], space: Cell)
+/// Makes every cell a blank, as `clear_used`, but for a run of characters of width 1 in the first
+/// columns.
+fn clear_behind_run(cells: &mut [Cell], used: usize, is_plain: bool, codes: &[u8])
     requires paired { IsPaired cells.old }
+    requires inside { used ≤ length cells.old }
     requires blank { IsBlankFrom used cells.old }
+    requires plain { IsTrue is_plain → ArePlainFrom 0 cells.old }
+    requires some { 0 < length codes.now }
+    requires room { length codes.now ≤ length cells.old }
+    ensures { cells.new ≡ cells_spliced 0 (narrow_cells codes.now plain false)
+        (length codes.now) (replicate (length cells.old) blank) }
+{
+    if is_plain {
+        edits::put_run_over_plain(cells, 0, codes);
+        edits::blank_plain(cells, codes.len(), used);
+    } else {
+        clear_used(cells, used, false);
+        edits::put_run_over_plain(cells, 0, codes);
+    }
+}
+
+/// Puts in a run of characters of width 1, each in a copy of a space. The cells from `plain_from` on
+/// differ from blanks in the character alone.
+fn put_run_behind(cells: &mut [Cell], plain_from: usize, at: usize, codes: &[u8], space: Cell)
+    requires paired { IsPaired cells.old }
+    requires plain { ArePlainFrom plain_from cells.old }
     requires room { at + length codes.now ≤ length cells.old }
     requires space { space ≡ narrow_cell 0x20 space.rendition space.is_protected }
     ensures { cells.new ≡ cells_spliced at
         (narrow_cells codes.now space.rendition space.is_protected)
         (at + length codes.now) cells.old }
 {
-    if codes.len() > 1 && used <= at && space.is_blank() {
-        edits::put_run_over_blanks(cells, at, codes);
+    if codes.len() > 1 && plain_from <= at && space.is_blank() {
+        edits::put_run_over_plain(cells, at, codes);
     } else {
         edits::put_run(cells, at, codes, space.rendition, space.is_protected);
     }
@@ -74,24 +102,31 @@ pub struct Line {
     cells: Vec<Cell>,
     /// The cells from this column on are blank, so that `clear` needn't touch them.
     used: usize,
+    /// Where it is true, all cells are of width 1 and have no rendition, marks or protection, so that
+    /// their characters alone have to be written.
+    is_plain: bool,
 }
 
 impl Drop for Line {
     fn drop(self) {
-        let Line { cells: _, used: _ } = self;
+        let Line {
+            cells: _,
+            used: _,
+            is_plain: _,
+        } = self;
     }
 }
 
 impl Model for Line {
     ghost use Rattle.std.specs.Prelude.{List};
     ghost use Rattle.cells.specs.declared.cell.Cell.{Cell};
-    ghost use Rattle.cells.specs.Line.{IsUsed};
+    ghost use Rattle.cells.specs.Line.{IsNoted};
 
     ghost Value = { List Cell };
 
     ghost view = { λ line. line.cells.items };
 
-    ghost invariant = { λ line. IsUsed line.used line.cells.items };
+    ghost invariant = { λ line. IsNoted line.used line.is_plain line.cells.items };
 }
 
 impl Line {
@@ -100,7 +135,11 @@ impl Line {
         ensures { IfOk result (λ line. line ≡ replicate width blank) }
     {
         let cells = blanks(alloc, width)?;
-        Ok(Line { cells, used: 0 })
+        Ok(Line {
+            cells,
+            used: 0,
+            is_plain: true,
+        })
     }
 
     /// A line of the same cells.
@@ -112,6 +151,7 @@ impl Line {
         Ok(Line {
             cells,
             used: self.used,
+            is_plain: self.is_plain,
         })
     }
 
@@ -134,8 +174,22 @@ impl Line {
     pub fn clear(&mut self)
         ensures { self.new ≡ replicate (length self.old) blank }
     {
-        clear_used(self.cells.as_mut_slice(), self.used);
+        clear_used(self.cells.as_mut_slice(), self.used, self.is_plain);
         self.used = 0;
+        self.is_plain = true;
+    }
+
+    /// Makes every cell a blank, and then puts a run of characters of width 1 in the first columns:
+    /// `codes` has their code points.
+    pub fn clear_behind_run(&mut self, codes: &[u8])
+        requires some { 0 < length codes.now }
+        requires room { length codes.now ≤ length self.old }
+        ensures { self.new ≡ cells_spliced 0 (narrow_cells codes.now plain false)
+            (length codes.now) (replicate (length self.old) blank) }
+    {
+        clear_behind_run(self.cells.as_mut_slice(), self.used, self.is_plain, codes);
+        self.used = codes.len();
+        self.is_plain = true;
     }
 
     /// Makes every cell the same one, of width 1.
@@ -145,6 +199,7 @@ impl Line {
     {
         self.cells.as_mut_slice().fill(cell);
         self.used = self.cells.len();
+        self.is_plain = false;
     }
 
     /// Keeps the cells before `at`, puts in `count` blanks, and lets the old cells from `rest` on
@@ -170,6 +225,7 @@ impl Line {
     {
         edits::put_narrow(self.cells.as_mut_slice(), at, cell, rest);
         self.used = used_after(self.used, at + 1, rest, self.cells.len());
+        self.is_plain = false;
     }
 
     /// Puts the halves of a wide character in at `at`, and lets the old cells from `rest` on follow
@@ -184,6 +240,7 @@ impl Line {
     {
         edits::put_wide(self.cells.as_mut_slice(), at, left, right, rest);
         self.used = used_after(self.used, at + 2, rest, self.cells.len());
+        self.is_plain = false;
     }
 
     /// Puts new cells in place of as many old ones. What is torn at either end becomes blank, and
@@ -194,6 +251,14 @@ impl Line {
     {
         edits::put(self.cells.as_mut_slice(), at, fresh);
         self.used = self.used.max(at + fresh.len());
+        self.is_plain = false;
+    }
+
+    /// A column from which on all cells are of width 1 and have no rendition, marks or protection.
+    fn plain_from(&self) -> usize
+        ensures { ArePlainFrom result self.now }
+    {
+        if self.is_plain { 0 } else { self.used }
     }
 
     /// Puts a run of characters of width 1 in place of as many old cells: `codes` has their code
@@ -204,8 +269,10 @@ impl Line {
             (narrow_cells codes.now rendition is_protected) (at + length codes.now) self.old }
     {
         let space = Cell::narrow(' ', rendition, is_protected);
-        put_run_behind(self.cells.as_mut_slice(), self.used, at, codes, space);
+        let plain_from = self.plain_from();
+        put_run_behind(self.cells.as_mut_slice(), plain_from, at, codes, space);
         self.used = self.used.max(at + codes.len());
+        self.is_plain = self.is_plain & space.is_blank();
     }
 
     /// The same as `put_run`, of characters.
@@ -228,6 +295,7 @@ impl Line {
             is_protected,
         );
         self.used = self.used.max(at + letters.len());
+        self.is_plain = false;
     }
 
     /// Puts a run of characters of width 2 in place of twice as many old cells. What is torn at either
@@ -251,6 +319,7 @@ impl Line {
             is_protected,
         );
         self.used = self.used.max(at + 2 * characters.len());
+        self.is_plain = false;
     }
 
     /// Erases the cells from `from` on and below `end`, but for protected ones.
@@ -270,6 +339,7 @@ impl Line {
         let marks = self.cells[column].marks;
         self.cells[column].marks = marks.joined(mark);
         self.used = self.used.max(column + 1);
+        self.is_plain = false;
     }
 
     /// A line of another width with the same cells: what is added is blank, and so is a half that

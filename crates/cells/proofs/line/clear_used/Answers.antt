@@ -2,7 +2,14 @@ use Rattle.std.proofs.Common.{drop, ◌++◌, ◌∙◌, ap, arith}
 use Rattle.std.proofs.lemmas.List.{take-replicate}
 use Rattle.cells.specs.Line.{blank}
 use Rattle.cells.proofs.Used.{cleared_is}
+use Rattle.cells.proofs.OverPlain.{cleared_plain}
 use Rattle.cells.proofs.line.clear_used.Goals as goal
+
+pub blank_plain-requires-clause-plain : goal.blank_plain-requires-clause-plain
+blank_plain-requires-clause-plain c = c.requires.plain c.if-is_plain.true
+
+pub returns-then-is_plain : goal.returns-then-is_plain
+returns-then-is_plain c = cleared_plain c.args.used c.args.cells.now c.blank_plain.new.cells c.requires.inside c.requires.blank c.blank_plain.ensures
 
 pub returns : goal.returns
 returns c = ap (λ front. front ++ drop c.args.used c.args.cells.now) (c.copy_from_slice.ensures.after ∙ take-replicate c.args.used 300 blank (omega arith))

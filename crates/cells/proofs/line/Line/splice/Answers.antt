@@ -3,6 +3,7 @@ use Rattle.std.proofs.lemmas.List.{length-replicate}
 use Rattle.cells.specs.declared.cell.Cell.{Cell}
 use Rattle.cells.specs.Line.{blank, taken, spliced}
 use Rattle.cells.proofs.Used.{IsUsed-stored, spliced_behind}
+use Rattle.cells.proofs.OverPlain.{plain-stored, plain_spliced, plain_blanks}
 use Rattle.cells.proofs.line.Line.splice.Goals as goal
 
 pub invariant_of-self : goal.invariant_of-self
@@ -10,7 +11,14 @@ invariant_of-self c =
     let items : List Cell = c.self.inside.cells.items in
     let width : length items ≡ c.self.inside.cells.len = ap length (sym c.as_mut_slice.ensures.value) ∙ c.as_mut_slice.ensures.len in
     let line : length items ≡ length c.args.self.now = ap length c.self.view_is in
-    IsUsed-stored (spliced c.args.at (replicate c.args.count blank) c.args.rest (length c.as_mut_slice.result.now)) c.self.inside.used c.used_after-self-inside.result c.splice.new.cells c.as_mut_slice.result.now items c.self.inside.cells.len
-    (c.splice.auto.cells ∙ c.as_mut_slice.ensures.len) c.splice.ensures c.as_mut_slice.ensures.value c.self.invariant
-    (omega (arith, c.used_after-self-inside.ensures, c.len.ensures, c.self.invariant.inside, width, line, c.requires.room))
-    (λ k past inside. ap (λ n. taken items (spliced c.args.at (replicate c.args.count blank) c.args.rest n k)) (ap length c.as_mut_slice.ensures.value) ∙ spliced_behind c.args.at (replicate c.args.count blank) items c.args.rest c.self.inside.used k c.self.invariant.blank (omega (arith, c.used_after-self-inside.ensures, c.len.ensures, length-replicate c.args.count blank, inside, width)))
+    record {
+      used_part =
+          IsUsed-stored (spliced c.args.at (replicate c.args.count blank) c.args.rest (length c.as_mut_slice.result.now)) c.self.inside.used c.used_after-self-inside.result c.splice.new.cells c.as_mut_slice.result.now items c.self.inside.cells.len
+          (c.splice.auto.cells ∙ c.as_mut_slice.ensures.len) c.splice.ensures c.as_mut_slice.ensures.value c.self.invariant.used_part
+          (omega (arith, c.used_after-self-inside.ensures, c.len.ensures, c.self.invariant.used_part.inside, width, line, c.requires.room))
+          (λ k past inside. ap (λ n. taken items (spliced c.args.at (replicate c.args.count blank) c.args.rest n k)) (ap length c.as_mut_slice.ensures.value) ∙ spliced_behind c.args.at (replicate c.args.count blank) items c.args.rest c.self.inside.used k c.self.invariant.used_part.blank (omega (arith, c.used_after-self-inside.ensures, c.len.ensures, length-replicate c.args.count blank, inside, width)));
+      plain = λ e.
+          plain-stored (spliced c.args.at (replicate c.args.count blank) c.args.rest (length c.as_mut_slice.result.now)) c.splice.new.cells c.as_mut_slice.result.now items c.self.inside.cells.len
+          (c.splice.auto.cells ∙ c.as_mut_slice.ensures.len) c.splice.ensures c.as_mut_slice.ensures.value
+          (plain_spliced c.args.at (replicate c.args.count blank) items c.args.rest (length c.as_mut_slice.result.now) (plain_blanks c.args.count) (c.self.invariant.plain e));
+    }

@@ -1,6 +1,6 @@
 use Rattle.std.proofs.Common.{◌+◌, ◌*◌}
-use Rattle.cells.proofs.OverBlanks.{AreWritten}
-use Rattle.cells.proofs.edits.put_run_over_blanks.Given as goal
+use Rattle.cells.proofs.OverPlain.{AreWritten}
+use Rattle.cells.proofs.edits.put_run_over_plain.Given as goal
 
 abbrev pub invariant-loop-place : goal.invariant-loop-place
 invariant-loop-place l = AreWritten l.at l.codes l.fn.cells (8 * l.eight + l.place) l.cells
