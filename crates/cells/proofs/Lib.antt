@@ -12,3 +12,4 @@ pub mod OverBlanks
 pub mod Looks
 pub mod Wides
 pub mod WideRuns
+pub mod UsedSplices
