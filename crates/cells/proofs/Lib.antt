@@ -12,3 +12,4 @@ pub mod OverPlain
 pub mod Looks
 pub mod Wides
 pub mod WideRuns
+pub mod UsedSplices

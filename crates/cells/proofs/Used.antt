@@ -10,7 +10,7 @@ use Rattle.cells.proofs.Splicing.{at_rest, at_end}
 use Rattle.cells.proofs.Putting.{IsPaired-set}
 
 -- a source that gives a blank
-settled_blank : (cells : List Cell) (before here after : Source) → taken cells here ≡ blank → settled cells before here after ≡ blank
+pub settled_blank : (cells : List Cell) (before here after : Source) → taken cells here ≡ blank → settled cells before here after ≡ blank
 settled_blank cells before here after e = ap (λ (x : Cell). kept x.shape x (are_halves here after) (are_halves before here)) e
 
 pub IsBlankFrom-cells_from : (source : ℕ → Source) (used : ℕ) (cells : List Cell) → ((k : ℕ) → used ≤ k → k < length cells → taken cells (source k) ≡ blank) → IsBlankFrom used (cells_from source cells)

@@ -6,6 +6,7 @@ mod edits;
 mod glyph;
 mod grid;
 mod line;
+mod shifting;
 mod unlike;
 
 pub use cell::{Cell, Colour, Marks, Rendition, Shape};

@@ -11,6 +11,7 @@ ghost use Rattle.cells.specs.Resizing.{line_resized};
 
 use crate::cell::{Cell, Rendition, Shape};
 use crate::edits;
+use crate::shifting::splice_used;
 use std::alloc::{AllocError, Global};
 use std::marker::Model;
 
@@ -211,8 +212,7 @@ impl Line {
         requires changes { at < rest + count }
         ensures { self.new ≡ cells_spliced at (replicate count blank) rest self.old }
     {
-        edits::splice(self.cells.as_mut_slice(), at, count, rest);
-        self.used = used_after(self.used, at + count, rest, self.cells.len());
+        self.used = splice_used(self.cells.as_mut_slice(), self.used, at, count, rest);
     }
 
     /// Puts a cell of width 1 in at `at`, and lets the old cells from `rest` on follow it.
