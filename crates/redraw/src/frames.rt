@@ -13,6 +13,7 @@ use crate::pen::Pen;
 use crate::shadow::{Shadow, first_change};
 use cells::Rendition;
 use std::alloc::{AllocError, Global};
+use std::mem;
 use view::{Cursor, View};
 
 /// CAN, RIS, UTF-8 and DECRM of DECAWM: from any state a blank page, on which the last column keeps
@@ -120,10 +121,28 @@ pub fn frame_keeping(
     ensures drawn { IfOk result (λ frame. FrameDraws shadow.old view shadow.new frame) }
     ensures err { OnErr result (shadow.new ≡ shadow.old) }
 {
+    let mut spare = None;
+    frame_sparing(alloc, shadow, view, &mut spare)
+}
+
+/// The same; the view that isn't needed any more, if there is one, is handed back as `spare`, for its
+/// memory.
+pub fn frame_sparing(
+    alloc: Global,
+    shadow: &mut Shadow,
+    view: View,
+    spare: &mut Option<View>,
+) -> Result<Option<Vec<u8>>, AllocError>
+    requires size { HasSize shadow.old.rows shadow.old.columns view }
+    ensures needless { IfOk result (λ frame. SkipsKnown shadow.old view shadow.new frame) }
+    ensures drawn { IfOk result (λ frame. FrameDraws shadow.old view shadow.new frame) }
+    ensures err { OnErr result (shadow.new ≡ shadow.old) }
+{
     let Some(bytes) = draw(alloc, shadow, &view)? else {
+        *spare = Some(view);
         return Ok(None);
     };
-    shadow.known = Some(view);
+    *spare = mem::replace(&mut shadow.known, Some(view));
     Ok(Some(bytes))
 }
 

@@ -8,5 +8,5 @@ mod pen;
 mod rendition;
 mod shadow;
 
-pub use frames::{frame, frame_keeping, needs_draw};
+pub use frames::{frame, frame_keeping, frame_sparing, needs_draw};
 pub use shadow::Shadow;

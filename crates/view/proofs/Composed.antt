@@ -1,24 +1,28 @@
 -- The pieces of a page are laid one after the other.
-use Rattle.std.proofs.Common.{◌≡◌, ℕ, ◌+◌, ◌-◌, ◌<◌, ◌≤◌, Bool, true, false, ◌&&◌, ltb, List, [], ◌∷◌, ◌++◌, length, map, take, drop, get_or, refl, sym, ap, ◌∙◌, arith, ⊎_elim}
+use Rattle.std.proofs.Common.{◌≡◌, ℕ, zero, suc, ◌+◌, ◌-◌, ◌<◌, ◌≤◌, Bool, true, false, ◌&&◌, ltb, List, [], ◌∷◌, ◌++◌, length, map, take, drop, get_or, refl, sym, ap, ◌∙◌, arith, ⊎_elim}
 use Rattle.std.specs.Prelude.{if◌then◌else◌}
 use Rattle.std.specs.List.{list_all}
 use Rattle.std.proofs.lemmas.Bool.{cases_lt, ltb-true}
-use Rattle.std.proofs.lemmas.List.{drop_more, take_more, take-append-drop}
+use Rattle.std.proofs.lemmas.List.{drop_more, take_more, take-append-drop, get_or_past}
 use Rattle.cells.specs.declared.cell.Cell.{Cell}
-use Rattle.cells.specs.Line.{blank}
-use Rattle.cells.specs.Page.{line_at}
+use Rattle.cells.specs.Line.{blank, cell_at}
+use Rattle.cells.specs.Page.{line_at, IsGrid}
 use Rattle.terminal_model.specs.Places.{place}
 use Rattle.terminal_model.specs.Shows.{View}
 use Rattle.regions.specs.declared.rect.Rect.{Rect}
 use Rattle.regions.specs.Pages.{has, among, times, one_if, TilesPage, inner, caption, is_roomy, parts}
 use Rattle.view.specs.Granted.{Piece, cell_of}
-use Rattle.view.specs.Rows.{IsOnPage, IsFree, IsPlaced, laid, Lays}
-use Rattle.view.proofs.Laying.{InRect, has_in, in_has, not_has, cases_has}
+use Rattle.view.specs.Rows.{IsOnPage, IsFree, IsPlaced, nowhere, laid, Lays}
+use Rattle.view.proofs.Laying.{InRect, has_in, in_has, not_has, cases_has, free_of_blanks}
 
 abbrev pub rects_of : List Piece → List Rect
 rects_of ps = map (λ (p : Piece). p.rect) ps
 
--- what stands on the page of a view
+-- what stands on the page of a view, where a piece has a place
+pub record Covers (ps : List Piece) (v : View) : Type 0 where
+  pub cells_are : (line column : ℕ) → (times (rects_of ps) (line + 1) (column + 1) ≡ 0 → ⊥) → place v.page line column ≡ cell_of ps (line + 1) (column + 1)
+
+-- what stands on it
 pub record Holds (ps : List Piece) (v : View) : Type 0 where
   pub cells_are : (line column : ℕ) → place v.page line column ≡ cell_of ps (line + 1) (column + 1)
 
@@ -53,9 +57,6 @@ rects_append : (ps qs : List Piece) → rects_of (ps ++ qs) ≡ rects_of ps ++ r
 rects_append [] qs = refl
 rects_append (p ∷ ps) qs = ap (λ (rs : List Rect). p.rect ∷ rs) (rects_append ps qs)
 
-abbrev pub nowhere : Piece
-nowhere = record { rect = record { line = 0; column = 0; rows = 0; columns = 0 }; cell = λ row column. blank }
-
 abbrev pub piece_at : List Piece → ℕ → Piece
 piece_at ps n = get_or ps n nowhere
 
@@ -65,6 +66,12 @@ Tiles all rows columns = (l c : ℕ) → times (rects_of all) l c ≡ one_if (am
 few : (b : Bool) → one_if b ≤ 1
 few true = omega arith
 few false = omega arith
+
+none_before : (ps : List Piece) (n k l c : ℕ) → n < k → n < length ps → times (rects_of (take k ps)) l c ≡ 0 → has (piece_at ps n).rect l c ≡ false
+none_before [] n k l c before lt none = absurd (omega (arith, lt))
+none_before (p ∷ ps) n zero l c before lt none = absurd (omega (arith, before))
+none_before (p ∷ ps) zero (suc k) l c before lt none = (none_has p.rect (rects_of (take k ps)) l c none).0
+none_before (p ∷ ps) (suc n) (suc k) l c before lt none = none_before ps n k l c (omega (arith, before)) (omega (arith, lt)) (none_has p.rect (rects_of (take k ps)) l c none).1
 
 module _ (all : List Piece) (rows columns : ℕ) (tiles : Tiles all rows columns) (n : ℕ) (lt : n < length all) where
   split_at : take n all ++ (piece_at all n ∷ drop (n + 1) all) ≡ all
@@ -99,16 +106,24 @@ module _ (all : List Piece) (rows columns : ℕ) (tiles : Tiles all rows columns
     pub is_placed : 0 < (piece_at all n).rect.rows → 0 < (piece_at all n).rect.columns → IsPlaced (piece_at all n).rect v.page
     is_placed r c = record { tall = r; wide = c; inside = inside }
 
-    pub is_free : Holds (take n all) v → 0 < (piece_at all n).rect.columns → IsFree (piece_at all n).rect v.page
-    is_free holds some = record {
-      wide = some;
-      inside = inside;
-      blanks = λ l c h. holds.cells_are l c ∙ uncovered (take n all) (l + 1) (c + 1) (clear (l + 1) (c + 1) h);
-    }
+    pub free_on_blanks : 0 < (piece_at all n).rect.columns → ((l c : ℕ) → place v.page l c ≡ blank) → IsFree (piece_at all n).rect v.page
+    free_on_blanks some blanks = free_of_blanks (piece_at all n).rect v.page some inside blanks
 
-  pub laid_more : (old new : View) → Holds (take n all) old → Lays (piece_at all n) old new → Holds (take (n + 1) all) new
-  laid_more old new holds lays = record {
-    cells_are = λ l c.
+  -- the pieces before it have other places
+  pub apart : (m : ℕ) → m < n → (l c : ℕ) → has (piece_at all n).rect l c ≡ true → has (piece_at all m).rect l c ≡ false
+  apart m before l c h = none_before all m n l c before (omega (arith, before, lt)) (clear l c h)
+
+  none_more : (l c : ℕ) → has (piece_at all n).rect l c ≡ false → times (rects_of (take n all)) l c ≡ 0 → times (rects_of (take (n + 1) all)) l c ≡ 0
+  none_more l c out none =
+      let zero_here : one_if (has (piece_at all n).rect l c) ≡ 0 = rw out refl in
+      ap (λ (ps : List Piece). times (rects_of ps) l c) (take_more all n nowhere lt)
+      ∙ ap (λ (rs : List Rect). times rs l c) (rects_append (take n all) (piece_at all n ∷ []))
+      ∙ times_append (rects_of (take n all)) (rects_of (piece_at all n ∷ [])) l c
+      ∙ omega (arith, none, zero_here)
+
+  pub laid_more : (old new : View) → Covers (take n all) old → Lays (piece_at all n) old new → Covers (take (n + 1) all) new
+  laid_more old new covers lays = record {
+    cells_are = λ l c some.
         lays.cells_are l c
         ∙ ⊎_elim
         (λ (i : InRect (piece_at all n).rect (l + 1) (c + 1)).
@@ -118,10 +133,37 @@ module _ (all : List Piece) (rows columns : ℕ) (tiles : Tiles all rows columns
         here ∙ sym (outside (take n all) (piece_at all n ∷ []) (l + 1) (c + 1) (clear (l + 1) (c + 1) t) ∙ alone))
         (λ (out : has (piece_at all n).rect (l + 1) (c + 1) ≡ false).
         let there : laid (piece_at all n) old.page l c ≡ place old.page l c = rw out refl in
-        there ∙ holds.cells_are l c ∙ sym (behind (take n all) (piece_at all n) (l + 1) (c + 1) out))
+        there ∙ covers.cells_are l c (λ none. some (none_more (l + 1) (c + 1) out none)) ∙ sym (behind (take n all) (piece_at all n) (l + 1) (c + 1) out))
         (cases_has (piece_at all n).rect (l + 1) (c + 1))
         ∙ ap (λ (ps : List Piece). cell_of ps (l + 1) (c + 1)) (sym (take_more all n nowhere lt));
   }
+
+-- Where the pieces of a page cover it, nothing else stands on it.
+pub all_hold : (all : List Piece) (rows columns : ℕ) → Tiles all rows columns → (v : View) → IsGrid v.page → length v.page ≡ rows → length (line_at v.page 0) ≡ columns → Covers all v → Holds all v
+all_hold all rows columns tiles v grid high wide covers = record { cells_are = λ l c. go l c (among 1 rows (l + 1) && among 1 columns (c + 1)) refl }
+  where
+    clash : (b : Bool) → b ≡ true → b ≡ false → ⊥
+    clash b t f = cc
+
+    past : (l c : ℕ) → among 1 rows (l + 1) && among 1 columns (c + 1) ≡ false → place v.page l c ≡ blank
+    past l c e = ⊎_elim
+        (λ (h : l < length v.page). ⊎_elim
+        (λ (k : c < columns).
+        let page : Rect = record { line = 1; column = 1; rows = rows; columns = columns } in
+        let on : has page (l + 1) (c + 1) ≡ true = in_has page (l + 1) (c + 1) (record { above = omega arith; below = omega (arith, h, high); left = omega arith; right = omega (arith, k) }) in
+        absurd (clash (has page (l + 1) (c + 1)) on e))
+        (λ (k : columns ≤ c). get_or_past (line_at v.page l) c blank (omega (arith, grid.well_formed.width l h, wide, k)))
+        (cases_lt c columns))
+        (λ (h : length v.page ≤ l). ap (λ (cells : List Cell). cell_at cells c) (get_or_past v.page l [] h) ∙ get_or_past [] c blank (omega arith))
+        (cases_lt l (length v.page))
+
+    go : (l c : ℕ) (b : Bool) → among 1 rows (l + 1) && among 1 columns (c + 1) ≡ b → place v.page l c ≡ cell_of all (l + 1) (c + 1)
+    go l c true e =
+        let one : times (rects_of all) (l + 1) (c + 1) ≡ 1 = tiles (l + 1) (c + 1) ∙ ap one_if e in
+        covers.cells_are l c (λ none. absurd (omega (arith, one, none)))
+    go l c false e =
+        let none : times (rects_of all) (l + 1) (c + 1) ≡ 0 = tiles (l + 1) (c + 1) ∙ ap one_if e in
+        past l c e ∙ sym (uncovered all (l + 1) (c + 1) none)
 
 -- ---- a box is its region and its caption
 

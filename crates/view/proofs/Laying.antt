@@ -3,6 +3,7 @@ use Rattle.std.proofs.Common.{◌≡◌, ℕ, suc, ◌+◌, ◌-◌, ◌<◌, �
 use Rattle.std.specs.Prelude.{if◌then◌else◌, ◌==◌}
 use Rattle.std.proofs.lemmas.Bool.{cases_lt, cases_eq, cases_Bool, ne_eqb, ltb-true, leb-true}
 use Rattle.std.proofs.lemmas.Bool.Decides.{nat_tests}
+use Rattle.std.proofs.lemmas.List.{get_or_past}
 use Rattle.cells.specs.declared.cell.Cell.{Cell}
 use Rattle.cells.specs.Line.{blank, cell_at, is_left, is_right, IsPaired, spliced}
 use Rattle.cells.specs.Page.{line_at, IsGrid, page_from, edited}
@@ -51,19 +52,19 @@ not_has r l c none = ⊎_elim (λ (t : has r l c ≡ true). absurd (none (has_in
 pub cases_has : (r : Rect) (l c : ℕ) → (InRect r l c) ⊎ (has r l c ≡ false)
 cases_has r l c = ⊎_elim (λ (t : has r l c ≡ true). inl (has_in r l c t)) (λ (f : has r l c ≡ false). inr f) (cases_Bool (has r l c))
 
--- ---- new cells over blanks
+-- ---- new cells at whose edges no wide character is cut in two
 
-module _ (old cells : List Cell) (at : ℕ) (paired : IsPaired old) (some : 0 < length cells) (free : (k : ℕ) → k < length cells → cell_at old (at + k) ≡ blank) where
+module _ (old cells : List Cell) (at : ℕ) (paired : IsPaired old) (some : 0 < length cells) (starts : is_right (cell_at old at).shape ≡ false) (ends : is_left (cell_at old (at + (length cells - 1))).shape ≡ false) where
   whole_before : (c : ℕ) → c + 1 ≡ at → is_left (cell_at old c).shape ≡ false
   whole_before c e =
-      let next : suc c ≡ at + 0 = omega arith in
-      paired.next c ∙ ap (λ (k : ℕ). is_right (cell_at old k).shape) next ∙ ap (λ (x : Cell). is_right x.shape) (free 0 some)
+      let next : suc c ≡ at = omega arith in
+      paired.next c ∙ ap (λ (k : ℕ). is_right (cell_at old k).shape) next ∙ starts
 
   whole_after : (c : ℕ) → c ≡ at + length cells → is_right (cell_at old c).shape ≡ false
   whole_after c e =
       let last : ℕ = length cells - 1 in
       let next : c ≡ suc (at + last) = omega arith in
-      ap (λ (k : ℕ). is_right (cell_at old k).shape) next ∙ sym (paired.next (at + last)) ∙ ap (λ (x : Cell). is_left x.shape) (free last (omega arith))
+      ap (λ (k : ℕ). is_right (cell_at old k).shape) next ∙ sym (paired.next (at + last)) ∙ ends
 
   beside : (c : ℕ) → (c < at) ⊎ (at + length cells ≤ c) → overlaid_cell cells at old c ≡ cell_at old c
   beside c side =
@@ -101,8 +102,11 @@ module _ (r : Rect) (old : View) (line column : ℕ) (cells : List Cell) (grid :
   pub cells_fit : column + length cells ≤ length (line_at old.page 0)
   cells_fit = omega (arith, last.left, free.wide)
 
-  blanks : (k : ℕ) → k < length cells → cell_at (line_at old.page line) (column + k) ≡ blank
-  blanks k h = free.blanks line (column + k) (in_has r (line + 1) (column + k + 1) (record { above = omega arith; below = omega arith; left = omega arith; right = omega arith }))
+  starts : is_right (cell_at (line_at old.page line) column).shape ≡ false
+  starts = free.starts line column (in_has r (line + 1) (column + 1) (record { above = omega arith; below = omega arith; left = omega arith; right = omega (arith, free.wide) })) (omega arith)
+
+  ends : is_left (cell_at (line_at old.page line) (column + (length cells - 1))).shape ≡ false
+  ends = free.ends line (column + (length cells - 1)) (in_has r (line + 1) (column + (length cells - 1) + 1) (record { above = omega arith; below = omega arith; left = omega arith; right = omega (arith, free.wide) })) (omega (arith, free.wide))
 
   wide_line : length (line_at old.page line) ≡ length (line_at old.page 0)
   wide_line = grid.well_formed.width line line_inside
@@ -125,9 +129,9 @@ module _ (r : Rect) (old : View) (line column : ℕ) (cells : List Cell) (grid :
         let e : l ≡ line = omega (arith, i.above, i.below) in
         let k : c - column ≡ c + 1 - r.column = omega (arith, i.left) in
         rw (in_has r (l + 1) (c + 1) i, eq-eqb l line e)
-        (inside (line_at old.page line) cells column (grid.well_formed.paired line) some blanks c (omega (arith, i.left)) (omega (arith, i.right)) ∙ ap (cell_at cells) k))
+        (inside (line_at old.page line) cells column (grid.well_formed.paired line) some starts ends c (omega (arith, i.left)) (omega (arith, i.right)) ∙ ap (cell_at cells) k))
         (λ (out : has r (l + 1) (c + 1) ≡ false). rw out (⊎_elim
-        (λ (e : l ≡ line). rw (eq-eqb l line e) (beside (line_at old.page line) cells column (grid.well_formed.paired line) some blanks c (side l c e out) ∙ ap (λ (n : ℕ). place old.page n c) (sym e)))
+        (λ (e : l ≡ line). rw (eq-eqb l line e) (beside (line_at old.page line) cells column (grid.well_formed.paired line) some starts ends c (side l c e out) ∙ ap (λ (n : ℕ). place old.page n c) (sym e)))
         (λ (ne : l ≡ line → ⊥). rw (ne_eqb l line ne) refl)
         (cases_eq l line)))
         (cases_has r (l + 1) (c + 1))
@@ -152,6 +156,46 @@ module _ (r : Rect) (old : View) (line column : ℕ) (cells : List Cell) (grid :
       rest = new_is ∙ ap (λ (p : List (List Cell)). record old { page = p }) (sym page_is);
     }
 
+-- ---- rectangles that are free
+
+-- on a page whose places in it are blanks
+pub free_of_blanks : (r : Rect) (page : List (List Cell)) → 0 < r.columns → ((l c : ℕ) → has r l c ≡ true → IsOnPage page l c) → ((l c : ℕ) → place page l c ≡ blank) → IsFree r page
+free_of_blanks r page some inside blanks = record {
+  wide = some;
+  inside = inside;
+  starts = λ l c h first. ap (λ (x : Cell). is_right x.shape) (blanks l c);
+  ends = λ l c h last. ap (λ (x : Cell). is_left x.shape) (blanks l c);
+}
+
+-- as wide as a page
+pub free_if_wide : (r : Rect) (page : List (List Cell)) → IsGrid page → r.column ≡ 1 → r.columns ≡ length (line_at page 0) → 0 < r.line → r.line + r.rows ≤ length page + 1 → IsFree r page
+free_if_wide r page grid first wide below above = record {
+  wide = omega (arith, wide, grid.size.least_columns);
+  inside = λ l c h. let i = has_in r l c h in record { below = omega (arith, below, i.above); above = omega (arith, i.below, above); right = omega (arith, first, i.left); left = omega (arith, first, wide, i.right) };
+  starts = λ l c h at.
+      let none : c ≡ 0 = omega (arith, at, first) in
+      ap (λ (k : ℕ). is_right (place page l k).shape) none ∙ (grid.well_formed.paired l).first;
+  ends = λ l c h at.
+      let i = has_in r (l + 1) (c + 1) h in
+      let end : length (line_at page l) ≤ suc c = omega (arith, grid.well_formed.width l (omega (arith, i.below, above)), at, first, wide) in
+      (grid.well_formed.paired l).next c ∙ ap (λ (x : Cell). is_right x.shape) (get_or_past (line_at page l) (suc c) blank end);
+}
+
+-- where another piece was laid beside it
+pub still_free : (r : Rect) (p : Piece) (old new : View) → ((l c : ℕ) → has r l c ≡ true → has p.rect l c ≡ false) → Lays p old new → IsFree r old.page → IsFree r new.page
+still_free r p old new apart lays free = record {
+  wide = free.wide;
+  inside = λ l c h. let on = free.inside l c h in record { below = on.below; above = rw lays.rows_are on.above; right = on.right; left = rw lays.columns_are on.left };
+  starts = λ l c h first. ap (λ (x : Cell). is_right x.shape) (same l c h) ∙ free.starts l c h first;
+  ends = λ l c h last. ap (λ (x : Cell). is_left x.shape) (same l c h) ∙ free.ends l c h last;
+}
+  where
+    same : (l c : ℕ) → has r (l + 1) (c + 1) ≡ true → place new.page l c ≡ place old.page l c
+    same l c h =
+        let out : has p.rect (l + 1) (c + 1) ≡ false = apart (l + 1) (c + 1) h in
+        let kept : laid p old.page l c ≡ place old.page l c = rw out refl in
+        lays.cells_are l c ∙ kept
+
 -- ---- rows of a piece, one after the other
 
 abbrev pub first_rows : Piece → ℕ → Piece
@@ -172,13 +216,21 @@ row_is_free p n old mid free lt lays = record {
       let i = has_in (row_of p.rect n) l c h in
       let on = free.inside l c (in_has p.rect l c (record { above = omega (arith, i.above); below = omega (arith, i.below); left = i.left; right = i.right })) in
       record { below = on.below; above = rw lays.rows_are on.above; right = on.right; left = rw lays.columns_are on.left };
-  blanks = λ l c h.
-      let i = has_in (row_of p.rect n) (l + 1) (c + 1) h in
-      let out : has (record p.rect { rows = n }) (l + 1) (c + 1) ≡ false = not_has (record p.rect { rows = n }) (l + 1) (c + 1) (λ j. omega (arith, i.above, j.below)) in
-      let unchanged : laid (first_rows p n) old.page l c ≡ place old.page l c = rw out refl in
-      lays.cells_are l c ∙ unchanged
-      ∙ free.blanks l c (in_has p.rect (l + 1) (c + 1) (record { above = omega (arith, i.above); below = omega (arith, i.below); left = i.left; right = i.right }));
+  starts = λ l c h first. ap (λ (x : Cell). is_right x.shape) (unchanged l c h) ∙ free.starts l c (inside l c h) first;
+  ends = λ l c h last. ap (λ (x : Cell). is_left x.shape) (unchanged l c h) ∙ free.ends l c (inside l c h) last;
 }
+  where
+    inside : (l c : ℕ) → has (row_of p.rect n) (l + 1) (c + 1) ≡ true → has p.rect (l + 1) (c + 1) ≡ true
+    inside l c h =
+        let i = has_in (row_of p.rect n) (l + 1) (c + 1) h in
+        in_has p.rect (l + 1) (c + 1) (record { above = omega (arith, i.above); below = omega (arith, i.below); left = i.left; right = i.right })
+
+    unchanged : (l c : ℕ) → has (row_of p.rect n) (l + 1) (c + 1) ≡ true → place mid.page l c ≡ place old.page l c
+    unchanged l c h =
+        let i = has_in (row_of p.rect n) (l + 1) (c + 1) h in
+        let out : has (record p.rect { rows = n }) (l + 1) (c + 1) ≡ false = not_has (record p.rect { rows = n }) (l + 1) (c + 1) (λ j. omega (arith, i.above, j.below)) in
+        let same : laid (first_rows p n) old.page l c ≡ place old.page l c = rw out refl in
+        lays.cells_are l c ∙ same
 
 pub one_more_row : (p : Piece) (n : ℕ) (old mid new : View) (cells : List Cell) → Lays (first_rows p n) old mid → Lays (row_piece (row_of p.rect n) cells) mid new → IsRow (p.cell n) p.rect.columns cells → Lays (first_rows p (n + 1)) old new
 one_more_row p n old mid new cells first next row = record {

@@ -1,6 +1,6 @@
 -- The pieces of a composed page, one by one.
-use Rattle.std.proofs.Common.{◌≡◌, ℕ, zero, suc, ◌+◌, ◌-◌, ◌<◌, ◌≤◌, true, false, ltb, List, [], ◌∷◌, ◌++◌, length, map, get_or, take, refl, sym, ap, subst, ◌∙◌, arith, ⊎_elim, length-append}
-use Rattle.std.specs.Prelude.{None, ◌==◌}
+use Rattle.std.proofs.Common.{◌≡◌, ℕ, zero, suc, ◌+◌, ◌-◌, ◌<◌, ◌≤◌, true, ltb, List, [], ◌∷◌, ◌++◌, length, map, get_or, take, refl, sym, ap, subst, ◌∙◌, arith, ⊎_elim, length-append}
+use Rattle.std.specs.Prelude.{◌==◌}
 use Rattle.std.specs.List.{range_with_len, list_all}
 use Rattle.std.proofs.lemmas.Bool.{cases_lt, ltb-true}
 use Rattle.std.proofs.lemmas.List.{ext_get_or, get_or-map, get_or_append_left, get_or-append-add, length-map}
@@ -15,11 +15,10 @@ use Rattle.regions.specs.declared.rects.Rects.{Rects}
 use Rattle.regions.specs.declared.way.Way.TheVariants.{Below, Right}
 use Rattle.regions.specs.Shapes.{Shape, region, split, upper, lower, left, right, boxes, separators}
 use Rattle.regions.specs.Pages.{is_roomy, times, parts, TilesPage}
-use Rattle.regions.specs.Pages.{box_of}
+use Rattle.regions.specs.Pages.{box_of, status_of}
 use Rattle.regions.proofs.Tiling.{page_once}
 use Rattle.regions.proofs.Room.{both_true, wide, room_fits}
-use Rattle.terminal_model.specs.Screen.{Page, blank_page}
-use Rattle.terminal_model.proofs.Places.{blank-at}
+use Rattle.terminal_model.specs.Screen.{Page}
 use Rattle.std.proofs.Math.Seq.{take-length}
 use Rattle.std.specs.Prelude.{chars}
 use Rattle.std.specs.Str.{all_scalars}
@@ -28,10 +27,11 @@ use Rattle.terminal_model.specs.Drawable.{IsDrawableLine}
 use Rattle.view.specs.Drawable.{IsDrawable}
 use Rattle.view.proofs.Drawing.{pieces_drawn, view_drawn}
 use Rattle.view.specs.View.{HasSize}
-use Rattle.view.specs.Rows.{IsFree, IsPlaced, Lays, FocusesOn}
+use Rattle.view.specs.Rows.{IsFree, AreFree, IsPlaced, nowhere, Lays, FocusesOn}
 use Rattle.view.specs.declared.pane.Pane.{Pane}
 use Rattle.view.specs.Granted.{Piece, Part, vacant, part_of, AreParts, HasPairedLines, pieces, region_piece, separator_piece, status_piece, box_at, part_at, box_cell, caption_text, AreDrawable, cell_of, page_of, cursor_of, arrows_of, keypad_of, view_of, view_in}
-use Rattle.view.proofs.Composed.{Holds, Tiles, rects_of, nowhere, piece_at, parts_tile, is_free, is_placed, laid_more}
+use Rattle.view.proofs.Laying.{free_if_wide, still_free}
+use Rattle.view.proofs.Composed.{Covers, Holds, Tiles, rects_of, piece_at, parts_tile, free_on_blanks, is_placed, apart, laid_more, all_hold}
 
 -- ---- separators are one column wide
 
@@ -181,17 +181,17 @@ page-is ps v rows columns grid high wide_is holds =
     holds.cells_are l c ∙ sym (get_or-map-range_with_len (cell l) 0 columns c c blank inside (omega arith)))
     ∙ sym (get_or-map-range_with_len (λ n. map (cell n) (range_with_len 0 columns)) 0 rows l l [] lt (omega arith)))
 
--- ---- so many pieces are laid over a blank page
+-- ---- so many pieces are laid over a page
 
 pub record Stage (r : Rects) (ps : List Part) (text : List ℕ) (n : ℕ) (v : View) : Type 0 where
-  pub holds : Holds (take n (pieces r ps text)) v
-  pub rest : v ≡ record { page = v.page; cursor = None; has_application_arrows = false; has_application_keypad = false }
+  pub covers : Covers (take n (pieces r ps text)) v
+  pub free : (k : ℕ) → n ≤ k → k < length (pieces r ps text) → IsFree (piece_at (pieces r ps text) k).rect v.page
   pub captions : (k : ℕ) → k < n → k < length r.boxes.items → all_scalars (caption_text (part_at ps k)) ≡ true
 
-pub no_stage : (r : Rects) (ps : List Part) (text : List ℕ) (v : View) (rows columns : ℕ) → v ≡ record { page = blank_page rows columns; cursor = None; has_application_arrows = false; has_application_keypad = false } → Stage r ps text 0 v
-no_stage r ps text v rows columns e = record {
-  holds = record { cells_are = λ l c. ap (λ (x : View). place x.page l c) e ∙ blank-at rows columns l c };
-  rest = e ∙ ap (λ (p : Page). record { page = p; cursor = None; has_application_arrows = false; has_application_keypad = false }) (sym (ap (λ (x : View). x.page) e));
+pub no_stage : (r : Rects) (ps : List Part) (text : List ℕ) (v : View) → AreFree (pieces r ps text) v.page → Stage r ps text 0 v
+no_stage r ps text v free = record {
+  covers = record { cells_are = λ l c some. absurd (some refl) };
+  free = λ k after lt. free k lt;
   captions = λ k h b. absurd (omega arith);
 }
 
@@ -199,78 +199,135 @@ module _ (r : Rects) (ps : List Part) (text : List ℕ) (s : Shape) (rows column
   abbrev all : List Piece
   all = pieces r ps text
 
-  module _ (n : ℕ) (lt : n < length (pieces r ps text)) (old : View) (size : HasSize r.status.line r.status.columns old) where
-    high : length old.page ≡ rows
-    high = size.rows_are ∙ status_line r ps text s rows columns is
-
-    broad : length (line_at old.page 0) ≡ columns
-    broad = size.columns_are ∙ status_columns r ps text s rows columns is
-
-    next : (p : Piece) (new : View) → piece_at (pieces r ps text) n ≡ p → 0 < p.rect.columns → (n < length r.boxes.items → all_scalars (caption_text (part_at ps n)) ≡ true) → Stage r ps text n old → (IsFree p.rect old.page → Lays p old new) → Stage r ps text (n + 1) new
-    next p new e some caption stage lays =
-        let free : IsFree p.rect old.page = subst (λ (q : Piece). IsFree q.rect old.page) e
-        (is_free (pieces r ps text) rows columns (pieces_tile r ps text s rows columns is) n lt old high broad stage.holds (subst (λ (q : Piece). 0 < q.rect.columns) (sym e) some))
-        in
+  module _ (n : ℕ) (lt : n < length (pieces r ps text)) where
+    next : (p : Piece) (old new : View) → piece_at (pieces r ps text) n ≡ p → (n < length r.boxes.items → all_scalars (caption_text (part_at ps n)) ≡ true) → Stage r ps text n old → (IsFree p.rect old.page → Lays p old new) → Stage r ps text (n + 1) new
+    next p old new e caption stage lays =
+        let tiles = pieces_tile r ps text s rows columns is in
+        let free : IsFree p.rect old.page = subst (λ (q : Piece). IsFree q.rect old.page) e (stage.free n (omega arith) lt) in
         let put : Lays (piece_at (pieces r ps text) n) old new = subst (λ (q : Piece). Lays q old new) (sym e) (lays free) in
         record {
-          holds = laid_more (pieces r ps text) rows columns (pieces_tile r ps text s rows columns is) n lt old new stage.holds put;
-          rest = put.rest ∙ ap (λ (v : View). record v { page = new.page }) stage.rest;
+          covers = laid_more (pieces r ps text) rows columns tiles n lt old new stage.covers put;
+          free = λ k after inside. still_free (piece_at (pieces r ps text) k).rect (piece_at (pieces r ps text) n) old new (apart (pieces r ps text) rows columns tiles k inside n (omega (arith, after))) put
+              (stage.free k (omega (arith, after)) inside);
           captions = λ k h b. ⊎_elim
               (λ (before : k < n). stage.captions k before b)
               (λ (last : n ≤ k). let same : n ≡ k = omega arith in subst (λ (i : ℕ). all_scalars (caption_text (part_at ps i)) ≡ true) same (caption (omega (arith, b, same))))
               (cases_lt k n);
         }
 
-    placed : (p : Piece) → piece_at (pieces r ps text) n ≡ p → 0 < p.rect.rows → 0 < p.rect.columns → IsPlaced p.rect old.page
-    placed p e tall some = subst (λ (q : Piece). IsPlaced q.rect old.page) e
+    placed : (p : Piece) (old : View) → HasSize r.status.line r.status.columns old → piece_at (pieces r ps text) n ≡ p → 0 < p.rect.rows → 0 < p.rect.columns → IsPlaced p.rect old.page
+    placed p old size e tall some =
+        let high : length old.page ≡ rows = size.rows_are ∙ status_line r ps text s rows columns is in
+        let broad : length (line_at old.page 0) ≡ columns = size.columns_are ∙ status_columns r ps text s rows columns is in
+        subst (λ (q : Piece). IsPlaced q.rect old.page) e
         (is_placed (pieces r ps text) rows columns (pieces_tile r ps text s rows columns is) n lt old high broad (subst (λ (q : Piece). 0 < q.rect.rows) (sym e) tall) (subst (λ (q : Piece). 0 < q.rect.columns) (sym e) some))
 
-  pub box_stage : (n : ℕ) (rect : Rect) (part : Part) (old new : View) → n < length r.boxes.items → rect ≡ box_at r n → part ≡ part_at ps n → HasSize r.status.line r.status.columns old → Stage r ps text n old
+  pub box_stage : (n : ℕ) (rect : Rect) (part : Part) (old new : View) → n < length r.boxes.items → rect ≡ box_at r n → part ≡ part_at ps n → Stage r ps text n old
       → (HasPairedLines part → IsFree rect old.page → Lays (record { rect = rect; cell = box_cell rect (n == r.focus) part }) old new) → (0 < rect.rows → all_scalars (caption_text part) ≡ true) → Stage r ps text (n + 1) new
-  box_stage n rect part old new lt re pe size stage lays characters =
+  box_stage n rect part old new lt re pe stage lays characters =
       let inside : n < length (pieces r ps text) = omega (arith, lt, pieces_length r ps text) in
       let here : HasPairedLines (part_at ps n) → IsFree (box_at r n) old.page → Lays (region_piece r ps n) old new =
       subst (λ (x : Rect). HasPairedLines (part_at ps n) → IsFree x old.page → Lays (record { rect = x; cell = box_cell x (n == r.focus) (part_at ps n) }) old new) re
       (subst (λ (y : Part). HasPairedLines y → IsFree rect old.page → Lays (record { rect = rect; cell = box_cell rect (n == r.focus) y }) old new) pe lays)
       in
       let room = box_roomy r ps text s rows columns is n r.status lt in
-      next n inside old size (region_piece r ps n) new (region_at r ps text n lt) (omega (arith, room.1))
+      next n inside (region_piece r ps n) old new (region_at r ps text n lt)
       (λ h. subst (λ (y : Part). all_scalars (caption_text y) ≡ true) pe (characters (rw re (omega (arith, room.0))))) stage (here (is.paired n))
 
-  pub separator_stage : (n : ℕ) (rect d : Rect) (old new : View) → n < length r.separators.items → rect ≡ get_or r.separators.items n d → HasSize r.status.line r.status.columns old → Stage r ps text (length r.boxes.items + n) old
+  pub separator_stage : (n : ℕ) (rect d : Rect) (old new : View) → n < length r.separators.items → rect ≡ get_or r.separators.items n d → Stage r ps text (length r.boxes.items + n) old
       → (rect.columns ≡ 1 → IsFree rect old.page → Lays (separator_piece rect) old new) → Stage r ps text (length r.boxes.items + (n + 1)) new
-  separator_stage n rect d old new lt re size stage lays =
+  separator_stage n rect d old new lt re stage lays =
       let inside : length r.boxes.items + n < length (pieces r ps text) = omega (arith, lt, pieces_length r ps text) in
       let one : rect.columns ≡ 1 = ap (λ (x : Rect). x.columns) re ∙ separator_narrow r ps text s rows columns is n d lt in
       let more : length r.boxes.items + n + 1 ≡ length r.boxes.items + (n + 1) = omega arith in
       subst (λ (k : ℕ). Stage r ps text k new) more
-      (next (length r.boxes.items + n) inside old size (separator_piece rect) new (separator_at r ps text n d lt ∙ ap separator_piece (sym re)) (omega (arith, one)) (λ h. absurd (omega arith)) stage (lays one))
+      (next (length r.boxes.items + n) inside (separator_piece rect) old new (separator_at r ps text n d lt ∙ ap separator_piece (sym re)) (λ h. absurd (omega arith)) stage (lays one))
 
-  pub status_stage : (n : ℕ) (old new : View) → n ≡ length r.separators.items → HasSize r.status.line r.status.columns old → Stage r ps text (length r.boxes.items + n) old
+  pub status_stage : (n : ℕ) (old new : View) → n ≡ length r.separators.items → Stage r ps text (length r.boxes.items + n) old
       → (r.status.rows ≡ 1 → IsFree r.status old.page → Lays (status_piece r.status text) old new) → Stage r ps text (length (pieces r ps text)) new
-  status_stage n old new e size stage lays =
+  status_stage n old new e stage lays =
       let inside : length r.boxes.items + n < length (pieces r ps text) = omega (arith, e, pieces_length r ps text) in
       let more : length r.boxes.items + n + 1 ≡ length (pieces r ps text) = omega (arith, e, pieces_length r ps text) in
-      let some : 0 < r.status.columns = rw (status_columns r ps text s rows columns is) (omega (arith, columns_some r ps text s rows columns is)) in
       subst (λ (k : ℕ). Stage r ps text k new) more
-      (next (length r.boxes.items + n) inside old size (status_piece r.status text) new (ap (λ (k : ℕ). piece_at (pieces r ps text) (length r.boxes.items + k)) e ∙ status_at r ps text) some (λ h. absurd (omega arith)) stage (lays (status_rows r ps text s rows columns is)))
+      (next (length r.boxes.items + n) inside (status_piece r.status text) old new (ap (λ (k : ℕ). piece_at (pieces r ps text) (length r.boxes.items + k)) e ∙ status_at r ps text) (λ h. absurd (omega arith)) stage (lays (status_rows r ps text s rows columns is)))
 
   pub focus_placed : (v : View) → HasSize r.status.line r.status.columns v → IsPlaced (box_at r r.focus) v.page
   focus_placed v size =
       let inside : r.focus < length (pieces r ps text) = omega (arith, is.focus, pieces_length r ps text) in
       let room = box_roomy r ps text s rows columns is r.focus r.status is.focus in
-      placed r.focus inside v size (region_piece r ps r.focus) (region_at r ps text r.focus is.focus) (omega (arith, room.0)) (omega (arith, room.1))
+      placed r.focus inside (region_piece r ps r.focus) v size (region_at r ps text r.focus is.focus) (omega (arith, room.0)) (omega (arith, room.1))
+
+  all_held : (v : View) → HasSize r.status.line r.status.columns v → IsGrid v.page → Stage r ps text (length (pieces r ps text)) v → Holds (pieces r ps text) v
+  all_held v size grid stage =
+      all_hold (pieces r ps text) rows columns (pieces_tile r ps text s rows columns is) v grid (size.rows_are ∙ status_line r ps text s rows columns is) (size.columns_are ∙ status_columns r ps text s rows columns is)
+      (subst (λ (xs : List Piece). Covers xs v) (take-length (pieces r ps text)) stage.covers)
 
   pub composed : (old new : View) → HasSize r.status.line r.status.columns old → IsGrid old.page → Stage r ps text (length (pieces r ps text)) old → FocusesOn (box_at r r.focus) (part_at ps r.focus) old new → new ≡ view_of r ps text
   unfolding view_in
   composed old new size grid stage focused =
-      let holds : Holds (pieces r ps text) old = subst (λ (xs : List Piece). Holds xs old) (take-length (pieces r ps text)) stage.holds in
+      let holds : Holds (pieces r ps text) old = all_held old size grid stage in
       focused ∙ ap (λ (p : Page). record {
         page = p;
         cursor = cursor_of (box_at r r.focus) (part_at ps r.focus);
         has_application_arrows = arrows_of (part_at ps r.focus);
         has_application_keypad = keypad_of (part_at ps r.focus);
       }) (page-is (pieces r ps text) old r.status.line r.status.columns grid size.rows_are size.columns_are holds)
+
+-- ---- pages on which all pieces are free
+
+some_boxes : (s : Shape) (r : Rect) → 0 < length (boxes s r)
+some_boxes region r = omega arith
+some_boxes (split Below a b) r = omega (arith, length-append (boxes a (upper r)) (boxes b (lower r)), some_boxes a (upper r))
+some_boxes (split Right a b) r = omega (arith, length-append (boxes a (left r)) (boxes b (right r)), some_boxes a (left r))
+
+one_box : (s : Shape) (r : Rect) → length (boxes s r) ≡ 1 → (boxes s r ≡ r ∷ []) × (separators s r ≡ [])
+one_box region r h = (refl, refl)
+one_box (split Below a b) r h = absurd (omega (arith, h, length-append (boxes a (upper r)) (boxes b (lower r)), some_boxes a (upper r), some_boxes b (lower r)))
+one_box (split Right a b) r h = absurd (omega (arith, h, length-append (boxes a (left r)) (boxes b (right r)), some_boxes a (left r), some_boxes b (right r)))
+
+module _ (r : Rects) (ps : List Part) (text : List ℕ) (s : Shape) (rows columns : ℕ) (is : AreParts s rows columns r ps) (v : View) (size : HasSize r.status.line r.status.columns v) where
+  high_page : length v.page ≡ rows
+  high_page = size.rows_are ∙ status_line r ps text s rows columns is
+
+  broad_page : length (line_at v.page 0) ≡ columns
+  broad_page = size.columns_are ∙ status_columns r ps text s rows columns is
+
+  -- a blank one
+  pub blank_free : ((l c : ℕ) → place v.page l c ≡ blank) → AreFree (pieces r ps text) v.page
+  blank_free blanks n lt = free_on_blanks (pieces r ps text) rows columns (pieces_tile r ps text s rows columns is) n lt v high_page broad_page some blanks
+    where
+      some : 0 < (piece_at (pieces r ps text) n).rect.columns
+      some = ⊎_elim
+          (λ (h : n < length r.boxes.items). rw (region_at r ps text n h) (omega (arith, (box_roomy r ps text s rows columns is n r.status h).1)))
+          (λ (h : length r.boxes.items ≤ n). ⊎_elim
+          (λ (k : n - length r.boxes.items < length r.separators.items).
+          let e : length r.boxes.items + (n - length r.boxes.items) ≡ n = omega (arith, h) in
+          let at = separator_at r ps text (n - length r.boxes.items) r.status k in
+          let one = separator_narrow r ps text s rows columns is (n - length r.boxes.items) r.status k in
+          subst (λ (i : ℕ). 0 < (piece_at (pieces r ps text) i).rect.columns) e (rw at (omega (arith, one))))
+          (λ (k : length r.separators.items ≤ n - length r.boxes.items).
+          let e : length r.boxes.items + length r.separators.items ≡ n = omega (arith, h, k, lt, pieces_length r ps text) in
+          let wide = columns_some r ps text s rows columns is in
+          subst (λ (i : ℕ). 0 < (piece_at (pieces r ps text) i).rect.columns) e (rw (status_at r ps text) (omega (arith, wide, status_columns r ps text s rows columns is))))
+          (cases_lt (n - length r.boxes.items) (length r.separators.items)))
+          (cases_lt n (length r.boxes.items))
+
+  -- any one, where a region has it alone
+  pub lone_free : length r.boxes.items ≡ 1 → IsGrid v.page → AreFree (pieces r ps text) v.page
+  lone_free one grid n lt = ⊎_elim
+      (λ (h : n < length r.boxes.items).
+      let first : n ≡ 0 = omega (arith, h, one) in
+      let rect_is : (piece_at (pieces r ps text) n).rect ≡ box_of rows columns = ap (λ (p : Piece). p.rect) (region_at r ps text n h) ∙ ap (λ (k : ℕ). box_at r k) first ∙ ap (λ (bs : List Rect). get_or bs 0 r.status) (is.rects.boxes_are ∙ alone.0) in
+      subst (λ (x : Rect). IsFree x v.page) (sym rect_is) (free_if_wide (box_of rows columns) v.page grid refl (sym broad_page) (omega arith) (omega (arith, high_page, grid.size.least_rows))))
+      (λ (h : length r.boxes.items ≤ n).
+      let no_bars : length r.separators.items ≡ 0 = ap length (is.rects.separators_are ∙ alone.1) in
+      let last : n ≡ length r.boxes.items + length r.separators.items = omega (arith, h, lt, no_bars, pieces_length r ps text) in
+      let rect_is : (piece_at (pieces r ps text) n).rect ≡ status_of rows columns = ap (λ (k : ℕ). (piece_at (pieces r ps text) k).rect) last ∙ ap (λ (p : Piece). p.rect) (status_at r ps text) ∙ is.rects.status_is in
+      subst (λ (x : Rect). IsFree x v.page) (sym rect_is) (free_if_wide (status_of rows columns) v.page grid refl (sym broad_page) (omega (arith, high_page, grid.size.least_rows)) (omega (arith, high_page))))
+      (cases_lt n (length r.boxes.items))
+    where
+      alone : (boxes s (box_of rows columns) ≡ box_of rows columns ∷ []) × (separators s (box_of rows columns) ≡ [])
+      alone = one_box s (box_of rows columns) (sym (ap length is.rects.boxes_are) ∙ one)
 
 -- ---- the parts of panes
 
@@ -281,9 +338,9 @@ pub all_there : (r : Rects) (panes : List Pane) (s : Shape) (rows columns k : �
 all_there r panes s rows columns k is lt = let n : length (map part_of panes) ≡ length panes = length-map panes part_of in omega (arith, is.each, n, lt)
 
 module _ (r : Rects) (ps : List Part) (text : List ℕ) (s : Shape) (rows columns : ℕ) (is : AreParts s rows columns r ps) where
-  pub drawable_view : (old new : View) → Stage r ps text (length (pieces r ps text)) old → new.page ≡ old.page → AreDrawable ps → all_scalars (chars (utf8_lossy text)) ≡ true → IsDrawable new
-  drawable_view old new stage same drawable status =
-      let holds : Holds (pieces r ps text) old = subst (λ (xs : List Piece). Holds xs old) (take-length (pieces r ps text)) stage.holds in
+  pub drawable_view : (old new : View) → HasSize r.status.line r.status.columns old → IsGrid old.page → Stage r ps text (length (pieces r ps text)) old → new.page ≡ old.page → AreDrawable ps → all_scalars (chars (utf8_lossy text)) ≡ true → IsDrawable new
+  drawable_view old new size grid stage same drawable status =
+      let holds : Holds (pieces r ps text) old = all_held r ps text s rows columns is old size grid stage in
       let captions : (n : ℕ) → n < length ps → all_scalars (caption_text (part_at ps n)) ≡ true = λ n h. stage.captions n (omega (arith, h, is.each, pieces_length r ps text)) (omega (arith, h, is.each)) in
       let drawn = view_drawn (pieces r ps text) rows columns old (pieces_tile r ps text s rows columns is) (pieces_drawn r ps text drawable captions status) holds in
       record { lines = λ line h. subst (λ (p : Page). IsDrawableLine (line_at p line)) (sym same) (drawn.lines line (rw (← same) h)) }

@@ -12,8 +12,8 @@ use Rattle.view.specs.declared.view.Cursor.{Cursor}
 use Rattle.view.specs.Drawable.{IsDrawable}
 use Rattle.view.specs.Granted.{Part, AreParts, AreDrawable, HasPairedLines}
 use Rattle.view.specs.Granted.{parts_of, box_at, part_at, box_piece, separator_piece, status_piece}
-use Rattle.view.specs.Granted.{caption_text, cursor_of, view_of}
-use Rattle.view.specs.Rows.{IsFree, IsPlaced, Lays, FocusesOn, row_of, row_piece}
+use Rattle.view.specs.Granted.{caption_text, cursor_of, pieces, view_of}
+use Rattle.view.specs.Rows.{IsFree, AreFree, IsPlaced, Lays, FocusesOn, row_of, row_piece}
 use Rattle.view.specs.View.{place_of}
 
 -- the granted view, where these are the parts of a page
@@ -26,6 +26,12 @@ abbrev pub ShowsDrawable : Rects → List Part → View → Type 0
 ShowsDrawable r parts v =
     (s : Shape) (rows columns : ℕ) →
     AreParts s rows columns r parts → AreDrawable parts → IsDrawable v
+
+-- Each piece has a free rectangle, where these are the parts of a page.
+abbrev pub HasFreePieces : Rects → List Part → List ℕ → View → Type 0
+HasFreePieces r parts status v =
+    (s : Shape) (rows columns : ℕ) →
+    AreParts s rows columns r parts → AreFree (pieces r parts status) v.page
 
 -- Paired cells, one for each column, are laid over a row of a rectangle where it is free.
 abbrev pub LaysRow : Rect → ℕ → List Cell → View → View → Type 0

@@ -1,8 +1,8 @@
 -- Rows of cells, and pieces that are laid over a page.
-use Rattle.std.specs.Prelude.{◌≡◌, ℕ, ◌+◌, ◌<◌, ◌≤◌, nat_lt, Bool, true, if◌then◌else◌}
-use Rattle.std.specs.Prelude.{List, length}
+use Rattle.std.specs.Prelude.{◌≡◌, ℕ, ◌+◌, ◌<◌, ◌≤◌, nat_lt, Bool, true, false, if◌then◌else◌}
+use Rattle.std.specs.Prelude.{List, length, slice_index_or}
 use Rattle.cells.specs.declared.cell.Cell.{Cell}
-use Rattle.cells.specs.Line.{blank, cell_at}
+use Rattle.cells.specs.Line.{blank, cell_at, is_left, is_right}
 use Rattle.cells.specs.Page.{line_at}
 use Rattle.regions.specs.declared.rect.Rect.{Rect}
 use Rattle.regions.specs.Pages.{has}
@@ -61,12 +61,25 @@ pub record IsPlaced (r : Rect) (page : List (List Cell)) : Type 0 where
   pub wide : 0 < r.columns
   pub inside : (line column : ℕ) → has r line column ≡ true → IsOnPage page line column
 
--- a rectangle of a page, in which nothing but blanks stands
+-- a rectangle of a page, at whose edges no wide character is cut in two
 pub record IsFree (r : Rect) (page : List (List Cell)) : Type 0 where
   pub wide : 0 < r.columns
   pub inside : (line column : ℕ) → has r line column ≡ true → IsOnPage page line column
-  pub blanks : (line column : ℕ) → has r (line + 1) (column + 1) ≡ true
-      → place page line column ≡ blank
+  pub starts : (line column : ℕ) → has r (line + 1) (column + 1) ≡ true
+      → column + 1 ≡ r.column → is_right (place page line column).shape ≡ false
+  pub ends : (line column : ℕ) → has r (line + 1) (column + 1) ≡ true
+      → column + 2 ≡ r.column + r.columns → is_left (place page line column).shape ≡ false
+
+-- a piece without a place
+abbrev pub nowhere : Piece
+nowhere = record {
+  rect = record { line = 0; column = 0; rows = 0; columns = 0 };
+  cell = λ row column. blank;
+}
+
+-- the rectangles of these pieces are free
+abbrev pub AreFree : List Piece → List (List Cell) → Type 0
+AreFree ps page = (n : ℕ) → n < length ps → IsFree (slice_index_or ps n nowhere).rect page
 
 -- what stands at a place of a page once a piece was laid over it
 abbrev pub laid : Piece → List (List Cell) → ℕ → ℕ → Cell

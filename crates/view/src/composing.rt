@@ -1,11 +1,13 @@
 //! Panes, separators and the status line on one page.
 
-ghost use Rattle.std.specs.Prelude.{◌≡◌, ◌<◌, true, IfOk, OnOk, chars};
+ghost use Rattle.std.specs.Prelude.{◌≡◌, ◌<◌, true, IsTrue, IfOk, OnOk, chars, length};
 ghost use Rattle.std.specs.Str.{all_scalars};
 ghost use Rattle.std.specs.Str.Lossy.{utf8_lossy};
+ghost use Rattle.cells.specs.Page.{IsGrid};
 ghost use Rattle.view.specs.View.{HasSize, KeepsSize};
 ghost use Rattle.view.specs.Granted.{read, window_of, part_of, parts_of, key_modes_of};
-ghost use Rattle.view.specs.Composing.{ShowsParts, ShowsDrawable, HasScalarCaption};
+ghost use Rattle.view.specs.Composing.{ShowsParts, ShowsDrawable, HasFreePieces};
+ghost use Rattle.view.specs.Composing.{HasScalarCaption};
 ghost use Rattle.view.specs.Composing.{LaysRow, LaysBox, LaysSeparator, LaysStatus};
 ghost use Rattle.view.specs.Composing.{TakesFocus, FocusesOnFocused, IsCursorOf};
 
@@ -32,9 +34,58 @@ pub fn compose(
     ensures drawable { IfOk result (λ v. ShowsDrawable rects.now (parts_of panes.now) v) }
 {
     let page = rects.status;
-    let Ok(mut view) = View::blank(alloc, page.line as usize, page.columns as usize) else {
+    let Ok(view) = View::blank(alloc, page.line as usize, page.columns as usize) else {
         return Err(AllocError);
     };
+    compose_on(alloc, view, rects, panes, status)
+}
+
+/// The same in the memory of another view, whatever that shows, where it has the page's size and
+/// one region has the page alone.
+pub fn compose_over(
+    alloc: Global,
+    spare: Option<View>,
+    rects: &Rects,
+    panes: &[Pane],
+    status: &[u8],
+) -> Result<View, AllocError>
+    ensures size { IfOk result (λ v. HasSize rects.now.status.line rects.now.status.columns v) }
+    ensures exact { IfOk result (λ v. ShowsParts rects.now (parts_of panes.now) status.now v) }
+    ensures drawable { IfOk result (λ v. ShowsDrawable rects.now (parts_of panes.now) v) }
+{
+    match spare {
+        Some(view) if is_covered(&view, rects) => compose_on(alloc, view, rects, panes, status),
+        _ => compose(alloc, rects, panes, status),
+    }
+}
+
+/// Whether a view has the size of a page that one region has alone: all that is put there is as wide
+/// as the page, and nothing of the view stays.
+fn is_covered(view: &View, rects: &Rects) -> bool
+    ensures size { IsTrue result → HasSize rects.now.status.line rects.now.status.columns view.now }
+    ensures lone { IsTrue result → length rects.now.boxes.items ≡ 1 }
+    ensures grid { IsTrue result → IsGrid view.now.page }
+{
+    rects.boxes.len() == 1
+        && view.rows() == rects.status.line as usize
+        && view.columns() == rects.status.columns as usize
+}
+
+/// A view over which panes are put in their boxes, with separators and the status line: they cover
+/// the page.
+fn compose_on(
+    alloc: Global,
+    mut view: View,
+    rects: &Rects,
+    panes: &[Pane],
+    status: &[u8],
+) -> Result<View, AllocError>
+    requires size { HasSize rects.now.status.line rects.now.status.columns view }
+    requires free { HasFreePieces rects.now (parts_of panes.now) status.now view }
+    ensures size { IfOk result (λ v. HasSize rects.now.status.line rects.now.status.columns v) }
+    ensures exact { IfOk result (λ v. ShowsParts rects.now (parts_of panes.now) status.now v) }
+    ensures drawable { IfOk result (λ v. ShowsDrawable rects.now (parts_of panes.now) v) }
+{
     for place in 0..rects.boxes.len() {
         if let Some(pane) = panes.get(place) {
             view.put_box(alloc, rects.boxes[place], pane, place == rects.focus)?;
@@ -43,7 +94,7 @@ pub fn compose(
     for separator in &rects.separators {
         view.put_separator(*separator);
     }
-    view.put_status(alloc, page, status)?;
+    view.put_status(alloc, rects.status, status)?;
     view.focus(rects, panes);
     Ok(view)
 }

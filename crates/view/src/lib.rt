@@ -7,6 +7,6 @@ mod region_rows;
 mod text;
 mod view;
 
-pub use composing::compose;
+pub use composing::{compose, compose_over};
 pub use pane::{Contents, Pane};
 pub use view::{Cursor, KeyModes, View};

@@ -3,7 +3,7 @@ use Rattle.regions.specs.Shapes.{Shape}
 use Rattle.view.specs.View.{HasSize}
 use Rattle.view.specs.Granted.{AreParts, part_of}
 use Rattle.view.proofs.Pieces.{Stage}
-use Rattle.view.proofs.composing.compose.Given as goal
+use Rattle.view.proofs.composing.compose_on.Given as goal
 
 abbrev pub invariant-loop-place : goal.invariant-loop-place
 invariant-loop-place l = record {
