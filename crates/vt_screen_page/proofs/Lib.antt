@@ -2,3 +2,4 @@ pub mod Stored
 pub mod Clearing
 pub mod Turning
 pub mod Sizes
+pub mod RunsIn

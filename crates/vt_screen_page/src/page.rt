@@ -1,8 +1,8 @@
 //! The page of a screen.
 
 ghost use Rattle.std.specs.Prelude.{◌≡◌, ℕ, ◌+◌, ◌*◌, ◌-◌, ◌<◌, ◌≤◌, ◌↔◌, [], ◌∷◌, length, replicate};
-ghost use Rattle.std.specs.Prelude.{IfOk, OnOk, OnErr, Err, slice_index};
-ghost use Rattle.cells.specs.Line.{blank, unprotected_erased, narrow_cells};
+ghost use Rattle.std.specs.Prelude.{IfOk, OnOk, OnErr, Err, false, slice_index};
+ghost use Rattle.cells.specs.Line.{blank, unprotected_erased, narrow_cells, plain};
 ghost use Rattle.cells.specs.Wide.{wide_cells};
 ghost use Rattle.cells.specs.Page.{IsGrid, IsGridSize, line_at, page_from, page_marked};
 ghost use Rattle.cells.specs.Page.{page_spliced, edited};
@@ -24,8 +24,8 @@ use std::marker::Model;
 pub struct Page {
     alloc: Global,
     stored: Vec<Line>,
-    /// The stored line of each line of the page.
-    places: Vec<usize>,
+    /// The stored line of each line of the page. They are bytes, since a scroll moves them all.
+    places: Vec<u8>,
 }
 
 impl Model for Page {
@@ -84,7 +84,7 @@ impl Page {
     pub fn columns(&self) -> usize
         ensures { result ≡ length (line_at self.now.lines 0) }
     {
-        self.stored[self.places[0]].width()
+        self.stored[self.places[0] as usize].width()
     }
 
     /// The cells of a line, from the left.
@@ -92,7 +92,7 @@ impl Page {
         requires { line < length self.now.lines }
         ensures { result.now ≡ line_at self.now.lines line }
     {
-        self.stored[self.places[line]].cells()
+        self.stored[self.places[line] as usize].cells()
     }
 
     /// The stored line that holds a line of the page. No memory is taken.
@@ -102,7 +102,7 @@ impl Page {
         ensures alone { (other : ℕ) → other < length self.now.lines
             → slice_index self.now.places other ≡ result → other ≡ line }
     {
-        self.places[line]
+        self.places[line] as usize
     }
 
     /// Puts blanks into a line, and lets its old cells from `rest` on follow them.
@@ -117,7 +117,7 @@ impl Page {
         ensures places { self.new.places ≡ self.old.places }
     {
         let place = self.places[line];
-        self.stored[place].splice(at, count, rest);
+        self.stored[place as usize].splice(at, count, rest);
     }
 
     /// Puts a cell of width 1 into a line, and lets its old cells from `rest` on follow it.
@@ -131,7 +131,7 @@ impl Page {
         ensures places { self.new.places ≡ self.old.places }
     {
         let place = self.places[line];
-        self.stored[place].put_narrow(at, cell, rest);
+        self.stored[place as usize].put_narrow(at, cell, rest);
     }
 
     /// Puts the halves of a wide character into a line, and lets its old cells from `rest` on
@@ -148,7 +148,7 @@ impl Page {
         ensures places { self.new.places ≡ self.old.places }
     {
         let place = self.places[line];
-        self.stored[place].put_wide(at, left, right, rest);
+        self.stored[place as usize].put_wide(at, left, right, rest);
     }
 
     /// Puts a run of characters of width 1 into a line, in place of as many old cells: `codes` has
@@ -169,7 +169,7 @@ impl Page {
         ensures places { self.new.places ≡ self.old.places }
     {
         let place = self.places[line];
-        self.stored[place].put_run(at, codes, rendition, is_protected);
+        self.stored[place as usize].put_run(at, codes, rendition, is_protected);
     }
 
     /// The same as `put_run`, of characters.
@@ -189,7 +189,7 @@ impl Page {
         ensures places { self.new.places ≡ self.old.places }
     {
         let place = self.places[line];
-        self.stored[place].put_letters(at, letters, rendition, is_protected);
+        self.stored[place as usize].put_letters(at, letters, rendition, is_protected);
     }
 
     /// Puts a run of characters of width 2 into a line, in place of twice as many old cells. What is
@@ -210,7 +210,7 @@ impl Page {
         ensures places { self.new.places ≡ self.old.places }
     {
         let place = self.places[line];
-        self.stored[place].put_wide_run(at, characters, rendition, is_protected);
+        self.stored[place as usize].put_wide_run(at, characters, rendition, is_protected);
     }
 
     /// Erases the cells of a line from `from` on and below `end`, but for protected ones.
@@ -223,7 +223,7 @@ impl Page {
         ensures places { self.new.places ≡ self.old.places }
     {
         let place = self.places[line];
-        self.stored[place].erase_unprotected(from, end);
+        self.stored[place as usize].erase_unprotected(from, end);
     }
 
     /// Lets a mark join the cell of a place, which drops it where it has two.
@@ -234,7 +234,7 @@ impl Page {
         ensures places { self.new.places ≡ self.old.places }
     {
         let place = self.places[line];
-        self.stored[place].mark(column, mark);
+        self.stored[place as usize].mark(column, mark);
     }
 
     /// Makes the lines from `first` on and below `end` blank.
@@ -320,6 +320,29 @@ impl Page {
             self.places.as_mut_slice(),
             ring,
             bottom,
+        );
+    }
+
+    /// The same, where a run of characters of width 1 takes the first columns of the new line: `codes`
+    /// has their code points.
+    pub fn scroll_in_run(&mut self, ring: &mut Ring, bottom: usize, codes: &[u8])
+        requires inside { bottom < length self.old.lines }
+        requires width { ring.old.columns ≡ length (line_at self.old.lines 0) }
+        requires some { 0 < length codes.now }
+        requires room { length codes.now ≤ ring.old.columns }
+        ensures lines { self.new.lines
+            ≡ page_spliced bottom 0 (narrow_cells codes.now plain false) (length codes.now)
+            (page_from (scrolled_up 0 bottom 1) self.old.lines) }
+        ensures places { self.new.places ≡ turned 0 bottom 1 self.old.places }
+        ensures kept { ring.new ≡ taken_in ring.old (line_at self.old.lines 0) }
+        ensures stands { Continues ring.old ring.new (line_at self.old.lines 0) }
+    {
+        store::scroll_in_run(
+            self.stored.as_mut_slice(),
+            self.places.as_mut_slice(),
+            ring,
+            bottom,
+            codes,
         );
     }
 

@@ -1,9 +1,10 @@
 //! Work on the stored lines of a page and on their places.
 
 ghost use Rattle.std.specs.Prelude.{◌≡◌, ℕ, ◌+◌, ◌-◌, ◌<◌, ◌≤◌, ◌++◌, length, map, replicate};
-ghost use Rattle.std.specs.Prelude.{IfOk, drop, slice_index, take};
+ghost use Rattle.std.specs.Prelude.{IfOk, drop, false, slice_index, take};
 ghost use Rattle.std.specs.List.{range_with_len};
-ghost use Rattle.cells.specs.Page.{line_at, page_from};
+ghost use Rattle.cells.specs.Line.{blank, narrow_cells, plain};
+ghost use Rattle.cells.specs.Page.{line_at, page_from, page_spliced};
 ghost use Rattle.cells.specs.Moves.{scrolled_up, scrolled_down, erased_lines};
 ghost use Rattle.scrollback.specs.Kept.{taken_in, Continues};
 ghost use Rattle.cells.specs.Resizing.{line_resized, page_resized};
@@ -14,7 +15,7 @@ use scrollback::Ring;
 use std::alloc::{AllocError, Global};
 
 /// Lets the places from `top` to `bottom` go round, so that the first `count` of them come last.
-pub fn turn(places: &mut [usize], top: usize, bottom: usize, count: usize)
+pub fn turn(places: &mut [u8], top: usize, bottom: usize, count: usize)
     requires order { top ≤ bottom }
     requires inside { bottom < length places.old }
     requires room { count ≤ bottom + 1 - top }
@@ -31,7 +32,7 @@ pub fn turn(places: &mut [usize], top: usize, bottom: usize, count: usize)
 
 // The library's `rotate_left` clears 4 KB of room each time.
 /// Lets the first `count` of some places come last: turned round in two parts, and then as a whole.
-fn rotate(places: &mut [usize], count: usize)
+fn rotate(places: &mut [u8], count: usize)
     requires { count ≤ length places.old }
     ensures { places.new ≡ drop count places.old ++ take count places.old }
 {
@@ -41,17 +42,17 @@ fn rotate(places: &mut [usize], count: usize)
 }
 
 /// Makes the lines at some places blank.
-pub fn clear_lines(stored: &mut [Line], places: &[usize])
+pub fn clear_lines(stored: &mut [Line], places: &[u8])
     requires { (k : ℕ) → k < length places.now → slice_index places.now k < length stored.old }
     ensures { AreCleared stored.old stored.new places.now }
 {
     for place in places {
-        stored[*place].clear();
+        stored[*place as usize].clear();
     }
 }
 
 /// Makes the lines of the page from `first` on and below `end` blank.
-pub fn erase_lines(stored: &mut [Line], places: &[usize], first: usize, end: usize)
+pub fn erase_lines(stored: &mut [Line], places: &[u8], first: usize, end: usize)
     requires store { IsStore stored.old places.now }
     requires order { first ≤ end }
     requires inside { end ≤ length places.now }
@@ -63,7 +64,7 @@ pub fn erase_lines(stored: &mut [Line], places: &[usize], first: usize, end: usi
 }
 
 /// Scrolls the lines of the page from `top` to `bottom` up by `count`.
-pub fn scroll_up(stored: &mut [Line], places: &mut [usize], top: usize, bottom: usize, count: usize)
+pub fn scroll_up(stored: &mut [Line], places: &mut [u8], top: usize, bottom: usize, count: usize)
     requires store { IsStore stored.old places.old }
     requires order { top ≤ bottom }
     requires inside { bottom < length places.old }
@@ -78,13 +79,7 @@ pub fn scroll_up(stored: &mut [Line], places: &mut [usize], top: usize, bottom: 
 }
 
 /// Scrolls the lines of the page from `top` to `bottom` down by `count`.
-pub fn scroll_down(
-    stored: &mut [Line],
-    places: &mut [usize],
-    top: usize,
-    bottom: usize,
-    count: usize,
-)
+pub fn scroll_down(stored: &mut [Line], places: &mut [u8], top: usize, bottom: usize, count: usize)
     requires store { IsStore stored.old places.old }
     requires order { top ≤ bottom }
     requires inside { bottom < length places.old }
@@ -101,7 +96,7 @@ pub fn scroll_down(
 
 /// Scrolls the lines of the page from the first one to `bottom` up by one, the first one into a
 /// ring, which hands a line back that becomes the blank one.
-pub fn scroll_into(stored: &mut [Line], places: &mut [usize], ring: &mut Ring, bottom: usize)
+pub fn scroll_into(stored: &mut [Line], places: &mut [u8], ring: &mut Ring, bottom: usize)
     requires store { IsStore stored.old places.old }
     requires inside { bottom < length places.old }
     requires width { ring.old.columns ≡ length (line_at (lines_in_order stored.old places.old) 0) }
@@ -114,9 +109,38 @@ pub fn scroll_into(stored: &mut [Line], places: &mut [usize], ring: &mut Ring, b
         (line_at (lines_in_order stored.old places.old) 0) }
 {
     let place = places[0];
-    let line = &mut stored[place];
+    let line = &mut stored[place as usize];
     ring.exchange(line);
     line.clear();
+    turn(places, 0, bottom, 1);
+}
+
+/// The same, where a run of characters of width 1 takes the first columns of the new line.
+pub fn scroll_in_run(
+    stored: &mut [Line],
+    places: &mut [u8],
+    ring: &mut Ring,
+    bottom: usize,
+    codes: &[u8],
+)
+    requires store { IsStore stored.old places.old }
+    requires inside { bottom < length places.old }
+    requires width { ring.old.columns ≡ length (line_at (lines_in_order stored.old places.old) 0) }
+    requires some { 0 < length codes.now }
+    requires room { length codes.now ≤ ring.old.columns }
+    ensures store { IsStore stored.new places.new }
+    ensures page { lines_in_order stored.new places.new
+        ≡ page_spliced bottom 0 (narrow_cells codes.now plain false) (length codes.now)
+        (page_from (scrolled_up 0 bottom 1) (lines_in_order stored.old places.old)) }
+    ensures places { places.new ≡ turned 0 bottom 1 places.old }
+    ensures kept { ring.new ≡ taken_in ring.old (line_at (lines_in_order stored.old places.old) 0) }
+    ensures stands { Continues ring.old ring.new
+        (line_at (lines_in_order stored.old places.old) 0) }
+{
+    let place = places[0];
+    let line = &mut stored[place as usize];
+    ring.exchange(line);
+    line.clear_behind_run(codes);
     turn(places, 0, bottom, 1);
 }
 
@@ -131,12 +155,13 @@ pub fn fill_all(stored: &mut [Line], cell: Cell)
 }
 
 /// The places of so many lines in the order of the store.
-pub fn places_in_order(alloc: Global, rows: usize) -> Result<Vec<usize>, AllocError>
+pub fn places_in_order(alloc: Global, rows: usize) -> Result<Vec<u8>, AllocError>
+    requires { rows ≤ 256 }
     ensures { IfOk result (λ places. places.items ≡ range_with_len 0 rows) }
 {
     let mut places = Vec::with_capacity(alloc, rows)?;
     for row in 0..rows {
-        places.push(row)?;
+        places.push(row as u8)?;
     }
     Ok(places)
 }
@@ -145,7 +170,7 @@ pub fn places_in_order(alloc: Global, rows: usize) -> Result<Vec<usize>, AllocEr
 fn resized_line(
     alloc: Global,
     stored: &[Line],
-    places: &[usize],
+    places: &[u8],
     row: usize,
     columns: usize,
 ) -> Result<Line, AllocError>
@@ -154,7 +179,7 @@ fn resized_line(
         (λ line. line ≡ line_resized columns (line_at (lines_in_order stored.now places.now) row)) }
 {
     if row < places.len() {
-        stored[places[row]].resized(alloc, columns)
+        stored[places[row] as usize].resized(alloc, columns)
     } else {
         Line::blank(alloc, columns)
     }
@@ -164,7 +189,7 @@ fn resized_line(
 pub fn resized_lines(
     alloc: Global,
     stored: &[Line],
-    places: &[usize],
+    places: &[u8],
     rows: usize,
     columns: usize,
 ) -> Result<Vec<Line>, AllocError>
