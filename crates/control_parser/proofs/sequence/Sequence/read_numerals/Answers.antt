@@ -1,47 +1,62 @@
-use Rattle.std.proofs.Common.{◌≡◌, ◌+◌, ◌<◌, ◌∷◌, [], List, ℕ, length, take, subst, true, false, Some, slice_index_or, arith, ap, sym, ◌∙◌}
-use Rattle.std.proofs.lemmas.Bool.Decides.{nat_tests}
+use Rattle.std.proofs.Common.{◌+◌, ◌<◌, ◌-◌, ◌∷◌, ◌++◌, [], List, ℕ, drop, length, take, subst, false, Some, slice_index_or, arith, ap, sym, ◌∙◌}
+use Rattle.std.proofs.lemmas.List.{get_or-take, get_or-drop}
 use Rattle.charsets.specs.declared.unit.Coding.TheVariants.{Utf8}
 use Rattle.control_parser.specs.declared.func.Func.TheVariants.{Csi}
 use Rattle.control_parser.specs.declared.state.Text.{Text}
-use Rattle.control_parser.specs.Text.{is_digit}
+use Rattle.control_parser.specs.Text.{value_of, with_last}
 use Rattle.control_parser.specs.Spelling.{ReadsAs}
 use Rattle.control_parser.specs.Steps.{valued, TakesDigits}
-use Rattle.control_parser.proofs.Sequences.{no-text, sequence-whole, no-digits, number-read, next-read, length-with_last}
+use Rattle.control_parser.proofs.Sequences.{IsNumerals, no-text, sequence-whole, no-digits, value-read, next-read}
 use Rattle.control_parser.proofs.sequence.Sequence.read_numerals.Goals as goal
-use Rattle.control_parser.proofs.sequence.Sequence.read_numerals.Goals.{then-c-ge48+then-c-le57, else-c-ge48+then-c-eq59+then-len-lt16}
 
 pub loop-at-init : goal.loop-at-init
 loop-at-init c = record {
-  begun = false;
+  inside = omega arith;
   read = record {
-    inside = search;
-    text = no-text ∙ ap (λ (t : Text). Some (valued (record t { begun = false }) 0)) (sym c.clear.ensures);
-    digits = λ on. subst (λ (t : Text). TakesDigits (record t { begun = false })) (sym c.clear.ensures) no-digits;
+    begun = false;
+    read = record {
+      inside = search;
+      text = no-text ∙ ap (λ (t : Text). Some (valued (record t { begun = false }) 0)) (sym c.clear.ensures);
+      digits = λ on. subst (λ (t : Text). TakesDigits (record t { begun = false })) (sym c.clear.ensures) no-digits;
+    };
   };
 }
 
-pub push-requires : goal.push-requires
-push-requires c =
-    let same = ap length c.set_last.ensures ∙ length-with_last c.loop-at.self-inside.text.params c.loop-at.value in
-    omega arith
-
-pub returns-then-c-le126-clause-reads : goal.returns-then-c-le126-clause-reads
-returns-then-c-le126-clause-reads c = λ some.
-    let r = c.loop-at.invariant.read in
-    subst (λ (params : List ℕ). ReadsAs Utf8 (0x1B ∷ 0x5B ∷ take (c.loop-at.at + 1) c.args.bytes.now) (Csi c.loop-at.self-inside.text.mark params c.loop-at.self-inside.text.intermediates (slice_index_or c.args.bytes.now c.loop-at.at 0) ∷ []))
-    (sym c.set_last-then-c-le126.ensures)
-    (sequence-whole c.args.bytes.now c.loop-at.at (valued (record c.loop-at.self-inside.text { begun = c.loop-at.invariant.begun }) c.loop-at.value) (omega arith) r.inside r.text (omega arith) (omega arith))
-
 pub loop-at-preserved : goal.loop-at-preserved
 loop-at-preserved c =
-    let b : ℕ = slice_index_or c.args.bytes.now c.loop-at.at 0 in
-    elim c.if-c-ge48.branch [
-      | then-c-ge48+then-c-le57 w ↦
-          let d : is_digit b ≡ true = grind (arith, nat_tests) in
-          rw (w.self-inside-is, w.value-is)
-          (number-read c.args.bytes.now c.loop-at.at c.loop-at.self-inside.text c.loop-at.value w.longer-value.result (omega arith) c.loop-at.invariant d w.longer-value.ensures)
-      | else-c-ge48+then-c-eq59+then-len-lt16 w ↦
-          let few : length w.set_last.new.self < 16 = (let same = ap length w.set_last.ensures ∙ length-with_last c.loop-at.self-inside.text.params c.loop-at.value in omega arith) in
-          rw (w.self-inside-is, w.value-is, w.push.ensures)
-          (next-read c.args.bytes.now c.loop-at.at c.loop-at.self-inside.text c.loop-at.value w.set_last.new.self (omega arith) c.loop-at.invariant (omega arith) w.set_last.ensures few)
-    ]
+    let bytes : List ℕ = c.args.bytes.now in
+    let rest : List ℕ = take (length bytes - c.loop-at.at) (drop c.loop-at.at bytes) in
+    let text = c.loop-at.self-inside.text in
+    let count = c.numeral-value.result.1 in
+    let is = c.numeral-value.ensures in
+    let some : c.loop-at.at + count < length bytes = omega (arith, is.few, c.loop-at-test.true) in
+    let read : IsNumerals bytes (c.loop-at.at + count) text (value_of rest count) =
+    value-read bytes rest c.loop-at.at count text (omega (arith, some))
+    (λ k h. get_or-take (length bytes - c.loop-at.at) (drop c.loop-at.at bytes) k 0 (omega (arith, h, some)) ∙ get_or-drop c.loop-at.at bytes k 0)
+    c.loop-at.invariant.read is.digits in
+    let params = c.set_last.ensures ∙ ap (with_last text.params) is.value in
+    let few : length c.set_last.new.self < 16 = omega (arith, c.if-len-lt16.true, c.len.ensures) in
+    record {
+      inside = omega (arith, some);
+      read = rw (c.push_absent.ensures) (subst (λ n. IsNumerals bytes n (record text { params = c.set_last.new.self ++ 0 ∷ [] }) 0) (omega arith)
+          (next-read bytes (c.loop-at.at + count) text (value_of rest count) c.set_last.new.self some read c.if-c-eq59.true params few));
+    }
+
+pub returns-then-c-le126-clause-reads : goal.returns-then-c-le126-clause-reads
+returns-then-c-le126-clause-reads c = λ positive.
+    let bytes : List ℕ = c.args.bytes.now in
+    let rest : List ℕ = take (length bytes - c.loop-at.at) (drop c.loop-at.at bytes) in
+    let text = c.loop-at.self-inside.text in
+    let count = c.numeral-value.result.1 in
+    let is = c.numeral-value.ensures in
+    let some : c.loop-at.at + count < length bytes = omega (arith, is.few, c.loop-at-test.true) in
+    let read : IsNumerals bytes (c.loop-at.at + count) text (value_of rest count) =
+    value-read bytes rest c.loop-at.at count text (omega (arith, some))
+    (λ k h. get_or-take (length bytes - c.loop-at.at) (drop c.loop-at.at bytes) k 0 (omega (arith, h, some)) ∙ get_or-drop c.loop-at.at bytes k 0)
+    c.loop-at.invariant.read is.digits in
+    let params = c.set_last.ensures ∙ ap (with_last text.params) is.value in
+    let r = read.read in
+    subst (λ n. ReadsAs Utf8 (0x1B ∷ 0x5B ∷ take n bytes) (Csi text.mark c.set_last.new.self text.intermediates (slice_index_or bytes (c.loop-at.at + count) 0) ∷ [])) (omega arith)
+    (subst (λ (values : List ℕ). ReadsAs Utf8 (0x1B ∷ 0x5B ∷ take (c.loop-at.at + count + 1) bytes) (Csi text.mark values text.intermediates (slice_index_or bytes (c.loop-at.at + count) 0) ∷ []))
+    (sym params)
+    (sequence-whole bytes (c.loop-at.at + count) (valued (record text { begun = read.begun }) (value_of rest count)) some r.inside r.text (omega arith) (omega arith)))
