@@ -1,13 +1,13 @@
-use Rattle.std.proofs.Common.{◌+◌, ◌<◌, ◌-◌, ◌∷◌, ◌++◌, [], List, ℕ, drop, length, take, subst, false, Some, slice_index_or, arith, ap, sym, ◌∙◌}
+use Rattle.std.proofs.Common.{◌+◌, ◌<◌, ◌-◌, ◌∷◌, ◌++◌, [], refl, List, ℕ, drop, length, take, subst, false, Some, slice_index_or, arith, ap, sym, ◌∙◌}
 use Rattle.std.proofs.lemmas.List.{get_or-take, get_or-drop}
 use Rattle.charsets.specs.declared.unit.Coding.TheVariants.{Utf8}
 use Rattle.control_parser.specs.declared.func.Func.TheVariants.{Csi}
 use Rattle.control_parser.specs.declared.state.Text.{Text}
 use Rattle.control_parser.specs.Text.{value_of, with_last}
 use Rattle.control_parser.specs.Spelling.{ReadsAs}
-use Rattle.control_parser.specs.Steps.{valued, TakesDigits}
-use Rattle.control_parser.proofs.Sequences.{IsNumerals, no-text, sequence-whole, no-digits, value-read, next-read}
-use Rattle.control_parser.proofs.sequence.Sequence.read_numerals.Goals as goal
+use Rattle.control_parser.specs.Steps.{no_text, valued}
+use Rattle.control_parser.proofs.Sequences.{IsNumerals, no-text, sequence-whole, value-read, next-read}
+use Rattle.control_parser.proofs.numerals.Numerals.read.Goals as goal
 
 pub loop-at-init : goal.loop-at-init
 loop-at-init c = record {
@@ -16,8 +16,8 @@ loop-at-init c = record {
     begun = false;
     read = record {
       inside = search;
-      text = no-text ∙ ap (λ (t : Text). Some (valued (record t { begun = false }) 0)) (sym c.clear.ensures);
-      digits = λ on. subst (λ (t : Text). TakesDigits (record t { begun = false })) (sym c.clear.ensures) no-digits;
+      text = no-text ∙ ap (λ (values : List ℕ). Some (valued (record no_text { params = values }) 0)) (sym c.clear.ensures);
+      digits = λ on. record { few = refl; inside = refl };
     };
   };
 }
@@ -26,7 +26,7 @@ pub loop-at-preserved : goal.loop-at-preserved
 loop-at-preserved c =
     let bytes : List ℕ = c.args.bytes.now in
     let rest : List ℕ = take (length bytes - c.loop-at.at) (drop c.loop-at.at bytes) in
-    let text = c.loop-at.self-inside.text in
+    let text : Text = record no_text { params = c.loop-at.self-inside.params } in
     let count = c.numeral-value.result.1 in
     let is = c.numeral-value.ensures in
     let some : c.loop-at.at + count < length bytes = omega (arith, is.few, c.loop-at-test.true) in
@@ -46,7 +46,7 @@ pub returns-then-c-le126-clause-reads : goal.returns-then-c-le126-clause-reads
 returns-then-c-le126-clause-reads c = λ positive.
     let bytes : List ℕ = c.args.bytes.now in
     let rest : List ℕ = take (length bytes - c.loop-at.at) (drop c.loop-at.at bytes) in
-    let text = c.loop-at.self-inside.text in
+    let text : Text = record no_text { params = c.loop-at.self-inside.params } in
     let count = c.numeral-value.result.1 in
     let is = c.numeral-value.ensures in
     let some : c.loop-at.at + count < length bytes = omega (arith, is.few, c.loop-at-test.true) in
