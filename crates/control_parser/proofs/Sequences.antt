@@ -1,5 +1,5 @@
 -- A control sequence that stands whole.
-use Rattle.std.proofs.Common.{◌≡◌, ℕ, suc, ◌+◌, ◌-◌, ◌<◌, Bool, true, false, cond, arith, List, [], ◌∷◌, ◌++◌, length, take, get_or, Some, refl, sym, ap, ◌∙◌, subst, lt-ltb}
+use Rattle.std.proofs.Common.{◌≡◌, ℕ, zero, suc, ◌+◌, ◌-◌, ◌<◌, ◌≤◌, Bool, true, false, cond, arith, List, [], ◌∷◌, ◌++◌, length, take, get_or, Some, refl, sym, ap, ◌∙◌, subst, lt-ltb}
 use Rattle.std.specs.List.{list_all}
 use Rattle.std.proofs.lemmas.List.{take_more}
 use Rattle.charsets.specs.declared.unit.Coding.TheVariants.{Utf8}
@@ -9,7 +9,7 @@ use Rattle.control_parser.specs.Grammar.{is_sequence_text, nothing}
 use Rattle.control_parser.specs.Steps.{text_grown, no_text, valued, TakesDigits}
 use Rattle.control_parser.specs.Kept.{parts}
 use Rattle.control_parser.specs.Spelling.{ReadsAs}
-use Rattle.control_parser.specs.Text.{fields, is_intermediate, is_digit, longer, last_value, with_last, digit_added}
+use Rattle.control_parser.specs.Text.{fields, is_intermediate, is_digit, longer, value_of, last_value, with_last, digit_added}
 use Rattle.std.specs.Prelude.{◌==◌}
 use Rattle.std.proofs.lemmas.Bool.Decides.{nat_tests}
 use Rattle.control_parser.proofs.Digits.{digit-last, last-stays}
@@ -116,6 +116,18 @@ number-read bytes at t value next l r d n = record {
   begun = true;
   read = digit-read bytes at (record t { begun = r.begun }) value next true l r.read refl d n;
 }
+
+-- so many digits more: `rest` has the bytes from there on
+pub value-read : (bytes rest : List ℕ) (at count : ℕ) (t : Text) → at + count ≤ length bytes → ((k : ℕ) → k < count → get_or rest k 0 ≡ get_or bytes (at + k) 0) → IsNumerals bytes at t 0
+    → ((k : ℕ) → k < count → is_digit (get_or rest k 0) ≡ true) → IsNumerals bytes (at + count) t (value_of rest count)
+value-read bytes rest at zero t room same r digits = subst (λ n. IsNumerals bytes n t 0) (omega arith) r
+value-read bytes rest at (suc count) t room same r digits =
+    let here : get_or rest count 0 ≡ get_or bytes (at + count) 0 = same count (omega arith) in
+    subst (λ n. IsNumerals bytes n t (value_of rest (suc count))) (omega arith)
+    (number-read bytes (at + count) t (value_of rest count) (value_of rest (suc count)) (omega arith)
+    (value-read bytes rest at count t (omega arith) (λ k h. same k (omega arith)) r (λ k h. digits k (omega arith)))
+    (ap is_digit (sym here) ∙ digits count (omega arith))
+    (ap (λ d. longer (value_of rest count) (d - 0x30)) here))
 
 next-grown : (t : Text) → TakesDigits t → length t.params < 16 → text_grown t 0x3B ≡ Some (record t { begun = true; params = t.params ++ 0 ∷ [] })
 next-grown t takes few =

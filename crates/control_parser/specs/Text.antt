@@ -1,7 +1,7 @@
 -- The text of a control sequence: what stands between CSI and the final byte (ECMA-48, 5.4).
-use Rattle.std.specs.Prelude.{ℕ, ◌+◌, ◌-◌, ◌*◌, Bool, not, ◌&&◌, ◌||◌, nat_lt, nat_le, ◌==◌}
+use Rattle.std.specs.Prelude.{ℕ, zero, suc, ◌+◌, ◌-◌, ◌*◌, Bool, not, ◌&&◌, ◌||◌, nat_lt, nat_le, ◌==◌}
 use Rattle.std.specs.Prelude.{if◌then◌else◌, List, [], ◌∷◌, length, take, map, min, Option, Some}
-use Rattle.std.specs.Prelude.{None}
+use Rattle.std.specs.Prelude.{None, slice_index}
 use Rattle.std.specs.List.{list_all}
 use Rattle.charsets.specs.Units.{is_plain}
 
@@ -93,3 +93,8 @@ abbrev pub digit_added : List ℕ → ℕ → List ℕ
 digit_added [] digit = []
 digit_added (n ∷ []) digit = longer n digit ∷ []
 digit_added (n ∷ m ∷ ns) digit = n ∷ digit_added (m ∷ ns) digit
+
+-- the value of so many digits at the front of some bytes
+abbrev pub value_of : List ℕ → ℕ → ℕ
+value_of bytes zero = 0
+value_of bytes (suc count) = longer (value_of bytes count) (slice_index bytes count - 0x30)

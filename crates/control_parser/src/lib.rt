@@ -4,6 +4,7 @@
 mod func;
 mod intermediates;
 mod laws;
+mod numerals;
 mod params;
 mod parser;
 mod plain;
@@ -17,6 +18,7 @@ pub use laws::{
     can_ends_all, each_is_spelled, graphic_codes_print, pieces_are_whole, plain_bytes_print,
     readings_join, spelled_ones_read_back, unended_go_on, whole_ones_join,
 };
+pub use numerals::Numerals;
 pub use params::Params;
 pub use parser::Parser;
 pub use plain::plain_run;

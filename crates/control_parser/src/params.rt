@@ -130,4 +130,12 @@ impl Params {
         self.values[self.count] = value;
         self.count += 1;
     }
+
+    /// One parameter more, absent: the places behind the last one are 0.
+    pub(crate) fn push_absent(&mut self)
+        requires { length self.old < 16 }
+        ensures { self.new ≡ self.old ++ 0 ∷ [] }
+    {
+        self.count += 1;
+    }
 }

@@ -50,49 +50,7 @@ impl Sequence {
     /// Reads the control sequence that goes on with these bytes behind its CSI, and gives how many
     /// of them it has. It gives 0 where the sequence doesn't end within them, is ignored, or has a
     /// control inside.
-    #[inline(always)]
     pub fn read(&mut self, bytes: &[u8]) -> usize
-        ensures reads { ReadsBehindCsi result bytes.now self.new }
-        ensures few { result ≤ length bytes.now }
-    {
-        let count = self.read_numerals(bytes);
-        if count > 0 {
-            return count;
-        }
-        self.read_any(bytes)
-    }
-
-    /// The same of the commonest ones: it gives 0 too where anything but digits and semicolons
-    /// stands before the final byte.
-    #[inline(always)]
-    fn read_numerals(&mut self, bytes: &[u8]) -> usize
-        ensures reads { ReadsBehindCsi result bytes.now self.new }
-        ensures few { result ≤ length bytes.now }
-    {
-        self.text.clear();
-        // The last parameter so far, which is written down where it ends.
-        let mut value = 0;
-        for (at, &c) in bytes.iter().enumerate() {
-            if b'0' <= c && c <= b'9' {
-                value = longer(value, c - b'0');
-            } else if c == b';' && self.text.params.len() < 16 {
-                self.text.params.set_last(value);
-                self.text.params.push(0);
-                value = 0;
-            } else if b'@' <= c && c <= b'~' {
-                self.text.params.set_last(value);
-                self.last = c;
-                return at + 1;
-            } else {
-                return 0;
-            }
-        }
-        0
-    }
-
-    /// The same of any.
-    #[inline(never)]
-    fn read_any(&mut self, bytes: &[u8]) -> usize
         ensures reads { ReadsBehindCsi result bytes.now self.new }
         ensures few { result ≤ length bytes.now }
     {

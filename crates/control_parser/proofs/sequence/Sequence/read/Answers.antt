@@ -7,8 +7,8 @@ use Rattle.control_parser.specs.Grammar.{is_sequence_text}
 use Rattle.control_parser.specs.Spelling.{ReadsAs}
 use Rattle.control_parser.specs.Steps.{valued, TakesDigits}
 use Rattle.control_parser.proofs.Sequences.{no-text, sequence-whole, no-digits, digit-read, other-read}
-use Rattle.control_parser.proofs.sequence.Sequence.read_any.Goals as goal
-use Rattle.control_parser.proofs.sequence.Sequence.read_any.Goals.{in-48-to-57, in-32-to-63+else-not-grow, then-c-lt48, in-48-to-57+else-takes_digits, else-c-lt48+else-c-lt58+then-c-lt64}
+use Rattle.control_parser.proofs.sequence.Sequence.read.Goals as goal
+use Rattle.control_parser.proofs.sequence.Sequence.read.Goals.{in-48-to-57, in-32-to-63+else-not-grow, then-c-lt48, in-48-to-57+else-takes_digits, else-c-lt48+else-c-lt58+then-c-lt64}
 
 pub loop-at-init : goal.loop-at-init
 loop-at-init c = record {

@@ -1,0 +1,62 @@
+use Rattle.std.proofs.Common.{◌+◌, ◌<◌, ◌-◌, ◌∷◌, ◌++◌, [], refl, List, ℕ, drop, length, take, subst, false, Some, slice_index_or, arith, ap, sym, ◌∙◌}
+use Rattle.std.proofs.lemmas.List.{get_or-take, get_or-drop}
+use Rattle.charsets.specs.declared.unit.Coding.TheVariants.{Utf8}
+use Rattle.control_parser.specs.declared.func.Func.TheVariants.{Csi}
+use Rattle.control_parser.specs.declared.state.Text.{Text}
+use Rattle.control_parser.specs.Text.{value_of, with_last}
+use Rattle.control_parser.specs.Spelling.{ReadsAs}
+use Rattle.control_parser.specs.Steps.{no_text, valued}
+use Rattle.control_parser.proofs.Sequences.{IsNumerals, no-text, sequence-whole, value-read, next-read}
+use Rattle.control_parser.proofs.numerals.Numerals.read.Goals as goal
+
+pub loop-at-init : goal.loop-at-init
+loop-at-init c = record {
+  inside = omega arith;
+  read = record {
+    begun = false;
+    read = record {
+      inside = search;
+      text = no-text ∙ ap (λ (values : List ℕ). Some (valued (record no_text { params = values }) 0)) (sym c.clear.ensures);
+      digits = λ on. record { few = refl; inside = refl };
+    };
+  };
+}
+
+pub loop-at-preserved : goal.loop-at-preserved
+loop-at-preserved c =
+    let bytes : List ℕ = c.args.bytes.now in
+    let rest : List ℕ = take (length bytes - c.loop-at.at) (drop c.loop-at.at bytes) in
+    let text : Text = record no_text { params = c.loop-at.self-inside.params } in
+    let count = c.numeral-value.result.1 in
+    let is = c.numeral-value.ensures in
+    let some : c.loop-at.at + count < length bytes = omega (arith, is.few, c.loop-at-test.true) in
+    let read : IsNumerals bytes (c.loop-at.at + count) text (value_of rest count) =
+    value-read bytes rest c.loop-at.at count text (omega (arith, some))
+    (λ k h. get_or-take (length bytes - c.loop-at.at) (drop c.loop-at.at bytes) k 0 (omega (arith, h, some)) ∙ get_or-drop c.loop-at.at bytes k 0)
+    c.loop-at.invariant.read is.digits in
+    let params = c.set_last.ensures ∙ ap (with_last text.params) is.value in
+    let few : length c.set_last.new.self < 16 = omega (arith, c.if-len-lt16.true, c.len.ensures) in
+    record {
+      inside = omega (arith, some);
+      read = rw (c.push_absent.ensures) (subst (λ n. IsNumerals bytes n (record text { params = c.set_last.new.self ++ 0 ∷ [] }) 0) (omega arith)
+          (next-read bytes (c.loop-at.at + count) text (value_of rest count) c.set_last.new.self some read c.if-c-eq59.true params few));
+    }
+
+pub returns-then-c-le126-clause-reads : goal.returns-then-c-le126-clause-reads
+returns-then-c-le126-clause-reads c = λ positive.
+    let bytes : List ℕ = c.args.bytes.now in
+    let rest : List ℕ = take (length bytes - c.loop-at.at) (drop c.loop-at.at bytes) in
+    let text : Text = record no_text { params = c.loop-at.self-inside.params } in
+    let count = c.numeral-value.result.1 in
+    let is = c.numeral-value.ensures in
+    let some : c.loop-at.at + count < length bytes = omega (arith, is.few, c.loop-at-test.true) in
+    let read : IsNumerals bytes (c.loop-at.at + count) text (value_of rest count) =
+    value-read bytes rest c.loop-at.at count text (omega (arith, some))
+    (λ k h. get_or-take (length bytes - c.loop-at.at) (drop c.loop-at.at bytes) k 0 (omega (arith, h, some)) ∙ get_or-drop c.loop-at.at bytes k 0)
+    c.loop-at.invariant.read is.digits in
+    let params = c.set_last.ensures ∙ ap (with_last text.params) is.value in
+    let r = read.read in
+    subst (λ n. ReadsAs Utf8 (0x1B ∷ 0x5B ∷ take n bytes) (Csi text.mark c.set_last.new.self text.intermediates (slice_index_or bytes (c.loop-at.at + count) 0) ∷ [])) (omega arith)
+    (subst (λ (values : List ℕ). ReadsAs Utf8 (0x1B ∷ 0x5B ∷ take (c.loop-at.at + count + 1) bytes) (Csi text.mark values text.intermediates (slice_index_or bytes (c.loop-at.at + count) 0) ∷ []))
+    (sym params)
+    (sequence-whole bytes (c.loop-at.at + count) (valued (record text { begun = read.begun }) (value_of rest count)) some r.inside r.text (omega arith) (omega arith)))
