@@ -8,6 +8,8 @@ use Rattle.acl.proofs.user_id.UserId.TheSendSync as user
 use Rattle.keys.proofs.reader.KeyReader.TheSendSync as reader
 use Rattle.redraw.proofs.shadow.Shadow.TheSendSync as shadow
 use Rattle.regions.proofs.Crossing.{layout_send}
+use Rattle.view.proofs.view.View.TheSendSync as view
+use Rattle.view.specs.contracts.view.View as View
 use Rattle.session_rows.proofs.rows.Rows.TheSendSync as rows
 use Rattle.session_clients.specs.contracts.client.Client as Client
 use Rattle.session_clients.specs.contracts.clients.Clients as Clients
@@ -19,4 +21,4 @@ client_send =
     declared_send Client.the_type (serial, (user.the_send, (reader.the_send, (layout_send, (other, (other, (message.the_send, (shadow.the_send, tt))))))))
 
 pub clients_send : IsSend Clients.the_row
-clients_send = view_send inside.the_row _ _ _ _ (declared_send inside.the_type (rows.the_send Client.the_row client_send, tt))
+clients_send = view_send inside.the_row _ _ _ _ (declared_send inside.the_type (rows.the_send Client.the_row client_send, (option.the_send View.the_row view.the_send, tt)))

@@ -19,7 +19,7 @@ ghost use Rattle.view.specs.Drawable.{IsDrawable};
 use crate::client::Client;
 use acl::UserId;
 use keys::KeyReader;
-use redraw::frame_keeping;
+use redraw::frame_sparing;
 use regions::{RegionFault, Shown, Way};
 use session_model::{Bytes, Effect, Message};
 use session_rows::Rows;
@@ -30,11 +30,13 @@ use view::View;
 /// The attached clients, by rising serials.
 pub struct Clients {
     rows: Rows<Client>,
+    /// A view that isn't needed any more, kept for its memory. It's no part of the value.
+    spare: Option<View>,
 }
 
 impl Drop for Clients {
     fn drop(self) {
-        let Clients { rows: _ } = self;
+        let Clients { rows: _, spare: _ } = self;
     }
 }
 
@@ -66,6 +68,7 @@ impl Clients {
     {
         Clients {
             rows: Rows::new(alloc),
+            spare: None,
         }
     }
 
@@ -245,6 +248,13 @@ impl Clients {
         client.exchange(keys, message);
     }
 
+    /// A view whose memory another one may take, if there is one.
+    pub fn take_spare(&mut self) -> Option<View>
+        ensures { self.new ≡ self.old }
+    {
+        self.spare.take()
+    }
+
     /// Draws a view for a client, of its size: the frame, or none where its terminal is known to
     /// show the view.
     pub fn draw(
@@ -264,7 +274,7 @@ impl Clients {
         let Some(client) = self.rows.get_mut(serial) else {
             return Ok(None);
         };
-        frame_keeping(alloc, &mut client.shadow, view)
+        frame_sparing(alloc, &mut client.shadow, view, &mut self.spare)
     }
 
     /// What is said to each client.

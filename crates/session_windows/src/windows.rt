@@ -1,6 +1,6 @@
 //! The open windows.
 
-ghost use Rattle.std.specs.Prelude.{◌≡◌, [], true, Some, length, option_copied};
+ghost use Rattle.std.specs.Prelude.{◌≡◌, List, [], true, Some, length, option_copied};
 ghost use Rattle.std.specs.Prelude.{IfOk, IfSome, OnOk, OnErr};
 ghost use Rattle.terminal_model.specs.Writing.{Clear, Reset, Encoding};
 
