@@ -4,14 +4,14 @@ use acl::{BitChange, CommandName, LockMode};
 use command_lang_words::{Items, Text, Texts};
 
 /// Users of a list command: all whom the session knows, or those whom words name.
-#[derive(Drop, Debug)]
+#[derive(Drop)]
 pub enum Users {
     All,
     Listed(Texts),
 }
 
 /// Whom a user is to follow.
-#[derive(Drop, Debug)]
+#[derive(Drop)]
 pub enum Leader {
     Nobody,
     Named(Text),
@@ -21,7 +21,7 @@ pub enum Leader {
 pub type BitList = Items<BitChange>;
 
 /// A mask: without users it is meant for all.
-#[derive(Drop, Debug)]
+#[derive(Drop)]
 pub struct Mask {
     pub users: Option<Users>,
     pub bits: BitList,
@@ -39,7 +39,7 @@ pub enum Coding {
 
 /// A command, with what its words mean. Names, list items and windows stay texts until the session
 /// looks them up.
-#[derive(Drop, Debug)]
+#[derive(Drop)]
 pub enum Command {
     Acladd(Users),
     Aclchg {

@@ -1,7 +1,8 @@
 //! The words of a line are a command, or have a fault.
 
 ghost use Rattle.std.specs.Prelude.{◌≡◌, ◌⊎◌, [], IfOk, IfErr, Some};
-ghost use Rattle.command_lang_table.specs.Table.{first_of};
+ghost use Rattle.command_lang_table.specs.Rows.{takes};
+ghost use Rattle.command_lang_table.specs.Table.{first_of, words_faults};
 ghost use Rattle.command_lang_table.specs.Meaning.{line_command};
 ghost use Rattle.command_lang_table.specs.LineFaults.{line_faults, no_memory};
 
@@ -10,8 +11,16 @@ use crate::command::Command;
 use crate::fault::{FaultKind, ParseFault};
 use crate::rows::row;
 use crate::table::{first_name, words_fault};
+use acl::CommandName;
 use command_lang_words::Word;
 use std::alloc::Global;
+
+/// The first fault of the words behind a command's name, in a line of that length.
+fn fault_of(name: CommandName, words: &[Word], end: usize) -> Option<ParseFault>
+    ensures { result ≡ first_of (words_faults (takes name) 0 end words.now) }
+{
+    words_fault(row(name).words, words, end)
+}
 
 /// The command of a line's words, or the first fault; the line has that length in bytes.
 pub fn command_of(alloc: Global, line: &[Word], end: usize) -> Result<Command, ParseFault>
@@ -27,7 +36,7 @@ pub fn command_of(alloc: Global, line: &[Word], end: usize) -> Result<Command, P
         });
     };
     let name = first_name(first)?;
-    if let Some(fault) = words_fault(row(name).words, rest, end) {
+    if let Some(fault) = fault_of(name, rest, end) {
         return Err(fault);
     }
     match build(alloc, name, rest) {

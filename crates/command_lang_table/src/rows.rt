@@ -8,7 +8,7 @@ use crate::needs::{CLIENT, MULTIUSER, NOTHING, Needs, PAGE_AND_WINDOW, TYPING, W
 use acl::CommandName;
 
 /// What a word has to be.
-#[derive(Clone, Copy, PartialEq, Eq, Debug)]
+#[derive(Clone, Copy)]
 pub enum Kind {
     /// Any text: a message, a title, a name, or a window's number or title.
     Text,
@@ -26,7 +26,7 @@ pub enum Kind {
 }
 
 /// The words that a command takes.
-#[derive(Clone, Copy, PartialEq, Eq, Debug)]
+#[derive(Clone, Copy)]
 pub enum Words {
     Nothing,
     One(Kind),
@@ -38,7 +38,7 @@ pub enum Words {
 
 /// A row of the table: the word that names the command, another word for it, the words that it takes
 /// and what it needs.
-#[derive(Clone, Copy, Debug)]
+#[derive(Clone, Copy)]
 pub struct Entry {
     pub name: &'static str,
     pub alias: Option<&'static str>,
@@ -49,7 +49,7 @@ pub struct Entry {
 // Tuples: a constant of a struct that holds a reference can't be cited by the definitions.
 /// The rows, in the order of `CommandName` (GNU Screen manual). `scrollview`, the three words of
 /// writelock and the limits of numbers are this project's own.
-pub const ROWS: [(&str, Option<&str>, Words, Needs); CommandName::COUNT] = [
+pub static ROWS: [(&str, Option<&str>, Words, Needs); CommandName::COUNT] = [
     ("acladd", Some("addacl"), Words::One(Kind::Items), MULTIUSER),
     (
         "aclchg",

@@ -1,7 +1,6 @@
 use Rattle.std.proofs.Common.{sym, ap, ◌∙◌, true≢false}
 use Rattle.std.specs.Option.{is_some}
 use Rattle.command_lang_table.specs.Rows.{takes}
-use Rattle.command_lang_table.specs.Table.{words_faults, first_of}
 use Rattle.command_lang_table.specs.Meaning.{texts_of}
 use Rattle.command_lang_table.proofs.Fits.{fits, means_one}
 use Rattle.command_lang_table.proofs.line.command_of.Goals as goal
@@ -10,5 +9,5 @@ pub unreachable-requires : goal.unreachable-requires
 unreachable-requires c =
     let rest = c.in-Some.rest.now in
     let n = c.in_ok-name.name in
-    let fine = ap (λ r. first_of (words_faults r 0 c.args.end rest)) (sym (ap (λ e. e.words) c.row.ensures)) ∙ sym c.words_fault.ensures ∙ c.in_default-words_fault.is in
+    let fine = sym c.fault_of.ensures ∙ c.in_default-fault_of.is in
     true≢false (sym (means_one n (texts_of rest) (fits (takes n) c.args.end rest fine)) ∙ ap is_some (sym c.in-Ok-None.ensures ∙ c.in-Ok-None.field-0-is))
