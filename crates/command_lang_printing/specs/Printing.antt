@@ -5,6 +5,7 @@ use Rattle.std.specs.List.{list_all, list_any, join_with_byte}
 use Rattle.std.specs.Str.{chars, encode_utf8_all}
 use Rattle.std.specs.Char.{is_ascii_alphanumeric}
 use Rattle.std.specs.Fmt.{decimal}
+use Prim.Native.Char.{code}
 use Rattle.acl.specs.declared.act.LockMode.{LockMode}
 use Rattle.acl.specs.declared.act.LockMode.TheVariants as lock_mode
 use Rattle.acl.specs.declared.bits.Bit.{Bit}
@@ -24,11 +25,11 @@ use Rattle.command_lang_table.specs.Values.{is_empty_text}
 
 -- The words of a command. Items have commas between them.
 abbrev pub items_word : List (List ℕ) → List ℕ
-items_word items = join_with_byte 0x2C items
+items_word items = join_with_byte (code ",") items
 
 -- an item as it stands there, where i others stand before it
 abbrev pub item_behind : ℕ → List ℕ → List ℕ
-item_behind i item = (if i == 0 then [] else 0x2C ∷ []) ++ item
+item_behind i item = (if i == 0 then [] else codes ",") ++ item
 
 abbrev pub users_word : Users → List ℕ
 users_word users.All = codes "*"
@@ -39,13 +40,13 @@ leader_word leader.Nobody = codes "none"
 leader_word (leader.Named text) = text
 
 abbrev pub letter : Bit → ℕ
-letter bit.Read = 0x72
-letter bit.Write = 0x77
-letter bit.Execute = 0x78
+letter bit.Read = code "r"
+letter bit.Write = code "w"
+letter bit.Execute = code "x"
 
 abbrev pub sign : Bool → ℕ
-sign true = 0x2B
-sign false = 0x2D
+sign true = code "+"
+sign false = code "-"
 
 -- a sign stands before the first bit, and where it is another than before
 abbrev pub sign_before : Option Bool → Bool → List ℕ

@@ -8,20 +8,21 @@
 use Rattle.std.specs.Prelude.{◌≡◌, ◌≢◌, ℕ, ◌+◌, ◌-◌, ◌*◌, Bool, true, false, ◌&&◌, nat_lt}
 use Rattle.std.specs.Prelude.{if◌then◌else◌, drop, List, [], ◌∷◌, ◌++◌, length, Option, Some, None}
 use Rattle.std.specs.Str.{encode_utf8_all}
+use Prim.Native.Char.{code}
 use Rattle.command_lang_words.specs.declared.word.Word.{Word}
 
 -- the characters that mean something
 abbrev pub space : ℕ
-space = 0x20
+space = code " "
 
 abbrev pub double_quote : ℕ
-double_quote = 0x22
+double_quote = code "\""
 
 abbrev pub single_quote : ℕ
-single_quote = 0x27
+single_quote = code "'"
 
 abbrev pub backslash : ℕ
-backslash = 0x5C
+backslash = code "\\"
 
 abbrev pub is_octal : ℕ → Bool
 is_octal c = nat_lt 0x2F c && nat_lt c 0x38

@@ -1,5 +1,6 @@
 -- The control functions that frames are made of.
 use Rattle.std.specs.Prelude.{ℕ, ◌+◌, ◌==◌, ◌<◌, Bool, if◌then◌else◌, List, [], ◌∷◌, Some, None}
+use Prim.Native.Char.{code}
 use Rattle.control_parser.specs.declared.func.Func.{Func}
 use Rattle.control_parser.specs.declared.func.Func.TheVariants.{Print, Esc, Csi}
 use Rattle.control_parser.specs.Spelling.{IsGiven}
@@ -15,19 +16,19 @@ place_params line column = if column == 0 then (line + 1) ∷ [] else (line + 1)
 
 -- DECSM and DECRM (VT220 manual, chapter 4, "Modes")
 abbrev pub switch : ℕ → Bool → Func
-switch mode on = Csi (Some 0x3F) (mode ∷ []) [] (if on then 0x68 else 0x6C)
+switch mode on = Csi (Some (code "?")) (mode ∷ []) [] (if on then code "h" else code "l")
 
 abbrev pub func_of : Command → Func
 func_of (Glyph c) = Print c
-func_of (MoveTo line column) = Csi None (place_params line column) [] 0x48
-func_of NextLine = Esc [] 0x45
-func_of (Forward n) = Csi None (n ∷ []) [] 0x43
-func_of (Render known r) = Csi None (rendition_params known r) [] 0x6D
-func_of (EraseCells n) = Csi None (n ∷ []) [] 0x58
-func_of EraseToEnd = Csi None (0 ∷ []) [] 0x4B
+func_of (MoveTo line column) = Csi None (place_params line column) [] (code "H")
+func_of NextLine = Esc [] (code "E")
+func_of (Forward n) = Csi None (n ∷ []) [] (code "C")
+func_of (Render known r) = Csi None (rendition_params known r) [] (code "m")
+func_of (EraseCells n) = Csi None (n ∷ []) [] (code "X")
+func_of EraseToEnd = Csi None (0 ∷ []) [] (code "K")
 func_of (Arrows on) = switch 1 on
 func_of (ShowCursor on) = switch 25 on
-func_of (Keypad on) = Esc [] (if on then 0x3D else 0x3E)
+func_of (Keypad on) = Esc [] (if on then code "=" else code ">")
 
 -- a place that a page can have
 abbrev pub IsPlaced : Command → Type 0

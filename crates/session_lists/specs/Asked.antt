@@ -3,6 +3,7 @@ use Rattle.std.specs.Prelude.{ℕ, ◌≡◌, ◌⊎◌, ◌++◌, not, List, []
 use Rattle.std.specs.Prelude.{Result, Ok, Err, if◌then◌else◌, map, filter, nat_eq}
 use Rattle.std.specs.List.{list_any, flat_map}
 use Rattle.std.specs.Option.{option_map, option_or}
+use Prim.Native.Char.{code}
 use Rattle.acl.specs.declared.user_id.UserId.{UserId}
 use Rattle.acl.specs.declared.act.Object.{Object}
 use Rattle.acl.specs.declared.act.Object.TheVariants as object
@@ -44,8 +45,8 @@ window_object w = object.Window w.serial
 -- what an item of # and ? names
 abbrev pub wide : List Window → List ℕ → List Object
 wide windows item =
-    (if list_any (nat_eq 0x23) item then map window_object windows else [])
-    ++ (if list_any (nat_eq 0x3F) item then every_command else [])
+    (if list_any (nat_eq (code "#")) item then map window_object windows else [])
+    ++ (if list_any (nat_eq (code "?")) item then every_command else [])
 
 -- the one command or window that an item names
 abbrev pub object_named : Tables → List ℕ → Option Object

@@ -2,6 +2,7 @@
 use Rattle.std.specs.Prelude.{ℕ, ◌==◌, List, [], ◌∷◌, Option, Some, None}
 use Rattle.std.specs.Prelude.{if◌then◌else◌, map}
 use Rattle.std.specs.Str.{chars}
+use Prim.Native.Char.{code}
 use Rattle.acl.specs.declared.user_id.UserId.{UserId}
 use Rattle.acl.specs.declared.bits.Bit.TheVariants.{Read}
 use Rattle.acl.specs.declared.act.Object.TheVariants as object
@@ -72,7 +73,7 @@ message_text t c message.AllClients = clients_text t
 -- `:` and the prompt's line while it is open, else the message
 abbrev pub status_text : Tables → Client → List ℕ
 status_text t c = elim (open_line (items c.keys).1) [
-  | Some line ↦ 0x3A ∷ line
+  | Some line ↦ code ":" ∷ line
   | None ↦ message_text t c c.message
 ]
 

@@ -5,6 +5,7 @@ use Rattle.std.specs.Prelude.{filter, map, find, length, codes}
 use Rattle.std.specs.List.{list_any, list_all, flat_map, range_with_len}
 use Rattle.std.specs.Option.{option_map, option_or, option_and_then}
 use Rattle.std.specs.Str.{chars, bytes_eq}
+use Prim.Native.Char.{code}
 use Rattle.unicode_width.specs.Width.{char_width}
 use Rattle.acl.specs.declared.user_id.UserId.{UserId}
 use Rattle.acl.specs.declared.act.Object.{Object}
@@ -102,12 +103,12 @@ every_command = map object.Command all_names
 
 -- an item made of # and ?: all windows, and all commands
 abbrev pub is_wide : List ℕ → Bool
-is_wide item = nat_lt 0 (length item) && list_all (λ b. b == 0x23 || b == 0x3F) item
+is_wide item = nat_lt 0 (length item) && list_all (λ b. b == code "#" || b == code "?") item
 
 abbrev pub wide_objects : Tables → List ℕ → List Object
 wide_objects t item =
-    (if list_any (nat_eq 0x23) item then every_window t else [])
-    ++ (if list_any (nat_eq 0x3F) item then every_command else [])
+    (if list_any (nat_eq (code "#")) item then every_window t else [])
+    ++ (if list_any (nat_eq (code "?")) item then every_command else [])
 
 -- an item of a list: # and ?, or a command's name or alias, or a window; none where it names
 -- nothing

@@ -4,6 +4,7 @@ use Rattle.std.specs.Prelude.{if◌then◌else◌, Option, Some, None}
 use Rattle.std.specs.List.{slice_split}
 use Rattle.std.specs.Option.{option_or}
 use Rattle.std.specs.Str.{is_utf8}
+use Prim.Native.Char.{code}
 use Rattle.setup_lines.specs.declared.SetupLine.{SetupLine}
 use Rattle.setup_lines.specs.declared.SetupFault.{SetupFault}
 use Rattle.setup_lines.specs.declared.SetupFault.TheVariants.{TooLong, NotText}
@@ -19,7 +20,7 @@ numbered number bytes = record { number = number; bytes = bytes }
 -- it is empty, or begins with #
 abbrev pub is_skipped : List ℕ → Bool
 is_skipped [] = true
-is_skipped (byte ∷ bytes) = byte == 0x23
+is_skipped (byte ∷ bytes) = byte == code "#"
 
 abbrev pub is_feed : ℕ → Bool
 is_feed byte = byte == 0x0A

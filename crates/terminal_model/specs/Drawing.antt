@@ -1,9 +1,11 @@
 -- What a frame may hold, and what is known of a terminal that has read it.
 use Rattle.std.specs.Prelude.{◌≡◌, ℕ, zero, suc, ◌+◌, ◌-◌, ◌<◌, ◌⊎◌, Bool, true, false}
 use Rattle.std.specs.Prelude.{if◌then◌else◌, ◌==◌, ◌&&◌, ◌||◌, not, nat_lt, nat_le, max, List, []}
-use Rattle.std.specs.Prelude.{◌∷◌, length, Option, Some, None, is_some, MatchOption}
+use Rattle.std.specs.Prelude.{◌∷◌, ◌++◌, codes, length, Option, Some, None, is_some, MatchOption}
+use Prim.Native.Char.{code}
 use Rattle.std.specs.List.{AllByRecursion, flat_map, list_all}
 use Rattle.control_parser.specs.Spelling.{spelling}
+use Rattle.charsets.specs.Entries.{entry_at, entry_or}
 use Rattle.charsets.specs.declared.unit.Unit.{Unit}
 use Rattle.charsets.specs.declared.unit.Unit.TheVariants as units
 use Rattle.charsets.specs.Shifts.{mapped}
@@ -30,7 +32,8 @@ use Rattle.terminal_model.specs.Shows.{View, seen_at, Shows, IsOfSize}
 
 -- what a frame begins with where nothing is known of the terminal: CAN, RIS, ESC % G, CSI ? 7 l
 abbrev pub frame_bytes : List ℕ
-frame_bytes = 0x18 ∷ 0x1B ∷ 0x63 ∷ 0x1B ∷ 0x25 ∷ 0x47 ∷ 0x1B ∷ 0x5B ∷ 0x3F ∷ 0x37 ∷ 0x6C ∷ []
+frame_bytes =
+    0x18 ∷ ((0x1B ∷ codes "c") ++ ((0x1B ∷ codes "%G") ++ (0x1B ∷ codes "[?7l")))
 
 -- what they make of a screen: the starting values in UTF-8, but for ?7, which is reset, and a blank
 -- page; the scrollback stays
@@ -48,28 +51,34 @@ frame_start x =
 -- how many parameters a sequence has, but for SGR, SM, RM, DECSM and DECRM: CUP, HVP and DECSTBM
 -- have two, the others one
 abbrev pub most_params : ℕ → ℕ
-most_params last =
-    if last == 0x48 then 2 else (if last == 0x66 then 2 else (if last == 0x72 then 2 else 1))
+most_params last = entry_or 1 ((code "H", 2) ∷ (code "f", 2) ∷ (code "r", 2) ∷ []) last
 
 -- DECSTR, CSI ! p, has none: one that is absent is read as 0
 abbrev pub has_no_params : List ℕ → ℕ → Bool
 has_no_params [] last = false
-has_no_params (intermediate ∷ more) last = intermediate == 0x21 && last == 0x70
+has_no_params (intermediate ∷ more) last = intermediate == code "!" && last == code "p"
 
 abbrev pub is_absent : ℕ → Bool
 is_absent n = n == 0
 
--- the meaning of each value of SGR, SM, RM, DECSM and DECRM
+-- the meaning of each value of DECSM and DECRM
+abbrev pub private_meaning : ℕ → Option (ℕ → Bool)
+private_meaning last =
+    entry_at
+    ((code "h", λ n. is_some (private_mode_set true n))
+    ∷ (code "l", λ n. is_some (private_mode_set false n)) ∷ [])
+    last
+
+-- the meaning of each value of these, and of SGR, SM and RM
 abbrev pub meaning_of : Option ℕ → List ℕ → ℕ → Option (ℕ → Bool)
 meaning_of None [] last =
-    if last == 0x6D then Some (λ n. is_some (rendered n))
-    else (if last == 0x68 then Some (λ n. is_some (mode_set true n))
-    else (if last == 0x6C then Some (λ n. is_some (mode_set false n))
-    else None))
+    entry_at
+    ((code "m", λ n. is_some (rendered n))
+    ∷ (code "h", λ n. is_some (mode_set true n))
+    ∷ (code "l", λ n. is_some (mode_set false n)) ∷ [])
+    last
 meaning_of (Some mark) [] last =
-    if mark == 0x3F && last == 0x68 then Some (λ n. is_some (private_mode_set true n))
-    else (if mark == 0x3F && last == 0x6C then Some (λ n. is_some (private_mode_set false n))
-    else None)
+    if mark == code "?" then private_meaning last else None
 meaning_of mark (x ∷ xs) last = None
 
 -- every value is named, or there are no more of them than the row has
@@ -86,7 +95,7 @@ are_values_named f = true
 -- On a page of so many lines DECSTBM isn't ignored: its margins have two lines or more.
 abbrev pub are_margins_in_order : ℕ → Func → Bool
 are_margins_in_order rows (Csi None params [] last) =
-    not (last == 0x72) || nat_lt (first params - 1) (bottom_of rows (last_line (second params)))
+    not (last == code "r") || nat_lt (first params - 1) (bottom_of rows (last_line (second params)))
 are_margins_in_order rows f = true
 
 -- a function that the screen table lists, all its values being named, and that its row doesn't

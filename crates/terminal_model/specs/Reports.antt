@@ -1,5 +1,6 @@
 -- What a terminal answers.
-use Rattle.std.specs.Prelude.{ℕ, ◌+◌, ◌-◌, cond, List, [], ◌∷◌, ◌++◌}
+use Rattle.std.specs.Prelude.{ℕ, ◌+◌, ◌-◌, codes, cond, List, [], ◌∷◌, ◌++◌}
+use Prim.Native.Char.{code}
 use Rattle.charsets.specs.declared.unit.Coding.{Coding}
 use Rattle.charsets.specs.declared.unit.Coding.TheVariants.{Utf8, Ecma35}
 use Rattle.control_parser.specs.declared.func.Func.{Func}
@@ -20,7 +21,7 @@ eight_bit_introducer Ecma35 = 0x9B ∷ []
 
 -- CSI: ESC [, or its 8-bit form after S8C1T (VT220 manual, C1 control transmission)
 abbrev pub introducer : State → List ℕ
-introducer s = cond s.has_eight_bit_reports (eight_bit_introducer s.coding) (0x1B ∷ 0x5B ∷ [])
+introducer s = cond s.has_eight_bit_reports (eight_bit_introducer s.coding) (0x1B ∷ codes "[")
 
 -- the cursor's line, from 1, and from the margins with ?6 set
 abbrev pub reported_line : State → ℕ
@@ -28,18 +29,17 @@ reported_line s = cond s.modes.counts_from_margin (s.line + 1 - s.top) (s.line +
 
 abbrev pub answer : State → Action → List ℕ
 -- DSR, CSI 5 n: CSI 0 n, ready (ECMA-48, 8.3.35)
-answer s ReportStatus = introducer s ++ 0x30 ∷ 0x6E ∷ []
+answer s ReportStatus = introducer s ++ codes "0n"
 -- DSR, CSI 6 n: CSI l ; c R, the cursor's place (ECMA-48, 8.3.14)
 answer s ReportPlace =
-    introducer s ++ (decimal (reported_line s) ++ (0x3B ∷ decimal (s.column + 1)) ++ 0x52 ∷ [])
+    introducer s ++ (decimal (reported_line s) ++ (code ";" ∷ decimal (s.column + 1)) ++ codes "R")
 -- DSR, CSI ? 15 n: CSI ? 13 n, no printer (VT220 manual, reports)
-answer s ReportPrinter = introducer s ++ 0x3F ∷ 0x31 ∷ 0x33 ∷ 0x6E ∷ []
+answer s ReportPrinter = introducer s ++ codes "?13n"
 -- DA, CSI c: CSI ? 62 ; 6 c, a VT220 with selective erasing (VT220 manual, reports; the numbers are
 -- this project's choice)
-answer s ReportAttributes = introducer s ++ 0x3F ∷ 0x36 ∷ 0x32 ∷ 0x3B ∷ 0x36 ∷ 0x63 ∷ []
+answer s ReportAttributes = introducer s ++ codes "?62;6c"
 -- DA2, CSI > c: CSI > 1 ; 10 ; 0 c (VT220 manual, reports; the numbers are this project's choice)
-answer s ReportSecondaryAttributes =
-    introducer s ++ 0x3E ∷ 0x31 ∷ 0x3B ∷ 0x31 ∷ 0x30 ∷ 0x3B ∷ 0x30 ∷ 0x63 ∷ []
+answer s ReportSecondaryAttributes = introducer s ++ codes ">1;10;0c"
 answer s _ = []
 
 abbrev pub all_answered : Screen → List Action → List ℕ

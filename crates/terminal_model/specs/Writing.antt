@@ -1,5 +1,5 @@
 -- A window's writing: its output, and what happens to its terminal in between.
-use Rattle.std.specs.Prelude.{ℕ, List, [], ◌∷◌}
+use Rattle.std.specs.Prelude.{ℕ, codes, List, [], ◌∷◌, ◌++◌}
 use Rattle.charsets.specs.declared.unit.Coding.{Coding}
 use Rattle.charsets.specs.declared.unit.Coding.TheVariants.{Utf8, Ecma35}
 use Rattle.cells.specs.Page.{IsGridSize}
@@ -21,16 +21,16 @@ IsWriting w = Unit {0}
 
 -- CSI 2 J, CSI H
 abbrev pub clear_bytes : List ℕ
-clear_bytes = 0x1B ∷ 0x5B ∷ 0x32 ∷ 0x4A ∷ 0x1B ∷ 0x5B ∷ 0x48 ∷ []
+clear_bytes = (0x1B ∷ codes "[2J") ++ (0x1B ∷ codes "[H")
 
 -- RIS
 abbrev pub reset_bytes : List ℕ
-reset_bytes = 0x1B ∷ 0x63 ∷ []
+reset_bytes = 0x1B ∷ codes "c"
 
 -- ESC % G, ESC % @
 abbrev pub coding_bytes : Coding → List ℕ
-coding_bytes Utf8 = 0x1B ∷ 0x25 ∷ 0x47 ∷ []
-coding_bytes Ecma35 = 0x1B ∷ 0x25 ∷ 0x40 ∷ []
+coding_bytes Utf8 = 0x1B ∷ codes "%G"
+coding_bytes Ecma35 = 0x1B ∷ codes "%@"
 
 -- as if the program had written these bytes, behind what has begun, which is dropped (own)
 abbrev pub reads_anew : Terminal → List ℕ → Read

@@ -2,6 +2,7 @@
 use Rattle.std.specs.Prelude.{ℕ, ◌^◌, Bool, true, false, if◌then◌else◌, ◌==◌, List, [], ◌∷◌, ◌++◌}
 use Rattle.std.specs.Prelude.{Option, Some, None, option_map, find, codes, decimal}
 use Rattle.std.specs.Str.{bytes_eq}
+use Prim.Native.Char.{code}
 use Rattle.acl.specs.declared.act.Object.{Object}
 use Rattle.acl.specs.declared.act.Object.TheVariants as object
 use Rattle.acl.specs.declared.act.PresetKind.{PresetKind}
@@ -23,13 +24,13 @@ use Rattle.line_fields.specs.Numbers.{number_below}
 -- ---- separators
 
 abbrev pub blank : ℕ
-blank = 0x20
+blank = code " "
 
 abbrev pub colon : ℕ
-colon = 0x3A
+colon = code ":"
 
 abbrev pub comma : ℕ
-comma = 0x2C
+comma = code ","
 
 -- a word and the separator behind it, and then more
 abbrev pub field : ℕ → List ℕ → List ℕ → List ℕ
@@ -61,26 +62,27 @@ user_in word = if bytes_eq word nobody then Some None else named_by word >>= som
 -- ---- bits
 
 abbrev pub sign : Bool → ℕ
-sign true = 0x2B
-sign false = 0x2D
+sign true = code "+"
+sign false = code "-"
 
 abbrev pub mark : Bit → ℕ
-mark bit.Read = 0x72
-mark bit.Write = 0x77
-mark bit.Execute = 0x78
+mark bit.Read = code "r"
+mark bit.Write = code "w"
+mark bit.Execute = code "x"
 
 -- a bit that is given or taken, as `+w`
 abbrev pub change_text : Bit → Bool → List ℕ
 change_text b value = sign value ∷ mark b ∷ []
 
 abbrev pub value_of : ℕ → Option Bool
-value_of byte = if byte == 0x2B then Some true else if byte == 0x2D then Some false else None
+value_of byte =
+    if byte == code "+" then Some true else if byte == code "-" then Some false else None
 
 abbrev pub bit_of : ℕ → Option Bit
 bit_of byte =
-    if byte == 0x72 then Some bit.Read
-    else if byte == 0x77 then Some bit.Write
-    else if byte == 0x78 then Some bit.Execute
+    if byte == code "r" then Some bit.Read
+    else if byte == code "w" then Some bit.Write
+    else if byte == code "x" then Some bit.Execute
     else None
 
 abbrev pub bit_in : List ℕ → Option Bit

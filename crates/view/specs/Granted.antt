@@ -2,9 +2,10 @@
 -- view and the pieces of a page count theirs from 0.
 use Rattle.std.specs.Prelude.{◌≡◌, ℕ, ◌+◌, ◌-◌, ◌<◌, Bool, true, false, not, ◌&&◌, ◌==◌, nat_lt}
 use Rattle.std.specs.Prelude.{if◌then◌else◌, List, [], ◌∷◌, ◌++◌, length, map, slice_index_or}
-use Rattle.std.specs.Prelude.{chars, decimal, Option, Some, None, option_map}
+use Rattle.std.specs.Prelude.{chars, codes, decimal, Option, Some, None, option_map}
 use Rattle.std.specs.List.{range_with_len}
 use Rattle.std.specs.Str.Lossy.{utf8_lossy}
+use Prim.Native.Char.{code}
 use Rattle.cells.specs.declared.cell.Cell.{Cell}
 use Rattle.cells.specs.declared.cell.Rendition.{Rendition}
 use Rattle.cells.specs.Line.{blank, plain, narrow_cell, cell_at, IsPaired}
@@ -102,9 +103,9 @@ part_cell (read w) rows columns row column = window_cell w rows columns row colu
 
 -- number, one blank, title; `?` in place of a title that may not be read; `--` where no window is
 abbrev pub caption_text : Part → List ℕ
-caption_text vacant = 0x2D ∷ 0x2D ∷ []
-caption_text (unread number) = decimal number ++ (0x20 ∷ 0x3F ∷ [])
-caption_text (read w) = decimal w.number ++ (0x20 ∷ w.title)
+caption_text vacant = codes "--"
+caption_text (unread number) = decimal number ++ codes " ?"
+caption_text (read w) = decimal w.number ++ (code " " ∷ w.title)
 
 abbrev pub reverse : Rendition
 reverse = record plain { is_reversed = true }
