@@ -97,7 +97,8 @@ impl Screen {
     pub fn print_line(&mut self, codes: &[u8])
         requires { list_all is_plain codes.now ≡ true }
         ensures effect { self.new.screen ≡ effects self.old.screen (line_of codes.now) }
-        ensures places { self.new.places ≡ effects_places self.old.screen (line_of codes.now) self.old.places }
+        ensures places { self.new.places
+            ≡ effects_places self.old.screen (line_of codes.now) self.old.places }
     {
         self.display.print_line(codes);
     }
