@@ -10,7 +10,6 @@ use Rattle.control_parser.specs.declared.func.Func.{Func}
 use Rattle.control_parser.specs.declared.func.Func.TheVariants.{Print}
 use Rattle.control_parser.specs.Grammar.{is_graphic, nothing, functions}
 use Rattle.control_parser.specs.Kept.{kept}
-use Rattle.control_parser.specs.Spelling.{ReadsAs}
 use Rattle.control_parser.proofs.Pieces.{functions-graphic}
 use Rattle.terminal_model.specs.Screen.{Screen}
 use Rattle.terminal_model.specs.Table.{effect}

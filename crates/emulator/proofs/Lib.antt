@@ -4,3 +4,4 @@ pub mod Backs
 pub mod RunLemmas
 pub mod LetterRuns
 pub mod Wholes
+pub mod LineRuns

@@ -80,6 +80,7 @@ impl Emulator {
             return 0;
         }
         match first {
+            b'\r' => self.read_return(bytes),
             ESC => self.read_escape(bytes),
             CAN | SUB => 0,
             ..0x20 => {
@@ -88,6 +89,27 @@ impl Emulator {
             }
             _ => self.read_text(bytes),
         }
+    }
+
+    /// The same of what begins with CR: where LF follows, the two and the run of bytes 20 to 7E behind
+    /// them, which mostly are a line.
+    fn read_return(&mut self, bytes: &[u8]) -> usize
+        requires begins { take 1 bytes.now ≡ 0x0D ∷ [] }
+        requires idle { IsBetween self.old }
+        requires coding { self.old.decoding.coding ≡ Utf8 }
+        ensures taken { (said : List ℕ) → HasTaken self.old bytes.now result said self.new said }
+        ensures few { result ≤ length bytes.now }
+        ensures decoding { self.new.decoding ≡ self.old.decoding }
+        ensures parsing { self.new.parsing ≡ self.old.parsing }
+    {
+        if bytes.len() < 2 || bytes[1] != b'\n' {
+            self.screen.control(b'\r');
+            return 1;
+        }
+        let rest = &bytes[2..];
+        let run = plain_front(rest);
+        self.screen.print_line(&rest[..run]);
+        run + 2
     }
 
     /// The same of what begins with ESC.

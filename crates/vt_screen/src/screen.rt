@@ -12,7 +12,7 @@ ghost use Rattle.terminal_model.specs.Sizing.{resized};
 ghost use Rattle.terminal_model.specs.Table.{effect};
 ghost use Rattle.terminal_model.specs.Reports.{report};
 ghost use Rattle.vt_screen_rows.specs.Runs.{PrintsAscii};
-ghost use Rattle.vt_screen.specs.Effects.{effects};
+ghost use Rattle.vt_screen.specs.Effects.{effects, line_of};
 ghost use Rattle.vt_screen.specs.Stored.{MovesPlaces, effects_places};
 ghost use Rattle.vt_screen.specs.Sizes.{IsScreenSize};
 
@@ -90,6 +90,17 @@ impl Screen {
             ≡ effects_places self.old.screen (map (λ code. Print code) codes.now) self.old.places }
     {
         self.display.print_run(codes);
+    }
+
+    /// Does CR and LF, and then prints characters 20 to 7E, one after another: `codes` has their code
+    /// points. It takes no memory.
+    pub fn print_line(&mut self, codes: &[u8])
+        requires { list_all is_plain codes.now ≡ true }
+        ensures effect { self.new.screen ≡ effects self.old.screen (line_of codes.now) }
+        ensures places { self.new.places
+            ≡ effects_places self.old.screen (line_of codes.now) self.old.places }
+    {
+        self.display.print_line(codes);
     }
 
     /// Prints letters, one after another. It takes no memory.

@@ -8,3 +8,4 @@ pub mod RunPlaces
 pub mod Letters
 pub mod WideRuns
 pub mod Ideographs
+pub mod LineRuns

@@ -27,7 +27,7 @@ one_place s c places t h =
 settled_place : (s : State) (c : ℕ) (places : List ℕ) → TakesRuns s → s.is_wrap_pending ≡ false → is_letter c ≡ true → acted_places s (Print (Code c)) places ≡ places
 settled_place s c places t settled h = one_place s c places t h ∙ ap (λ (b : Bool). wrapped_places b s places) settled
 
-run_places : (codes : List ℕ) (x : Screen) (places : List ℕ) → TakesRuns x.state → x.state.is_wrap_pending ≡ false → IsSound x → list_all is_letter codes ≡ true
+pub run_places : (codes : List ℕ) (x : Screen) (places : List ℕ) → TakesRuns x.state → x.state.is_wrap_pending ≡ false → IsSound x → list_all is_letter codes ≡ true
     → x.state.column + length codes ≤ x.state.columns → all_acted_places x (prints codes) places ≡ places
 run_places [] x places t settled sound h room = refl
 run_places (c ∷ []) x places t settled sound h room = settled_place x.state c places t settled (both (is_letter c) true h).0
@@ -60,7 +60,7 @@ prints_places x (c ∷ codes) places t h some sound room =
     ∙ run_places (c ∷ codes) w after takes settled sound h room
 
 -- actions behind others
-all_acted_places-append : (x : Screen) (a b : List Action) (places : List ℕ) → all_acted_places x (a ++ b) places ≡ all_acted_places (all_acted x a) b (all_acted_places x a places)
+pub all_acted_places-append : (x : Screen) (a b : List Action) (places : List ℕ) → all_acted_places x (a ++ b) places ≡ all_acted_places (all_acted x a) b (all_acted_places x a places)
 all_acted_places-append x [] b places = refl
 all_acted_places-append x (a ∷ as') b places = all_acted_places-append (acted x a) as' b (acted_places x.state a places)
 

@@ -4,7 +4,7 @@ use Rattle.std.specs.Prelude.{slice_index}
 use Rattle.charsets.specs.declared.sets.CharacterSet.TheVariants.{Ascii}
 use Rattle.charsets.specs.declared.unit.Unit.TheVariants.{Code}
 use Rattle.charsets.specs.Shifts.{set_at}
-use Rattle.cells.specs.Line.{spliced, narrow_cells}
+use Rattle.cells.specs.Line.{spliced, narrow_cells, plain}
 use Rattle.cells.specs.Wide.{wide_cells}
 use Rattle.terminal_model.specs.declared.action.Action.{Action}
 use Rattle.terminal_model.specs.declared.action.Action.TheVariants.{Print}
@@ -61,3 +61,11 @@ wides_placed characters x =
           (s.column + 2 * length characters) s.columns)
           x.page;
     }
+
+-- an index scrolls the page from its first line on, and what is printed has neither rendition nor
+-- protection
+pub record ScrollsPlain (s : State) : Type 0 where
+  pub last : s.line ≡ s.bottom
+  pub first : s.top ≡ 0
+  pub plain : s.rendition ≡ plain
+  pub unprotected : s.is_protecting ≡ false

@@ -6,6 +6,7 @@ mod apply;
 mod display;
 mod editing;
 mod erasing;
+mod lines;
 mod moving;
 mod performing;
 mod printing;

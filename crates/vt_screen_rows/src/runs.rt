@@ -47,7 +47,11 @@ impl Display {
             self.print(Unit::Code(codes[0] as char));
             return 1;
         }
-        self.wrap(self.state.is_wrap_pending);
+        if self.state.is_wrap_pending {
+            let count = codes.len().min(self.state.columns);
+            self.place_run_below(&codes[..count]);
+            return count;
+        }
         let count = codes.len().min(self.state.columns - self.state.column);
         self.place_run(&codes[..count]);
         count
@@ -179,7 +183,7 @@ impl Display {
     }
 
     /// Puts characters of width 1 in the cursor's line, in place of as many old cells.
-    fn place_run(&mut self, codes: &[u8])
+    pub fn place_run(&mut self, codes: &[u8])
         requires fit { IsFit self.old }
         requires some { 0 < length codes.now }
         requires room { self.old.state.column + length codes.now ≤ self.old.state.columns }
@@ -252,7 +256,7 @@ pub fn prints_ascii(state: &State) -> bool
 }
 
 /// Whether 20 to 7E stand for themselves, and each takes the place of an old cell.
-fn takes_runs(state: &State) -> bool
+pub fn takes_runs(state: &State) -> bool
     ensures { IsTrue result ↔ TakesRuns state.now }
 {
     let is_ascii = matches!(set_in_use(&state.shifts), CharacterSet::Ascii);

@@ -1,0 +1,101 @@
+//! Runs of characters at the beginning of a line.
+
+ghost use Rattle.std.specs.Prelude.{◌≡◌, ◌<◌, ◌≤◌, ◌∷◌, true, length, take, IsTrue};
+ghost use Rattle.std.specs.List.{list_all};
+ghost use Rattle.charsets.specs.Units.{is_plain};
+ghost use Rattle.terminal_model.specs.Printing.{wrapped};
+ghost use Rattle.terminal_model.specs.declared.action.Action.TheVariants.{CarriageReturn, LineFeed};
+ghost use Rattle.vt_screen_rows.specs.Acting.{ActsByAll, MovesLines, MovesLinesByAll};
+ghost use Rattle.vt_screen_rows.specs.Displays.{IsFit, screen_of};
+ghost use Rattle.vt_screen_rows.specs.Places.{indexed_places};
+ghost use Rattle.vt_screen_rows.specs.Runs.{ScrollsPlain, prints, run_placed};
+
+use crate::display::Display;
+use crate::runs::takes_runs;
+use cells::Cell;
+use terminal_model::State;
+use vt_screen_state::{advance, go_to_first_column};
+
+impl Display {
+    /// Does CR and LF, and then prints characters 20 to 7E, one after another: `codes` has their code
+    /// points.
+    pub fn print_line(&mut self, codes: &[u8])
+        requires fit { IsFit self.old }
+        requires plain { list_all is_plain codes.now ≡ true }
+        ensures screen { ActsByAll self.old (CarriageReturn ∷ LineFeed ∷ prints codes.now) self.new }
+        ensures fit { IsFit self.new }
+        ensures places { MovesLinesByAll self.old (CarriageReturn ∷ LineFeed ∷ prints codes.now) self.new }
+    {
+        let printed = self.begin_line(codes);
+        self.print_run(&codes[printed..]);
+    }
+
+    /// The same of the first ones of the characters, as many as have room in a line, or of none. It
+    /// gives how many are printed.
+    fn begin_line(&mut self, codes: &[u8]) -> usize
+        requires fit { IsFit self.old }
+        requires plain { list_all is_plain codes.now ≡ true }
+        ensures screen { ActsByAll self.old
+            (CarriageReturn ∷ LineFeed ∷ prints (take result codes.now)) self.new }
+        ensures fit { IsFit self.new }
+        ensures places { MovesLinesByAll self.old
+            (CarriageReturn ∷ LineFeed ∷ prints (take result codes.now)) self.new }
+        ensures few { result ≤ length codes.now }
+    {
+        if codes.is_empty() || !takes_runs(&self.state) {
+            go_to_first_column(&mut self.state);
+            self.feed_line();
+            return 0;
+        }
+        let count = codes.len().min(self.state.columns);
+        self.place_run_below(&codes[..count]);
+        count
+    }
+
+    /// Goes to the first column of the next line, as a wrap does, and puts characters of width 1
+    /// there, in place of as many old cells.
+    pub fn place_run_below(&mut self, codes: &[u8])
+        requires fit { IsFit self.old }
+        requires some { 0 < length codes.now }
+        requires room { length codes.now ≤ self.old.state.columns }
+        ensures screen { screen_of self.new
+            ≡ run_placed codes.now (wrapped true (screen_of self.old)) }
+        ensures width { self.new.ring.columns ≡ self.old.ring.columns }
+        ensures places { MovesLines self.old indexed_places self.new }
+    {
+        if scrolls_plain(&self.state) {
+            self.scroll_in_run(codes);
+        } else {
+            self.wrap(true);
+            self.place_run(codes);
+        }
+    }
+
+    /// The same where the lines of the page's margins go up by one, of which the first one is the
+    /// page's, and the characters have neither rendition nor protection.
+    #[inline(always)]
+    fn scroll_in_run(&mut self, codes: &[u8])
+        requires fit { IsFit self.old }
+        requires some { 0 < length codes.now }
+        requires room { length codes.now ≤ self.old.state.columns }
+        requires scrolls { ScrollsPlain self.old.state }
+        ensures screen { screen_of self.new
+            ≡ run_placed codes.now (wrapped true (screen_of self.old)) }
+        ensures width { self.new.ring.columns ≡ self.old.ring.columns }
+        ensures places { MovesLines self.old indexed_places self.new }
+    {
+        self.page
+            .scroll_in_run(&mut self.ring, self.state.bottom, codes);
+        self.state.column = codes.len() - 1;
+        advance(&mut self.state, 1);
+    }
+}
+
+/// Whether an index scrolls the page from its first line on, and what is printed has neither
+/// rendition nor protection.
+fn scrolls_plain(state: &State) -> bool
+    ensures { IsTrue result → ScrollsPlain state.now }
+{
+    let space = Cell::narrow(' ', state.rendition, state.is_protecting);
+    state.line == state.bottom && state.top == 0 && space.is_blank()
+}
