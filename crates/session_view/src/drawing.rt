@@ -16,10 +16,11 @@ pub fn draw(state: &mut State, client: u32, made: &mut StepOutput) -> Result<(),
     ensures refused { IsRefusedFor client state.old result }
     ensures err { OnErr result (IsAsBefore state.old state.new made.old made.new) }
 {
+    let spare = state.clients.take_spare();
     let Some(row) = state.clients.get(client) else {
         return Err(Refusal::NoWindow);
     };
-    let view = view_for(state, row)?;
+    let view = view_for(state, row, spare)?;
     made.effects.reserve(1)?;
     let Some(bytes) = state.clients.draw(state.alloc, client, view)? else {
         return Ok(());

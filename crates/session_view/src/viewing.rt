@@ -10,11 +10,15 @@ use session_clients::Client;
 use session_model::Refusal;
 use session_state::State;
 use std::alloc::AllocError;
-use view::{View, compose};
+use view::{View, compose_over};
 
-/// What a client is granted to see. Each region of its page has room, so no memory is the only
-/// reason not to have its rectangles.
-pub(crate) fn view_for(state: &State, client: &Client) -> Result<View, AllocError>
+/// What a client is granted to see, in the memory of a spare view where that has room for it. Each
+/// region of its page has room, so no memory is the only reason not to have its rectangles.
+pub(crate) fn view_for(
+    state: &State,
+    client: &Client,
+    spare: Option<View>,
+) -> Result<View, AllocError>
     ensures size { IfOk result (HasSize client.now.shadow.rows client.now.shadow.columns) }
     ensures granted { IfOk result (IsViewFor state.now client.now) }
 {
@@ -26,7 +30,7 @@ pub(crate) fn view_for(state: &State, client: &Client) -> Result<View, AllocErro
     let parts = parts(state, client.user, client.layout.shown())?;
     let panes = panes(state.alloc, &parts)?;
     let status = status_text(state, client)?;
-    compose(state.alloc, &rects, &panes, status.as_slice())
+    compose_over(state.alloc, spare, &rects, &panes, status.as_slice())
 }
 
 /// What a client is granted to see: all its regions, each window as far as its user may read it,
@@ -37,5 +41,5 @@ pub fn view_of(state: &State, client: u32) -> Result<View, Refusal>
     let Some(client) = state.clients.get(client) else {
         return Err(Refusal::NoWindow);
     };
-    Ok(view_for(state, client)?)
+    Ok(view_for(state, client, None)?)
 }

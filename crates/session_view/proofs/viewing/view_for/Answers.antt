@@ -14,7 +14,7 @@ returns-clause-granted c =
     let row = c.args.client.now in
     let text : c.as_slice.result.now ≡ c.in_ok-status.status = cc in
     view_is c.args.state.now row c.in-Ok.rects (map part_of c.deref-2.result.now)
-    c.as_slice.result.now c.compose.result
+    c.as_slice.result.now c.compose_over.result
     (subst
     (λ n. IsRects row.layout.shape row.layout.focus n row.shadow.columns c.in-Ok.rects)
     c.rows-rows.ensures
@@ -30,4 +30,4 @@ returns-clause-granted c =
     (subst (λ (shown : List Shown). Matched (ShowsPart t row.user) shown c.in_ok-parts.parts.items)
     c.shown.ensures.value (c.in_ok-parts.ensures t st fit))))
     (subst (SaysStatus c.args.state.now row) (sym text) c.in_ok-status.ensures)
-    c.compose.ensures.size c.compose.ensures.exact c.compose.ensures.drawable
+    c.compose_over.ensures.size c.compose_over.ensures.exact c.compose_over.ensures.drawable
