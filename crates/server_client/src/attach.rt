@@ -1,7 +1,7 @@
 //! `mux`: a client, a window or a command.
 
 use crate::fault::{ClientFault, Gone};
-use crate::opening::{Opened, Way, number, open, warn_of_token};
+use crate::opening::{Opened, Way, open, size, warn_of_token};
 use crate::refusals::explain;
 use crate::showing::show;
 use crate::standing::{Intake, Outlet, Shared, Standing};
@@ -34,7 +34,7 @@ fn shared_of<R: Net + Files<File = File> + AllocGlobal, I: Drop, O: Drop>(
     let alloc = rt.alloc();
     let (rows, columns) = match way {
         Way::Command => (0, 0),
-        Way::Attach | Way::Window => (number(matches, "rows")?, number(matches, "cols")?),
+        Way::Attach | Way::Window => size(matches)?,
     };
     let Opened { stream, sizes } = open(rt, way, matches)?;
     let (asked, told) = match way {

@@ -3,6 +3,7 @@
 use crate::fault::ClientFault;
 use attach_proto::{Bytes, Message, Text, Token, write_message};
 use clap::ArgMatches;
+use std::alloc::Global;
 use std::fs;
 use std::fs::{File, Files, OpenOptions};
 use std::io::{ErrorKind, Write};
@@ -33,58 +34,92 @@ impl Way {
     }
 }
 
-pub fn word<'a>(matches: &'a ArgMatches, name: &str) -> Result<&'a str, ClientFault> {
+fn word<'a>(matches: &'a ArgMatches, name: &str) -> Result<&'a str, ClientFault> {
     matches.get_str(name).ok_or(ClientFault::Words)
 }
 
-pub fn number(matches: &ArgMatches, name: &str) -> Result<u16, ClientFault> {
+fn number(matches: &ArgMatches, name: &str) -> Result<u16, ClientFault> {
     matches.get_one::<u16>(name).ok_or(ClientFault::Words)
 }
 
-// The message that a connection begins with.
-fn first_message<R: AllocGlobal>(
-    rt: &R,
-    way: Way,
+/// Lines and columns.
+pub fn size(matches: &ArgMatches) -> Result<(u16, u16), ClientFault> {
+    Ok((number(matches, "rows")?, number(matches, "cols")?))
+}
+
+fn text(alloc: Global, matches: &ArgMatches, name: &str) -> Result<Text, ClientFault> {
+    Ok(Text::new(alloc, word(matches, name)?)?)
+}
+
+fn frame_of(alloc: Global, message: &Message) -> Result<Vec<u8>, ClientFault> {
+    let mut frame = Vec::new(alloc);
+    write_message(alloc, message, &mut frame)?;
+    Ok(frame)
+}
+
+fn attach_frame(alloc: Global, matches: &ArgMatches, token: Token) -> Result<Vec<u8>, ClientFault> {
+    let name = text(alloc, matches, "user")?;
+    let (rows, columns) = size(matches)?;
+    let message = Message::Attach {
+        rows,
+        columns,
+        token,
+        name,
+    };
+    frame_of(alloc, &message)
+}
+
+fn window_frame(alloc: Global, matches: &ArgMatches, token: Token) -> Result<Vec<u8>, ClientFault> {
+    let name = text(alloc, matches, "user")?;
+    let (rows, columns) = size(matches)?;
+    let keep = number(matches, "keep")?;
+    let title = text(alloc, matches, "title")?;
+    let message = Message::Window {
+        rows,
+        columns,
+        keep,
+        token,
+        name,
+        title,
+    };
+    frame_of(alloc, &message)
+}
+
+fn command_frame(
+    alloc: Global,
     matches: &ArgMatches,
     token: Token,
-) -> Result<Message, ClientFault> {
-    let alloc = rt.alloc();
-    let name = Text::new(alloc, word(matches, "user")?)?;
-    Ok(match way {
-        Way::Attach => Message::Attach {
-            rows: number(matches, "rows")?,
-            columns: number(matches, "cols")?,
-            token,
-            name,
-        },
-        Way::Window => Message::Window {
-            rows: number(matches, "rows")?,
-            columns: number(matches, "cols")?,
-            keep: number(matches, "keep")?,
-            token,
-            name,
-            title: Text::new(alloc, word(matches, "title")?)?,
-        },
-        Way::Command => Message::Command {
-            window: matches.get_one::<u8>("window"),
-            token,
-            name,
-            line: Bytes::new(alloc, word(matches, "line")?.as_bytes())?,
-        },
-    })
+) -> Result<Vec<u8>, ClientFault> {
+    let name = text(alloc, matches, "user")?;
+    let line = Bytes::new(alloc, word(matches, "line")?.as_bytes())?;
+    let message = Message::Command {
+        window: matches.get_one::<u8>("window"),
+        token,
+        name,
+        line,
+    };
+    frame_of(alloc, &message)
 }
 
 /// The frame of a first message with this token: TooLong where no frame holds the words.
-fn first_frame<R: AllocGlobal>(
-    rt: &R,
+fn first_frame(
+    alloc: Global,
     way: Way,
     matches: &ArgMatches,
     token: Token,
 ) -> Result<Vec<u8>, ClientFault> {
-    let message = first_message(rt, way, matches, token)?;
-    let mut frame = Vec::new(rt.alloc());
-    write_message(rt.alloc(), &message, &mut frame)?;
-    Ok(frame)
+    match way {
+        Way::Attach => attach_frame(alloc, matches, token),
+        Way::Window => window_frame(alloc, matches, token),
+        Way::Command => command_frame(alloc, matches, token),
+    }
+}
+
+// What is wrong in the words, whatever the token is.
+fn judge_words(alloc: Global, way: Way, matches: &ArgMatches) -> Result<(), ClientFault> {
+    let zeros = Token::read(&[b'0'; 64]).ok_or(ClientFault::NoToken)?;
+    first_frame(alloc, way, matches, zeros)?;
+    Ok(())
 }
 
 // Whether others may use a file so. A terminal or a pipe is none.
@@ -151,6 +186,31 @@ fn connect<R: Net + AllocGlobal>(rt: &R, path: &str) -> Result<UnixStream, Clien
     }
 }
 
+// The token of the file that the words name, which nobody else may write.
+fn read_token<R: Files<File = File> + AllocGlobal>(
+    rt: &R,
+    matches: &ArgMatches,
+) -> Result<Token, ClientFault> {
+    let path = word(matches, "token")?;
+    if is_open(rt, path, OTHERS_WRITE) {
+        return Err(ClientFault::Writable(String::from_str(rt.alloc(), path)?));
+    }
+    let file = fs::read(rt, path).map_err(ClientFault::NoFile)?;
+    token_of(&file)
+}
+
+// A connection that begins with this frame.
+fn connect_with<R: Net + AllocGlobal>(
+    rt: &R,
+    matches: &ArgMatches,
+    frame: &[u8],
+) -> Result<UnixStream, ClientFault> {
+    let stream = connect(rt, word(matches, "socket")?)?;
+    let mut writer = &stream;
+    writer.write_all(frame)?;
+    Ok(stream)
+}
+
 /// A peer of the server, from its first frame on.
 #[derive(Drop)]
 pub struct Opened {
@@ -164,18 +224,10 @@ pub fn open<R: Net + Files<File = File> + AllocGlobal>(
     way: Way,
     matches: &ArgMatches,
 ) -> Result<Opened, ClientFault> {
-    let zeros = Token::read(&[b'0'; 64]).ok_or(ClientFault::NoToken)?;
-    first_frame(rt, way, matches, zeros)?;
-    let path = word(matches, "token")?;
-    if is_open(rt, path, OTHERS_WRITE) {
-        return Err(ClientFault::Writable(String::from_str(rt.alloc(), path)?));
-    }
-    let file = fs::read(rt, path).map_err(ClientFault::NoFile)?;
-    let token = token_of(&file)?;
+    judge_words(rt.alloc(), way, matches)?;
+    let token = read_token(rt, matches)?;
     let sizes = open_sizes(rt, way, matches)?;
-    let frame = first_frame(rt, way, matches, token)?;
-    let stream = connect(rt, word(matches, "socket")?)?;
-    let mut writer = &stream;
-    writer.write_all(&frame)?;
+    let frame = first_frame(rt.alloc(), way, matches, token)?;
+    let stream = connect_with(rt, matches, &frame)?;
     Ok(Opened { stream, sizes })
 }

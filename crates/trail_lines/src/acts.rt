@@ -1,22 +1,24 @@
 //! The words of acts.
 
-ghost use Rattle.std.specs.Prelude.{◌≡◌, ◌++◌, OnOk, option_map};
+ghost use Rattle.std.specs.Prelude.{◌≡◌, ◌++◌, [], OnOk, option_map};
+ghost use Rattle.acl.specs.Names.{name_of};
 ghost use Rattle.acl.specs.declared.act.Act.TheVariants.{Entered};
 ghost use Rattle.trail_lines.specs.Acts.{kind_text, kind_in, kind_of, act_rest, act_text};
 ghost use Rattle.trail_lines.specs.Acts.{user_and_serial, set_in, grouped_in, masked_in};
 ghost use Rattle.trail_lines.specs.Acts.{preset_act_in, attached_in, mode_act_in, rest_in, act_in};
+ghost use Rattle.trail_lines.specs.Parts.{colon, field};
 
 use crate::parts::{
     push_change, push_mode, push_name, push_object, push_preset, push_user, read_change, read_mode,
     read_object, read_preset, read_user, user_at,
 };
-use acl::{Act, UserId};
+use acl::{Act, Bit, LockMode, Object, PresetKind, UserId};
 use line_fields::{cut, read_u32, u32_at};
 use session_model::push_decimal;
 use std::alloc::AllocError;
 
 /// The kind of an act.
-#[derive(Clone, Copy, PartialEq, Eq, Debug)]
+#[derive(Clone, Copy)]
 pub enum ActKind {
     Known,
     Gone,
@@ -117,6 +119,92 @@ fn push_serial(user: UserId, serial: u32, out: &mut Vec<u8>) -> Result<(), Alloc
     push_decimal(u64::from(serial), out)
 }
 
+/// Appends a user and a colon.
+fn push_user_part(user: UserId, out: &mut Vec<u8>) -> Result<(), AllocError>
+    ensures { OnOk result (out.new.items ≡ out.old.items ++ field colon (name_of user) []) }
+{
+    push_name(user, out)?;
+    out.extend_from_slice(b":")
+}
+
+/// `USER:CHANGE:OBJECT`
+fn push_set(
+    user: UserId,
+    bit: Bit,
+    object: Object,
+    value: bool,
+    out: &mut Vec<u8>,
+) -> Result<(), AllocError>
+    ensures { OnOk result (out.new.items
+        ≡ out.old.items ++ act_rest (Act.Set user bit object value)) }
+{
+    push_user_part(user, out)?;
+    push_change(bit, value, out)?;
+    out.extend_from_slice(b":")?;
+    push_object(object, out)
+}
+
+/// `USER:LEADER`
+fn push_grouped(user: UserId, leader: Option<UserId>, out: &mut Vec<u8>) -> Result<(), AllocError>
+    ensures { OnOk result (out.new.items ≡ out.old.items ++ act_rest (Act.Grouped user leader)) }
+{
+    push_user_part(user, out)?;
+    push_user(leader, out)
+}
+
+/// `USER:USER:CHANGE`
+fn push_masked(
+    by: UserId,
+    user: UserId,
+    bit: Bit,
+    value: bool,
+    out: &mut Vec<u8>,
+) -> Result<(), AllocError>
+    ensures { OnOk result (out.new.items
+        ≡ out.old.items ++ act_rest (Act.Masked by user bit value)) }
+{
+    push_user_part(by, out)?;
+    push_user_part(user, out)?;
+    push_change(bit, value, out)
+}
+
+/// `PRESET:CHANGE`
+fn push_preset_act(
+    kind: PresetKind,
+    bit: Bit,
+    value: bool,
+    out: &mut Vec<u8>,
+) -> Result<(), AllocError>
+    ensures { OnOk result (out.new.items ≡ out.old.items ++ act_rest (Act.Preset kind bit value)) }
+{
+    push_preset(kind, out)?;
+    out.extend_from_slice(b":")?;
+    push_change(bit, value, out)
+}
+
+/// `CLIENT:USER`
+fn push_attached(client: u32, user: UserId, out: &mut Vec<u8>) -> Result<(), AllocError>
+    ensures { OnOk result (out.new.items ≡ out.old.items ++ act_rest (Act.Attached client user)) }
+{
+    push_decimal(u64::from(client), out)?;
+    out.extend_from_slice(b":")?;
+    push_name(user, out)
+}
+
+/// `USER:WINDOW:MODE`
+fn push_mode_act(
+    by: UserId,
+    window: u32,
+    mode: LockMode,
+    out: &mut Vec<u8>,
+) -> Result<(), AllocError>
+    ensures { OnOk result (out.new.items ≡ out.old.items ++ act_rest (Act.Mode by window mode)) }
+{
+    push_serial(by, window, out)?;
+    out.extend_from_slice(b":")?;
+    push_mode(mode, out)
+}
+
 /// Appends what stands behind an act's kind.
 fn push_rest(act: &Act, out: &mut Vec<u8>) -> Result<(), AllocError>
     ensures { OnOk result (out.new.items ≡ out.old.items ++ act_rest act.now) }
@@ -129,50 +217,22 @@ fn push_rest(act: &Act, out: &mut Vec<u8>) -> Result<(), AllocError>
             bit,
             object,
             value,
-        } => {
-            push_name(user, out)?;
-            out.extend_from_slice(b":")?;
-            push_change(bit, value, out)?;
-            out.extend_from_slice(b":")?;
-            push_object(object, out)
-        }
-        Act::Grouped { user, leader } => {
-            push_name(user, out)?;
-            out.extend_from_slice(b":")?;
-            push_user(leader, out)
-        }
+        } => push_set(user, bit, object, value, out),
+        Act::Grouped { user, leader } => push_grouped(user, leader, out),
         Act::Masked {
             by,
             user,
             bit,
             value,
-        } => {
-            push_name(by, out)?;
-            out.extend_from_slice(b":")?;
-            push_name(user, out)?;
-            out.extend_from_slice(b":")?;
-            push_change(bit, value, out)
-        }
-        Act::Preset { kind, bit, value } => {
-            push_preset(kind, out)?;
-            out.extend_from_slice(b":")?;
-            push_change(bit, value, out)
-        }
+        } => push_masked(by, user, bit, value, out),
+        Act::Preset { kind, bit, value } => push_preset_act(kind, bit, value, out),
         Act::Opened { by, window } => push_serial(by, window, out),
         Act::Closed { window } => push_decimal(u64::from(window), out),
-        Act::Attached { client, user } => {
-            push_decimal(u64::from(client), out)?;
-            out.extend_from_slice(b":")?;
-            push_name(user, out)
-        }
+        Act::Attached { client, user } => push_attached(client, user, out),
         Act::Parted { client } => push_decimal(u64::from(client), out),
         Act::Entered { user, window } => push_serial(user, window, out),
         Act::Left { user, window } => push_serial(user, window, out),
-        Act::Mode { by, window, mode } => {
-            push_serial(by, window, out)?;
-            out.extend_from_slice(b":")?;
-            push_mode(mode, out)
-        }
+        Act::Mode { by, window, mode } => push_mode_act(by, window, mode, out),
         Act::Default { mode } => push_mode(mode, out),
     }
 }

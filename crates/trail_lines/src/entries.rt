@@ -22,7 +22,7 @@ use session_model::{Done, Refusal, Reply, Verdict, push_decimal};
 use std::alloc::{AllocError, Global};
 
 /// An entry, its place in the trail and its time, in milliseconds since 1970.
-#[derive(Debug, Drop)]
+#[derive(Drop)]
 pub struct Line {
     pub place: u64,
     pub ms: u64,
@@ -30,14 +30,14 @@ pub struct Line {
 }
 
 /// What stands behind a reply: a check, or an act.
-#[derive(Clone, Copy, Debug)]
+#[derive(Clone, Copy)]
 pub enum Note {
     Checked(Verdict),
     Done(Act),
 }
 
 /// The verdicts and the acts of an entry.
-#[derive(Debug, Drop)]
+#[derive(Drop)]
 pub struct Notes {
     verdicts: Vec<Verdict>,
     acts: Vec<Act>,

@@ -4,6 +4,7 @@ ghost use Rattle.std.specs.Prelude.{◌≡◌, ◌++◌, [], OnOk, decimal, opti
 ghost use Rattle.acl.specs.Names.{name_of};
 ghost use Rattle.session_model.specs.Trace.{happening};
 ghost use Rattle.hub_trail.specs.Filing.{kept_of};
+ghost use Rattle.hub_trail.specs.declared.kept.Kept.TheVariants.{Attach, Command, Open};
 ghost use Rattle.hub_record.specs.Stored.{kept_lent};
 ghost use Rattle.trail_lines.specs.Parts.{blank, field};
 ghost use Rattle.trail_lines.specs.Events.{text_field, text_in, title_of, window_text, window_in};
@@ -64,6 +65,60 @@ fn push_size(rows: u16, columns: u16, out: &mut Vec<u8>) -> Result<(), AllocErro
     push_count(u64::from(columns), out)
 }
 
+/// `attach USER ROWS COLS`
+fn push_attach(user: UserId, rows: u16, columns: u16, out: &mut Vec<u8>) -> Result<(), AllocError>
+    ensures { OnOk result (out.new.items
+        ≡ out.old.items ++ event_then (Attach user rows columns) []) }
+{
+    out.extend_from_slice(b"attach ")?;
+    push_user(user, out)?;
+    push_size(rows, columns, out)
+}
+
+/// `command USER WINDOW TEXT`
+fn push_command(
+    user: UserId,
+    window: Option<u8>,
+    line: &[u8],
+    out: &mut Vec<u8>,
+) -> Result<(), AllocError>
+    ensures { OnOk result (out.new.items
+        ≡ out.old.items ++ event_then (Command user window line.now) []) }
+{
+    out.extend_from_slice(b"command ")?;
+    push_user(user, out)?;
+    push_window(window, out)?;
+    push_text(line, out)
+}
+
+/// `open USER ROWS COLS KEEP TEXT`
+fn push_open(
+    user: UserId,
+    rows: u16,
+    columns: u16,
+    keep: u16,
+    title: &[u8],
+    out: &mut Vec<u8>,
+) -> Result<(), AllocError>
+    ensures { OnOk result (out.new.items
+        ≡ out.old.items ++ event_then (Open user rows columns keep title.now) []) }
+{
+    out.extend_from_slice(b"open ")?;
+    push_user(user, out)?;
+    push_size(rows, columns, out)?;
+    push_count(u64::from(keep), out)?;
+    push_text(title, out)
+}
+
+/// The kind of an event, and a number.
+fn push_kind(kind: &[u8], number: u32, out: &mut Vec<u8>) -> Result<(), AllocError>
+    ensures { OnOk result (out.new.items
+        ≡ out.old.items ++ kind.now ++ field blank (decimal number) []) }
+{
+    out.extend_from_slice(kind)?;
+    push_count(u64::from(number), out)
+}
+
 /// Appends an event's fields.
 pub fn push_event(event: KeptRef<'_>, out: &mut Vec<u8>) -> Result<(), AllocError>
     ensures { OnOk result (out.new.items
@@ -74,42 +129,18 @@ pub fn push_event(event: KeptRef<'_>, out: &mut Vec<u8>) -> Result<(), AllocErro
             user,
             rows,
             columns,
-        } => {
-            out.extend_from_slice(b"attach ")?;
-            push_user(user, out)?;
-            push_size(rows, columns, out)
-        }
-        KeptRef::Detach { client } => {
-            out.extend_from_slice(b"detach ")?;
-            push_count(u64::from(client), out)
-        }
-        KeptRef::Keys { client } => {
-            out.extend_from_slice(b"keys ")?;
-            push_count(u64::from(client), out)
-        }
-        KeptRef::Command { user, window, line } => {
-            out.extend_from_slice(b"command ")?;
-            push_user(user, out)?;
-            push_window(window, out)?;
-            push_text(line, out)
-        }
+        } => push_attach(user, rows, columns, out),
+        KeptRef::Detach { client } => push_kind(b"detach ", client, out),
+        KeptRef::Keys { client } => push_kind(b"keys ", client, out),
+        KeptRef::Command { user, window, line } => push_command(user, window, line, out),
         KeptRef::Open {
             user,
             rows,
             columns,
             keep,
             title,
-        } => {
-            out.extend_from_slice(b"open ")?;
-            push_user(user, out)?;
-            push_size(rows, columns, out)?;
-            push_count(u64::from(keep), out)?;
-            push_text(title, out)
-        }
-        KeptRef::Closed { window } => {
-            out.extend_from_slice(b"closed ")?;
-            push_count(u64::from(window), out)
-        }
+        } => push_open(user, rows, columns, keep, title, out),
+        KeptRef::Closed { window } => push_kind(b"closed ", window, out),
     }
 }
 

@@ -1,6 +1,6 @@
 //! The word of a reply.
 
-ghost use Rattle.std.specs.Prelude.{◌≡◌, ◌++◌, [], OnOk, codes, map, option_map};
+ghost use Rattle.std.specs.Prelude.{◌≡◌, ◌++◌, [], OnOk, codes, decimal, map, option_map};
 ghost use Rattle.session_model.specs.declared.refusal.Refusal.TheVariants as refusal;
 ghost use Rattle.acl.specs.Names.{name_of};
 ghost use Rattle.session_model.specs.Texts.{behind};
@@ -251,6 +251,14 @@ fn push_line_fault(fault: ParseFault, out: &mut Vec<u8>) -> Result<(), AllocErro
     push_decimal(fault.place() as u64, out)
 }
 
+/// Appends what a fault is of, and its number.
+fn push_numbered(kind: &[u8], number: u8, out: &mut Vec<u8>) -> Result<(), AllocError>
+    ensures { OnOk result (out.new.items ≡ out.old.items ++ kind.now ++ decimal number) }
+{
+    out.extend_from_slice(kind)?;
+    push_decimal(u64::from(number), out)
+}
+
 /// Appends why a step was refused.
 fn push_why(refusal: &Refusal, out: &mut Vec<u8>) -> Result<(), AllocError>
     ensures { OnOk result (out.new.items ≡ out.old.items ++ why_text refusal.now) }
@@ -264,19 +272,10 @@ fn push_why(refusal: &Refusal, out: &mut Vec<u8>) -> Result<(), AllocError>
         Refusal::TooManyClients => out.extend_from_slice(b"clients"),
         Refusal::NoMemory => out.extend_from_slice(b"memory"),
         Refusal::BadSize => out.extend_from_slice(b"size"),
-        Refusal::Acl(fault) => {
-            out.extend_from_slice(b"acl:")?;
-            push_decimal(u64::from(fault.number()), out)
-        }
-        Refusal::Windows(fault) => {
-            out.extend_from_slice(b"windows:")?;
-            push_decimal(u64::from(fault.number()), out)
-        }
+        Refusal::Acl(fault) => push_numbered(b"acl:", fault.number(), out),
+        Refusal::Windows(fault) => push_numbered(b"windows:", fault.number(), out),
         Refusal::Line(fault) => push_line_fault(*fault, out),
-        Refusal::Regions(fault) => {
-            out.extend_from_slice(b"regions:")?;
-            push_decimal(u64::from(fault.number()), out)
-        }
+        Refusal::Regions(fault) => push_numbered(b"regions:", fault.number(), out),
     }
 }
 
@@ -334,19 +333,24 @@ fn read_why(word: &[u8]) -> Option<Refusal>
     read_caused(word, rest)
 }
 
+/// Appends the reply to a step that was done.
+fn push_finished(finished: &Finished, out: &mut Vec<u8>) -> Result<(), AllocError>
+    ensures { OnOk result (out.new.items ≡ out.old.items ++ reply_text (Ok finished.now)) }
+{
+    out.extend_from_slice(b"ok:")?;
+    push_decimal(finished.taken as u64, out)?;
+    out.extend_from_slice(b":")?;
+    push_decimal(u64::from(finished.made), out)?;
+    out.extend_from_slice(b":")?;
+    push_decimal(u64::from(finished.number), out)
+}
+
 /// Appends a reply.
 pub fn push_reply(reply: &Ending, out: &mut Vec<u8>) -> Result<(), AllocError>
     ensures { OnOk result (out.new.items ≡ out.old.items ++ reply_text reply.now) }
 {
     match reply {
-        Ok(finished) => {
-            out.extend_from_slice(b"ok:")?;
-            push_decimal(finished.taken as u64, out)?;
-            out.extend_from_slice(b":")?;
-            push_decimal(u64::from(finished.made), out)?;
-            out.extend_from_slice(b":")?;
-            push_decimal(u64::from(finished.number), out)
-        }
+        Ok(finished) => push_finished(finished, out),
         Err(refusal) => {
             out.extend_from_slice(b"no:")?;
             push_why(refusal, out)

@@ -6,10 +6,45 @@ ghost use Rattle.trail_lines.specs.Acts.{verdict_text, lock_in, right_in, verdic
 use crate::parts::{
     push_change, push_name, push_object, push_user, read_change, read_object, read_user, user_at,
 };
-use acl::UserId;
+use acl::{Bit, Object, UserId};
 use line_fields::{cut, u32_at};
 use session_model::{Verdict, push_decimal};
 use std::alloc::AllocError;
+
+/// `USER:CHANGE:OBJECT`
+fn push_right(
+    user: UserId,
+    bit: Bit,
+    object: Object,
+    answer: bool,
+    out: &mut Vec<u8>,
+) -> Result<(), AllocError>
+    ensures { OnOk result (out.new.items
+        ≡ out.old.items ++ verdict_text (Verdict.Right user bit object answer)) }
+{
+    push_name(user, out)?;
+    out.extend_from_slice(b":")?;
+    push_change(bit, answer, out)?;
+    out.extend_from_slice(b":")?;
+    push_object(object, out)
+}
+
+/// `USER:lock:WINDOW:HOLDER`
+fn push_lock(
+    user: UserId,
+    window: u32,
+    holder: Option<UserId>,
+    out: &mut Vec<u8>,
+) -> Result<(), AllocError>
+    ensures { OnOk result (out.new.items
+        ≡ out.old.items ++ verdict_text (Verdict.Lock user window holder)) }
+{
+    push_name(user, out)?;
+    out.extend_from_slice(b":lock:")?;
+    push_decimal(u64::from(window), out)?;
+    out.extend_from_slice(b":")?;
+    push_user(holder, out)
+}
 
 /// Appends a verdict.
 pub fn push_verdict(verdict: &Verdict, out: &mut Vec<u8>) -> Result<(), AllocError>
@@ -21,24 +56,12 @@ pub fn push_verdict(verdict: &Verdict, out: &mut Vec<u8>) -> Result<(), AllocErr
             bit,
             object,
             answer,
-        } => {
-            push_name(user, out)?;
-            out.extend_from_slice(b":")?;
-            push_change(bit, answer, out)?;
-            out.extend_from_slice(b":")?;
-            push_object(object, out)
-        }
+        } => push_right(user, bit, object, answer, out),
         Verdict::Lock {
             user,
             window,
             holder,
-        } => {
-            push_name(user, out)?;
-            out.extend_from_slice(b":lock:")?;
-            push_decimal(u64::from(window), out)?;
-            out.extend_from_slice(b":")?;
-            push_user(holder, out)
-        }
+        } => push_lock(user, window, holder, out),
     }
 }
 
