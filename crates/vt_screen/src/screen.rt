@@ -18,7 +18,7 @@ ghost use Rattle.vt_screen.specs.Sizes.{IsScreenSize};
 
 use cells::{Cell, GridFault};
 use charsets::Coding;
-use control_parser::{Func, Sequence};
+use control_parser::{Func, Numerals, Sequence};
 use std::alloc::Global;
 use std::marker::Model;
 use terminal_model::{MAX_KEEP, Modes, Report};
@@ -156,6 +156,19 @@ impl Screen {
         let (mark, params, intermediates, last) = sequence.parts();
         self.display
             .perform_sequence(mark, params, intermediates, last)
+    }
+
+    /// Does a control sequence of digits and semicolons that isn't answered, as `sequence`.
+    pub fn numerals(&mut self, numerals: &Numerals) -> bool
+        ensures effect { IsTrue result → self.new.screen ≡ effect self.old.screen numerals.now }
+        ensures places { IsTrue result → MovesPlaces self.old numerals.now self.new }
+        ensures silent { IsTrue result → report self.old.screen numerals.now ≡ [] }
+        ensures coding { IsTrue result
+            → self.new.screen.state.coding ≡ self.old.screen.state.coding }
+        ensures undone { result ≡ false → self.new ≡ self.old }
+    {
+        let (params, last) = numerals.parts();
+        self.display.perform_plain(params, last)
     }
 
     /// Takes another size. It keeps the upper left part, of the kept lines too; the cursor and the

@@ -140,7 +140,7 @@ impl Display {
     /// The same of one with neither mark nor intermediates. CUP and SGR, the commonest, have a case
     /// of their own, so that their rows are found when this is compiled.
     #[inline(always)]
-    fn perform_plain(&mut self, params: &[u16], last: u8) -> bool
+    pub fn perform_plain(&mut self, params: &[u16], last: u8) -> bool
         requires { IsFit self.old }
         ensures screen { IsTrue result
             → ActsByAll self.old (sequence_actions None params.now [] last) self.new }
@@ -155,6 +155,31 @@ impl Display {
         match last {
             b'H' => self.perform_unanswered(sequence_acts(None, params, &[], b'H')),
             b'm' => self.perform_unanswered(sequence_acts(None, params, &[], b'm')),
+            _ => self.perform_editing(params, last),
+        }
+    }
+
+    /// The same, where ICH, DCH, ECH, EL, IL and DL have a case of their own.
+    #[inline(never)]
+    fn perform_editing(&mut self, params: &[u16], last: u8) -> bool
+        requires { IsFit self.old }
+        ensures screen { IsTrue result
+            → ActsByAll self.old (sequence_actions None params.now [] last) self.new }
+        ensures silent { IsTrue result
+            → AreUnanswered self.old (sequence_actions None params.now [] last) }
+        ensures places { IsTrue result
+            → MovesLinesByAll self.old (sequence_actions None params.now [] last) self.new }
+        ensures undone { result ≡ false → screen_of self.new ≡ screen_of self.old }
+        ensures unturned { result ≡ false → self.new.page.places ≡ self.old.page.places }
+        ensures fit { IsFit self.new }
+    {
+        match last {
+            b'@' => self.perform_unanswered(sequence_acts(None, params, &[], b'@')),
+            b'K' => self.perform_unanswered(sequence_acts(None, params, &[], b'K')),
+            b'L' => self.perform_unanswered(sequence_acts(None, params, &[], b'L')),
+            b'M' => self.perform_unanswered(sequence_acts(None, params, &[], b'M')),
+            b'P' => self.perform_unanswered(sequence_acts(None, params, &[], b'P')),
+            b'X' => self.perform_unanswered(sequence_acts(None, params, &[], b'X')),
             _ => self.perform_rest(None, params, &[], last),
         }
     }
