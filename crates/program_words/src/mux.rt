@@ -1,7 +1,7 @@
 //! The words of `mux`.
 
-use crate::table::{Kind, MOST, Need, VERSION, Way, Word, with_ways};
-use clap::{ArgMatches, Command, Error};
+use crate::table::{Kind, MOST, Need, Program, VERSION, Way, Word, matches_of};
+use clap::{ArgMatches, Error};
 use std::alloc::Global;
 
 const EXAMPLE: &str = "Example, beside that of muxd:
@@ -12,154 +12,154 @@ const EXAMPLE: &str = "Example, beside that of muxd:
     --rows 24 --cols 80; stty sane
   mux command --socket socket --user ann --token ann.token quit";
 
-/// What all ways of `mux` share.
-static SHARED: [Word; 3] = [
-    Word {
-        name: "socket",
-        kind: Kind::Text {
-            value: "PATH",
-            need: Need::Needed,
+static MUX: Program = Program {
+    name: "mux",
+    version: Some(VERSION),
+    about: "Joins a session that muxd serves",
+    example: Some(EXAMPLE),
+    words: &[
+        Word {
+            name: "socket",
+            kind: Kind::Text {
+                value: "PATH",
+                need: Need::Needed,
+            },
+            help: "The server's socket",
         },
-        help: "The server's socket",
-    },
-    Word {
-        name: "user",
-        kind: Kind::Text {
-            value: "NAME",
-            need: Need::Needed,
+        Word {
+            name: "user",
+            kind: Kind::Text {
+                value: "NAME",
+                need: Need::Needed,
+            },
+            help: "The user's name",
         },
-        help: "The user's name",
-    },
-    Word {
-        name: "token",
-        kind: Kind::Text {
-            value: "PATH",
-            need: Need::Needed,
+        Word {
+            name: "token",
+            kind: Kind::Text {
+                value: "PATH",
+                need: Need::Needed,
+            },
+            help: "A file of the user's token: 64 digits",
         },
-        help: "A file of the user's token: 64 digits",
-    },
-];
-
-static WAYS: [Way; 3] = [
-    Way {
-        name: "attach",
-        about: "Shows the session: keys from standard input, draws to standard output",
-        words: &[
-            Word {
-                name: "rows",
-                kind: Kind::Number {
-                    value: "N",
-                    least: 0,
-                    most: MOST,
-                    need: Need::Needed,
+    ],
+    ways: &[
+        Way {
+            name: "attach",
+            about: "Shows the session: keys from standard input, draws to standard output",
+            words: &[
+                Word {
+                    name: "rows",
+                    kind: Kind::Number {
+                        value: "N",
+                        least: 0,
+                        most: MOST,
+                        need: Need::Needed,
+                    },
+                    help: "The terminal's lines, 4 to 200",
                 },
-                help: "The terminal's lines, 4 to 200",
-            },
-            Word {
-                name: "cols",
-                kind: Kind::Number {
-                    value: "N",
-                    least: 0,
-                    most: MOST,
-                    need: Need::Needed,
+                Word {
+                    name: "cols",
+                    kind: Kind::Number {
+                        value: "N",
+                        least: 0,
+                        most: MOST,
+                        need: Need::Needed,
+                    },
+                    help: "The terminal's columns, 20 to 300",
                 },
-                help: "The terminal's columns, 20 to 300",
-            },
-            Word {
-                name: "sizes",
-                kind: Kind::Text {
-                    value: "PATH",
-                    need: Need::Free,
+                Word {
+                    name: "sizes",
+                    kind: Kind::Text {
+                        value: "PATH",
+                        need: Need::Free,
+                    },
+                    help: "A FIFO: each line ROWS COLS there is the terminal's new size",
                 },
-                help: "A FIFO: each line ROWS COLS there is the terminal's new size",
-            },
-            Word {
-                name: "why",
-                kind: Kind::Flag,
-                help: "Says on standard error why it ends, also where that is no fault",
-            },
-        ],
-    },
-    Way {
-        name: "window",
-        about: "Opens a window: output from standard input, input to standard output",
-        words: &[
-            Word {
-                name: "rows",
-                kind: Kind::Number {
-                    value: "N",
-                    least: 0,
-                    most: MOST,
-                    need: Need::Needed,
+                Word {
+                    name: "why",
+                    kind: Kind::Flag,
+                    help: "Says on standard error why it ends, also where that is no fault",
                 },
-                help: "The window's lines, 2 to 200",
-            },
-            Word {
-                name: "cols",
-                kind: Kind::Number {
-                    value: "N",
-                    least: 0,
-                    most: MOST,
-                    need: Need::Needed,
+            ],
+        },
+        Way {
+            name: "window",
+            about: "Opens a window: output from standard input, input to standard output",
+            words: &[
+                Word {
+                    name: "rows",
+                    kind: Kind::Number {
+                        value: "N",
+                        least: 0,
+                        most: MOST,
+                        need: Need::Needed,
+                    },
+                    help: "The window's lines, 2 to 200",
                 },
-                help: "The window's columns, 2 to 300",
-            },
-            Word {
-                name: "title",
-                kind: Kind::Text {
-                    value: "TEXT",
-                    need: Need::Needed,
+                Word {
+                    name: "cols",
+                    kind: Kind::Number {
+                        value: "N",
+                        least: 0,
+                        most: MOST,
+                        need: Need::Needed,
+                    },
+                    help: "The window's columns, 2 to 300",
                 },
-                help: "The window's title, 1 to 40 characters",
-            },
-            Word {
-                name: "keep",
-                kind: Kind::Number {
-                    value: "N",
-                    least: 0,
-                    most: MOST,
-                    need: Need::Default("100"),
+                Word {
+                    name: "title",
+                    kind: Kind::Text {
+                        value: "TEXT",
+                        need: Need::Needed,
+                    },
+                    help: "The window's title, 1 to 40 characters",
                 },
-                help: "How many lines are kept above the page, up to 2000",
-            },
-            Word {
-                name: "sizes",
-                kind: Kind::Text {
-                    value: "PATH",
-                    need: Need::Free,
+                Word {
+                    name: "keep",
+                    kind: Kind::Number {
+                        value: "N",
+                        least: 0,
+                        most: MOST,
+                        need: Need::Default("100"),
+                    },
+                    help: "How many lines are kept above the page, up to 2000",
                 },
-                help: "A file: the window's sizes are written there, as lines ROWS COLS",
-            },
-        ],
-    },
-    Way {
-        name: "command",
-        about: "Gives a command, and prints what is said to it",
-        words: &[
-            Word {
-                name: "window",
-                kind: Kind::Number {
-                    value: "N",
-                    least: 0,
-                    most: 254,
-                    need: Need::Free,
+                Word {
+                    name: "sizes",
+                    kind: Kind::Text {
+                        value: "PATH",
+                        need: Need::Free,
+                    },
+                    help: "A file: the window's sizes are written there, as lines ROWS COLS",
                 },
-                help: "The number of the window that the command is for",
-            },
-            Word {
-                name: "line",
-                kind: Kind::Bare { value: "LINE" },
-                help: "The command and its words, as one word",
-            },
-        ],
-    },
-];
+            ],
+        },
+        Way {
+            name: "command",
+            about: "Gives a command, and prints what is said to it",
+            words: &[
+                Word {
+                    name: "window",
+                    kind: Kind::Number {
+                        value: "N",
+                        least: 0,
+                        most: 254,
+                        need: Need::Free,
+                    },
+                    help: "The number of the window that the command is for",
+                },
+                Word {
+                    name: "line",
+                    kind: Kind::Bare { value: "LINE" },
+                    help: "The command and its words, as one word",
+                },
+            ],
+        },
+    ],
+};
 
 /// The words of `mux`, the program's name first.
 pub fn of_client<'a>(alloc: Global, words: &'a [String]) -> Result<ArgMatches<'a>, Error> {
-    let command = Command::new(alloc, "mux")
-        .version(VERSION)
-        .about("Joins a session that muxd serves")
-        .after_help(EXAMPLE);
-    with_ways(alloc, command, &SHARED, &WAYS)?.try_get_matches_from(words)
+    matches_of(alloc, &MUX, words)
 }

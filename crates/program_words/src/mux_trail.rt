@@ -1,7 +1,7 @@
 //! The words of `mux-trail`.
 
-use crate::table::{Kind, Need, VERSION, Way, Word, with_ways};
-use clap::{ArgMatches, Command, Error};
+use crate::table::{Kind, Need, Program, VERSION, Way, Word, matches_of};
+use clap::{ArgMatches, Error};
 use std::alloc::Global;
 
 /// The owner of a session.
@@ -31,64 +31,68 @@ const FILE: Word = Word {
     help: "A file with the trail of a session",
 };
 
-static WAYS: [Way; 4] = [
-    Way {
-        name: "check",
-        about: "Judges whether the trail is legal",
-        words: &[OWNER, FILE],
-    },
-    Way {
-        name: "show",
-        about: "Prints the trail's lines, with times that are read",
-        words: &[
-            Word {
-                name: "json",
-                kind: Kind::Flag,
-                help: "Prints each entry as an object of JSON",
-            },
-            Word {
-                name: "follow",
-                kind: Kind::Flag,
-                help: "Waits for more until the trail ends",
-            },
-            FILE,
-        ],
-    },
-    Way {
-        name: "who",
-        about: "Prints who may do what, and who holds which lock",
-        words: &[OWNER, AT, FILE],
-    },
-    Way {
-        name: "why",
-        about: "Prints which acts decide whether a user has a bit on an object",
-        words: &[
-            OWNER,
-            AT,
-            FILE,
-            Word {
-                name: "user",
-                kind: Kind::Bare { value: "USER" },
-                help: "The name of a user",
-            },
-            Word {
-                name: "bit",
-                kind: Kind::Bare { value: "BIT" },
-                help: "r, w or x",
-            },
-            Word {
-                name: "object",
-                kind: Kind::Bare { value: "OBJECT" },
-                help: "A window's serial, or the name of a command",
-            },
-        ],
-    },
-];
+static MUX_TRAIL: Program = Program {
+    name: "mux-trail",
+    version: Some(VERSION),
+    about: "Reads the trail of a session that users shared",
+    example: None,
+    words: &[],
+    ways: &[
+        Way {
+            name: "check",
+            about: "Judges whether the trail is legal",
+            words: &[OWNER, FILE],
+        },
+        Way {
+            name: "show",
+            about: "Prints the trail's lines, with times that are read",
+            words: &[
+                Word {
+                    name: "json",
+                    kind: Kind::Flag,
+                    help: "Prints each entry as an object of JSON",
+                },
+                Word {
+                    name: "follow",
+                    kind: Kind::Flag,
+                    help: "Waits for more until the trail ends",
+                },
+                FILE,
+            ],
+        },
+        Way {
+            name: "who",
+            about: "Prints who may do what, and who holds which lock",
+            words: &[OWNER, AT, FILE],
+        },
+        Way {
+            name: "why",
+            about: "Prints which acts decide whether a user has a bit on an object",
+            words: &[
+                OWNER,
+                AT,
+                FILE,
+                Word {
+                    name: "user",
+                    kind: Kind::Bare { value: "USER" },
+                    help: "The name of a user",
+                },
+                Word {
+                    name: "bit",
+                    kind: Kind::Bare { value: "BIT" },
+                    help: "r, w or x",
+                },
+                Word {
+                    name: "object",
+                    kind: Kind::Bare { value: "OBJECT" },
+                    help: "A window's serial, or the name of a command",
+                },
+            ],
+        },
+    ],
+};
 
 /// The words of `mux-trail`, the program's name first.
 pub fn of_trail<'a>(alloc: Global, words: &'a [String]) -> Result<ArgMatches<'a>, Error> {
-    let command = Command::new(alloc, "mux-trail")
-        .version(VERSION)
-        .about("Reads the trail of a session that users shared");
-    with_ways(alloc, command, &[], &WAYS)?.try_get_matches_from(words)
+    matches_of(alloc, &MUX_TRAIL, words)
 }

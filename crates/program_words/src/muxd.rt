@@ -1,7 +1,7 @@
 //! The words of `muxd`.
 
-use crate::table::{Kind, Need, VERSION, Word, with_words};
-use clap::{ArgMatches, Command, Error};
+use crate::table::{Kind, Need, Program, VERSION, Word, matches_of};
+use clap::{ArgMatches, Error};
 use std::alloc::Global;
 
 const EXAMPLE: &str = "Example:
@@ -12,61 +12,64 @@ const EXAMPLE: &str = "Example:
   echo \"ann $(cat ann.token)\" > users
   muxd --socket $XDG_RUNTIME_DIR/mux/socket --users users";
 
-static WORDS: [Word; 6] = [
-    Word {
-        name: "socket",
-        kind: Kind::Text {
-            value: "PATH",
-            need: Need::Needed,
+static MUXD: Program = Program {
+    name: "muxd",
+    version: Some(VERSION),
+    about: "Serves a session that users share",
+    example: Some(EXAMPLE),
+    words: &[
+        Word {
+            name: "socket",
+            kind: Kind::Text {
+                value: "PATH",
+                need: Need::Needed,
+            },
+            help: "The socket to listen on",
         },
-        help: "The socket to listen on",
-    },
-    Word {
-        name: "users",
-        kind: Kind::Text {
-            value: "PATH",
-            need: Need::Needed,
+        Word {
+            name: "users",
+            kind: Kind::Text {
+                value: "PATH",
+                need: Need::Needed,
+            },
+            help: "A file of lines: a name, a blank and 64 digits of 0 to 9, a to f; the first is the owner",
         },
-        help: "A file of lines: a name, a blank and 64 digits of 0 to 9, a to f; the first is the owner",
-    },
-    Word {
-        name: "setup",
-        kind: Kind::Text {
-            value: "PATH",
-            need: Need::Free,
+        Word {
+            name: "setup",
+            kind: Kind::Text {
+                value: "PATH",
+                need: Need::Free,
+            },
+            help: "A file of the owner's first commands, one a line",
         },
-        help: "A file of the owner's first commands, one a line",
-    },
-    Word {
-        name: "loops",
-        kind: Kind::Number {
-            value: "N",
-            least: 1,
-            most: 8,
-            need: Need::Default("2"),
+        Word {
+            name: "loops",
+            kind: Kind::Number {
+                value: "N",
+                least: 1,
+                most: 8,
+                need: Need::Default("2"),
+            },
+            help: "How many loops serve, 1 to 8",
         },
-        help: "How many loops serve, 1 to 8",
-    },
-    Word {
-        name: "trail",
-        kind: Kind::Text {
-            value: "PATH",
-            need: Need::Free,
+        Word {
+            name: "trail",
+            kind: Kind::Text {
+                value: "PATH",
+                need: Need::Free,
+            },
+            help: "A new file for the session's trail, which mux-trail reads",
         },
-        help: "A new file for the session's trail, which mux-trail reads",
-    },
-    Word {
-        name: "log",
-        kind: Kind::Flag,
-        help: "Tells on standard error who comes and goes",
-    },
-];
+        Word {
+            name: "log",
+            kind: Kind::Flag,
+            help: "Tells on standard error who comes and goes",
+        },
+    ],
+    ways: &[],
+};
 
 /// The words of `muxd`, the program's name first.
 pub fn of_server<'a>(alloc: Global, words: &'a [String]) -> Result<ArgMatches<'a>, Error> {
-    let command = Command::new(alloc, "muxd")
-        .version(VERSION)
-        .about("Serves a session that users share")
-        .after_help(EXAMPLE);
-    with_words(alloc, command, &WORDS)?.try_get_matches_from(words)
+    matches_of(alloc, &MUXD, words)
 }

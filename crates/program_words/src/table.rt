@@ -2,7 +2,7 @@
 
 use clap::builder::ValueParser;
 use clap::error::ErrorKind;
-use clap::{Arg, ArgAction, Command, Error};
+use clap::{Arg, ArgAction, ArgMatches, Command, Error};
 use std::alloc::{AllocError, Global};
 use std::io::Write;
 
@@ -26,6 +26,20 @@ pub struct Way {
     pub name: &'static str,
     pub about: &'static str,
     pub words: &'static [Word],
+}
+
+/// A program: what its help says, and the words that it takes.
+#[derive(Clone, Copy)]
+pub struct Program {
+    pub name: &'static str,
+    pub version: Option<&'static str>,
+    pub about: &'static str,
+    /// Stands at the end of the help.
+    pub example: Option<&'static str>,
+    /// The words that it takes, or that all of its ways share.
+    pub words: &'static [Word],
+    /// None for a program that has one way.
+    pub ways: &'static [Way],
 }
 
 /// How a word is given; `value` stands for its value in help.
@@ -91,7 +105,7 @@ fn arg_of(alloc: Global, word: Word) -> Arg<'static> {
 }
 
 /// The command, with the words of a table.
-pub fn with_words<'a>(
+fn with_words<'a>(
     alloc: Global,
     command: Command<'a>,
     table: &[Word],
@@ -120,7 +134,7 @@ fn with_way<'a>(
 }
 
 /// The command, with the ways of a table, which share some words.
-pub fn with_ways<'a>(
+fn with_ways<'a>(
     alloc: Global,
     command: Command<'a>,
     shared: &[Word],
@@ -131,6 +145,31 @@ pub fn with_ways<'a>(
         command = with_way(alloc, command, shared, way)?;
     }
     Ok(command)
+}
+
+/// The command of a program.
+fn command_of<'a>(alloc: Global, program: &Program) -> Result<Command<'a>, AllocError> {
+    let mut command = Command::new(alloc, program.name).about(program.about);
+    if let Some(version) = program.version {
+        command = command.version(version);
+    }
+    if let Some(example) = program.example {
+        command = command.after_help(example);
+    }
+    if program.ways.is_empty() {
+        with_words(alloc, command, program.words)
+    } else {
+        with_ways(alloc, command, program.words, program.ways)
+    }
+}
+
+/// What a program's words say, its name first.
+pub fn matches_of<'a>(
+    alloc: Global,
+    program: &Program,
+    words: &'a [String],
+) -> Result<ArgMatches<'a>, Error> {
+    command_of(alloc, program)?.try_get_matches_from(words)
 }
 
 /// Writes why the words give nothing: the help, with status 0, a mistake, with status 2, or want of
