@@ -71,6 +71,9 @@ impl Emulator {
         ensures parsing { self.new.parsing ≡ self.old.parsing }
     {
         let first = bytes[0];
+        if first == b'\r' && self.decoder.coding() == Coding::Utf8 {
+            return self.read_return(bytes);
+        }
         if 0x1F < first && first < 0x7F {
             let run = plain_front(bytes);
             self.screen.print_run(&bytes[..run]);
@@ -80,7 +83,6 @@ impl Emulator {
             return 0;
         }
         match first {
-            b'\r' => self.read_return(bytes),
             ESC => self.read_escape(bytes),
             CAN | SUB => 0,
             ..0x20 => {

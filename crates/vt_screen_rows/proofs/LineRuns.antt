@@ -1,5 +1,5 @@
 -- A run of characters at the beginning of a line.
-use Rattle.std.proofs.Common.{◌≡◌, ℕ, ◌+◌, ◌-◌, ◌<◌, ◌≤◌, ◌==◌, Bool, true, false, cond, List, ◌∷◌, length, take, drop, refl, sym, ap, ◌∙◌, arith, eq-eqb}
+use Rattle.std.proofs.Common.{◌≡◌, ℕ, ◌+◌, ◌-◌, ◌<◌, ◌≤◌, ◌==◌, Bool, true, false, cond, List, [], ◌∷◌, length, get_or, take, drop, refl, sym, ap, ◌∙◌, arith, eq-eqb}
 use Rattle.std.specs.List.{list_all}
 use Rattle.std.proofs.lemmas.List.{take-append-drop, map-append}
 use Rattle.charsets.specs.declared.unit.Unit.TheVariants.{Code}
@@ -12,13 +12,14 @@ use Rattle.terminal_model.specs.declared.action.Action.TheVariants.{Print, Carri
 use Rattle.terminal_model.specs.declared.state.State.{State}
 use Rattle.terminal_model.specs.Screen.{Screen, IsSound, with_newest, with_state}
 use Rattle.terminal_model.specs.Motion.{indexed, moved_to}
-use Rattle.terminal_model.specs.Printing.{advanced, wrapped}
+use Rattle.terminal_model.specs.Printing.{advanced, placed_narrow, wrapped}
 use Rattle.terminal_model.specs.Table.{acted, acted_from, all_acted}
 use Rattle.terminal_model.proofs.Sound.{IsSound-acted}
 use Rattle.vt_screen_rows.specs.Places.{all_acted_places, indexed_places}
 use Rattle.vt_screen_rows.specs.Runs.{ScrollsPlain, TakesRuns, prints, run_placed}
-use Rattle.vt_screen_rows.proofs.RunLemmas.{all_acted-append, run_is}
-use Rattle.vt_screen_rows.proofs.RunPlaces.{all_acted_places-append, run_places}
+use Rattle.vt_screen_rows.proofs.RunLemmas.{all_acted-append, print_is, run_is}
+use Rattle.vt_screen_rows.proofs.RunPlaces.{all_acted_places-append, run_places, settled_place}
+use Rattle.vt_screen_rows.proofs.Letters.{both}
 
 pub sound_wrapped : (x : Screen) → IsSound x → IsSound (wrapped true x)
 unfolding acted_from
@@ -92,3 +93,15 @@ places_after x codes n places =
     sym (all_acted_places-append x (prints (take n codes)) (prints (drop n codes)) places)
     ∙ ap (λ (as' : List Action). all_acted_places x as' places) (sym (map-append (λ (character : ℕ). Print (Code character)) (take n codes) (drop n codes)))
     ∙ ap (λ (v : List ℕ). all_acted_places x (prints v) places) (take-append-drop n codes)
+
+-- one character, where no wrap is due
+pub one_placed : (x : Screen) (codes : List ℕ) → TakesRuns x.state → x.state.is_wrap_pending ≡ false → list_all is_letter codes ≡ true → 0 < length codes
+    → placed_narrow (get_or codes 0 0) x ≡ all_acted x (prints (take 1 codes))
+one_placed x [] t settled letters some = absurd (omega arith)
+one_placed x (c ∷ codes) t settled letters some =
+    sym (print_is x c t (both (is_letter c) (list_all is_letter codes) letters).0 ∙ ap (λ (b : Bool). placed_narrow c (wrapped b x)) settled)
+
+pub one_stays : (x : Screen) (codes places : List ℕ) → TakesRuns x.state → x.state.is_wrap_pending ≡ false → list_all is_letter codes ≡ true → 0 < length codes
+    → all_acted_places x (prints (take 1 codes)) places ≡ places
+one_stays x [] places t settled letters some = absurd (omega arith)
+one_stays x (c ∷ codes) places t settled letters some = settled_place x.state c places t settled (both (is_letter c) (list_all is_letter codes) letters).0

@@ -35,7 +35,7 @@ list_all-drop p (suc n) [] h = refl
 list_all-drop p (suc n) (x ∷ xs) h = list_all-drop p n xs (both (p x) (list_all p xs) h).1
 
 -- one character, in the line that a pending wrap leads to
-print_is : (x : Screen) (c : ℕ) → TakesRuns x.state → is_letter c ≡ true → acted x (Print (Code c)) ≡ placed_narrow c (wrapped x.state.is_wrap_pending x)
+pub print_is : (x : Screen) (c : ℕ) → TakesRuns x.state → is_letter c ≡ true → acted x (Print (Code c)) ≡ placed_narrow c (wrapped x.state.is_wrap_pending x)
 unfolding acted_from
 print_is x c t h =
     let s : State = x.state in

@@ -24,7 +24,7 @@ one_place s c places t h =
     ap (λ (o : Option ℕ). printed_places o s places) (mapped-ascii s.shifts c t.ascii t.unshifted (graphic c h))
     ∙ ap (λ (n : ℕ). wrapped_places (is_wrapped n s) s places) (columns-letter c h)
 
-settled_place : (s : State) (c : ℕ) (places : List ℕ) → TakesRuns s → s.is_wrap_pending ≡ false → is_letter c ≡ true → acted_places s (Print (Code c)) places ≡ places
+pub settled_place : (s : State) (c : ℕ) (places : List ℕ) → TakesRuns s → s.is_wrap_pending ≡ false → is_letter c ≡ true → acted_places s (Print (Code c)) places ≡ places
 settled_place s c places t settled h = one_place s c places t h ∙ ap (λ (b : Bool). wrapped_places b s places) settled
 
 pub run_places : (codes : List ℕ) (x : Screen) (places : List ℕ) → TakesRuns x.state → x.state.is_wrap_pending ≡ false → IsSound x → list_all is_letter codes ≡ true

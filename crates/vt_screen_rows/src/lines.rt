@@ -27,7 +27,9 @@ impl Display {
         ensures places { MovesLinesByAll self.old (CarriageReturn ∷ LineFeed ∷ prints codes.now) self.new }
     {
         let printed = self.begin_line(codes);
-        self.print_run(&codes[printed..]);
+        if printed < codes.len() {
+            self.print_run(&codes[printed..]);
+        }
     }
 
     /// The same of the first ones of the characters, as many as have room in a line, or of none. It
@@ -54,6 +56,7 @@ impl Display {
 
     /// Goes to the first column of the next line, as a wrap does, and puts characters of width 1
     /// there, in place of as many old cells.
+    #[inline(always)]
     pub fn place_run_below(&mut self, codes: &[u8])
         requires fit { IsFit self.old }
         requires some { 0 < length codes.now }

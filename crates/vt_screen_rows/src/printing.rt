@@ -162,7 +162,7 @@ impl Display {
     }
 
     #[inline(always)]
-    fn place_narrow(&mut self, character: char)
+    pub fn place_narrow(&mut self, character: char)
         requires { IsFit self.old }
         ensures screen { screen_of self.new ≡ placed_narrow character (screen_of self.old) }
         ensures width { self.new.ring.columns ≡ self.old.ring.columns }

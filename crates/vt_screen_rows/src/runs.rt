@@ -52,6 +52,10 @@ impl Display {
             self.place_run_below(&codes[..count]);
             return count;
         }
+        if codes.len() == 1 {
+            self.place_narrow(codes[0] as char);
+            return 1;
+        }
         let count = codes.len().min(self.state.columns - self.state.column);
         self.place_run(&codes[..count]);
         count

@@ -18,8 +18,8 @@ pub returns-then-first-lt127-clause-taken : goal.returns-then-first-lt127-clause
 returns-then-first-lt127-clause-taken c = λ said t h.
     run-has-read c.args.self.now _ t (take c.plain_front-run.result c.args.bytes.now) said h c.requires.idle.whole c.requires.idle.idle
     c.plain_front-run.ensures.plain
-    (c.print_run.ensures.effect ∙ ap (λ (e : Parts). effects e.screen (map (λ b. Print b) (take c.plain_front-run.result c.args.bytes.now))) c.self.view_is)
-    (ap (λ (e : Parts). e.decoding) c.self.view_is) (ap (λ (e : Parts). e.parsing) c.self.view_is)
+    (c.print_run.ensures.effect ∙ ap (λ (e : Parts). effects e.screen (map (λ b. Print b) (take c.plain_front-run.result c.args.bytes.now))) c.self-2.view_is)
+    (ap (λ (e : Parts). e.decoding) c.self-2.view_is) (ap (λ (e : Parts). e.parsing) c.self-2.view_is)
 
 pub returns-then-ne-clause-taken : goal.returns-then-ne-clause-taken
 returns-then-ne-clause-taken c = λ said. nothing-taken c.args.self.now c.args.bytes.now said
@@ -39,6 +39,6 @@ returns-in-0-to-31-clause-taken c = λ said t h.
     let e = front-one c.args.bytes.now b c.requires.some refl in
     let reads : ReadsAs Utf8 (take 1 c.args.bytes.now) (f ∷ []) = subst (λ (v : List ℕ). ReadsAs Utf8 v (f ∷ [])) (sym e) (spelled_reads f control) in
     quiet-has-read c.args.self.now _ t _ said f c.requires.idle utf8 (effect-coding c.args.self.now.screen f refl) reads
-    (c.control.ensures.effect ∙ ap (λ (v : Parts). effect v.screen f) c.self.view_is)
-    (ap (λ (v : Parts). v.decoding) c.self.view_is) (ap (λ (v : Parts). v.parsing) c.self.view_is)
-    (ap (λ (v : Parts). report v.screen f) (sym c.self.view_is) ∙ c.control.ensures.silent) h
+    (c.control.ensures.effect ∙ ap (λ (v : Parts). effect v.screen f) c.self-2.view_is)
+    (ap (λ (v : Parts). v.decoding) c.self-2.view_is) (ap (λ (v : Parts). v.parsing) c.self-2.view_is)
+    (ap (λ (v : Parts). report v.screen f) (sym c.self-2.view_is) ∙ c.control.ensures.silent) h

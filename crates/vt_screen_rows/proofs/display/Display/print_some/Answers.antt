@@ -12,7 +12,7 @@ use Rattle.vt_screen_rows.proofs.Widths.{acted_fit}
 use Rattle.vt_screen_rows.proofs.Letters.{plain_letters}
 use Rattle.vt_screen_rows.proofs.RunLemmas.{all_acted_fit, list_all-take, prints_wrapped, run_is, settled-wrapped, takes-wrapped}
 use Rattle.vt_screen_rows.proofs.RunPlaces.{prints_places, run_places}
-use Rattle.vt_screen_rows.proofs.LineRuns.{sound_wrapped}
+use Rattle.vt_screen_rows.proofs.LineRuns.{sound_wrapped, one_placed, one_stays}
 use Rattle.vt_screen_rows.proofs.display.Display.print_some.Goals as goal
 
 pub returns-then-not-takes_runs-clause-fit : goal.returns-then-not-takes_runs-clause-fit
@@ -78,3 +78,17 @@ returns-clause-places c =
     let letters : list_all is_letter codes ≡ true = list_all-take is_letter c.min-count-2.result c.args.codes.now (plain_letters c.args.codes.now c.requires.plain) in
     let n : length codes ≡ min c.min-count-2.result (length c.args.codes.now) = length-take c.min-count-2.result c.args.codes.now in
     c.place_run.ensures.places ∙ sym (run_places codes x c.args.self.now.page.places takes c.if-self.false c.requires.fit.sound letters (omega arith))
+
+pub returns-then-codes-eq1-clause-screen : goal.returns-then-codes-eq1-clause-screen
+returns-then-codes-eq1-clause-screen c =
+    let takes : TakesRuns c.args.self.now.state = c.takes_runs.ensures.0 c.if-not-takes_runs.false in
+    c.place_narrow.ensures.screen ∙ one_placed (screen_of c.args.self.now) c.args.codes.now takes c.if-self.false (plain_letters c.args.codes.now c.requires.plain) c.requires.some
+
+pub returns-then-codes-eq1-clause-fit : goal.returns-then-codes-eq1-clause-fit
+returns-then-codes-eq1-clause-fit c = all_acted_fit c.args.self.now c.place_narrow.new.self (prints (take 1 c.args.codes.now)) c.requires.fit (returns-then-codes-eq1-clause-screen c) c.place_narrow.ensures.width
+
+pub returns-then-codes-eq1-clause-places : goal.returns-then-codes-eq1-clause-places
+returns-then-codes-eq1-clause-places c =
+    let takes : TakesRuns c.args.self.now.state = c.takes_runs.ensures.0 c.if-not-takes_runs.false in
+    c.place_narrow.ensures.places
+    ∙ sym (one_stays (screen_of c.args.self.now) c.args.codes.now c.args.self.now.page.places takes c.if-self.false (plain_letters c.args.codes.now c.requires.plain) c.requires.some)
