@@ -10,7 +10,7 @@ ghost use Rattle.emulator.specs.Standing.{HasTaken, IsBetween};
 
 use crate::emulator::Emulator;
 use charsets::{Coding, first_characters, first_letters};
-use control_parser::plain_run;
+use control_parser::{Numerals, plain_run};
 
 const CAN: u8 = 0x18;
 
@@ -130,6 +130,21 @@ impl Emulator {
         if bytes[1] == b'[' {
             return self.read_sequence(bytes);
         }
+        self.read_other_escape(bytes)
+    }
+
+    /// The same where no CSI stands there.
+    #[inline(never)]
+    fn read_other_escape(&mut self, bytes: &[u8]) -> usize
+        requires some { 1 < length bytes.now }
+        requires begins { take 1 bytes.now ≡ 0x1B ∷ [] }
+        requires idle { IsBetween self.old }
+        requires coding { self.old.decoding.coding ≡ Utf8 }
+        ensures taken { (said : List ℕ) → HasTaken self.old bytes.now result said self.new said }
+        ensures few { result ≤ length bytes.now }
+        ensures decoding { self.new.decoding ≡ self.old.decoding }
+        ensures parsing { self.new.parsing ≡ self.old.parsing }
+    {
         if !ends_escape(bytes[1]) {
             return 0;
         }
@@ -139,6 +154,28 @@ impl Emulator {
 
     /// The same of what begins with CSI.
     fn read_sequence(&mut self, bytes: &[u8]) -> usize
+        requires begins { take 2 bytes.now ≡ 0x1B ∷ 0x5B ∷ [] }
+        requires idle { IsBetween self.old }
+        requires coding { self.old.decoding.coding ≡ Utf8 }
+        ensures taken { (said : List ℕ) → HasTaken self.old bytes.now result said self.new said }
+        ensures few { result ≤ length bytes.now }
+        ensures decoding { self.new.decoding ≡ self.old.decoding }
+        ensures parsing { self.new.parsing ≡ self.old.parsing }
+    {
+        let mut numerals = Numerals::new();
+        let count = numerals.read(&bytes[2..]);
+        if count == 0 {
+            return self.read_other_sequence(bytes);
+        }
+        if !self.screen.numerals(&numerals) {
+            return 0;
+        }
+        count + 2
+    }
+
+    /// The same where more than digits and semicolons stand before its final byte.
+    #[inline(never)]
+    fn read_other_sequence(&mut self, bytes: &[u8]) -> usize
         requires begins { take 2 bytes.now ≡ 0x1B ∷ 0x5B ∷ [] }
         requires idle { IsBetween self.old }
         requires coding { self.old.decoding.coding ≡ Utf8 }
