@@ -1,10 +1,13 @@
-//! Frames that are appended have the bytes of those whose views are kept.
+//! Frames that are appended have the bytes of those whose views are kept, and so have those of
+//! pages that are composed over others.
 
+ghost use Rattle.std.specs.Prelude.{◌≡◌, OnOk};
 ghost use Rattle.view.specs.View.{HasSize};
 
-use crate::refusals::{LETTERS, view_of};
-use redraw::{Shadow, frame, frame_keeping};
-use std::alloc::Global;
+use crate::refusals::{LETTERS, view_of, view_over};
+use cells::Cell;
+use redraw::{Shadow, frame, frame_keeping, frame_sparing};
+use std::alloc::{AllocError, Global};
 use std::process::Abort;
 use std::test::Fail;
 use view::View;
@@ -41,6 +44,42 @@ fn appended(alloc: Global, first: &View, second: &View) -> Result<Vec<u8>, Fail>
     Ok(bytes)
 }
 
+/// A frame of a line whose page is composed over a spare one, which the next may take.
+fn frame_over(
+    alloc: Global,
+    shadow: &mut Shadow,
+    spare: &mut Option<View>,
+    cells: &[Cell],
+) -> Result<Option<Vec<u8>>, AllocError>
+    requires rows { shadow.old.rows ≡ 4 }
+    requires columns { shadow.old.columns ≡ 20 }
+    ensures rows { OnOk result (shadow.new.rows ≡ 4) }
+    ensures columns { OnOk result (shadow.new.columns ≡ 20) }
+{
+    let view = view_over(alloc, spare.take(), cells)?;
+    match frame_sparing(alloc, shadow, view, spare)? {
+        Some(bytes) => Ok(Some(bytes)),
+        None => Ok(None),
+    }
+}
+
+/// The same bytes, the first page composed over the second one.
+fn spared(alloc: Global) -> Result<Vec<u8>, Fail> {
+    let mut shadow = Shadow::unknown(4, 20);
+    let mut spare = Some(view_of(alloc, &LETTERS)?);
+    let Some(mut bytes) = frame_over(alloc, &mut shadow, &mut spare, &LETTERS[..2])? else {
+        return Err(Fail::from("no frame"));
+    };
+    let None = frame_over(alloc, &mut shadow, &mut spare, &LETTERS[..2])? else {
+        return Err(Fail::from("a frame to the same view"));
+    };
+    let Some(next) = frame_over(alloc, &mut shadow, &mut spare, &LETTERS)? else {
+        return Err(Fail::from("no frame"));
+    };
+    bytes.extend_from_slice(next.as_slice())?;
+    Ok(bytes)
+}
+
 #[test]
 fn appended_frames_are_those_that_keep_views(rt: HostRuntime) -> Result<(), Fail> {
     let alloc = rt.alloc();
@@ -50,5 +89,6 @@ fn appended_frames_are_those_that_keep_views(rt: HostRuntime) -> Result<(), Fail
     let bytes = kept(alloc, &first, &second)?;
     assert!(rt; bytes.starts_with(b"\x18\x1bc\x1b%G\x1b[?7l"));
     assert_eq!(rt; appended(alloc, &first, &second)?, bytes);
+    assert_eq!(rt; spared(alloc)?, bytes);
     Ok(())
 }

@@ -11,7 +11,7 @@ use regions::Rects;
 use std::alloc::{AllocError, Global};
 use std::process::Abort;
 use std::test::Fail;
-use view::{Contents, KeyModes, Pane, View, compose};
+use view::{Contents, KeyModes, Pane, View, compose_over};
 
 pub const LETTERS: [Cell; 3] = [
     Cell::BLANK,
@@ -33,6 +33,13 @@ pub const LETTERS: [Cell; 3] = [
 pub fn view_of(alloc: Global, cells: &[Cell]) -> Result<View, AllocError>
     ensures { IfOk result (HasSize 4 20) }
 {
+    view_over(alloc, None, cells)
+}
+
+/// The same over another view, if there is one.
+pub fn view_over(alloc: Global, spare: Option<View>, cells: &[Cell]) -> Result<View, AllocError>
+    ensures { IfOk result (HasSize 4 20) }
+{
     let rects = Rects::lone(alloc, 4, 20)?;
     let mut lines: Vec<&[Cell]> = Vec::with_capacity(alloc, 1)?;
     lines.push(cells)?;
@@ -45,7 +52,7 @@ pub fn view_of(alloc: Global, cells: &[Cell]) -> Result<View, AllocError>
         is_inverted: false,
         modes: KeyModes::NORMAL,
     });
-    compose(alloc, &rects, &[pane], b":x")
+    compose_over(alloc, spare, &rects, &[pane], b":x")
 }
 
 /// The same, made again where memory was refused.
