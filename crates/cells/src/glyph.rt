@@ -13,7 +13,15 @@ pub fn glyph_width(character: char) -> u8
     ensures width { result ≡ glyph_columns (char_width false character) }
     ensures bound { result ≤ 2 }
 {
-    match character.width() {
+    glyph_columns(character.width())
+}
+
+/// The columns that a character of a width takes.
+pub fn glyph_columns(width: Option<usize>) -> u8
+    ensures width { result ≡ glyph_columns width }
+    ensures bound { result ≤ 2 }
+{
+    match width {
         Some(2) => 2,
         Some(0) | None => 0,
         Some(_) => 1,

@@ -1,7 +1,6 @@
 //! Print.
 
 ghost use Rattle.std.specs.Prelude.{◌≡◌, ◌<◌, ◌+◌, ◌&&◌, Some, IsTrue};
-ghost use Rattle.cells.specs.Glyph.{glyph_columns};
 ghost use Rattle.charsets.specs.declared.unit.Unit.TheVariants.{Code};
 ghost use Rattle.terminal_model.specs.Printing.{columns_of, drawn, drawn_as, lacks_room, marked_at};
 ghost use Rattle.terminal_model.specs.Printing.{placed_narrow, placed_wide, printed, printed_as};
@@ -14,7 +13,7 @@ ghost use Rattle.vt_screen_rows.specs.Places.{printed_places, wrapped_places};
 ghost use Rattle.terminal_model.specs.Scrollback.{is_wrapped};
 
 use crate::display::Display;
-use cells::{Cell, Shape};
+use cells::{Cell, Shape, glyph_columns};
 use charsets::Unit;
 use unicode_width::UnicodeWidthChar;
 use vt_screen_state::{advance, following, lacks_room, needs_line, separate};
@@ -84,7 +83,7 @@ impl Display {
     {
         match character.width() {
             Some(2) => self.print_broad(character),
-            width => self.print_as(columns_in(width), drawn_as(width, character)),
+            width => self.print_as(glyph_columns(width), drawn_as(width, character)),
         }
     }
 
@@ -224,17 +223,6 @@ fn is_letter(character: char) -> bool
     ensures drawn { IsTrue result → drawn character ≡ character }
 {
     '\u{A0}' <= character && character < '\u{300}' && character != SOFT_HYPHEN
-}
-
-/// The columns that a character of a width takes.
-fn columns_in(width: Option<usize>) -> u8
-    ensures { result ≡ glyph_columns width }
-{
-    match width {
-        Some(2) => 2,
-        Some(0) | None => 0,
-        Some(_) => 1,
-    }
 }
 
 /// What is drawn of a character of a width: U+FFFD where that is 3.
