@@ -325,6 +325,7 @@ impl Page {
 
     /// The same, where a run of characters of width 1 takes the first columns of the new line: `codes`
     /// has their code points.
+    #[inline(always)]
     pub fn scroll_in_run(&mut self, ring: &mut Ring, bottom: usize, codes: &[u8])
         requires inside { bottom < length self.old.lines }
         requires width { ring.old.columns ≡ length (line_at self.old.lines 0) }
