@@ -56,12 +56,13 @@ impl Numerals {
         ensures few { result ≤ length bytes.now }
     {
         self.params.clear();
+        // A parameter of three digits and what stands behind it begin before this place.
+        let end = bytes.len().saturating_sub(3);
         let mut at = 0;
-        while bytes.len() - at > 3 {
-            let (value, count) = numeral(&bytes[at..]);
+        while at < end {
+            let (value, behind, c) = numeral(&bytes[at..]);
             self.params.set_last(value);
-            let c = bytes[at + count];
-            at += count + 1;
+            at += behind;
             if c == b';' && self.params.len() < 16 {
                 self.params.push_absent();
             } else if b'@' <= c && c <= b'~' {
@@ -75,30 +76,36 @@ impl Numerals {
     }
 }
 
-/// The number that the digits at the front spell, of which at most three are read, and how many they
-/// are. There is no loop, and no value that could be above 9,999.
+/// The number that the digits at the front spell, of which at most three are read, how many bytes
+/// they and the one behind them are, and that one. There is no loop, and no value that could be above
+/// 9,999.
 #[inline(always)]
-fn numeral(bytes: &[u8]) -> (u16, usize)
-    requires { 2 < length bytes.now }
-    ensures value { result.0 ≡ value_of bytes.now result.1 }
-    ensures digits { (k : ℕ) → k < result.1 → is_digit (slice_index bytes.now k) ≡ true }
-    ensures few { result.1 ≤ 3 }
-    ensures all { result.1 < 3 → is_digit (slice_index bytes.now result.1) ≡ false }
+fn numeral(bytes: &[u8]) -> (u16, usize, u8)
+    requires { 3 < length bytes.now }
+    ensures some { 0 < result.1 }
+    ensures few { result.1 ≤ 4 }
+    ensures value { result.0 ≡ value_of bytes.now (result.1 - 1) }
+    ensures digits { (k : ℕ) → k < result.1 - 1 → is_digit (slice_index bytes.now k) ≡ true }
+    ensures all { result.1 < 4 → is_digit result.2 ≡ false }
+    ensures behind { result.2 ≡ slice_index bytes.now (result.1 - 1) }
 {
-    let first = digit(bytes[0]);
+    let c = bytes[0];
+    let first = digit(c);
     if first > 9 {
-        return (0, 0);
+        return (0, 1, c);
     }
-    let second = digit(bytes[1]);
+    let c = bytes[1];
+    let second = digit(c);
     if second > 9 {
-        return (first as u16, 1);
+        return (first as u16, 2, c);
     }
     let number = first * 10 + second;
-    let third = digit(bytes[2]);
+    let c = bytes[2];
+    let third = digit(c);
     if third > 9 {
-        return (number as u16, 2);
+        return (number as u16, 3, c);
     }
-    ((number * 10 + third) as u16, 3)
+    ((number * 10 + third) as u16, 4, bytes[3])
 }
 
 /// What a digit counts for; of any other byte it is more than 9.

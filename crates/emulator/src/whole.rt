@@ -124,19 +124,16 @@ impl Emulator {
         ensures decoding { self.new.decoding ≡ self.old.decoding }
         ensures parsing { self.new.parsing ≡ self.old.parsing }
     {
-        if bytes.len() < 2 {
-            return 0;
-        }
-        if bytes[1] == b'[' {
+        // (with so many bytes a sequence's first parameter needn't be asked whether it has room)
+        if bytes.len() > 5 && bytes[1] == b'[' {
             return self.read_sequence(bytes);
         }
         self.read_other_escape(bytes)
     }
 
-    /// The same where no CSI stands there.
+    /// The same where no CSI stands there, or few bytes behind it.
     #[inline(never)]
     fn read_other_escape(&mut self, bytes: &[u8]) -> usize
-        requires some { 1 < length bytes.now }
         requires begins { take 1 bytes.now ≡ 0x1B ∷ [] }
         requires idle { IsBetween self.old }
         requires coding { self.old.decoding.coding ≡ Utf8 }
@@ -145,6 +142,12 @@ impl Emulator {
         ensures decoding { self.new.decoding ≡ self.old.decoding }
         ensures parsing { self.new.parsing ≡ self.old.parsing }
     {
+        if bytes.len() < 2 {
+            return 0;
+        }
+        if bytes[1] == b'[' {
+            return self.read_other_sequence(bytes);
+        }
         if !ends_escape(bytes[1]) {
             return 0;
         }
@@ -173,7 +176,7 @@ impl Emulator {
         count + 2
     }
 
-    /// The same where more than digits and semicolons stand before its final byte.
+    /// The same of any, as where more than digits and semicolons stand before its final byte.
     #[inline(never)]
     fn read_other_sequence(&mut self, bytes: &[u8]) -> usize
         requires begins { take 2 bytes.now ≡ 0x1B ∷ 0x5B ∷ [] }

@@ -10,6 +10,9 @@ use Rattle.emulator.specs.Standing.{Parts}
 use Rattle.emulator.proofs.Wholes.{quiet-has-read, front-two, nothing-taken}
 use Rattle.emulator.proofs.emulator.Emulator.read_other_escape.Goals as goal
 
+pub returns-then-bytes-lt2-clause-taken : goal.returns-then-bytes-lt2-clause-taken
+returns-then-bytes-lt2-clause-taken c = λ said. nothing-taken c.args.self.now c.args.bytes.now said
+
 pub returns-clause-taken : goal.returns-clause-taken
 returns-clause-taken c = λ said t h.
     let last : ℕ = get_or c.args.bytes.now 1 0 in
