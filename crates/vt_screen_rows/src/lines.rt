@@ -22,9 +22,11 @@ impl Display {
     pub fn print_line(&mut self, codes: &[u8])
         requires fit { IsFit self.old }
         requires plain { list_all is_plain codes.now ≡ true }
-        ensures screen { ActsByAll self.old (CarriageReturn ∷ LineFeed ∷ prints codes.now) self.new }
+        ensures screen { ActsByAll self.old
+            (CarriageReturn ∷ LineFeed ∷ prints codes.now) self.new }
         ensures fit { IsFit self.new }
-        ensures places { MovesLinesByAll self.old (CarriageReturn ∷ LineFeed ∷ prints codes.now) self.new }
+        ensures places { MovesLinesByAll self.old
+            (CarriageReturn ∷ LineFeed ∷ prints codes.now) self.new }
     {
         let printed = self.begin_line(codes);
         if printed < codes.len() {
