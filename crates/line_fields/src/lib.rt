@@ -1,8 +1,9 @@
-//! Fields of lines: cut at a byte, numbers in decimal, and texts of any bytes in plain ones.
+//! Fields of lines: cut at a byte, numbers in decimal, texts of any bytes in plain ones; users, bits, objects and modes.
 #![tactic(auto)]
 
 mod cutting;
 mod numbers;
+pub mod parts;
 mod texts;
 
 pub use cutting::{cut, next_word};

@@ -9,7 +9,7 @@ use Rattle.acl.specs.declared.user_id.UserId.{UserId}
 use Rattle.acl.specs.Names.{name_of}
 use Rattle.line_fields.specs.Cutting.{◌>>=◌, cut}
 use Rattle.line_fields.specs.Numbers.{number_below}
-use Rattle.trail_lines.specs.Parts.{blank, field, user_at}
+use Rattle.line_fields.specs.Parts.{blank, field, user_at}
 use Rattle.line_fields.specs.Numbers.{number_at}
 use Rattle.trail_lines.specs.Sayable.{IsNamed}
 use Rattle.trail_audit.specs.declared.header.Header.{Header}

@@ -6,10 +6,11 @@ ghost use Rattle.trail_audit.specs.Heading.{edition_in, form_text, header_text};
 ghost use Rattle.trail_audit.specs.Heading.{header_fields, read_header};
 
 use acl::{Edition, UserId};
+use line_fields::parts::user_at;
 use line_fields::{cut, read_u64};
 use session_model::{Bytes, push_decimal};
 use std::alloc::{AllocError, Global};
-use trail_lines::{Unread, user_at};
+use trail_lines::Unread;
 
 /// What the first line says. It is the writer's word: who reads it knows the owner or doesn't.
 #[derive(Debug)]

@@ -29,7 +29,7 @@ use Rattle.line_fields.proofs.Words.{IsFree, passing, first_field}
 use Rattle.line_fields.proofs.Digits.{digits, number_again, not_number}
 use Rattle.trail_lines.specs.declared.acts.ActKind.{ActKind}
 use Rattle.trail_lines.specs.declared.acts.ActKind.TheVariants as kind
-use Rattle.trail_lines.specs.Parts.{colon, blank, comma, field, user_at, nobody, user_text, user_in, change_text, change_in, object_text, command_in, window_or, object_in, mode_text, mode_in, preset_text, preset_in}
+use Rattle.line_fields.specs.Parts.{colon, blank, comma, field, user_at, nobody, user_text, user_in, change_text, change_in, object_text, command_in, window_or, object_in, mode_text, mode_in, preset_text, preset_in}
 use Rattle.line_fields.specs.Numbers.{number_at}
 use Rattle.trail_lines.specs.Acts.{kind_text, kind_in, kind_of, act_rest, act_text, rest_in, act_in, lock, verdict_text, verdict_in}
 use Rattle.trail_lines.specs.Sayable.{IsNamed, IsNamedIfAny, IsSerial, IsObject, IsAct, IsVerdict}

@@ -4,7 +4,7 @@ use Rattle.std.specs.Prelude.{Option, Some, None}
 use Rattle.acl.specs.declared.user_id.UserId.{UserId}
 use Rattle.acl.specs.Names.{named_by}
 use Rattle.line_fields.specs.Cutting.{◌>>=◌, words, words_behind}
-use Rattle.trail_lines.specs.Parts.{comma}
+use Rattle.line_fields.specs.Parts.{comma}
 use Rattle.trail_lines.specs.Replies.{leaders_of, with_leader}
 use Rattle.trail_lines.specs.declared.entries.Note.{Note}
 use Rattle.trail_lines.specs.Entries.{Noted, note_in, noting, notes_of}

@@ -32,7 +32,7 @@ use Rattle.line_fields.specs.Cutting.{◌>>=◌, cut, words}
 use Rattle.line_fields.specs.Numbers.{number_below}
 use Rattle.line_fields.proofs.Words.{IsFree, first_field, one_word, first_word}
 use Rattle.line_fields.proofs.Digits.{number_again}
-use Rattle.trail_lines.specs.Parts.{colon, comma, field, user_at, nobody, mark, bit_in}
+use Rattle.line_fields.specs.Parts.{colon, comma, field, user_at, nobody, mark, bit_in}
 use Rattle.line_fields.specs.Numbers.{number_at}
 use Rattle.trail_lines.specs.Replies.{leaders_text, few, with_leader, leaders_of, leaders_in, denied_then, denied_of, denied_at, entry_in, acl_fault, windows_fault, regions_fault, line_fault, small_in, why_text, plain_in, caused_in, or_caused, why_in, reply_text, finished_in, done, refused, reply_by, reply_in}
 use Rattle.trail_lines.specs.Sayable.{IsNamed, IsSerial, AreLeaders, IsDenied, IsRefusal, IsReply}

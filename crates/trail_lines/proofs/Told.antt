@@ -29,7 +29,7 @@ use Rattle.line_fields.proofs.Digits.{AreDigits, digits, number_again}
 use Rattle.line_fields.proofs.ReadBack.{read_back}
 use Rattle.trail_lines.specs.declared.entries.Note.{Note}
 use Rattle.trail_lines.specs.declared.entries.Note.TheVariants as note
-use Rattle.trail_lines.specs.Parts.{colon, blank, field, user_at, nobody, mark, user_text, change_text, object_text}
+use Rattle.line_fields.specs.Parts.{colon, blank, field, user_at, nobody, mark, user_text, change_text, object_text}
 use Rattle.line_fields.specs.Numbers.{number_at}
 use Rattle.trail_lines.specs.Acts.{act_text, act_in, verdict_text, verdict_in, lock}
 use Rattle.trail_lines.specs.Replies.{leaders_text, denied_then, why_text, reply_text, reply_in}

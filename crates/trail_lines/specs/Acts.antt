@@ -12,10 +12,10 @@ use Rattle.line_fields.specs.Cutting.{◌>>=◌, cut}
 use Rattle.line_fields.specs.Numbers.{number_below}
 use Rattle.trail_lines.specs.declared.acts.ActKind.{ActKind}
 use Rattle.trail_lines.specs.declared.acts.ActKind.TheVariants as kind
-use Rattle.trail_lines.specs.Parts.{colon, field, user_at, user_text, user_in}
+use Rattle.line_fields.specs.Parts.{colon, field, user_at, user_text, user_in}
 use Rattle.line_fields.specs.Numbers.{number_at}
-use Rattle.trail_lines.specs.Parts.{change_text, change_in, object_text, object_in, mode_text}
-use Rattle.trail_lines.specs.Parts.{mode_in, preset_text, preset_in}
+use Rattle.line_fields.specs.Parts.{change_text, change_in, object_text, object_in, mode_text}
+use Rattle.line_fields.specs.Parts.{mode_in, preset_text, preset_in}
 
 -- ---- the kind of an act, by the word that it begins with
 

@@ -12,7 +12,7 @@ use Rattle.trail_lines.specs.declared.entries.Note.{Note}
 use Rattle.trail_lines.specs.declared.entries.Note.TheVariants as note
 use Rattle.trail_lines.specs.declared.entries.Notes.{Notes}
 use Rattle.trail_lines.specs.declared.entries.Line.{Line}
-use Rattle.trail_lines.specs.Parts.{blank, field}
+use Rattle.line_fields.specs.Parts.{blank, field}
 use Rattle.line_fields.specs.Numbers.{number_at}
 use Rattle.trail_lines.specs.Acts.{act_text, act_in, verdict_text, verdict_in}
 use Rattle.trail_lines.specs.Events.{event_then, event_at}

@@ -8,7 +8,7 @@ use Rattle.hub_trail.specs.declared.kept.Kept.TheVariants as kept
 use Rattle.line_fields.specs.Cutting.{◌>>=◌, cut}
 use Rattle.line_fields.specs.Numbers.{number_below}
 use Rattle.line_fields.specs.Texts.{escaped, spelled}
-use Rattle.trail_lines.specs.Parts.{blank, field, user_at, nobody}
+use Rattle.line_fields.specs.Parts.{blank, field, user_at, nobody}
 use Rattle.line_fields.specs.Numbers.{number_at}
 
 -- ---- texts: a dot, and then the bytes; a blank is escaped too

@@ -1,4 +1,3 @@
-pub mod Parts
 pub mod Acts
 pub mod Replies
 pub mod Events

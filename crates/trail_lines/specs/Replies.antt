@@ -29,9 +29,9 @@ use Rattle.hub_trail.specs.declared.kept.Finished.{Finished}
 use Rattle.hub_trail.specs.Trails.{Ending}
 use Rattle.line_fields.specs.Cutting.{◌>>=◌, cut, words}
 use Rattle.line_fields.specs.Numbers.{number_below}
-use Rattle.trail_lines.specs.Parts.{colon, comma, field, user_at, nobody, mark, bit_in}
+use Rattle.line_fields.specs.Parts.{colon, comma, field, user_at, nobody, mark, bit_in}
 use Rattle.line_fields.specs.Numbers.{number_at}
-use Rattle.trail_lines.specs.Parts.{object_in}
+use Rattle.line_fields.specs.Parts.{object_in}
 
 -- ---- leaders
 

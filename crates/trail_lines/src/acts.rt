@@ -6,13 +6,13 @@ ghost use Rattle.acl.specs.declared.act.Act.TheVariants.{Entered};
 ghost use Rattle.trail_lines.specs.Acts.{kind_text, kind_in, kind_of, act_rest, act_text};
 ghost use Rattle.trail_lines.specs.Acts.{user_and_serial, set_in, grouped_in, masked_in};
 ghost use Rattle.trail_lines.specs.Acts.{preset_act_in, attached_in, mode_act_in, rest_in, act_in};
-ghost use Rattle.trail_lines.specs.Parts.{colon, field};
+ghost use Rattle.line_fields.specs.Parts.{colon, field};
 
-use crate::parts::{
+use acl::{Act, Bit, LockMode, Object, PresetKind, UserId};
+use line_fields::parts::{
     push_change, push_mode, push_name, push_object, push_preset, push_user, read_change, read_mode,
     read_object, read_preset, read_user, user_at,
 };
-use acl::{Act, Bit, LockMode, Object, PresetKind, UserId};
 use line_fields::{cut, read_u32, u32_at};
 use session_model::push_decimal;
 use std::alloc::AllocError;

@@ -3,7 +3,7 @@
 ghost use Rattle.std.specs.Prelude.{◌≡◌, ◌++◌, [], OnErr, OnOk, IfOk, option_copied, option_map};
 ghost use Rattle.std.specs.List.{flat_map};
 ghost use Rattle.line_fields.specs.Cutting.{words_behind};
-ghost use Rattle.trail_lines.specs.Parts.{blank};
+ghost use Rattle.line_fields.specs.Parts.{blank};
 ghost use Rattle.trail_lines.specs.Entries.{checked_text, done_text, tail_text, line_of, note_in};
 ghost use Rattle.trail_lines.specs.Entries.{noting, notes_of, tail_in, said_in, if_spelled};
 ghost use Rattle.trail_lines.specs.Entries.{read_line, noted, said};

@@ -6,16 +6,16 @@ ghost use Rattle.session_model.specs.Trace.{happening};
 ghost use Rattle.hub_trail.specs.Filing.{kept_of};
 ghost use Rattle.hub_trail.specs.declared.kept.Kept.TheVariants.{Attach, Command, Open};
 ghost use Rattle.hub_record.specs.Stored.{kept_lent};
-ghost use Rattle.trail_lines.specs.Parts.{blank, field};
+ghost use Rattle.line_fields.specs.Parts.{blank, field};
 ghost use Rattle.trail_lines.specs.Events.{text_field, text_in, title_of, window_text, window_in};
 ghost use Rattle.trail_lines.specs.Events.{event_then, attach_at, detach_at, keys_at, command_at};
 ghost use Rattle.trail_lines.specs.Events.{shape_at, open_at, closed_at, event_by, event_at};
 ghost use Rattle.trail_lines.specs.Unreadable.{Gives};
 
-use crate::parts::{push_name, user_at};
 use crate::unread::Unread;
 use acl::UserId;
 use hub_record::{KeptEvent, KeptRef};
+use line_fields::parts::{push_name, user_at};
 use line_fields::{cut, push_escaped, read_u8, u16_at, u32_at, unescape};
 use session_model::{Event, push_decimal};
 use std::alloc::{AllocError, Global};

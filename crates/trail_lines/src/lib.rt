@@ -4,7 +4,6 @@
 pub mod acts;
 pub mod entries;
 mod events;
-mod parts;
 mod replies;
 pub mod unread;
 mod verdicts;
@@ -12,7 +11,6 @@ mod verdicts;
 ghost use Rattle.trail_lines.specs.Sayable.{IsSpelledSo, ReadsPrinted};
 
 pub use entries::{Line, print_line, read_line};
-pub use parts::user_at;
 pub use unread::Unread;
 
 /// Laws of lines: what was printed is read, for every entry that can be said; and a line that is

@@ -5,7 +5,7 @@ ghost use Rattle.session_model.specs.declared.refusal.Refusal.TheVariants as ref
 ghost use Rattle.acl.specs.Names.{name_of};
 ghost use Rattle.session_model.specs.Texts.{behind};
 ghost use Rattle.line_fields.specs.Cutting.{words};
-ghost use Rattle.trail_lines.specs.Parts.{comma};
+ghost use Rattle.line_fields.specs.Parts.{comma};
 ghost use Rattle.trail_lines.specs.Replies.{leaders_text, with_leader, leaders_of, leaders_in};
 ghost use Rattle.trail_lines.specs.Replies.{denied_then};
 ghost use Rattle.trail_lines.specs.Replies.{denied_of, denied_at, entry_in, lock_denied_in};
@@ -13,10 +13,10 @@ ghost use Rattle.trail_lines.specs.Replies.{acl_fault, windows_fault, regions_fa
 ghost use Rattle.trail_lines.specs.Replies.{line_in, why_text, plain_in, caused_in, why_in};
 ghost use Rattle.trail_lines.specs.Replies.{reply_text, finished_in, reply_in};
 
-use crate::parts::{mark, push_command, push_name, read_bit, read_object, user_at};
 use acl::{AclFault, Edition, Leaders, Object, UserId};
 use command_lang::{FaultKind, ParseFault};
 use hub_trail::{Ending, Finished};
+use line_fields::parts::{mark, push_command, push_name, read_bit, read_object, user_at};
 use line_fields::{cut, next_word, read_u8, read_u64, u8_at, u32_at, u64_at};
 use regions::RegionFault;
 use session_model::{Denied, EntryDenied, LockDenied, Refusal, WindowsFault, push_decimal};

@@ -3,10 +3,10 @@
 ghost use Rattle.std.specs.Prelude.{◌≡◌, ◌++◌, OnOk};
 ghost use Rattle.trail_lines.specs.Acts.{verdict_text, lock_in, right_in, verdict_in};
 
-use crate::parts::{
+use acl::{Bit, Object, UserId};
+use line_fields::parts::{
     push_change, push_name, push_object, push_user, read_change, read_object, read_user, user_at,
 };
-use acl::{Bit, Object, UserId};
 use line_fields::{cut, u32_at};
 use session_model::{Verdict, push_decimal};
 use std::alloc::AllocError;

@@ -4,8 +4,8 @@ use Rattle.std.proofs.lemmas.Iterator.{YieldsList-from_slice}
 use Rattle.std.proofs.lemmas.Iterator.Search.{find_from_yields_List}
 use Rattle.acl.specs.command_name.TheConstants.CommandName.{ALL}
 use Rattle.command_lang.specs.Names.{name_text}
-use Rattle.trail_lines.specs.Parts.{command_in}
-use Rattle.trail_lines.proofs.parts.read_command.Goals as goal
+use Rattle.line_fields.specs.Parts.{command_in}
+use Rattle.line_fields.proofs.parts.read_command.Goals as goal
 
 pub returns : goal.returns
 unfolding command_in

@@ -3,14 +3,15 @@
 ghost use Rattle.std.specs.Prelude.{◌≡◌, ◌++◌, OnOk, option_map};
 ghost use Rattle.acl.specs.Names.{name_of};
 ghost use Rattle.acl.specs.declared.act.Object.TheVariants.{Command};
-ghost use Rattle.trail_lines.specs.Parts.{user_at, user_text, user_in, sign, mark};
-ghost use Rattle.trail_lines.specs.Parts.{change_text, value_of, bit_of, bit_in, change_in};
-ghost use Rattle.trail_lines.specs.Parts.{object_text, command_in, object_in, mode_text};
-ghost use Rattle.trail_lines.specs.Parts.{mode_in, preset_text, preset_in};
+ghost use Rattle.line_fields.specs.Parts.{user_at, user_text, user_in, sign, mark};
+ghost use Rattle.line_fields.specs.Parts.{change_text, value_of, bit_of, bit_in, change_in};
+ghost use Rattle.line_fields.specs.Parts.{object_text, command_in, object_in, mode_text};
+ghost use Rattle.line_fields.specs.Parts.{mode_in, preset_text, preset_in};
 
+use crate::cutting::cut;
+use crate::numbers::read_u32;
 use acl::{Bit, BitChange, CommandName, LockMode, Object, PresetKind, UserId};
 use command_lang::name_text;
-use line_fields::{cut, read_u32};
 use session_model::push_decimal;
 use std::alloc::AllocError;
 
