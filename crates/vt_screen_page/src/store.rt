@@ -116,6 +116,7 @@ pub fn scroll_into(stored: &mut [Line], places: &mut [u8], ring: &mut Ring, bott
 }
 
 /// The same, where a run of characters of width 1 takes the first columns of the new line.
+#[inline(always)]
 pub fn scroll_in_run(
     stored: &mut [Line],
     places: &mut [u8],

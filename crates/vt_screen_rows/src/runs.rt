@@ -267,8 +267,19 @@ pub fn takes_runs(state: &State) -> bool
     is_ascii && state.shifts.single.is_none() && !state.modes.inserts
 }
 
-/// The set that 21 to 7E go through, where no single shift waits.
+/// The set that 21 to 7E go through, where no single shift waits: mostly that of G0.
 fn set_in_use(shifts: &Shifts) -> CharacterSet
+    ensures { result ≡ set_at shifts.now shifts.now.gl }
+{
+    match shifts.gl {
+        Place::G0 => shifts.g0,
+        _ => other_set(shifts),
+    }
+}
+
+/// The same, wherever it is.
+#[inline(never)]
+fn other_set(shifts: &Shifts) -> CharacterSet
     ensures { result ≡ set_at shifts.now shifts.now.gl }
 {
     match shifts.gl {
