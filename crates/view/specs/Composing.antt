@@ -13,7 +13,8 @@ use Rattle.view.specs.Drawable.{IsDrawable}
 use Rattle.view.specs.Granted.{Part, AreParts, AreDrawable, HasPairedLines}
 use Rattle.view.specs.Granted.{parts_of, box_at, part_at, box_piece, separator_piece, status_piece}
 use Rattle.view.specs.Granted.{caption_text, cursor_of, pieces, view_of}
-use Rattle.view.specs.Rows.{IsFree, AreFree, IsPlaced, Lays, FocusesOn, row_of, row_piece}
+use Rattle.view.specs.Rows.{IsBoxRow, IsFree, AreFree, IsPlaced, Lays, FocusesOn}
+use Rattle.view.specs.Rows.{row_of, row_piece}
 use Rattle.view.specs.View.{place_of}
 
 -- the granted view, where these are the parts of a page
@@ -38,6 +39,19 @@ abbrev pub LaysRow : Rect → ℕ → List Cell → View → View → Type 0
 LaysRow rect row cells old new =
     IsFree (row_of rect row) old.page → IsPaired cells → length cells ≡ rect.columns
     → Lays (row_piece (row_of rect row) cells) old new
+
+-- the cells of a row of a region's box, which was laid over a page
+pub record BoxRow (rect : Rect) (is_focused : Bool) (part : Part) (row : ℕ) (old new : View)
+    : Type 0 where
+  pub cells : List Cell
+  pub are_row : IsBoxRow rect is_focused part row cells
+  pub lays : Lays (row_piece (row_of rect row) cells) old new
+
+-- A row of the box of a region whose lines are paired is laid over it where it is free.
+abbrev pub LaysBoxRow : Rect → Bool → Part → ℕ → View → View → Type 0
+LaysBoxRow rect is_focused part row old new =
+    HasPairedLines part → IsFree (row_of rect row) old.page
+    → BoxRow rect is_focused part row old new
 
 -- The box of a region whose lines are paired is laid over a rectangle where it is free.
 abbrev pub LaysBox : Rect → Bool → Part → View → View → Type 0

@@ -1,6 +1,6 @@
 //! Panes, separators and the status line on one page.
 
-ghost use Rattle.std.specs.Prelude.{◌≡◌, ◌<◌, true, IsTrue, IfOk, OnOk, chars, length};
+ghost use Rattle.std.specs.Prelude.{◌≡◌, ◌<◌, ◌+◌, true, IsTrue, IfOk, OnOk, chars, length};
 ghost use Rattle.std.specs.Str.{all_scalars};
 ghost use Rattle.std.specs.Str.Lossy.{utf8_lossy};
 ghost use Rattle.cells.specs.Page.{IsGrid};
@@ -8,11 +8,11 @@ ghost use Rattle.view.specs.View.{HasSize, KeepsSize};
 ghost use Rattle.view.specs.Granted.{read, window_of, part_of, parts_of, key_modes_of};
 ghost use Rattle.view.specs.Composing.{ShowsParts, ShowsDrawable, HasFreePieces};
 ghost use Rattle.view.specs.Composing.{HasScalarCaption};
-ghost use Rattle.view.specs.Composing.{LaysRow, LaysBox, LaysSeparator, LaysStatus};
+ghost use Rattle.view.specs.Composing.{LaysRow, LaysBoxRow, LaysBox, LaysSeparator, LaysStatus};
 ghost use Rattle.view.specs.Composing.{TakesFocus, FocusesOnFocused, IsCursorOf};
 
 use crate::pane::{Contents, Pane};
-use crate::region_rows::{REVERSE, box_row, first_shown};
+use crate::region_rows::{REVERSE, box_row, first_shown, line_shown_whole};
 use crate::text::text_row;
 use crate::view::{Cursor, KeyModes, View};
 use cells::{Cell, Rendition};
@@ -62,7 +62,8 @@ pub fn compose_over(
 /// Whether a view has the size of a page that one region has alone: all that is put there is as wide
 /// as the page, and nothing of the view stays.
 fn is_covered(view: &View, rects: &Rects) -> bool
-    ensures size { IsTrue result → HasSize rects.now.status.line rects.now.status.columns view.now }
+    ensures size { IsTrue result
+        → HasSize rects.now.status.line rects.now.status.columns view.now }
     ensures lone { IsTrue result → length rects.now.boxes.items ≡ 1 }
     ensures grid { IsTrue result → IsGrid view.now.page }
 {
@@ -124,8 +125,34 @@ impl View {
     {
         let mut cells = Vec::with_capacity(alloc, rect.columns as usize)?;
         for row in 0..rect.rows {
-            box_row(rect, pane, is_focused, row, &mut cells)?;
-            self.put_row(rect, row, &cells);
+            self.put_box_row(rect, pane, is_focused, row, &mut cells)?;
+        }
+        Ok(())
+    }
+
+    /// Puts a row of a region's box. Its cells are made in `cells`, unless a line of the window
+    /// shows as it stands.
+    fn put_box_row(
+        &mut self,
+        rect: Rect,
+        pane: &Pane,
+        is_focused: bool,
+        row: u16,
+        cells: &mut Vec<Cell>,
+    ) -> Result<(), AllocError>
+        requires { row < rect.rows }
+        ensures size { KeepsSize self.old self.new }
+        ensures lays { OnOk result
+            (LaysBoxRow rect is_focused (part_of pane.now) row self.old self.new) }
+        ensures characters { OnOk result
+            (row + 1 ≡ rect.rows → HasScalarCaption (part_of pane.now)) }
+    {
+        match line_shown_whole(rect, pane, row) {
+            Some(line) => self.put_row(rect, row, line),
+            None => {
+                box_row(rect, pane, is_focused, row, cells)?;
+                self.put_row(rect, row, cells);
+            }
         }
         Ok(())
     }

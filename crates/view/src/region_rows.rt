@@ -1,7 +1,7 @@
 //! Rows of a region: the lines of its window, and its caption.
 
 ghost use Rattle.std.specs.Prelude.{◌≡◌, ◌<◌, ◌+◌, ℕ, IfOk, OnOk, length, chars, string_bytes};
-ghost use Rattle.std.specs.Prelude.{false};
+ghost use Rattle.std.specs.Prelude.{false, Bool, IsTrue, IfSome};
 ghost use Rattle.view.specs.Rows.{IsRow, whole_cell, cut_cell};
 ghost use Rattle.view.specs.Rows.{IsWindowRow, IsPartRow, IsCaptionRow, IsBoxRow};
 ghost use Rattle.cells.specs.Line.{cell_at};
@@ -148,6 +148,49 @@ fn part_row(
     match pane {
         Pane::Readable(contents) => window_row(contents, rows, columns, row, cells),
         _ => line_row(&[], columns, false, cells),
+    }
+}
+
+/// Whether none of these cells is protected.
+fn are_unprotected(cells: &[Cell]) -> bool
+    ensures { IsTrue result → (column : ℕ) → column < length cells.now
+        → (cell_at cells.now column).is_protected ≡ false }
+{
+    let mut is_any = false;
+    for cell in cells {
+        // With `||` this is a branch for each cell.
+        is_any |= cell.is_protected;
+    }
+    !is_any
+}
+
+/// Whether so many columns show a line as it stands: it has as many, and is neither protected nor
+/// cut.
+fn is_shown_whole(line: &[Cell], columns: usize) -> bool
+    ensures { IsTrue result → IsRow (line_cell false line.now columns) columns line.now }
+{
+    0 < columns && line.len() == columns && !line[columns - 1].is_left() && are_unprotected(line)
+}
+
+/// The line of a window that a row of a region's box shows as it stands, if it does so: it needn't
+/// be copied.
+pub(crate) fn line_shown_whole<'a>(rect: Rect, pane: &Pane<'a>, row: u16) -> Option<&'a [Cell]>
+    requires { row < rect.rows }
+    ensures row { (is_focused : Bool)
+        → IfSome result (λ line. IsBoxRow rect is_focused (part_of pane.now) row line.now) }
+    ensures above { IfSome result (λ line. row + 1 < rect.rows) }
+{
+    let Pane::Readable(contents) = pane else {
+        return None;
+    };
+    if row + 1 == rect.rows || contents.is_inverted {
+        return None;
+    }
+    let rows = rect.rows as usize - 1;
+    let place = first_shown(contents, rows).saturating_add(row as usize);
+    match contents.lines.get(place) {
+        Some(line) if is_shown_whole(line, rect.columns as usize) => Some(line),
+        _ => None,
     }
 }
 

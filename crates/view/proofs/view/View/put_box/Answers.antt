@@ -1,9 +1,6 @@
-use Rattle.std.proofs.Common.{◌≡◌, List, arith, refl, subst, sym, ◌∙◌}
-use Rattle.cells.specs.declared.cell.Cell.{Cell}
+use Rattle.std.proofs.Common.{◌≡◌, arith, refl, ◌∙◌}
 use Rattle.view.specs.Granted.{Piece, part_of, box_cell}
-use Rattle.view.specs.Rows.{IsRow}
 use Rattle.view.proofs.Laying.{none_lays, row_is_free, one_more_row, all_rows}
-use Rattle.view.proofs.Pairing.{box_pairs}
 use Rattle.view.proofs.view.View.put_box.Goals as goal
 
 pub loop-row-init : goal.loop-row-init
@@ -19,17 +16,14 @@ loop-row-preserved c =
     let inv = c.loop-row.invariant in
     record {
       size = record {
-        rows_are = c.put_row.ensures.size.rows_are ∙ inv.size.rows_are;
-        columns_are = c.put_row.ensures.size.columns_are ∙ inv.size.columns_are;
+        rows_are = c.in_ok-put_box_row.ensures.size.rows_are ∙ inv.size.rows_are;
+        columns_are = c.in_ok-put_box_row.ensures.size.columns_are ∙ inv.size.columns_are;
       };
       lays = λ lines free.
-          let now : List Cell = c.deref.result.now in
-          let row : IsRow (piece.cell c.loop-row.row) c.args.rect.columns now = subst (λ (cells : List Cell). IsRow (piece.cell c.loop-row.row) c.args.rect.columns cells) (sym c.deref.ensures.value) c.in_ok-box_row.ensures.row in
           let before = inv.lays lines free in
-          one_more_row piece c.loop-row.row c.args.self.now c.loop-row.self c.put_row.new.self now before
-          (c.put_row.ensures.lays (row_is_free piece c.loop-row.row c.args.self.now c.loop-row.self free c.loop-row-test.true before) (box_pairs c.args.rect c.args.is_focused (part_of c.args.pane.now) c.loop-row.row now lines row) row.width)
-          row;
-      characters = λ some all. c.in_ok-box_row.ensures.characters all;
+          let put = c.in_ok-put_box_row.ensures.lays lines (row_is_free piece c.loop-row.row c.args.self.now c.loop-row.self free c.loop-row-test.true before) in
+          one_more_row piece c.loop-row.row c.args.self.now c.loop-row.self c.put_box_row.new.self put.cells before put.lays put.are_row;
+      characters = λ some all. c.in_ok-put_box_row.ensures.characters all;
     }
 
 pub returns-clause-lays : goal.returns-clause-lays
