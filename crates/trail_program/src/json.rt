@@ -50,15 +50,22 @@ fn write_event<W: Write>(text: &[u8], count: usize, output: &mut W) -> io::Resul
     output.write_all(b"]")
 }
 
-/// Writes the words behind a reply that begin with a mark as a list, without their mark.
-fn write_notes<W: Write>(text: &[u8], count: usize, mark: u8, output: &mut W) -> io::Result<()> {
-    output.write_all(b"[")?;
+/// Writes the words behind a reply that begin with a mark as a list, without their mark; what
+/// stands before the list begins it.
+fn write_notes<W: Write>(
+    begin: &[u8],
+    text: &[u8],
+    count: usize,
+    mark: u8,
+    output: &mut W,
+) -> io::Result<()> {
+    output.write_all(begin)?;
     let mut is_first = true;
     for word in text.split(|byte| *byte == b' ').skip(count) {
-        let [begin, rest @ ..] = word else {
+        let [first, rest @ ..] = word else {
             continue;
         };
-        if *begin != mark {
+        if *first != mark {
             continue;
         }
         if !is_first {
@@ -82,10 +89,8 @@ pub fn write_entry<W: Write>(line: &Line, text: &[u8], output: &mut W) -> io::Re
     output.write_all(b",\"reply\":")?;
     let reply = text.split(|byte| *byte == b' ').nth(reply_at);
     write_string(reply.unwrap_or(b""), output)?;
-    output.write_all(b",\"checks\":")?;
-    write_notes(text, notes_at, b'?', output)?;
-    output.write_all(b",\"acts\":")?;
-    write_notes(text, notes_at, b'!', output)?;
+    write_notes(b",\"checks\":[", text, notes_at, b'?', output)?;
+    write_notes(b",\"acts\":[", text, notes_at, b'!', output)?;
     output.write_all(b"}\n")
 }
 

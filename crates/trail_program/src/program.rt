@@ -53,15 +53,14 @@ fn tell_wrong<W: Write>(
     Ok(ILLEGAL)
 }
 
-/// Writes that a file is whole, and gives the status to exit with.
-fn tell_ended<W: Write>(ended: Ended, count: u64, output: &mut W) -> io::Result<u8> {
+/// Writes that a file is whole.
+fn tell_ended<W: Write>(ended: Ended, count: u64, output: &mut W) -> io::Result<()> {
     let why = str::from_utf8(ended.cause.word()).unwrap_or("?");
     write!(output, "legal: {count} entries\nwhole: it ended ({why})")?;
     if let Some(time) = time_of(ended.ms) {
         write!(output, " at {time}")?;
     }
-    writeln!(output)?;
-    Ok(LEGAL)
+    writeln!(output)
 }
 
 /// Writes how a file ends, and gives the status to exit with.
@@ -71,38 +70,40 @@ fn tell_finish<W: Write>(
     owner: UserId,
     output: &mut W,
 ) -> Result<u8, Fault> {
-    match finish {
-        Finish::Stopped { line, wrong } => tell_wrong(line, wrong, count, owner, output),
-        Finish::Miscounted { line } => {
+    let (status, told) = match finish {
+        Finish::Stopped { line, wrong } => return tell_wrong(line, wrong, count, owner, output),
+        Finish::Ended { ended } => (LEGAL, tell_ended(ended, count, output)),
+        Finish::Miscounted { line } => (
+            ILLEGAL,
             writeln!(
                 output,
                 "bad: line {line}: the last line doesn't end {count} entries"
-            )?;
-            Ok(ILLEGAL)
-        }
-        Finish::Continued { line } => {
+            ),
+        ),
+        Finish::Continued { line } => (
+            ILLEGAL,
             writeln!(
                 output,
                 "bad: behind line {line}: more stands behind the last line"
-            )?;
-            Ok(ILLEGAL)
-        }
-        Finish::Ended { ended } => Ok(tell_ended(ended, count, output)?),
-        Finish::Torn => {
+            ),
+        ),
+        Finish::Torn => (
+            UNENDED,
             writeln!(
                 output,
                 "legal: {count} entries\ntorn: its last line isn't whole"
-            )?;
-            Ok(UNENDED)
-        }
-        Finish::Open => {
+            ),
+        ),
+        Finish::Open => (
+            UNENDED,
             writeln!(
                 output,
                 "legal: {count} entries\nnot ended: it has no last line"
-            )?;
-            Ok(UNENDED)
-        }
-    }
+            ),
+        ),
+    };
+    told?;
+    Ok(status)
 }
 
 /// Judges a file.
