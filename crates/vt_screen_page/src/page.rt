@@ -17,15 +17,13 @@ use scrollback::Ring;
 use std::alloc::{AllocError, Global};
 use std::marker::Model;
 
-/// A page of 2 to 200 lines of 2 to 300 cells, in which the halves of wide characters are paired. A
-/// scroll moves the places of lines and no cells. Lines and columns count from 0. Only `new` and
-/// the changes of size take memory.
+/// A page of 2 to 200 lines of 2 to 300 cells, in which halves of wide characters are paired. Lines
+/// and columns count from 0. A scroll moves no cells. `new` and changes of size alone take memory.
 #[derive(Drop)]
 pub struct Page {
     alloc: Global,
     stored: Vec<Line>,
-    /// The stored line of each line of the page. They are bytes, since a scroll moves them all.
-    places: Vec<u8>,
+    places: Vec<u8>, // the stored line of each line of the page
 }
 
 impl Model for Page {
@@ -134,8 +132,7 @@ impl Page {
         self.stored[place as usize].put_narrow(at, cell, rest);
     }
 
-    /// Puts the halves of a wide character into a line, and lets its old cells from `rest` on
-    /// follow them.
+    /// Puts the halves of a wide character into a line; its old cells from `rest` on follow them.
     pub fn put_wide(&mut self, line: usize, at: usize, left: Cell, right: Cell, rest: usize)
         requires line_inside { line < length self.old.lines }
         requires order { at ≤ rest }
@@ -192,8 +189,7 @@ impl Page {
         self.stored[place as usize].put_letters(at, letters, rendition, is_protected);
     }
 
-    /// Puts a run of characters of width 2 into a line, in place of twice as many old cells. What is
-    /// torn at either end becomes blank.
+    /// The same of characters of width 2, in place of twice as many old cells.
     pub fn put_wide_run(
         &mut self,
         line: usize,
@@ -305,8 +301,7 @@ impl Page {
         );
     }
 
-    /// Scrolls the lines from the first one to `bottom` up by one. The first line goes into the
-    /// scrollback.
+    /// Scrolls the lines down to `bottom` up by one. The first line goes into the scrollback.
     pub fn scroll_into(&mut self, ring: &mut Ring, bottom: usize)
         requires inside { bottom < length self.old.lines }
         requires width { ring.old.columns ≡ length (line_at self.old.lines 0) }
@@ -323,8 +318,7 @@ impl Page {
         );
     }
 
-    /// The same, where a run of characters of width 1 takes the first columns of the new line: `codes`
-    /// has their code points.
+    /// The same, with a run of characters of width 1 in the first columns of the new line.
     #[inline(always)]
     pub fn scroll_in_run(&mut self, ring: &mut Ring, bottom: usize, codes: &[u8])
         requires inside { bottom < length self.old.lines }

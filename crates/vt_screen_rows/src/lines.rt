@@ -17,8 +17,7 @@ use terminal_model::State;
 use vt_screen_state::{advance, go_to_first_column};
 
 impl Display {
-    /// Does CR and LF, and then prints characters 20 to 7E, one after another: `codes` has their code
-    /// points.
+    /// Does CR and LF, and prints characters 20 to 7E: `codes` has their code points.
     pub fn print_line(&mut self, codes: &[u8])
         requires fit { IsFit self.old }
         requires plain { list_all is_plain codes.now ≡ true }
@@ -34,8 +33,7 @@ impl Display {
         }
     }
 
-    /// The same of the first ones of the characters, as many as have room in a line, or of none. It
-    /// gives how many are printed.
+    /// The same of as many of them as have room in a line, or of none. It gives how many.
     fn begin_line(&mut self, codes: &[u8]) -> usize
         requires fit { IsFit self.old }
         requires plain { list_all is_plain codes.now ≡ true }
@@ -56,8 +54,7 @@ impl Display {
         count
     }
 
-    /// Goes to the first column of the next line, as a wrap does, and puts characters of width 1
-    /// there, in place of as many old cells.
+    /// Goes to the next line, as a wrap does, and puts characters of width 1 at its beginning.
     #[inline(always)]
     pub fn place_run_below(&mut self, codes: &[u8])
         requires fit { IsFit self.old }
@@ -76,8 +73,7 @@ impl Display {
         }
     }
 
-    /// The same where the lines of the page's margins go up by one, of which the first one is the
-    /// page's, and the characters have neither rendition nor protection.
+    /// The same where `scrolls_plain` holds.
     #[inline(always)]
     fn scroll_in_run(&mut self, codes: &[u8])
         requires fit { IsFit self.old }

@@ -31,8 +31,7 @@ impl Display {
         }
     }
 
-    /// Prints the first one of some characters 20 to 7E, or as many of them as have room in a line,
-    /// and gives how many.
+    /// Prints one of some characters 20 to 7E, or as many as have room in a line. It gives how many.
     fn print_some(&mut self, codes: &[u8]) -> usize
         requires fit { IsFit self.old }
         requires plain { list_all is_plain codes.now ≡ true }
@@ -74,8 +73,7 @@ impl Display {
         }
     }
 
-    /// Prints the first one of some characters, or as many wide ones as have room in a line, and
-    /// gives how many.
+    /// Prints one of some characters, or as many wide ones as have room. It gives how many.
     fn print_some_characters(&mut self, characters: &[char]) -> usize
         requires fit { IsFit self.old }
         requires some { 0 < length characters.now }
