@@ -1,10 +1,13 @@
 //! The columns that a character takes.
 
 ghost use Rattle.std.specs.Prelude.{◌≡◌, ◌≤◌, false};
-ghost use Rattle.cells.specs.Glyph.{glyph_columns};
+ghost use Rattle.cells.specs.Glyph.{drawn_as, glyph_columns};
 ghost use Rattle.unicode_width.specs.Width.{char_width};
 
 use unicode_width::UnicodeWidthChar;
+
+/// What is drawn of a character of width 3.
+const REPLACEMENT: char = '\u{FFFD}';
 
 /// The columns that a character takes by itself: 0 for a mark and for a control, 1, or 2 (UAX #11,
 /// where ambiguous characters are narrow). U+17D8, whose width is 3, takes 1: a screen draws it as
@@ -25,5 +28,15 @@ pub fn glyph_columns(width: Option<usize>) -> u8
         Some(2) => 2,
         Some(0) | None => 0,
         Some(_) => 1,
+    }
+}
+
+/// What a screen draws of a character of a width: U+FFFD where that is 3.
+pub fn drawn_as(width: Option<usize>, character: char) -> char
+    ensures { result ≡ drawn_as width character }
+{
+    match width {
+        Some(width) if width == 3 => REPLACEMENT,
+        _ => character,
     }
 }

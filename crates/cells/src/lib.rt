@@ -10,7 +10,7 @@ mod shifting;
 mod unlike;
 
 pub use cell::{Cell, Colour, Marks, Rendition, Shape};
-pub use glyph::{glyph_columns, glyph_width};
+pub use glyph::{drawn_as, glyph_columns, glyph_width};
 pub use grid::{Grid, GridFault, blank_lines, is_grid_size};
 pub use line::Line;
 pub use unlike::next_unlike;

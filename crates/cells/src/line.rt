@@ -51,6 +51,7 @@ fn clear_used(cells: &mut [Cell], used: usize, is_plain: bool)
 
 /// Makes every cell a blank, as `clear_used`, but for a run of characters of width 1 in the first
 /// columns.
+#[inline(always)]
 fn clear_behind_run(cells: &mut [Cell], used: usize, is_plain: bool, codes: &[u8])
     requires paired { IsPaired cells.old }
     requires inside { used ≤ length cells.old }
@@ -182,6 +183,7 @@ impl Line {
 
     /// Makes every cell a blank, and then puts a run of characters of width 1 in the first columns:
     /// `codes` has their code points.
+    #[inline(always)]
     pub fn clear_behind_run(&mut self, codes: &[u8])
         requires some { 0 < length codes.now }
         requires room { length codes.now ≤ length self.old }

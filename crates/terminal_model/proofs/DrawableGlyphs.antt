@@ -13,11 +13,11 @@ use Rattle.charsets.specs.declared.unit.Unit.{Unit}
 use Rattle.charsets.specs.declared.unit.Unit.TheVariants.{Code, High}
 use Rattle.charsets.specs.Sets.{graphics, unassigned, supplement, character_at}
 use Rattle.charsets.specs.Shifts.{set_at, is_position, is_graphic as is_graphic_unit, mapped}
-use Rattle.cells.specs.Glyph.{glyph_columns}
+use Rattle.cells.specs.Glyph.{drawn_as, glyph_columns}
 use Rattle.control_parser.specs.declared.func.Func.TheVariants.{Print}
 use Rattle.control_parser.specs.Grammar.{is_graphic}
 use Rattle.control_parser.specs.Spelling.{IsGiven}
-use Rattle.terminal_model.specs.Printing.{columns_of, drawn, drawn_as}
+use Rattle.terminal_model.specs.Printing.{columns_of, drawn}
 use Rattle.terminal_model.specs.Drawable.{IsGlyph}
 
 -- THE SETS give graphic characters

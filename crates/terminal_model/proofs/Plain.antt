@@ -3,13 +3,13 @@ use Rattle.std.proofs.Common.{◌≡◌, ℕ, Bool, true, false, ◌&&◌, List,
 use Rattle.std.specs.List.{list_all}
 use Rattle.std.proofs.lemmas.Bool.Decides.{nat_tests}
 use Rattle.unicode_width.specs.Width.{char_width}
-use Rattle.cells.specs.Glyph.{glyph_columns}
+use Rattle.cells.specs.Glyph.{drawn_as, glyph_columns}
 use Rattle.charsets.specs.Units.{is_plain}
 use Rattle.control_parser.specs.declared.func.Func.TheVariants.{Print}
 use Rattle.control_parser.specs.Grammar.{nothing}
 use Rattle.control_parser.proofs.Pieces.{functions-plain}
 use Rattle.terminal_model.specs.Screen.{Screen}
-use Rattle.terminal_model.specs.Printing.{columns_of, drawn, drawn_as}
+use Rattle.terminal_model.specs.Printing.{columns_of, drawn}
 use Rattle.terminal_model.specs.Table.{effect}
 use Rattle.terminal_model.specs.Reading.{Read, ready, joined, reads}
 use Rattle.terminal_model.proofs.Readings.{effects, acts_of}

@@ -4,7 +4,7 @@ use Rattle.std.specs.Prelude.{ℕ, zero, suc, ◌+◌, ◌-◌, ◌==◌, Bool, 
 use Rattle.std.specs.Prelude.{List, [], ◌∷◌, length, Option, Some, None}
 use Rattle.unicode_width.specs.Width.{char_width}
 use Rattle.cells.specs.declared.cell.Cell.{Cell}
-use Rattle.cells.specs.Glyph.{glyph_columns}
+use Rattle.cells.specs.Glyph.{drawn_as, glyph_columns}
 use Rattle.cells.specs.Line.{narrow_cell, left_cell, right_cell, spliced}
 use Rattle.cells.specs.Page.{page_marked}
 use Rattle.terminal_model.specs.declared.state.Position.{Position}
@@ -75,11 +75,6 @@ abbrev pub printed_as : ℕ → ℕ → Screen → Screen
 printed_as zero c x = marked_at x.state.joining c x
 printed_as (suc zero) c x = placed_narrow c (wrapped x.state.is_wrap_pending x)
 printed_as (suc (suc more)) c x = wide_printed c (wrapped x.state.is_wrap_pending x)
-
--- a character of width 3 is drawn as U+FFFD (own)
-abbrev pub drawn_as : Option ℕ → ℕ → ℕ
-drawn_as None c = c
-drawn_as (Some width) c = cond (width == 3) 0xFFFD c
 
 -- the columns that a character takes, and what is drawn of it (UAX #11)
 unfoldable pub columns_of : ℕ → ℕ

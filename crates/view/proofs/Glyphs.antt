@@ -9,9 +9,9 @@ use Rattle.std.proofs.lemmas.List.{get_or_past, get_or_default}
 use Rattle.cells.specs.declared.cell.Cell.{Cell}
 use Rattle.cells.specs.declared.cell.Rendition.{Rendition}
 use Rattle.cells.specs.declared.cell.Shape.TheVariants.{Narrow, Right}
-use Rattle.cells.specs.Glyph.{glyph_columns}
+use Rattle.cells.specs.Glyph.{drawn_as, glyph_columns}
 use Rattle.cells.specs.Line.{blank, cell_at, is_left, narrow_cell, left_cell, right_cell, unprotected}
-use Rattle.terminal_model.specs.Printing.{columns_of, drawn, drawn_as}
+use Rattle.terminal_model.specs.Printing.{columns_of, drawn}
 use Rattle.terminal_model.specs.Drawable.{IsGlyph, IsDrawableCell, HasHalves, IsDrawableLine}
 use Rattle.unicode_width.specs.Width.{char_width, alone}
 use Rattle.cells.proofs.Settling.{and_false}

@@ -8,8 +8,8 @@ use Rattle.std.proofs.lemmas.Bool.{ne_eqb}
 use Rattle.cells.specs.declared.cell.Cell.{Cell}
 use Rattle.cells.specs.declared.cell.Rendition.{Rendition}
 use Rattle.cells.specs.Line.{narrow_cell, left_cell, right_cell}
-use Rattle.cells.specs.Glyph.{glyph_columns}
-use Rattle.terminal_model.specs.Printing.{columns_of, drawn, drawn_as}
+use Rattle.cells.specs.Glyph.{drawn_as, glyph_columns}
+use Rattle.terminal_model.specs.Printing.{columns_of, drawn}
 use Rattle.unicode_width.specs.Width.{char_width}
 use Rattle.view.specs.declared.pane.Pane.{Pane}
 use Rattle.view.specs.declared.pane.Pane.TheVariants.{Empty, Hidden, Readable}

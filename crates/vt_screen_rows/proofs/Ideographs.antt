@@ -2,8 +2,8 @@
 use Rattle.std.proofs.Common.{◌≡◌, ℕ, ◌<◌, ◌≤◌, Bool, true, false, ◌&&◌, nat_le, ltb, Option, Some, List, [], ◌∷◌, refl, sym, ap, ◌∙◌, arith, inl, inr, eqb, cond, eqb-true, le-leb}
 use Rattle.std.proofs.lemmas.Bool.{and_parts, cases_lt, cond-true, cond-false, lt-leb}
 use Rattle.std.proofs.lemmas.Bool.Decides.{nat_tests}
-use Rattle.cells.specs.Glyph.{glyph_columns}
-use Rattle.terminal_model.specs.Printing.{columns_of, drawn, drawn_as}
+use Rattle.cells.specs.Glyph.{drawn_as, glyph_columns}
+use Rattle.terminal_model.specs.Printing.{columns_of, drawn}
 use Rattle.ucd_table.specs.Steps.{Step, step_value}
 use Rattle.ucd_table.proofs.Computing.{tables}
 use Rattle.ucd_table.proofs.StepsLemmas.{step_value-here, step_value-later}

@@ -3,7 +3,7 @@ use Rattle.std.proofs.Common.{◌≡◌, ℕ, zero, suc, ◌+◌, ◌<◌, ◌�
 use Rattle.std.proofs.lemmas.Bool.{cases_lt, ne_eqb, eqb-true}
 use Rattle.unicode_width.proofs.Computing.{unicode_width}
 use Rattle.unicode_width.specs.Width.{char_width}
-use Rattle.cells.specs.Glyph.{glyph_columns}
+use Rattle.cells.specs.Glyph.{drawn_as, glyph_columns}
 use Rattle.charsets.specs.declared.shifts.Shifts.{Shifts}
 use Rattle.charsets.specs.declared.unit.Unit.TheVariants.{Code}
 use Rattle.charsets.specs.Shifts.{is_graphic, is_position, mapped, spent}
@@ -12,7 +12,7 @@ use Rattle.terminal_model.specs.declared.action.Action.TheVariants.{Print}
 use Rattle.terminal_model.specs.declared.state.State.{State}
 use Rattle.terminal_model.specs.Screen.{Screen, with_state}
 use Rattle.terminal_model.specs.Scrollback.{is_wrapped}
-use Rattle.terminal_model.specs.Printing.{columns_of, drawn, drawn_as, printed}
+use Rattle.terminal_model.specs.Printing.{columns_of, drawn, printed}
 use Rattle.terminal_model.specs.Table.{acted, acted_from}
 use Rattle.vt_screen_rows.specs.Places.{acted_places, printed_places, wrapped_places}
 use Rattle.std.specs.List.{list_all}

@@ -2,7 +2,7 @@
 
 ghost use Rattle.std.specs.Prelude.{◌≡◌, ◌<◌, ◌+◌, ◌&&◌, Some, IsTrue};
 ghost use Rattle.charsets.specs.declared.unit.Unit.TheVariants.{Code};
-ghost use Rattle.terminal_model.specs.Printing.{columns_of, drawn, drawn_as, lacks_room, marked_at};
+ghost use Rattle.terminal_model.specs.Printing.{columns_of, drawn, lacks_room, marked_at};
 ghost use Rattle.terminal_model.specs.Printing.{placed_narrow, placed_wide, printed, printed_as};
 ghost use Rattle.terminal_model.specs.Printing.{wide_printed, wrapped};
 ghost use Rattle.terminal_model.specs.Table.{acted};
@@ -13,13 +13,10 @@ ghost use Rattle.vt_screen_rows.specs.Places.{printed_places, wrapped_places};
 ghost use Rattle.terminal_model.specs.Scrollback.{is_wrapped};
 
 use crate::display::Display;
-use cells::{Cell, Shape, glyph_columns};
+use cells::{Cell, Shape, drawn_as, glyph_columns};
 use charsets::Unit;
 use unicode_width::UnicodeWidthChar;
 use vt_screen_state::{advance, following, lacks_room, needs_line, separate};
-
-/// What is drawn of a character of width 3.
-const REPLACEMENT: char = '\u{FFFD}';
 
 /// A character of width 0.
 const SOFT_HYPHEN: char = '\u{AD}';
@@ -223,14 +220,4 @@ fn is_letter(character: char) -> bool
     ensures drawn { IsTrue result → drawn character ≡ character }
 {
     '\u{A0}' <= character && character < '\u{300}' && character != SOFT_HYPHEN
-}
-
-/// What is drawn of a character of a width: U+FFFD where that is 3.
-fn drawn_as(width: Option<usize>, character: char) -> char
-    ensures { result ≡ drawn_as width character }
-{
-    match width {
-        Some(width) if width == 3 => REPLACEMENT,
-        _ => character,
-    }
 }
