@@ -15,10 +15,11 @@ pub fn time_of(ms: u64) -> Option<Timestamp> {
 
 /// Writes a place and a time, and what stands behind them in the line.
 fn show_line<W: Write>(line: &Line, text: &[u8], output: &mut W) -> io::Result<()> {
+    write!(output, "{} ", line.place)?;
     match time_of(line.ms) {
-        Some(time) => write!(output, "{} {time} ", line.place),
-        None => write!(output, "{} {} ", line.place, line.ms),
-    }?;
+        Some(time) => write!(output, "{time} ")?,
+        None => write!(output, "{} ", line.ms)?,
+    }
     output.write_all(behind_times(text))?;
     output.write_all(b"\n")
 }
