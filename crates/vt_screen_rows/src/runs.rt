@@ -253,16 +253,14 @@ fn is_broad(character: char) -> bool
 pub fn prints_ascii(state: &State) -> bool
     ensures { IsTrue result ↔ PrintsAscii state.now }
 {
-    let is_ascii = matches!(set_in_use(&state.shifts), CharacterSet::Ascii);
-    is_ascii && state.shifts.single.is_none()
+    matches!(set_in_use(&state.shifts), CharacterSet::Ascii) && state.shifts.single.is_none()
 }
 
 /// Whether 20 to 7E stand for themselves, and each takes the place of an old cell.
 pub fn takes_runs(state: &State) -> bool
     ensures { IsTrue result ↔ TakesRuns state.now }
 {
-    let is_ascii = matches!(set_in_use(&state.shifts), CharacterSet::Ascii);
-    is_ascii && state.shifts.single.is_none() && !state.modes.inserts
+    prints_ascii(state) && !state.modes.inserts
 }
 
 /// The set that 21 to 7E go through, where no single shift waits: mostly that of G0.
