@@ -11,6 +11,7 @@ use Rattle.terminal_model.specs.Drawing.{Agrees}
 use Rattle.terminal_model.proofs.Readings.{reads-append}
 use Rattle.view.specs.View.{HasSize}
 use Rattle.view.specs.Drawable.{IsDrawable}
+use Rattle.redraw.specs.Shadow.{Knowledge}
 use Rattle.redraw.specs.Frames as frames
 use Rattle.redraw.specs.Frames.{Redraws, CanBeShown, DrawsFrame}
 use Rattle.session_model.specs.Framed.{IsFrame}
@@ -156,7 +157,7 @@ module _ (m : model.Client) (c : Client) (v : View) (bytes : List ℕ) (st : Cli
       })
 
 pub drawn_row : (old inside : List Client) (serial : ℕ) (r : Option (MutBor Client))
-    (b : MutBor Client) (lender : Client → List Client) (v : View) (known : redraw.Knowledge)
+    (b : MutBor Client) (lender : Client → List Client) (v : View) (known : Knowledge)
     (bytes : List ℕ) → inside ≡ old → option_copied_mut r ≡ row_of serial_of inside serial
     → ((w : Client) → OnSome r (lender w ≡ with_row serial_of inside serial w)) → r ≡ Some b
     → DrawsFrame b.now.shadow v known bytes → IsDrawable v
@@ -178,11 +179,11 @@ drawn_row old inside serial r b lender v known bytes same at holds is drawn draw
           (λ (n : model.Client). record n { delivered = n.delivered ++ bytes; drawn = Some v })
           old (lender d) serial b.now d here.0 here.1
           (λ n s. keeps_drawn n b.now v bytes s drawable frame d
-          (ap (λ (k : redraw.Knowledge). record b.now { shadow = k }) drawn.known)) rows m st there;
+          (ap (λ (k : Knowledge). record b.now { shadow = k }) drawn.known)) rows m st there;
     }
 
 pub nothing_drawn : (old inside : List Client) (serial : ℕ) (r : Option (MutBor Client))
-    (b : MutBor Client) (lender : Client → List Client) (v : View) (known : redraw.Knowledge)
+    (b : MutBor Client) (lender : Client → List Client) (v : View) (known : Knowledge)
     → inside ≡ old → option_copied_mut r ≡ row_of serial_of inside serial
     → ((w : Client) → OnSome r (lender w ≡ with_row serial_of inside serial w)) → r ≡ Some b
     → ((c : Client) → row_of serial_of old serial ≡ Some c
@@ -195,7 +196,7 @@ nothing_drawn old inside serial r b lender v known same at holds is size drawn =
           found (λ n. ShowsAlready n v) old inside serial r b same at is
           (λ n s. shows_already n b.now v s (size b.now here.0) drawn.known drawn.grid);
       same =
-          ap (λ (k : redraw.Knowledge). lender (record b.now { shadow = k })) drawn.same
+          ap (λ (k : Knowledge). lender (record b.now { shadow = k })) drawn.same
           ∙ lent_back old inside serial r b lender same at holds is;
     }
 
