@@ -1,5 +1,5 @@
 -- What stands whole in a list of bytes, and is taken at once.
-use Rattle.std.proofs.Common.{◌≡◌, ℕ, suc, ◌+◌, ◌-◌, ◌<◌, List, [], ◌∷◌, ◌++◌, length, take, drop, get_or, refl, sym, ap, ◌∙◌, subst, append-nil, true, arith}
+use Rattle.std.proofs.Common.{◌≡◌, ℕ, suc, ◌+◌, ◌-◌, ◌<◌, ◌≤◌, List, [], ◌∷◌, ◌++◌, length, take, drop, get_or, refl, sym, ap, ◌∙◌, subst, append-nil, true, arith}
 use Rattle.std.proofs.lemmas.List.{take_all, length-drop}
 use Rattle.charsets.specs.declared.unit.Coding.{Coding}
 use Rattle.charsets.specs.declared.unit.Coding.TheVariants.{Utf8}
@@ -18,7 +18,7 @@ use Rattle.terminal_model.specs.Reading.{Terminal, Read, IsTerminal, ready, read
 use Rattle.terminal_model.proofs.Readings.{effects, outcome}
 use Rattle.terminal_model.proofs.Spellings.{Stays, begun, nothing-opened, reads-is}
 use Rattle.terminal_model.proofs.Terminals.{IsTerminal-reads}
-use Rattle.emulator.specs.Standing.{Parts, StandsFor, HasRead, HasTaken, IsBetween}
+use Rattle.emulator.specs.Standing.{Parts, StandsFor, HasRead, HasTaken, TakesWhole, IsBetween}
 use Rattle.emulator.proofs.Feeding.{nothing-has-read}
 use Rattle.emulator.proofs.RunLemmas.{ready-is}
 
@@ -84,7 +84,14 @@ character-reads bytes c u g = (ap (λ v. v.1) u, ap (λ v. functions v.0) u ∙ 
 pub nothing-taken : (e : Parts) (bytes before : List ℕ) → HasTaken e bytes 0 before e before
 nothing-taken e bytes before = λ t h. nothing-has-read t e before h
 
+pub nothing-whole : (e : Parts) (bytes : List ℕ) → TakesWhole e bytes 0 e
+nothing-whole e bytes = record { taken = nothing-taken e bytes; few = omega arith; decoding = refl; parsing = refl }
+
 -- bytes by their first ones
+pub begun-some : (bytes : List ℕ) (a : ℕ) → take 1 bytes ≡ a ∷ [] → 1 ≤ length bytes
+begun-some [] a e = absurd (cc e)
+begun-some (b ∷ bytes) a e = omega arith
+
 pub front-one : (bytes : List ℕ) (a : ℕ) → 0 < length bytes → get_or bytes 0 0 ≡ a → take 1 bytes ≡ a ∷ []
 front-one [] a l e = absurd (omega arith)
 front-one (b ∷ bytes) a l e = ap (λ v. v ∷ []) e

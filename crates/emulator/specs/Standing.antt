@@ -1,5 +1,5 @@
 -- What an emulator holds, and the terminals that it stands for.
-use Rattle.std.specs.Prelude.{◌≡◌, ℕ, List, [], ◌++◌, take}
+use Rattle.std.specs.Prelude.{◌≡◌, ◌≤◌, ℕ, List, [], ◌++◌, take, length}
 use Rattle.charsets.specs.Units.{Decoding}
 use Rattle.control_parser.specs.declared.state.State.{State}
 use Rattle.control_parser.specs.Grammar.{functions}
@@ -48,6 +48,14 @@ pub record HasRead (t : Terminal) (bytes : List ℕ) (before : List ℕ) (e : Pa
 abbrev pub HasTaken : Parts → List ℕ → ℕ → List ℕ → Parts → List ℕ → Type 0
 HasTaken old bytes count before new answered =
     (t : Terminal) → StandsFor old t → HasRead t (take count bytes) before new answered
+
+-- so it is with functions that stand whole at the front of some bytes: none of them is answered,
+-- and decoder and parser are as before
+pub record TakesWhole (old : Parts) (bytes : List ℕ) (count : ℕ) (new : Parts) : Type 0 where
+  pub taken : (said : List ℕ) → HasTaken old bytes count said new said
+  pub few : count ≤ length bytes
+  pub decoding : new.decoding ≡ old.decoding
+  pub parsing : new.parsing ≡ old.parsing
 
 -- so it is with what a window writes, but for what is answered
 abbrev pub TakesWriting : Parts → Writing → Parts → Type 0

@@ -6,7 +6,7 @@ ghost use Rattle.charsets.specs.declared.unit.Coding.TheVariants.{Utf8};
 ghost use Rattle.charsets.specs.Units.{is_plain};
 ghost use Rattle.control_parser.specs.Spelling.{IsGiven};
 ghost use Rattle.control_parser.specs.declared.func.Func.TheVariants.{Esc};
-ghost use Rattle.emulator.specs.Standing.{HasTaken, IsBetween};
+ghost use Rattle.emulator.specs.Standing.{HasTaken, TakesWhole, IsBetween};
 
 use crate::emulator::Emulator;
 use charsets::{Coding, first_characters, first_letters};
@@ -65,10 +65,7 @@ impl Emulator {
     fn read_piece(&mut self, bytes: &[u8]) -> usize
         requires some { 0 < length bytes.now }
         requires idle { IsBetween self.old }
-        ensures taken { (said : List ℕ) → HasTaken self.old bytes.now result said self.new said }
-        ensures few { result ≤ length bytes.now }
-        ensures decoding { self.new.decoding ≡ self.old.decoding }
-        ensures parsing { self.new.parsing ≡ self.old.parsing }
+        ensures { TakesWhole self.old bytes.now result self.new }
     {
         let first = bytes[0];
         if first == b'\r' && self.decoder.coding() == Coding::Utf8 {
@@ -99,10 +96,7 @@ impl Emulator {
         requires begins { take 1 bytes.now ≡ 0x0D ∷ [] }
         requires idle { IsBetween self.old }
         requires coding { self.old.decoding.coding ≡ Utf8 }
-        ensures taken { (said : List ℕ) → HasTaken self.old bytes.now result said self.new said }
-        ensures few { result ≤ length bytes.now }
-        ensures decoding { self.new.decoding ≡ self.old.decoding }
-        ensures parsing { self.new.parsing ≡ self.old.parsing }
+        ensures { TakesWhole self.old bytes.now result self.new }
     {
         if bytes.len() < 2 || bytes[1] != b'\n' {
             self.screen.control(b'\r');
@@ -119,10 +113,7 @@ impl Emulator {
         requires begins { take 1 bytes.now ≡ 0x1B ∷ [] }
         requires idle { IsBetween self.old }
         requires coding { self.old.decoding.coding ≡ Utf8 }
-        ensures taken { (said : List ℕ) → HasTaken self.old bytes.now result said self.new said }
-        ensures few { result ≤ length bytes.now }
-        ensures decoding { self.new.decoding ≡ self.old.decoding }
-        ensures parsing { self.new.parsing ≡ self.old.parsing }
+        ensures { TakesWhole self.old bytes.now result self.new }
     {
         // (with so many bytes a sequence's first parameter needn't be asked whether it has room)
         if bytes.len() > 5 && bytes[1] == b'[' {
@@ -137,10 +128,7 @@ impl Emulator {
         requires begins { take 1 bytes.now ≡ 0x1B ∷ [] }
         requires idle { IsBetween self.old }
         requires coding { self.old.decoding.coding ≡ Utf8 }
-        ensures taken { (said : List ℕ) → HasTaken self.old bytes.now result said self.new said }
-        ensures few { result ≤ length bytes.now }
-        ensures decoding { self.new.decoding ≡ self.old.decoding }
-        ensures parsing { self.new.parsing ≡ self.old.parsing }
+        ensures { TakesWhole self.old bytes.now result self.new }
     {
         if bytes.len() < 2 {
             return 0;
@@ -160,10 +148,7 @@ impl Emulator {
         requires begins { take 2 bytes.now ≡ 0x1B ∷ 0x5B ∷ [] }
         requires idle { IsBetween self.old }
         requires coding { self.old.decoding.coding ≡ Utf8 }
-        ensures taken { (said : List ℕ) → HasTaken self.old bytes.now result said self.new said }
-        ensures few { result ≤ length bytes.now }
-        ensures decoding { self.new.decoding ≡ self.old.decoding }
-        ensures parsing { self.new.parsing ≡ self.old.parsing }
+        ensures { TakesWhole self.old bytes.now result self.new }
     {
         let mut numerals = Numerals::new();
         let count = numerals.read(&bytes[2..]);
@@ -182,10 +167,7 @@ impl Emulator {
         requires begins { take 2 bytes.now ≡ 0x1B ∷ 0x5B ∷ [] }
         requires idle { IsBetween self.old }
         requires coding { self.old.decoding.coding ≡ Utf8 }
-        ensures taken { (said : List ℕ) → HasTaken self.old bytes.now result said self.new said }
-        ensures few { result ≤ length bytes.now }
-        ensures decoding { self.new.decoding ≡ self.old.decoding }
-        ensures parsing { self.new.parsing ≡ self.old.parsing }
+        ensures { TakesWhole self.old bytes.now result self.new }
     {
         let count = self.sequence.read(&bytes[2..]);
         if count == 0 {
@@ -202,10 +184,7 @@ impl Emulator {
         requires some { 0 < length bytes.now }
         requires idle { IsBetween self.old }
         requires coding { self.old.decoding.coding ≡ Utf8 }
-        ensures taken { (said : List ℕ) → HasTaken self.old bytes.now result said self.new said }
-        ensures few { result ≤ length bytes.now }
-        ensures decoding { self.new.decoding ≡ self.old.decoding }
-        ensures parsing { self.new.parsing ≡ self.old.parsing }
+        ensures { TakesWhole self.old bytes.now result self.new }
     {
         if BEHIND_LETTERS <= bytes[0] {
             return self.read_characters(bytes);
@@ -222,10 +201,7 @@ impl Emulator {
     fn read_letters(&mut self, bytes: &[u8]) -> usize
         requires idle { IsBetween self.old }
         requires coding { self.old.decoding.coding ≡ Utf8 }
-        ensures taken { (said : List ℕ) → HasTaken self.old bytes.now result said self.new said }
-        ensures few { result ≤ length bytes.now }
-        ensures decoding { self.new.decoding ≡ self.old.decoding }
-        ensures parsing { self.new.parsing ≡ self.old.parsing }
+        ensures whole { TakesWhole self.old bytes.now result self.new }
         ensures undone { result ≡ 0 → self.new ≡ self.old }
     {
         let mut letters = [' '; LETTERS];
@@ -241,10 +217,7 @@ impl Emulator {
     fn read_characters(&mut self, bytes: &[u8]) -> usize
         requires idle { IsBetween self.old }
         requires coding { self.old.decoding.coding ≡ Utf8 }
-        ensures taken { (said : List ℕ) → HasTaken self.old bytes.now result said self.new said }
-        ensures few { result ≤ length bytes.now }
-        ensures decoding { self.new.decoding ≡ self.old.decoding }
-        ensures parsing { self.new.parsing ≡ self.old.parsing }
+        ensures { TakesWhole self.old bytes.now result self.new }
     {
         let mut characters = [' '; CHARACTERS];
         let (count, read) = first_characters(bytes, &mut characters);

@@ -2,6 +2,7 @@
 
 ghost use Rattle.std.specs.Prelude.{◌≡◌, ◌↔◌, ◌+◌, ◌<◌, ◌≤◌, true, length};
 ghost use Rattle.hub.specs.Closing.{IsFirstWrong, IsTold, before, receipts_of};
+ghost use Rattle.hub.specs.declared.ledger.TheConstants.{FULL};
 
 use crate::seat::Seat;
 use hub_record::Filed;
@@ -40,7 +41,7 @@ pub fn first_wrong<L: Roll>(
     seats: &mut [Seat<L>],
     entries: &Entries,
 ) -> Option<usize>
-    requires { length entries.now.entries ≤ 4194304 }
+    requires { length entries.now.entries ≤ FULL }
     ensures wrong { IsFirstWrong entries.now.entries (receipts_of seats.old) result }
     ensures total { book.new.total + length (receipts_of seats.old)
         ≡ book.old.total + length (receipts_of seats.new) }

@@ -9,6 +9,7 @@ ghost use Rattle.hub_trail.specs.Legal.{IsLegal};
 ghost use Rattle.hub.specs.States.{IsKept, StandsFor, Takes, state_of};
 ghost use Rattle.hub.specs.Closing.{AreThere, IsFirstWrong, receipts_of};
 ghost use Rattle.hub.specs.Seats.{AllBelow, Answers, NoneAsks, StandsLast, placed};
+ghost use Rattle.hub.specs.declared.ledger.TheConstants.{FULL};
 ghost use Rattle.hub.specs.declared.answer.HubFault.TheVariants.{TrailFull, NoMemory};
 ghost use Rattle.hub.specs.declared.answer.HubFault.TheVariants.{Strange};
 
@@ -29,7 +30,7 @@ use std::marker::Model;
 use std::sync::ledger::{Blank, Book, Ledger as Roll, Share};
 
 /// The most entries of a trail.
-pub const FULL: usize = 4194304;
+pub const FULL: usize = 4_194_304;
 
 /// What lies under the hub's lock: a session that stands for a run, its trail, and what waits for
 /// each seat. Its shares count the receipts of all seats: there are as many as the trail has
@@ -48,6 +49,7 @@ impl<L: Roll> Drop for Ledger<L> {
 impl<L: Roll> Model for Ledger<L> {
     ghost use Rattle.std.specs.Prelude.{◌≡◌, ◌<◌, ◌≤◌, length};
     ghost use Rattle.hub.specs.States.{State, IsKept, state_of};
+    ghost use Rattle.hub.specs.declared.ledger.TheConstants.{FULL};
 
     ghost Value = { State };
 
@@ -60,7 +62,7 @@ impl<L: Roll> Model for Ledger<L> {
 
     ghost invariant = { λ l. IsKept (state_of l.filed)
         × (l.book.total ≡ length l.filed.entries.list.entries)
-        × (length l.filed.entries.list.entries ≤ 4194304)
+        × (length l.filed.entries.list.entries ≤ FULL)
         × (length l.filed.waiting.lists.items ≡ L.parts)
         × (length l.filed.waiting.marks.items ≡ L.parts) × (0 < L.parts) };
 }
@@ -147,10 +149,10 @@ impl<L: Roll> Ledger<L> {
             self.new.trail.entries) }
         ensures full { (result ≡ Err TrailFull)
             ↔ (IsSome (kept_of (happening event.entry))
-            × (length self.old.trail.entries ≡ 4194304)) }
+            × (length self.old.trail.entries ≡ FULL)) }
         ensures strange { (result ≡ Err Strange)
             ↔ (IsSome (kept_of (happening event.entry))
-            × (length self.old.trail.entries < 4194304)
+            × (length self.old.trail.entries < FULL)
             × (AllBelow seat.old.receipts (length self.old.trail.entries) → ⊥)) }
         ensures same { OnErr result ((self.new ≡ self.old) × (seat.new ≡ seat.old)) }
     {
@@ -178,9 +180,9 @@ impl<L: Roll> Ledger<L> {
             ≡ Some (length self.old.trail.entries)) }
         ensures entry { IfOk result (λ told. StandsLast told.entry self.old.trail.entries
             self.new.trail.entries) }
-        ensures full { (result ≡ Err TrailFull) ↔ (length self.old.trail.entries ≡ 4194304) }
+        ensures full { (result ≡ Err TrailFull) ↔ (length self.old.trail.entries ≡ FULL) }
         ensures strange { (result ≡ Err Strange)
-            ↔ ((length self.old.trail.entries < 4194304)
+            ↔ ((length self.old.trail.entries < FULL)
             × (AllBelow seat.old.receipts (length self.old.trail.entries) → ⊥)) }
         ensures same { OnErr result ((self.new ≡ self.old) × (seat.new ≡ seat.old)) }
     {
