@@ -6,6 +6,7 @@ use Rattle.std.specs.Borrow.{Bor}
 use Rattle.std.specs.Option.{option_or, option_map, option_map_or, option_and_then}
 use Rattle.std.specs.Str.{bytes_eq}
 use Rattle.std.proofs.Math.Seq.{drop-cons}
+use Rattle.acl.specs.limits.TheConstants.{WINDOWS}
 use Rattle.session_model.specs.Tables as model
 use Rattle.session_model.specs.Naming as naming
 use Rattle.session_model.specs.Naming.{lower, higher, lowest, highest, with_number, window_after, window_before, free_number}
@@ -182,7 +183,7 @@ find_same p q same [] = refl
 find_same p q same (n ∷ ns) = ap (λ b. if b then Some n else find p ns) (same n) ∙ ap (λ (o : Option ℕ). if q n then Some n else o) (find_same p q same ns)
 
 pub free_both : (rows : List model.Window) (ws : List Window) → StandFor rows ws → first_free ws ≡ free_number rows
-free_both rows ws m = find_same (λ n. not (list_any (has_number n) ws)) (λ n. not (list_any (naming.has_number n) rows)) (λ n. ap not (any_both n rows ws m)) (range_with_len 0 40)
+free_both rows ws m = find_same (λ n. not (list_any (has_number n) ws)) (λ n. not (list_any (naming.has_number n) rows)) (λ n. ap not (any_both n rows ws m)) (range_with_len 0 WINDOWS)
 
 pub or_found : {A : Type 0} (a b r : Option (Bor A)) (p q : Option A) → r ≡ option_or a b → option_copied a ≡ p → option_copied b ≡ q → option_copied r ≡ option_or p q
 or_found a b r p q is first second = ap option_copied is ∙ copied_or a b ∙ ap (λ x. option_or x (option_copied b)) first ∙ ap (λ y. option_or p y) second

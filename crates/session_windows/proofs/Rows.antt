@@ -7,6 +7,7 @@ use Rattle.std.specs.Option.{option_map_or}
 use Rattle.std.proofs.lemmas.List.{get_or-map, length-map}
 use Rattle.std.proofs.lemmas.List.Kept.{AllPairs-filter}
 use Rattle.std.proofs.lemmas.List.Quantifiers.{all_pairs_push}
+use Rattle.acl.specs.limits.TheConstants.{WINDOWS}
 use Rattle.session_rows.specs.Finding.{row_of, with_row}
 use Rattle.session_rows.proofs.Serials.{serials_stay, serial_is, with_other, is_equal, equal_number}
 use Rattle.session_windows.specs.declared.window.Window.{Window}
@@ -178,8 +179,8 @@ found_in_range p start (suc count) n is = by_test (p start) refl is (λ at. foun
     by_test true passes at behind = let e : start ≡ n = cc at in (subst (λ k. p k ≡ true) e passes, omega (arith, e))
     by_test false fails at behind = let rest = behind at in (rest.0, omega (arith, rest.1))
 
-pub small_free : (ws : List Window) (n : ℕ) → first_free ws ≡ Some n → n < 40
-small_free ws n is = let f = found_in_range (λ k. not (list_any (has_number k) ws)) 0 40 n is in omega (arith, f.1)
+pub small_free : (ws : List Window) (n : ℕ) → first_free ws ≡ Some n → n < WINDOWS
+small_free ws n is = let f = found_in_range (λ k. not (list_any (has_number k) ws)) 0 WINDOWS n is in omega (arith, f.1)
 
 not_true : (b : Bool) → not b ≡ true → b ≡ false
 not_true true is = absurd (cc is)
@@ -207,7 +208,7 @@ above_all (w ∷ ws) s above k d inside = by_serial (nat_lt w.serial s) refl abo
 
 pub rows_added : (ws : List Window) (w : Window) (s n : ℕ) → is_above s ws ≡ true → first_free ws ≡ Some n → w.serial ≡ s → w.number ≡ n → AreRows ws → AreRows (ws ++ w ∷ [])
 rows_added ws w s n above free serial number are =
-    let none : list_any (has_number n) ws ≡ false = not_true _ (found_in_range (λ k. not (list_any (has_number k) ws)) 0 40 n free).0 in record {
+    let none : list_any (has_number n) ws ≡ false = not_true _ (found_in_range (λ k. not (list_any (has_number k) ws)) 0 WINDOWS n free).0 in record {
       rise = all_pairs_push Before ws w are.rise (λ k d inside. subst (λ t. (get_or ws k d).serial < t) (sym serial) (above_all ws s above k d inside));
       differ = all_pairs_push Apart ws w are.differ (λ k d inside e. none_has ws n none k d inside (e ∙ number));
     }

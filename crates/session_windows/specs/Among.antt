@@ -5,6 +5,7 @@ use Rattle.std.specs.List.{list_any, list_all, range_with_len}
 use Rattle.std.specs.Option.{option_map_or}
 use Rattle.std.specs.Str.{bytes_eq}
 use Rattle.std.specs.String.{string_bytes}
+use Rattle.acl.specs.limits.TheConstants.{WINDOWS}
 use Rattle.session_windows.specs.declared.window.Window.{Window}
 use Rattle.session_windows.specs.declared.among.Among.{Among}
 use Rattle.session_windows.specs.declared.among.Among.TheVariants.{All, Above, Below, Titled}
@@ -48,4 +49,4 @@ is_above serial ws = list_all (λ (w : Window). nat_lt w.serial serial) ws
 
 -- the lowest number from 0 to 39 that none has
 abbrev pub first_free : List Window → Option ℕ
-first_free ws = find (λ n. not (list_any (has_number n) ws)) (range_with_len 0 40)
+first_free ws = find (λ n. not (list_any (has_number n) ws)) (range_with_len 0 WINDOWS)

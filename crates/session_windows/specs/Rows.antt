@@ -1,5 +1,6 @@
 -- What is true of each table of windows, and what a call leaves of it.
 use Rattle.std.specs.Prelude.{ℕ, ◌≡◌, ◌≢◌, ◌<◌, ◌++◌, ◌∷◌, [], List, AllPairs, map}
+use Rattle.acl.specs.limits.TheConstants.{WINDOWS}
 use Rattle.session_rows.specs.Finding.{row_of}
 use Rattle.session_windows.specs.declared.window.Window.{Window}
 
@@ -29,10 +30,10 @@ pub record WritesRow (serial : ℕ) (old new : List Window) : Type 0 where
   pub row : ChangesRow serial old new
   pub numbers : map number_of new ≡ map number_of old
 
--- one window more, of this serial and this number, which is below 40
+-- one window more, of this serial and this number, which is below the most
 pub record AddsRow (serial number : ℕ) (old new : List Window) : Type 0 where
   pub window : Window
   pub serial_is : window.serial ≡ serial
   pub number_is : window.number ≡ number
-  pub small : number < 40
+  pub small : number < WINDOWS
   pub last : new ≡ old ++ window ∷ []

@@ -7,9 +7,7 @@ ghost use Rattle.command_lang.specs.Values.{is_digit, number_in};
 ghost use Rattle.session_windows.specs.Among.{has_number, is_above, numbered, taken_by_other, first_free};
 
 use crate::window::Window;
-
-/// The most windows that are open at once.
-const MOST_WINDOWS: u8 = 40;
+use acl::WINDOWS;
 
 /// Whether the byte is a decimal digit.
 fn is_digit(c: u8) -> bool
@@ -76,9 +74,9 @@ fn has_number(rows: &[Window], number: u8) -> bool
     rows.iter().any(|window| window.number == number)
 }
 
-/// The lowest number from 0 to 39 that no window has.
+/// The lowest number below that of all windows that may be open, which no window has.
 pub(crate) fn first_free(rows: &[Window]) -> Option<u8>
     ensures { result ≡ first_free rows.now }
 {
-    (0..MOST_WINDOWS).find(|number| !has_number(rows, *number))
+    (0..WINDOWS as u8).find(|number| !has_number(rows, *number))
 }
