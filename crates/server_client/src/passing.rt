@@ -10,22 +10,25 @@ use attach_proto::LONGEST;
 use std::io::{Read, Write};
 use std::sync::Wait;
 
-// Sends what the input has, if there is something.
+// Sends what the input has. The answer is whether there was something.
 fn read_input<R: Wait + AllocGlobal, I: Read + Drop, O>(
     rt: &R,
     shared: &Shared<I, O>,
     intake: &mut Intake<I>,
     buffer: &mut [u8],
-) {
-    if intake.sources.input.take()
+) -> bool {
+    let is_ready = intake.sources.input.take();
+    if is_ready
         && let Some(input) = &mut intake.input
         && !pass_input(rt, shared, input, buffer)
     {
         intake.input = None;
     }
+    is_ready
 }
 
-// Reads the socket or the input once, whichever has something.
+// Reads the input or the socket once, whichever has something: of both the input, since a program
+// whose output waits may not read what comes for it.
 fn read_once<R: Wait + AllocGlobal, I: Read + Drop, O>(
     rt: &R,
     shared: &Shared<I, O>,
@@ -38,8 +41,7 @@ fn read_once<R: Wait + AllocGlobal, I: Read + Drop, O>(
     }
     if intake.is_polled() {
         intake.sources.wait(true)?;
-        if !intake.sources.socket.take() {
-            read_input(rt, shared, intake, buffer);
+        if read_input(rt, shared, intake, buffer) || !intake.sources.socket.take() {
             return Ok(Came::Some);
         }
     }

@@ -11,7 +11,7 @@ use std::sync::Wait;
 const MOST_WAITING: usize = 1_048_576;
 
 // The writing of more than this may have to wait, so another thread reads meanwhile.
-const MUCH: usize = 1_024;
+const MUCH: usize = 256;
 
 impl Standing {
     pub fn put(&mut self, way: Way, bytes: &[u8]) -> Result<(), ClientFault> {
