@@ -7,7 +7,7 @@ use Rattle.cells.specs.declared.cell.Colour.TheVariants.{Default, Black, Red, Gr
 use Rattle.cells.specs.declared.cell.Rendition.{Rendition}
 use Rattle.cells.specs.declared.cell.Cell.{Cell}
 use Rattle.cells.specs.Line.{unprotected}
-use Rattle.cells.specs.Look.{bit, colour_digit, shape_digit, before, attributes_of, colours_of, look_of}
+use Rattle.cells.specs.Look.{bit, colour_part, shape_part, before, attributes_of, colours_of, look_of}
 
 first : (a b x y : ℕ) → a < 256 → b < 256 → before a x ≡ before b y → a ≡ b
 first a b x y la lb e = omega arith
@@ -19,7 +19,7 @@ bit_few : (b : Bool) → bit b < 256
 bit_few false = omega arith
 bit_few true = omega arith
 
-colour_few : (c : Colour) → colour_digit c < 256
+colour_few : (c : Colour) → colour_part c < 256
 colour_few Default = omega arith
 colour_few Black = omega arith
 colour_few Red = omega arith
@@ -30,7 +30,7 @@ colour_few Magenta = omega arith
 colour_few Cyan = omega arith
 colour_few White = omega arith
 
-shape_few : (s : Shape) → shape_digit s < 256
+shape_few : (s : Shape) → shape_part s < 256
 shape_few Narrow = omega arith
 shape_few Left = omega arith
 shape_few Right = omega arith
@@ -50,7 +50,7 @@ bit_back : (b : Bool) → bit_at (bit b) ≡ b
 bit_back false = refl
 bit_back true = refl
 
-colour_back : (c : Colour) → colour_at (colour_digit c) ≡ c
+colour_back : (c : Colour) → colour_at (colour_part c) ≡ c
 colour_back Default = refl
 colour_back Black = refl
 colour_back Red = refl
@@ -61,7 +61,7 @@ colour_back Magenta = refl
 colour_back Cyan = refl
 colour_back White = refl
 
-shape_back : (s : Shape) → shape_at (shape_digit s) ≡ s
+shape_back : (s : Shape) → shape_at (shape_part s) ≡ s
 shape_back Narrow = refl
 shape_back Left = refl
 shape_back Right = refl
@@ -69,10 +69,10 @@ shape_back Right = refl
 same_bit : (a b : Bool) → bit a ≡ bit b → a ≡ b
 same_bit a b e = sym (bit_back a) ∙ ap bit_at e ∙ bit_back b
 
-same_colour : (a b : Colour) → colour_digit a ≡ colour_digit b → a ≡ b
+same_colour : (a b : Colour) → colour_part a ≡ colour_part b → a ≡ b
 same_colour a b e = sym (colour_back a) ∙ ap colour_at e ∙ colour_back b
 
-same_shape : (a b : Shape) → shape_digit a ≡ shape_digit b → a ≡ b
+same_shape : (a b : Shape) → shape_part a ≡ shape_part b → a ≡ b
 same_shape a b e = sym (shape_back a) ∙ ap shape_at e ∙ shape_back b
 
 -- a bit and what stands behind it
@@ -83,12 +83,12 @@ module _ (a b : Bool) (x y : ℕ) (e : before (bit a) x ≡ before (bit b) y) wh
   after_bit : x ≡ y
   after_bit = rest (bit a) (bit b) x y (bit_few a) (bit_few b) e
 
-module _ (a b : Colour) (x y : ℕ) (e : before (colour_digit a) x ≡ before (colour_digit b) y) where
+module _ (a b : Colour) (x y : ℕ) (e : before (colour_part a) x ≡ before (colour_part b) y) where
   first_colour : a ≡ b
-  first_colour = same_colour a b (first (colour_digit a) (colour_digit b) x y (colour_few a) (colour_few b) e)
+  first_colour = same_colour a b (first (colour_part a) (colour_part b) x y (colour_few a) (colour_few b) e)
 
   after_colour : x ≡ y
-  after_colour = rest (colour_digit a) (colour_digit b) x y (colour_few a) (colour_few b) e
+  after_colour = rest (colour_part a) (colour_part b) x y (colour_few a) (colour_few b) e
 
 -- the attributes of cells of one number
 module _ (a b : Cell) (e : attributes_of a ≡ attributes_of b) where
@@ -118,7 +118,7 @@ module _ (a b : Cell) (e : colours_of a ≡ colours_of b) where
       let shape = after_colour p.back q.back _ _ back in (
         first_colour p.fore q.fore _ _ e,
         first_colour p.back q.back _ _ back,
-        same_shape a.shape b.shape (first (shape_digit a.shape) (shape_digit b.shape) _ _ (shape_few a.shape) (shape_few b.shape) shape),
+        same_shape a.shape b.shape (first (shape_part a.shape) (shape_part b.shape) _ _ (shape_few a.shape) (shape_few b.shape) shape),
       )
 
 pub same_unprotected : (a b : Cell) → a.character ≡ b.character → a.marks ≡ b.marks → attributes_of a ≡ attributes_of b → colours_of a ≡ colours_of b →

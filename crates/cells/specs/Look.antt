@@ -11,21 +11,21 @@ abbrev pub bit : Bool → ℕ
 bit false = 0
 bit true = 1
 
-abbrev pub colour_digit : Colour → ℕ
-colour_digit Default = 0
-colour_digit Black = 1
-colour_digit Red = 2
-colour_digit Green = 3
-colour_digit Yellow = 4
-colour_digit Blue = 5
-colour_digit Magenta = 6
-colour_digit Cyan = 7
-colour_digit White = 8
+abbrev pub colour_part : Colour → ℕ
+colour_part Default = 0
+colour_part Black = 1
+colour_part Red = 2
+colour_part Green = 3
+colour_part Yellow = 4
+colour_part Blue = 5
+colour_part Magenta = 6
+colour_part Cyan = 7
+colour_part White = 8
 
-abbrev pub shape_digit : Shape → ℕ
-shape_digit Narrow = 0
-shape_digit Left = 1
-shape_digit Right = 2
+abbrev pub shape_part : Shape → ℕ
+shape_part Narrow = 0
+shape_part Left = 1
+shape_part Right = 2
 
 -- a digit, and the number of the digits behind it
 abbrev pub before : ℕ → ℕ → ℕ
@@ -40,8 +40,8 @@ attributes_of c =
 -- foreground and background, shape and protection
 unfoldable pub colours_of : Cell → ℕ
 colours_of c =
-    before (colour_digit c.rendition.fore) (before (colour_digit c.rendition.back)
-    (before (shape_digit c.shape) (bit c.is_protected)))
+    before (colour_part c.rendition.fore) (before (colour_part c.rendition.back)
+    (before (shape_part c.shape) (bit c.is_protected)))
 
 -- both, behind one another
 unfoldable pub look_of : Cell → ℕ

@@ -6,7 +6,8 @@ use Rattle.acl.specs.declared.bits.Bit.TheVariants.{Read}
 use Rattle.session_model.specs.Trace.{EventValue, Keys, Output, Draw, Entry}
 use Rattle.session_model.specs.Tables.{Tables}
 use Rattle.session_model.specs.Run.{tables_from}
-use Rattle.session_model.specs.Events.{Outcome, outcome}
+use Rattle.session_model.specs.Outcomes.{Outcome}
+use Rattle.session_model.specs.Events.{outcome}
 use Rattle.session_unseen.specs.Hidden.{unhidden}
 use Rattle.session_worked.specs.Setup.{own, bob, several, after, changes, takes}
 

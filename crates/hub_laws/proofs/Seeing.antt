@@ -15,7 +15,7 @@ use Rattle.session_model.specs.Tables.{Tables, Window, Client, focused, focused_
 use Rattle.session_model.specs.Lines.{Caller}
 use Rattle.command_lang.specs.Needs.{needs}
 use Rattle.session_model.specs.Checks.{passes, verdict, verdicts, checks, typing_checks, where_needed, window_checks}
-use Rattle.session_model.specs.Events.{typing_verdicts}
+use Rattle.session_model.specs.Answering.{typing_verdicts}
 use Rattle.session_laws.proofs.Showing.{IsThere, at_there}
 use Rattle.session_laws.proofs.Lists.{all_append}
 use Rattle.hub_trail.specs.Judging.{is_on_there}

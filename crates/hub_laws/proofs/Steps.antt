@@ -33,7 +33,10 @@ use Rattle.session_model.specs.Checks.{passes, checks, first_fault, verdicts}
 use Rattle.session_model.specs.Deeds.{Deed, Answer, changing, parts, closes}
 use Rattle.session_model.specs.Commands.{does}
 use Rattle.session_model.specs.Keying.{items_behind, typed_bytes, command_item, taken}
-use Rattle.session_model.specs.Events.{Outcome, outcome, finished, refused, where_passed, done, reply_of, left_by, left_acts, attach_checks, attaches, new_client, open_checks, opens, new_window, has_place, is_client_size, resized, outputs, typing_verdicts, keyed, with_listed, message_of, by_line, ordered, Ordered, reading, types, unsaid, keys_outcome, commanded, line_ruling, answered}
+use Rattle.session_model.specs.Outcomes.{Outcome, finished, refused, where_passed, done, reply_of, left_acts_of, left_acts}
+use Rattle.session_model.specs.Events.{outcome}
+use Rattle.session_model.specs.Comings.{attach_checks, attaches, new_client, open_checks, opens, new_window, has_place, is_client_size, resized, outputs}
+use Rattle.session_model.specs.Answering.{typing_verdicts, keyed, with_listed, message_of, by_line, ordered, Ordered, reading, types, unsaid, keys_outcome, commanded, line_ruling, answered}
 use Rattle.session_model.specs.Run.{IsStep, IsRun, IsRunFrom, tables_from}
 use Rattle.session_laws.proofs.Agreeing.{has, has_row}
 use Rattle.session_laws.proofs.Doing.{Either}
@@ -64,8 +67,8 @@ pub record CanJudge (t : Tables) (o : Outcome) : Type 0 where
 
 left_free : (before after : List Client) → AllFree (left_acts before after)
 left_free [] after = tt
-left_free (c ∷ before) after = all_append (λ a. is_free a ≡ true) (left_by c (focused c) before after) (left_acts before after) (one (focused c)) (left_free before after) where
-  one : (o : Option ℕ) → AllFree (left_by c o before after)
+left_free (c ∷ before) after = all_append (λ a. is_free a ≡ true) (left_acts_of c (focused c) before after) (left_acts before after) (one (focused c)) (left_free before after) where
+  one : (o : Option ℕ) → AllFree (left_acts_of c o before after)
   one None = tt
   one (Some w) = on (is_in_focus before c.user w || is_in_focus after c.user w) where
     on : (b : Bool) → AllFree (if b then [] else act.Left c.user w ∷ [])

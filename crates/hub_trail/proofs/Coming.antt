@@ -17,7 +17,9 @@ use Rattle.session_model.specs.Sound.{Rises, AreSound}
 use Rattle.session_model.specs.Tables.{Tables, Window, Client, row_of, client_at, window_at, focused, is_known}
 use Rattle.session_model.specs.Lines.{Caller, caller_of, line_caller}
 use Rattle.session_model.specs.Keying.{command_item, step_items, taken}
-use Rattle.session_model.specs.Events as events
+use Rattle.session_model.specs.Answering as answering
+use Rattle.session_model.specs.Outcomes as outcomes
+use Rattle.session_model.specs.Comings as comings
 use Rattle.session_model.specs.Deeds as deeds
 use Rattle.session_model.specs.Given.{Given, commands_of, with_order, order_in, ok_of}
 use Rattle.session_model.specs.Promises.{SomeOf, IsOn, IsOpen, IsClient, IsDoneBy, IsDoneByRight, IsByKeys, IsEffectOf}
@@ -188,22 +190,22 @@ module _ (t : Tables) (s : AreSound t) where
   come : (event : EventValue) (effects : List Effect) → HasEffects t event effects → AllByRecursion (IsEffectOf t event) effects → AllByRecursion (HasCome t) effects
   come (Command user number bytes) effects has all = all_weaken (IsEffectOf t (Command user number bytes)) (HasCome t) effects (line_comes user number bytes) all
   come (Detach client) effects has all = on (client_at t client) refl has where
-    on : (o : Option Client) → client_at t client ≡ o → effects ≡ (elim o as (λ _. events.Outcome) [ None ↦ events.refused t [] NoWindow | Some c ↦ events.finished t [] events.done (deeds.parts (λ d. d.serial == client) reason.Detached t) ]).effects
+    on : (o : Option Client) → client_at t client ≡ o → effects ≡ (elim o as (λ _. outcomes.Outcome) [ None ↦ outcomes.refused t [] NoWindow | Some c ↦ outcomes.finished t [] outcomes.done (deeds.parts (λ d. d.serial == client) reason.Detached t) ]).effects
         → AllByRecursion (HasCome t) effects
     on None is none = subst (AllByRecursion (HasCome t)) (sym none) tt
     on (Some c) is some = all_weaken (IsEffectOf t (Detach client)) (HasCome t) effects (parted_comes client c is) all
   come (Closed window) effects has all = on (window_at t window) refl has where
-    on : (o : Option Window) → window_at t window ≡ o → effects ≡ (elim o as (λ _. events.Outcome) [ None ↦ events.refused t [] NoWindow | Some w ↦ events.finished t [] events.done (deeds.closes (λ v. v.serial == window) reason.Detached t) ]).effects
+    on : (o : Option Window) → window_at t window ≡ o → effects ≡ (elim o as (λ _. outcomes.Outcome) [ None ↦ outcomes.refused t [] NoWindow | Some w ↦ outcomes.finished t [] outcomes.done (deeds.closes (λ v. v.serial == window) reason.Detached t) ]).effects
         → AllByRecursion (HasCome t) effects
     on None is none = subst (AllByRecursion (HasCome t)) (sym none) tt
     on (Some w) is some = all_weaken (IsEffectOf t (Closed window)) (HasCome t) effects (closed_comes window w is) all
   come (Output window bytes) effects has all = on (window_at t window) refl has where
-    on : (o : Option Window) → window_at t window ≡ o → effects ≡ (elim o as (λ _. events.Outcome) [ None ↦ events.refused t [] NoWindow | Some w ↦ events.finished t [] events.done (events.outputs t w bytes) ]).effects
+    on : (o : Option Window) → window_at t window ≡ o → effects ≡ (elim o as (λ _. outcomes.Outcome) [ None ↦ outcomes.refused t [] NoWindow | Some w ↦ outcomes.finished t [] outcomes.done (comings.outputs t w bytes) ]).effects
         → AllByRecursion (HasCome t) effects
     on None is none = subst (AllByRecursion (HasCome t)) (sym none) tt
     on (Some w) is some = all_weaken (IsEffectOf t (Output window bytes)) (HasCome t) effects (output_comes window bytes w is) all
   come (Keys client bytes) effects has all = on (client_at t client) refl has where
-    on : (o : Option Client) → client_at t client ≡ o → effects ≡ (elim o as (λ _. events.Outcome) [ None ↦ events.refused t [] NoWindow | Some c ↦ events.keys_outcome t c (take (taken c.keys bytes) bytes) ]).effects
+    on : (o : Option Client) → client_at t client ≡ o → effects ≡ (elim o as (λ _. outcomes.Outcome) [ None ↦ outcomes.refused t [] NoWindow | Some c ↦ answering.keys_outcome t c (take (taken c.keys bytes) bytes) ]).effects
         → AllByRecursion (HasCome t) effects
     on None is none = subst (AllByRecursion (HasCome t)) (sym none) tt
     on (Some c) is some = all_weaken (IsEffectOf t (Keys client bytes)) (HasCome t) effects (keys_come client bytes c is) all

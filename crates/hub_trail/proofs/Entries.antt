@@ -35,7 +35,10 @@ use Rattle.session_model.specs.Checks.{verdicts, first_fault, checks, typing_che
 use Rattle.session_model.specs.Deeds.{Deed, Answer, changing, parts, closes}
 use Rattle.session_model.specs.Commands.{does}
 use Rattle.session_model.specs.Keying.{items_behind, typed_bytes, command_item, taken}
-use Rattle.session_model.specs.Events.{Outcome, outcome, attaches, opens, outputs, finished, refused, where_passed, left_acts, attach_checks, open_checks, new_client, new_window, reply_of, line_ruling, answered, commanded, told, typing_verdicts, message_of, keyed, is_client_size, by_line, ordered, Ordered, reading, types, keys_outcome, done, resized}
+use Rattle.session_model.specs.Outcomes.{Outcome, finished, refused, where_passed, left_acts, reply_of, done}
+use Rattle.session_model.specs.Events.{outcome}
+use Rattle.session_model.specs.Comings.{attaches, opens, outputs, attach_checks, open_checks, new_client, new_window, is_client_size, resized}
+use Rattle.session_model.specs.Answering.{line_ruling, answered, commanded, told, typing_verdicts, message_of, keyed, by_line, ordered, Ordered, reading, types, keys_outcome}
 use Rattle.session_model.specs.Promises.{OnlyRead}
 use Rattle.session_laws.proofs.Doing.{Either}
 use Rattle.session_laws.proofs.Granting.{told_read}

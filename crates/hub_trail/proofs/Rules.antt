@@ -9,7 +9,7 @@ use Rattle.session_model.specs.Tables.{Tables}
 use Rattle.session_model.specs.Lines.{Caller}
 use Rattle.session_model.specs.Deeds.{Deed, removes}
 use Rattle.session_model.specs.Commands.{does}
-use Rattle.session_model.specs.Events.{told, with_listed}
+use Rattle.session_model.specs.Answering.{told, with_listed}
 use Rattle.session_model.specs.Promises.{OnlyRead}
 use Rattle.session_laws.proofs.Doing.{Either}
 use Rattle.session_laws.proofs.Granting.{told_read, same_tables}

@@ -15,7 +15,10 @@ use Rattle.session_model.specs.Checks.{verdicts, first_fault}
 use Rattle.session_model.specs.Deeds.{Deed, changing, parts, closes}
 use Rattle.session_model.specs.Commands.{does}
 use Rattle.session_model.specs.Keying.{taken}
-use Rattle.session_model.specs.Events.{Outcome, outcome, finished, where_passed, attach_checks, open_checks, attaches, opens, outputs, new_client, new_window, reply_of, done, is_client_size, resized, keys_outcome}
+use Rattle.session_model.specs.Outcomes.{Outcome, finished, where_passed, reply_of, done}
+use Rattle.session_model.specs.Events.{outcome}
+use Rattle.session_model.specs.Comings.{attach_checks, open_checks, attaches, opens, outputs, new_client, new_window, is_client_size, resized}
+use Rattle.session_model.specs.Answering.{keys_outcome}
 use Rattle.session_model.specs.Run.{IsStep, drawn, drawn_on}
 use Rattle.session_laws.proofs.Doing.{Either}
 use Rattle.session_laws.proofs.Outcomes as outcomes

@@ -15,7 +15,8 @@ use Rattle.regions.specs.Layouts.{empty, kept_alone}
 use Rattle.regions.specs.Pages.{has_room}
 use Rattle.session_model.specs.Sound.{ActsAgree}
 use Rattle.session_model.specs.Tables.{Tables, Client, Window, row_of, with_row, client_at, focused, is_window, is_in_focus}
-use Rattle.session_model.specs.Events.{left_by, left_acts, resized}
+use Rattle.session_model.specs.Outcomes.{left_acts_of, left_acts}
+use Rattle.session_model.specs.Comings.{resized}
 use Rattle.session_laws.proofs.Lists.{row_serial}
 use Rattle.hub_trail.specs.Legal.{is_client_of, is_parted, is_closed}
 
@@ -69,7 +70,7 @@ own_focus c cs w e = or_left _ (is_in_focus cs c.user w) (and_from _ _ (same_use
 pub left_none : (before after : List Client) → Stays before after → left_acts before after ≡ []
 left_none [] after stays = refl
 left_none (c ∷ before) after stays = on (left_none before after (λ u w e. stays u w (or_right _ _ e))) (focused c) refl where
-  on : left_acts before after ≡ [] → (o : Option ℕ) → focused c ≡ o → left_by c o before after ++ left_acts before after ≡ []
+  on : left_acts before after ≡ [] → (o : Option ℕ) → focused c ≡ o → left_acts_of c o before after ++ left_acts before after ≡ []
   on rest None e = rest
   on rest (Some w) e =
       ap (λ b. (if b then [] else act.Left c.user w ∷ []) ++ left_acts before after) (or_right (is_in_focus before c.user w) _ (stays c.user w (own_focus c before w e)))

@@ -15,7 +15,7 @@ use Rattle.terminal_model.specs.Drawable.{IsGlyph, AreMarks, HasGlyph, IsDrawabl
 use Rattle.redraw.specs.declared.pen.Pen.{Pen}
 use Rattle.redraw.specs.declared.command.Command.TheVariants.{Glyph}
 use Rattle.redraw.specs.Commands.{func_of}
-use Rattle.redraw.specs.Drawing.{Row, seen, over, row_of, width_of, mark_bytes, glyph_bytes, Drawing, Takes, Keeps, Writes, Stands, KnowsRendition}
+use Rattle.redraw.specs.Drawing.{Row, seen, row_written, row_of, width_of, mark_bytes, glyph_bytes, Drawing, Takes, Keeps, Writes, Stands, KnowsRendition}
 use Rattle.redraw.proofs.Screens.{LeadsTo}
 use Rattle.redraw.proofs.Printing.{Inked, narrow_leads, wide_leads, mark_leads}
 use Rattle.redraw.proofs.Takings.{leads_then, takes_then, takes_bytes}
@@ -84,7 +84,7 @@ module _ (rows columns : ℕ) (old new : Page) (pen : Pen) (lh : pen.line < rows
           with_width 2 two (wide_cell_leads cell x d known e (subst (λ n. pen.column + n ≤ columns) two room) is stands differs)
       by_shape Right e = let no : is_right Right ≡ false = sym (ap is_right e) ∙ whole in absurd cc
 
-over_row : (row row' : Row) (at n : ℕ) (f : Row) (c : ℕ) → row c ≡ row' c → over row at n f c ≡ over row' at n f c
+over_row : (row row' : Row) (at n : ℕ) (f : Row) (c : ℕ) → row c ≡ row' c → row_written row at n f c ≡ row_written row' at n f c
 over_row row row' at n f c e = ap (λ (z : Cell). cond (ltb c at) (cond (eqb (c + 1) at && is_left z.shape) blank z) (cond (ltb c (at + n)) (f c) (cond (eqb c (at + n) && is_right z.shape) blank z))) e
 
 -- the pen is aimed, and then it writes

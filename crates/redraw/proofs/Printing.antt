@@ -25,7 +25,7 @@ use Rattle.terminal_model.specs.Drawable.{IsGlyph}
 use Rattle.redraw.specs.declared.pen.Pen.{Pen}
 use Rattle.redraw.specs.declared.command.Command.TheVariants.{Glyph, EraseCells, EraseToEnd}
 use Rattle.redraw.specs.Commands.{func_of}
-use Rattle.redraw.specs.Drawing.{Row, seen, over, row_of, Drawing, Leads, Writes}
+use Rattle.redraw.specs.Drawing.{Row, seen, row_written, row_of, Drawing, Leads, Writes}
 use Rattle.redraw.proofs.Writing.{written, written_here, written_elsewhere}
 use Rattle.redraw.proofs.Effects.{one_leads, silent_leads}
 use Rattle.redraw.proofs.Screens.{utf8, no_insert, none_pending, sized, LeadsTo}
@@ -36,14 +36,14 @@ same_side : {A : Type 0} (f : Cell → A) (b : Bool) (x y : Cell) → f (cond b 
 same_side f true x y = refl
 same_side f false x y = refl
 
-unprotected_over : (row fresh : Row) (at n c : ℕ) → unprotected (over row at n fresh c) ≡ over (λ k. unprotected (row k)) at n (λ k. unprotected (fresh k)) c
+unprotected_over : (row fresh : Row) (at n c : ℕ) → unprotected (row_written row at n fresh c) ≡ row_written (λ k. unprotected (row k)) at n (λ k. unprotected (fresh k)) c
 unprotected_over row fresh at n c =
     same_side unprotected (ltb c at) _ _
     ∙ ap (λ z. cond (ltb c at) z (unprotected (cond (ltb c (at + n)) (fresh c) (cond (eqb c (at + n) && is_right (row c).shape) blank (row c))))) (same_side unprotected (eqb (c + 1) at && is_left (row c).shape) blank (row c))
     ∙ ap (λ z. cond (ltb c at) (cond (eqb (c + 1) at && is_left (row c).shape) blank (unprotected (row c))) z)
     (same_side unprotected (ltb c (at + n)) _ _ ∙ ap (λ z. cond (ltb c (at + n)) (unprotected (fresh c)) z) (same_side unprotected (eqb c (at + n) && is_right (row c).shape) blank (row c)))
 
-pub over_same : (row : Row) (at n : ℕ) (f g : Row) (c : ℕ) → (at ≤ c → c < at + n → f c ≡ g c) → over row at n f c ≡ over row at n g c
+pub over_same : (row : Row) (at n : ℕ) (f g : Row) (c : ℕ) → (at ≤ c → c < at + n → f c ≡ g c) → row_written row at n f c ≡ row_written row at n g c
 over_same row at n f g c same = ⊎_elim
     (λ (front : c < at). rw (lt-ltb c at front) refl)
     (λ (past : at ≤ c). ⊎_elim
@@ -79,7 +79,7 @@ fresh_blank n k = rw (blanks_at n k) refl
 module _ (rows columns : ℕ) where
   -- the line of the pen gets new cells
   page_written : (line at : ℕ) (fresh : List Cell) (page : Page) → IsPage rows columns page → line < rows → at + length fresh ≤ columns → 0 < length fresh → (c : ℕ) → c < columns
-      → unprotected (cell_at (line_at (written line at columns fresh page) line) c) ≡ over (λ k. unprotected (cell_at (line_at page line) k)) at (length fresh) (λ k. unprotected (fresh_at fresh (k - at))) c
+      → unprotected (cell_at (line_at (written line at columns fresh page) line) c) ≡ row_written (λ k. unprotected (cell_at (line_at page line) k)) at (length fresh) (λ k. unprotected (fresh_at fresh (k - at))) c
   page_written line at fresh page is_page inside room some c within =
       ap unprotected (written_here line at rows columns fresh page is_page inside c within room some)
       ∙ unprotected_over (cell_at (line_at page line)) (λ k. fresh_at fresh (k - at)) at (length fresh) c
@@ -105,7 +105,7 @@ module _ (rows columns : ℕ) where
           };
           here = λ c hc. ap (λ g. unprotected (cell_at (line_at g pen.line) c)) page
               ∙ page_written pen.line pen.column (replicate n blank) x.page (sized rows columns pen x d) lh (rw m room) (rw m some) c hc
-              ∙ ap (λ j. over (seen x pen.line) pen.column j (λ k'. unprotected (fresh_at (replicate n blank) (k' - pen.column))) c) m
+              ∙ ap (λ j. row_written (seen x pen.line) pen.column j (λ k'. unprotected (fresh_at (replicate n blank) (k' - pen.column))) c) m
               ∙ over_same (seen x pen.line) pen.column n (λ k'. unprotected (fresh_at (replicate n blank) (k' - pen.column))) (λ k'. blank) c (λ p q. ap unprotected (fresh_blank n (c - pen.column)));
           elsewhere = λ l c ne. ap (λ g. unprotected (cell_at (line_at g l) c)) page
               ∙ ap (λ z. unprotected (cell_at z c)) (written_elsewhere pen.line pen.column rows columns (replicate n blank) x.page (sized rows columns pen x d) lh l ne);
@@ -315,14 +315,14 @@ module _ (rows columns : ℕ) (old new : Page) (pen : Pen) (cell : Cell) (n m : 
   line_marked : line_at page' pen.line ≡ line'
   line_marked = get_or-set_same y.page pen.line line' [] (rw is_page.height lh)
 
-  mark_here : (c : ℕ) → c < columns → unprotected (cell_at (line_at page' pen.line) c) ≡ over (seen x pen.line) pen.column n (row_of (marked cell m) pen.column) c
+  mark_here : (c : ℕ) → c < columns → unprotected (cell_at (line_at page' pen.line) c) ≡ row_written (seen x pen.line) pen.column n (row_of (marked cell m) pen.column) c
   mark_here c hc = ap (λ z. unprotected (cell_at z c)) line_marked ∙ ⊎_elim
       (λ (e : c ≡ pen.column).
       let wide : pen.column < length line = rw (is_page.width pen.line lh) ch in
       ap (λ j. unprotected (cell_at line' j)) e
       ∙ ap unprotected (get_or-set_same line pen.column (marked (cell_at line pen.column) m) blank wide)
       ∙ ap (λ (z : Cell). marked z m) inked_cell
-      ∙ sym (ap (over (seen x pen.line) pen.column n (row_of (marked cell m) pen.column)) e
+      ∙ sym (ap (row_written (seen x pen.line) pen.column n (row_of (marked cell m) pen.column)) e
       ∙ rw (le-ltb pen.column pen.column (omega arith), lt-ltb pen.column (pen.column + n) (omega arith), eq-eqb pen.column pen.column refl) refl))
       (λ (ne : c ≡ pen.column → ⊥).
       ap unprotected (get_or-set_other line pen.column c (marked (cell_at line pen.column) m) blank ne)

@@ -12,7 +12,7 @@ use Rattle.terminal_model.specs.declared.action.Action.TheVariants.{Render}
 use Rattle.terminal_model.specs.declared.action.Attribute.{Attribute}
 use Rattle.terminal_model.specs.declared.action.Attribute.TheVariants.{Plain, Bold, Underlined, Blinking, Reversed, Foreground, Background}
 use Rattle.terminal_model.specs.Screen.{Screen, with_state}
-use Rattle.terminal_model.specs.Functions.{plain_sequence, each, rendered}
+use Rattle.terminal_model.specs.Functions.{plain_sequence, each, rendered, colour_digit}
 use Rattle.terminal_model.specs.Motion.{unjoined}
 use Rattle.terminal_model.specs.Table.{acted_from, all_acted, effect}
 use Rattle.terminal_model.specs.Drawing.{IsListed}
@@ -20,7 +20,7 @@ use Rattle.terminal_model.specs.Places.{value_if, value_of_colour, rendition_val
 use Rattle.terminal_model.proofs.Frames.{all_acted-append, each-append}
 use Rattle.terminal_model.proofs.Renditions.{is_named, named-listed, rendition-is}
 use Rattle.redraw.specs.Drawing.{KnowsRendition}
-use Rattle.redraw.specs.Renditions.{colour_digit, coloured, whole_params, switched, recoloured, change_params, all_bytes, shorter, rendition_params}
+use Rattle.redraw.specs.Renditions.{whole_params, switched, recoloured, change_params, all_bytes, shorter, rendition_params}
 
 -- THE VALUES
 
@@ -79,8 +79,8 @@ whole-values r =
     let u : List ℕ = value_if r.is_underlined 4 in
     let k : List ℕ = value_if r.is_blinking 5 in
     let v : List ℕ = value_if r.is_reversed 7 in
-    let f : List ℕ = coloured 30 r.fore in
-    let g : List ℕ = coloured 40 r.back in
+    let f : List ℕ = value_of_colour 30 r.fore in
+    let g : List ℕ = value_of_colour 40 r.back in
     values-append (((((0 ∷ [] ++ b) ++ u) ++ k) ++ v) ++ f) g (values-append ((((0 ∷ [] ++ b) ++ u) ++ k) ++ v) f (values-append (((0 ∷ [] ++ b) ++ u) ++ k) v (values-append ((0 ∷ [] ++ b) ++ u) k (values-append (0 ∷ [] ++ b) u (values-append (0 ∷ []) b
     ((record { attribute = Plain; names = refl; small = refl }), tt)
     (values-if r.is_bold 1 (record { attribute = Bold true; names = refl; small = refl })))
@@ -130,8 +130,8 @@ whole-few r =
     let u : List ℕ = value_if r.is_underlined 4 in
     let k : List ℕ = value_if r.is_blinking 5 in
     let v : List ℕ = value_if r.is_reversed 7 in
-    let f : List ℕ = coloured 30 r.fore in
-    let g : List ℕ = coloured 40 r.back in
+    let f : List ℕ = value_of_colour 30 r.fore in
+    let g : List ℕ = value_of_colour 40 r.back in
     one-more (((((0 ∷ [] ++ b) ++ u) ++ k) ++ v) ++ f) g 1 6 (one-more ((((0 ∷ [] ++ b) ++ u) ++ k) ++ v) f 1 5 (one-more (((0 ∷ [] ++ b) ++ u) ++ k) v 1 4 (one-more ((0 ∷ [] ++ b) ++ u) k 1 3 (one-more (0 ∷ [] ++ b) u 1 2 (one-more (0 ∷ []) b 1 1 (omega arith, omega arith)
     (if-few r.is_bold 1)) (if-few r.is_underlined 4)) (if-few r.is_blinking 5)) (if-few r.is_reversed 7))
     (unless-few (eqb (colour_digit r.fore) 9) (30 + colour_digit r.fore))) (unless-few (eqb (colour_digit r.back) 9) (40 + colour_digit r.back))
@@ -316,43 +316,19 @@ from-present x (n ∷ values) h some =
     ap (λ o. all_acted x (option_to_list o ++ each rendered values)) h.0.names
     ∙ sym (ap (λ o. all_acted (with_rendition x x.state.rendition) (option_to_list o ++ each rendered values)) h.0.names)
 
--- both spellings of a rendition by its values are one
-fore-is : (c : Colour) → coloured 30 c ≡ value_of_colour 30 c
-fore-is Default = refl
-fore-is Black = refl
-fore-is Red = refl
-fore-is Green = refl
-fore-is Yellow = refl
-fore-is Blue = refl
-fore-is Magenta = refl
-fore-is Cyan = refl
-fore-is White = refl
-
-back-is : (c : Colour) → coloured 40 c ≡ value_of_colour 40 c
-back-is Default = refl
-back-is Black = refl
-back-is Red = refl
-back-is Green = refl
-back-is Yellow = refl
-back-is Blue = refl
-back-is Magenta = refl
-back-is Cyan = refl
-back-is White = refl
-
+-- the same parameters, put together from the left and from the right
 whole-is : (r : Rendition) → whole_params r ≡ rendition_values r
 whole-is r =
     let b : List ℕ = value_if r.is_bold 1 in
     let u : List ℕ = value_if r.is_underlined 4 in
     let k : List ℕ = value_if r.is_blinking 5 in
     let v : List ℕ = value_if r.is_reversed 7 in
-    let f : List ℕ = coloured 30 r.fore in
-    let g : List ℕ = coloured 40 r.back in
+    let f : List ℕ = value_of_colour 30 r.fore in
+    let g : List ℕ = value_of_colour 40 r.back in
     append_assoc ((((0 ∷ [] ++ b) ++ u) ++ k) ++ v) f g
     ∙ append_assoc (((0 ∷ [] ++ b) ++ u) ++ k) v (f ++ g)
     ∙ append_assoc ((0 ∷ [] ++ b) ++ u) k (v ++ (f ++ g))
     ∙ append_assoc (0 ∷ [] ++ b) u (k ++ (v ++ (f ++ g)))
-    ∙ ap (λ c. 0 ∷ (b ++ (u ++ (k ++ (v ++ (c ++ g)))))) (fore-is r.fore)
-    ∙ ap (λ c. 0 ∷ (b ++ (u ++ (k ++ (v ++ (value_of_colour 30 r.fore ++ c)))))) (back-is r.back)
 
 whole-made : (x : Screen) (r : Rendition) → effect x (Csi None (whole_params r) [] 0x6D) ≡ with_rendition x r
 whole-made x r = ap (λ values. effect x (Csi None values [] 0x6D)) (whole-is r) ∙ rendition-is x r

@@ -3,7 +3,7 @@ use Rattle.std.proofs.Common.{◌≡◌, ℕ, zero, suc, ◌+◌, ◌<◌, ◌�
 use Rattle.std.proofs.lemmas.Bool.{cases_lt, cases_eq, ne_eqb}
 use Rattle.cells.specs.declared.cell.Cell.{Cell}
 use Rattle.cells.specs.Line.{blank, is_left, is_right}
-use Rattle.redraw.specs.Drawing.{Row, over, mixed}
+use Rattle.redraw.specs.Drawing.{Row, row_written, mixed}
 
 -- a right half stands exactly behind a left half
 pub record IsPairedRow (row : Row) : Type 0 where
@@ -11,16 +11,16 @@ pub record IsPairedRow (row : Row) : Type 0 where
   pub next : (column : ℕ) → is_left (row column).shape ≡ is_right (row (suc column)).shape
 
 module _ (row : Row) (at n : ℕ) (fresh : Row) where
-  pub over_front : (c : ℕ) → c < at → (suc c ≡ at → is_left (row c).shape ≡ false) → over row at n fresh c ≡ row c
+  pub over_front : (c : ℕ) → c < at → (suc c ≡ at → is_left (row c).shape ≡ false) → row_written row at n fresh c ≡ row c
   over_front c h whole = ⊎_elim
       (λ (e : suc c ≡ at). let k : c + 1 ≡ at = omega arith in rw (lt-ltb c at h, eq-eqb (c + 1) at k, whole e) refl)
       (λ (ne : suc c ≡ at → ⊥). let k : c + 1 ≡ at → ⊥ = (λ z. ne (omega arith)) in rw (lt-ltb c at h, ne_eqb (c + 1) at k) refl)
       (cases_eq (suc c) at)
 
-  pub over_fresh : (c : ℕ) → at ≤ c → c < at + n → over row at n fresh c ≡ fresh c
+  pub over_fresh : (c : ℕ) → at ≤ c → c < at + n → row_written row at n fresh c ≡ fresh c
   over_fresh c h k = rw (le-ltb c at h, lt-ltb c (at + n) k) refl
 
-  pub over_behind : (c : ℕ) → at + n ≤ c → over row at n fresh c ≡ cond (eqb c (at + n) && is_right (row c).shape) blank (row c)
+  pub over_behind : (c : ℕ) → at + n ≤ c → row_written row at n fresh c ≡ cond (eqb c (at + n) && is_right (row c).shape) blank (row c)
   over_behind c h = let k : at ≤ c = omega arith in rw (le-ltb c at k, le-ltb c (at + n) h) refl
 
 module _ (old new : Row) where
@@ -37,7 +37,7 @@ module _ (old new : Row) where
       (cases_eq c at)
 
   -- new cells where the drawn part ends
-  pub mixed_over : (row : Row) (at n c : ℕ) → IsPairedRow new → 0 < n → is_right (new at).shape ≡ false → row c ≡ mixed old new at c → over row at n new c ≡ mixed old new (at + n) c
+  pub mixed_over : (row : Row) (at n c : ℕ) → IsPairedRow new → 0 < n → is_right (new at).shape ≡ false → row c ≡ mixed old new at c → row_written row at n new c ≡ mixed old new (at + n) c
   mixed_over row at n c paired some whole same = ⊎_elim
       (λ (front : c < at).
       over_front row at n new c front (λ e. ap (λ (x : Cell). is_left x.shape) (same ∙ mixed_front at c front) ∙ paired.next c ∙ ap (λ k. is_right (new k).shape) e ∙ whole)

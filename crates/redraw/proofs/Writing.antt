@@ -11,7 +11,7 @@ use Rattle.cells.proofs.Settling.{settled_at, cell_at-cells_from, cell_at_past, 
 use Rattle.cells.proofs.Splicing.{at_front, at_fresh, at_rest}
 use Rattle.cells.proofs.Putting.{settled_new}
 use Rattle.cells.proofs.Pages.{page_from-edited}
-use Rattle.redraw.specs.Drawing.{Row, over}
+use Rattle.redraw.specs.Drawing.{Row, row_written}
 use Rattle.redraw.proofs.Rows.{over_fresh, over_behind}
 
 left_torn : (s : Shape) (cell : Cell) (p q : Bool) → p ≡ false → (is_right s ≡ true → q ≡ true) → kept s cell p q ≡ cond (is_left s) blank cell
@@ -80,7 +80,7 @@ module _ (at : ℕ) (fresh cells : List Cell) (room : at + length fresh ≤ leng
       kept_is (row k).shape (row k) _ _ p (right_stays k (λ i e. source_behind i (omega arith) (omega arith))) ∙ sym (rw (ne_eqb k (at + length fresh) ne) refl))
       (cases_eq k (at + length fresh))
 
-  pub cell_at-spliced : (k : ℕ) → k < length cells → cell_at (cells_from source cells) k ≡ over row at (length fresh) (λ c. fresh_at fresh (c - at)) k
+  pub cell_at-spliced : (k : ℕ) → k < length cells → cell_at (cells_from source cells) k ≡ row_written row at (length fresh) (λ c. fresh_at fresh (c - at)) k
   cell_at-spliced k within = cell_at-cells_from source cells k within ∙ ⊎_elim
       (λ (front : k < at). cell_front k front ∙ sym (rw (lt-ltb k at front) refl))
       (λ (past : at ≤ k). ⊎_elim
@@ -102,7 +102,7 @@ module _ (line at rows columns : ℕ) (fresh : List Cell) (page : List (List Cel
   pub written_elsewhere : (l : ℕ) → (l ≡ line → ⊥) → line_at (written line at columns fresh page) l ≡ line_at page l
   written_elsewhere l ne = ap (λ g. line_at g l) written_is ∙ get_or-set_other page line l _ _ ne
 
-  pub written_here : (c : ℕ) → c < columns → at + length fresh ≤ columns → 0 < length fresh → cell_at (line_at (written line at columns fresh page) line) c ≡ over (cell_at (line_at page line)) at (length fresh) (λ k. fresh_at fresh (k - at)) c
+  pub written_here : (c : ℕ) → c < columns → at + length fresh ≤ columns → 0 < length fresh → cell_at (line_at (written line at columns fresh page) line) c ≡ row_written (cell_at (line_at page line)) at (length fresh) (λ k. fresh_at fresh (k - at)) c
   written_here c within room some =
       let cells : List Cell = line_at page line in
       let w : length cells ≡ columns = is_page.width line inside in

@@ -39,8 +39,8 @@ abbrev pub kept_from : Row → ℕ → Row
 kept_from row at c = cond ((c == at) && is_right (row c).shape) blank (row c)
 
 -- New cells in n columns from `at` on: what is cut in two on either side is a blank.
-abbrev pub over : Row → ℕ → ℕ → Row → Row
-over row at n fresh c =
+abbrev pub row_written : Row → ℕ → ℕ → Row → Row
+row_written row at n fresh c =
     cond (nat_lt c at) (kept_below row at c)
     (cond (nat_lt c (at + n)) (fresh c) (kept_from row (at + n) c))
 
@@ -90,7 +90,7 @@ pub record Keeps (rows columns : ℕ) (pen : Pen) (x y : Screen) : Type 0 where
 pub record Writes (rows columns : ℕ) (pen : Pen) (line at n : ℕ) (fresh : Row) (x y : Screen)
     : Type 0 where
   pub drawing : Drawing rows columns pen y
-  pub here : (c : ℕ) → c < columns → seen y line c ≡ over (seen x line) at n fresh c
+  pub here : (c : ℕ) → c < columns → seen y line c ≡ row_written (seen x line) at n fresh c
   pub elsewhere : (l c : ℕ) → (l ≡ line → ⊥) → seen y l c ≡ seen x l c
   pub modes : y.state.modes ≡ x.state.modes
 

@@ -6,12 +6,12 @@ use Rattle.cells.specs.Page.{line_at, IsGrid}
 use Rattle.terminal_model.specs.declared.state.Position.{Position}
 use Rattle.terminal_model.specs.Screen.{Page, Screen, blank_page}
 use Rattle.terminal_model.specs.Reading.{Terminal, Act, reads}
-use Rattle.terminal_model.specs.Shows.{View}
+use Rattle.terminal_model.specs.Shows.{View, NeedsDraw, NeedsNoDraw}
 use Rattle.terminal_model.specs.Drawing.{frame_bytes, Draws, AreSpelled, Agrees}
 use Rattle.terminal_model.specs.Drawable.{HaveHalves}
 use Rattle.redraw.specs.declared.pen.Pen.{Pen}
 use Rattle.view.specs.Drawable.{IsDrawable}
-use Rattle.redraw.specs.Shadow.{Knowledge, NeedsDraw, IsKnown}
+use Rattle.redraw.specs.Shadow.{Knowledge}
 use Rattle.redraw.specs.Drawing.{Takes, Stage, ShowsView}
 use Rattle.redraw.specs.Steps.{Bytes}
 
@@ -95,7 +95,7 @@ DrawsBytes (Some old) v before after = NextBytes old v before after
 
 -- the terminal is known to show the view, and nothing changes
 pub record DrawsNothing (old : Knowledge) (v : View) (new : Knowledge) : Type 0 where
-  pub known : IsKnown old.known v
+  pub known : NeedsNoDraw old.known v
   pub grid : IsGrid v.page
   pub same : new ≡ old
 
@@ -134,7 +134,7 @@ FrameDraws old v new frame = IfSome frame (λ bytes. DrawsFrame old v new bytes.
 -- the terminal is known to show the view: nothing is appended, and nothing changes
 pub record AppendsNothing (old : Knowledge) (v : View) (new : Knowledge) (before after : List ℕ)
     : Type 0 where
-  pub known : IsKnown old.known v
+  pub known : NeedsNoDraw old.known v
   pub same : new ≡ old
   pub bytes : after ≡ before
 

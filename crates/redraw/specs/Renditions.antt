@@ -2,26 +2,9 @@
 use Rattle.std.specs.Prelude.{ℕ, ◌+◌, ◌==◌, nat_lt, Bool, true, false, if◌then◌else◌}
 use Rattle.std.specs.Prelude.{List, [], ◌∷◌, ◌++◌, Option, Some, None}
 use Rattle.cells.specs.declared.cell.Colour.{Colour}
-use Rattle.cells.specs.declared.cell.Colour.TheVariants.{Default, Black, Red, Green, Yellow}
-use Rattle.cells.specs.declared.cell.Colour.TheVariants.{Blue, Magenta, Cyan, White}
 use Rattle.cells.specs.declared.cell.Rendition.{Rendition}
-use Rattle.terminal_model.specs.Places.{value_if}
-
--- the last digit of a colour's value
-abbrev pub colour_digit : Colour → ℕ
-colour_digit Black = 0
-colour_digit Red = 1
-colour_digit Green = 2
-colour_digit Yellow = 3
-colour_digit Blue = 4
-colour_digit Magenta = 5
-colour_digit Cyan = 6
-colour_digit White = 7
-colour_digit Default = 9
-
--- a colour behind 0, from the value of colour 0 on
-abbrev pub coloured : ℕ → Colour → List ℕ
-coloured first colour = if colour_digit colour == 9 then [] else (first + colour_digit colour) ∷ []
+use Rattle.terminal_model.specs.Functions.{colour_digit}
+use Rattle.terminal_model.specs.Places.{value_if, value_of_colour}
 
 -- 0, and then the attributes that are on
 abbrev pub attribute_params : Rendition → List ℕ
@@ -31,7 +14,7 @@ attribute_params r =
 
 -- from any rendition: 0, and then what is on
 abbrev pub whole_params : Rendition → List ℕ
-whole_params r = (attribute_params r ++ coloured 30 r.fore) ++ coloured 40 r.back
+whole_params r = (attribute_params r ++ value_of_colour 30 r.fore) ++ value_of_colour 40 r.back
 
 -- what differs
 abbrev pub switched : Bool → Bool → ℕ → ℕ → List ℕ

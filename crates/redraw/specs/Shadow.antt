@@ -25,20 +25,3 @@ AreAlikeAbove line a b = (l column : ℕ) → l < line → seen_at a l column �
 -- a line of the second page, or its end, above which both look the same
 abbrev pub AreAlikeUpTo : ℕ → Page → Page → Type 0
 AreAlikeUpTo line a b = (line ≤ length b) × AreAlikeAbove line a b
-
--- two views show the same: protection isn't seen
-pub record LooksLike (a b : View) : Type 0 where
-  pub cells : (line column : ℕ) → seen_at a.page line column ≡ seen_at b.page line column
-  pub cursor : a.cursor ≡ b.cursor
-  pub arrows : a.has_application_arrows ≡ b.has_application_arrows
-  pub keypad : a.has_application_keypad ≡ b.has_application_keypad
-
--- nothing is known of the terminal, or it shows another view
-abbrev pub NeedsDraw : Option View → View → Type 0
-NeedsDraw None v = Prim.Unit {0}
-NeedsDraw (Some known) v = LooksLike known v → ⊥
-
--- the terminal is known to show the same
-abbrev pub IsKnown : Option View → View → Type 0
-IsKnown None v = ⊥
-IsKnown (Some known) v = LooksLike known v

@@ -6,7 +6,8 @@ ghost use Rattle.view.specs.View.{HasSize, KeepsSize, place_of};
 ghost use Rattle.view.specs.Drawable.{IsDrawable};
 ghost use Rattle.redraw.specs.Frames.{pen_of, FirstBytes, DrawsNext, IsNeeded, BytesDraw};
 ghost use Rattle.redraw.specs.Frames.{SkipsKnown, FrameDraws, Appends, KeepsTerminalSize};
-ghost use Rattle.redraw.specs.Shadow.{AreAlikeAbove, IsKnown, NeedsDraw};
+ghost use Rattle.terminal_model.specs.Shows.{NeedsNoDraw, NeedsDraw};
+ghost use Rattle.redraw.specs.Shadow.{AreAlikeAbove};
 
 use crate::painting::paint;
 use crate::pen::Pen;
@@ -26,7 +27,7 @@ fn is_shown(cursor: Cursor) -> bool
 {
     match cursor {
         Cursor::Hidden => false,
-        Cursor::Shown { .. } => true,
+        Cursor::At { .. } => true,
     }
 }
 
@@ -36,7 +37,7 @@ fn pen_at(cursor: Cursor) -> Pen
 {
     let (line, column) = match cursor {
         Cursor::Hidden => (u16::MAX, u16::MAX),
-        Cursor::Shown { line, column } => (line, column),
+        Cursor::At { line, column } => (line, column),
     };
     Pen {
         line,
@@ -78,7 +79,7 @@ fn next_bytes(old: &View, view: &View, from: usize, out: &mut Vec<u8>) -> Result
 /// The bytes from what is known of a terminal to a view; none where it is known to show that.
 fn draw(alloc: Global, shadow: &Shadow, view: &View) -> Result<Option<Vec<u8>>, AllocError>
     requires size { HasSize shadow.now.rows shadow.now.columns view.now }
-    ensures needless { IfOk result (λ frame. IfNone frame (IsKnown shadow.now.known view.now)) }
+    ensures needless { IfOk result (λ frame. IfNone frame (NeedsNoDraw shadow.now.known view.now)) }
     ensures needed { IfOk result (λ frame. IsNeeded shadow.now.known view.now frame) }
     ensures drawn { IfOk result (λ frame. BytesDraw shadow.now.known view.now frame) }
 {

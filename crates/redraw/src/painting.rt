@@ -173,7 +173,7 @@ fn draw_cursor(
 {
     match new {
         Cursor::Hidden => change(was_shown, false, Command::ShowCursor(false), out)?,
-        Cursor::Shown { line, column } => {
+        Cursor::At { line, column } => {
             pen.move_to(line, column, out)?;
             change(was_shown, true, Command::ShowCursor(true), out)?;
         }

@@ -1,8 +1,9 @@
 //! The parameters of SGR.
 
 ghost use Rattle.std.specs.Prelude.{◌≡◌, ◌<◌, ◌≤◌, ◌+◌, [], ◌∷◌, ◌++◌, length};
-ghost use Rattle.terminal_model.specs.Places.{value_if};
-ghost use Rattle.redraw.specs.Renditions.{switched, colour_digit, coloured, recoloured};
+ghost use Rattle.terminal_model.specs.Functions.{colour_digit};
+ghost use Rattle.terminal_model.specs.Places.{value_if, value_of_colour};
+ghost use Rattle.redraw.specs.Renditions.{switched, recoloured};
 ghost use Rattle.redraw.specs.Renditions.{whole_params, change_params, rendition_params, listed};
 ghost use Rattle.redraw.specs.Renditions.{value_bytes, all_bytes, shorter};
 
@@ -51,7 +52,7 @@ fn push_if(params: &mut Params, on: bool, value: u16)
 fn push_colour(params: &mut Params, colour: Colour, first: u16)
     requires room { length params.old < 16 }
     requires small { first ≤ 40 }
-    ensures params { params.new ≡ params.old ++ coloured first colour }
+    ensures params { params.new ≡ params.old ++ value_of_colour first colour }
     ensures few { length params.new ≤ length params.old + 1 }
 {
     let digit = digit(colour);

@@ -3,7 +3,8 @@
 ghost use Rattle.std.specs.Prelude.{◌≡◌, ◌<◌, ◌≤◌, ◌↔◌, None, IsTrue, IfNone, IfSome, length};
 ghost use Rattle.cells.specs.Page.{IsGrid};
 ghost use Rattle.view.specs.View.{KeepsSize, place_of};
-ghost use Rattle.redraw.specs.Shadow.{AreAlikeAbove, AreAlikeUpTo, LooksLike};
+ghost use Rattle.terminal_model.specs.Shows.{LooksLike};
+ghost use Rattle.redraw.specs.Shadow.{AreAlikeAbove, AreAlikeUpTo};
 
 use cells::next_unlike;
 use std::marker::Model;
@@ -70,7 +71,7 @@ fn is_same_cursor(a: Cursor, b: Cursor) -> bool
 {
     match (a, b) {
         (Cursor::Hidden, Cursor::Hidden) => true,
-        (Cursor::Shown { line, column }, Cursor::Shown { line: l, column: c }) => {
+        (Cursor::At { line, column }, Cursor::At { line: l, column: c }) => {
             line == l && column == c
         }
         _ => false,

@@ -149,7 +149,7 @@ pub fn shows(terminal: &Emulator, view: &View) -> bool {
     };
     let wanted = match view.cursor() {
         Cursor::Hidden => None,
-        Cursor::Shown { line, column } => Some((line as usize, column as usize)),
+        Cursor::At { line, column } => Some((line as usize, column as usize)),
     };
     !modes.is_inverted && keys == view.modes() && shown == wanted
 }

@@ -3,11 +3,11 @@ use Rattle.std.proofs.Common.{◌≡◌, ℕ, ◌-◌, List, [], ◌∷◌, ◌+
 use Rattle.std.proofs.lemmas.List.{drop-map, length-map}
 use Rattle.circular_buffer.specs.Buffer.{keep_last}
 use Rattle.cells.specs.declared.cell.Cell.{Cell}
-use Rattle.scrollback.specs.Kept.{Kept, taken_in, resized_lines, StandsFor, Continues, ContinuesResized}
+use Rattle.scrollback.specs.Kept.{Kept, with_line, resized_lines, StandsFor, Continues, ContinuesResized}
 use Rattle.cells.specs.Resizing.{line_resized}
 use Rattle.scrollback.proofs.Lasts.{keep_twice}
 
-pub continues : (old new : Kept) (line : List Cell) → new ≡ taken_in old line → Continues old new line
+pub continues : (old new : Kept) (line : List Cell) → new ≡ with_line old line → Continues old new line
 continues old new line e lines h =
     subst (λ (k : Kept). StandsFor k (lines ++ line ∷ [])) (sym e) (ap (λ (x : List (List Cell)). keep_last old.keep (x ++ line ∷ [])) h ∙ keep_twice old.keep lines line)
 

@@ -15,8 +15,8 @@ abbrev pub no_lines : ℕ → ℕ → Kept
 no_lines keep columns = record { keep = keep; columns = columns; lines = [] }
 
 -- one more line came in
-abbrev pub taken_in : Kept → List Cell → Kept
-taken_in kept line = record kept { lines = keep_last kept.keep (kept.lines ++ line ∷ []) }
+abbrev pub with_line : Kept → List Cell → Kept
+with_line kept line = record kept { lines = keep_last kept.keep (kept.lines ++ line ∷ []) }
 
 -- all lines are cut or filled to another width
 abbrev pub resized_lines : Kept → ℕ → Kept

@@ -6,7 +6,7 @@ ghost use Rattle.std.specs.Prelude.{replicate, ◌+◌, ◌≤◌};
 ghost use Rattle.circular_buffer.specs.Buffer.{buffer as buffer_of};
 ghost use Rattle.cells.specs.Line.{blank};
 ghost use Rattle.cells.specs.Resizing.{line_resized};
-ghost use Rattle.scrollback.specs.Kept.{no_lines, taken_in, resized_lines, StandsFor, Continues};
+ghost use Rattle.scrollback.specs.Kept.{no_lines, with_line, resized_lines, StandsFor, Continues};
 ghost use Rattle.scrollback.specs.Kept.{ContinuesResized};
 
 use cells::{Cell, Line};
@@ -119,7 +119,7 @@ impl Ring {
     /// Takes in a line of its width, and hands one of that width back for use. No memory is taken.
     pub fn take_in(&mut self, line: Line) -> Line
         requires { length line ≡ self.old.columns }
-        ensures kept { self.new ≡ taken_in self.old line }
+        ensures kept { self.new ≡ with_line self.old line }
         ensures stands { Continues self.old self.new line }
         ensures width { length result ≡ self.old.columns }
     {
@@ -132,7 +132,7 @@ impl Ring {
     #[inline(always)]
     pub fn exchange(&mut self, line: &mut Line)
         requires { length line.old ≡ self.old.columns }
-        ensures kept { self.new ≡ taken_in self.old line.old }
+        ensures kept { self.new ≡ with_line self.old line.old }
         ensures stands { Continues self.old self.new line.old }
         ensures width { length line.new ≡ self.old.columns }
     {

@@ -9,7 +9,9 @@ use Rattle.session_model.specs.declared.refusal.Refusal.TheVariants.{NotMultiuse
 use Rattle.session_model.specs.Trace.{EventValue, Attach, Detach, Keys, Command, Resize, Open, Output, Closed, Draw, Entry, Trace}
 use Rattle.session_model.specs.Tables.{Tables, Window, Client, client_at, is_known, fresh}
 use Rattle.session_model.specs.Checks.{first_fault, verdicts}
-use Rattle.session_model.specs.Events.{outcome, attach_checks, attaches, new_client, open_checks, opens, new_window, is_client_size, is_let_in, reply_of}
+use Rattle.session_model.specs.Events.{outcome}
+use Rattle.session_model.specs.Comings.{attach_checks, attaches, new_client, open_checks, opens, new_window, is_client_size, is_let_in}
+use Rattle.session_model.specs.Outcomes.{reply_of}
 use Rattle.session_model.specs.Run.{drawn, drawn_on, tables_from, tables_of}
 use Rattle.session_model.specs.Sound.{AreSound}
 use Rattle.session_laws.proofs.Lists.{and_second}

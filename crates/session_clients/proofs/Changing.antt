@@ -3,7 +3,7 @@ use Rattle.std.proofs.Common.{◌≡◌, ℕ, List, Some, None, sym, subst, ◌�
 use Rattle.std.proofs.Common.{◌≤◌, ◌++◌, length, take, drop, append-nil}
 use Rattle.std.proofs.lemmas.List.{take_all, drop_all}
 use Rattle.session_rows.proofs.Lending.{over_same}
-use Rattle.session_rows.specs.Lending.{over}
+use Rattle.session_rows.specs.Lending.{written_over}
 use Rattle.std.specs.Option.{OnSome, option_copied_mut}
 use Rattle.session_model.specs.Tables as model
 use Rattle.session_model.specs.Tables.{row_of, with_row}
@@ -123,14 +123,14 @@ pub all_over : (f : model.Client → model.Client) (g : Client → Client)
     (old inside lent items : List Client) (i : ℕ)
     → ((m : model.Client) (c : Client) → ClientStands m c → ClientStands (f m) (g c))
     → inside ≡ old → lent ≡ inside → length lent ≤ i → length items ≡ length lent
-    → items ≡ map g (take i lent) ++ drop i lent → ChangesAll f old (over inside items)
+    → items ≡ map g (take i lent) ++ drop i lent → ChangesAll f old (written_over inside items)
 all_over f g old inside lent items i keeps is same past count made =
     let whole : items ≡ map g old =
     made
     ∙ (ap (λ (xs : List Client). map g (take i lent) ++ xs) (drop_all i lent past)
     ∙ (append-nil (map g (take i lent))
     ∙ (ap (map g) (take_all i lent past) ∙ ap (map g) (same ∙ is)))) in
-    all_changed f g old (over inside items) keeps
+    all_changed f g old (written_over inside items) keeps
     (over_same inside items (count ∙ ap length same) ∙ whole)
 
 -- the row that is lent, and what stands in its place

@@ -6,14 +6,15 @@ use Rattle.cells.specs.Page.{IsPage, IsGrid}
 use Rattle.terminal_model.specs.Screen.{Screen}
 use Rattle.terminal_model.specs.Reading.{Terminal, reads, joined}
 use Rattle.terminal_model.specs.Shows.{View, Shows, ShowsCursor, IsOfSize, ShowsFromAny}
+use Rattle.terminal_model.specs.Shows.{LooksLike, NeedsDraw, NeedsNoDraw}
 use Rattle.terminal_model.specs.Drawing.{Agrees}
 use Rattle.terminal_model.proofs.Readings.{reads-append}
 use Rattle.view.specs.View.{HasSize}
 use Rattle.view.specs.Drawable.{IsDrawable}
-use Rattle.redraw.specs.Shadow as redraw
+use Rattle.redraw.specs.Shadow.{Knowledge}
 use Rattle.redraw.specs.Frames as frames
 use Rattle.redraw.specs.Frames.{Redraws, CanBeShown, DrawsFrame}
-use Rattle.session_model.specs.Framed.{LooksLike, NeedsDraw, NeedsNoDraw, IsFrame}
+use Rattle.session_model.specs.Framed.{IsFrame}
 use Rattle.session_model.specs.Tables as model
 use Rattle.session_model.specs.Tables.{row_of, with_row}
 use Rattle.session_clients.specs.declared.client.Client.{Client}
@@ -24,23 +25,8 @@ use Rattle.session_clients.proofs.Frames.{frame_behind, then_delivered}
 
 -- ---- what is known
 
-alike : (a b : View) → redraw.LooksLike a b → LooksLike a b
-alike a b l = record { cells = l.cells; cursor = l.cursor; arrows = l.arrows; keypad = l.keypad }
-
-alike_back : (a b : View) → LooksLike a b → redraw.LooksLike a b
-alike_back a b l =
-    record { cells = l.cells; cursor = l.cursor; arrows = l.arrows; keypad = l.keypad }
-
-needs : (known : Option View) (v : View) → redraw.NeedsDraw known v → NeedsDraw known v
-needs None v needed = tt
-needs (Some k) v needed = λ l. needed (alike_back k v l)
-
-needs_not : (known : Option View) (v : View) → redraw.IsKnown known v → NeedsNoDraw known v
-needs_not None v known = absurd known
-needs_not (Some k) v known = alike k v known
-
 -- a screen that shows a view shows each that looks like it
-shows_alike : (a b : View) (x : Screen) → redraw.LooksLike a b
+shows_alike : (a b : View) (x : Screen) → LooksLike a b
     → IsPage x.state.rows x.state.columns b.page → Shows a x → Shows b x
 shows_alike a b x alike size s = record {
   size = size;
@@ -61,7 +47,7 @@ page_fits rows columns v x grid size rows_are columns_are =
     grid.well_formed)
 
 shows_known : (rows columns : ℕ) (known : Option View) (v : View) (t : Terminal)
-    → redraw.IsKnown known v → IsGrid v.page → HasSize rows columns v
+    → NeedsNoDraw known v → IsGrid v.page → HasSize rows columns v
     → Agrees rows columns known t → Shows v t.screen
 shows_known rows columns None v t alike grid size agrees = absurd alike
 shows_known rows columns (Some k) v t alike grid size agrees =
@@ -77,18 +63,18 @@ size_of_row m c v st size = record {
 }
 
 needs_then : (m : model.Client) (c : Client) (v : View) → ClientStands m c
-    → redraw.NeedsDraw c.shadow.known v → NeedsDraw m.drawn v
+    → NeedsDraw c.shadow.known v → NeedsDraw m.drawn v
 needs_then m c v st needed =
-    needs m.drawn v (subst (λ k. redraw.NeedsDraw k v) st.known_is needed)
+    subst (λ k. NeedsDraw k v) st.known_is needed
 
 -- nothing has to be drawn
 shows_already : (m : model.Client) (c : Client) (v : View) → ClientStands m c
-    → HasSize c.shadow.rows c.shadow.columns v → redraw.IsKnown c.shadow.known v → IsGrid v.page
+    → HasSize c.shadow.rows c.shadow.columns v → NeedsNoDraw c.shadow.known v → IsGrid v.page
     → ShowsAlready m v
 shows_already m c v st size known grid =
-    let known_then : redraw.IsKnown m.drawn v =
-    subst (λ k. redraw.IsKnown k v) st.known_is known in record {
-      needless = needs_not m.drawn v known_then;
+    let known_then : NeedsNoDraw m.drawn v =
+    subst (λ k. NeedsNoDraw k v) st.known_is known in record {
+      needless = known_then;
       shows = λ t is. record {
         shows =
             subst (λ bs. Shows v (reads t bs).terminal.screen) (sym (append-nil m.delivered))
@@ -171,7 +157,7 @@ module _ (m : model.Client) (c : Client) (v : View) (bytes : List ℕ) (st : Cli
       })
 
 pub drawn_row : (old inside : List Client) (serial : ℕ) (r : Option (MutBor Client))
-    (b : MutBor Client) (lender : Client → List Client) (v : View) (known : redraw.Knowledge)
+    (b : MutBor Client) (lender : Client → List Client) (v : View) (known : Knowledge)
     (bytes : List ℕ) → inside ≡ old → option_copied_mut r ≡ row_of serial_of inside serial
     → ((w : Client) → OnSome r (lender w ≡ with_row serial_of inside serial w)) → r ≡ Some b
     → DrawsFrame b.now.shadow v known bytes → IsDrawable v
@@ -193,11 +179,11 @@ drawn_row old inside serial r b lender v known bytes same at holds is drawn draw
           (λ (n : model.Client). record n { delivered = n.delivered ++ bytes; drawn = Some v })
           old (lender d) serial b.now d here.0 here.1
           (λ n s. keeps_drawn n b.now v bytes s drawable frame d
-          (ap (λ (k : redraw.Knowledge). record b.now { shadow = k }) drawn.known)) rows m st there;
+          (ap (λ (k : Knowledge). record b.now { shadow = k }) drawn.known)) rows m st there;
     }
 
 pub nothing_drawn : (old inside : List Client) (serial : ℕ) (r : Option (MutBor Client))
-    (b : MutBor Client) (lender : Client → List Client) (v : View) (known : redraw.Knowledge)
+    (b : MutBor Client) (lender : Client → List Client) (v : View) (known : Knowledge)
     → inside ≡ old → option_copied_mut r ≡ row_of serial_of inside serial
     → ((w : Client) → OnSome r (lender w ≡ with_row serial_of inside serial w)) → r ≡ Some b
     → ((c : Client) → row_of serial_of old serial ≡ Some c
@@ -210,7 +196,7 @@ nothing_drawn old inside serial r b lender v known same at holds is size drawn =
           found (λ n. ShowsAlready n v) old inside serial r b same at is
           (λ n s. shows_already n b.now v s (size b.now here.0) drawn.known drawn.grid);
       same =
-          ap (λ (k : redraw.Knowledge). lender (record b.now { shadow = k })) drawn.same
+          ap (λ (k : Knowledge). lender (record b.now { shadow = k })) drawn.same
           ∙ lent_back old inside serial r b lender same at holds is;
     }
 

@@ -18,9 +18,10 @@ use Rattle.keys.specs.Kept as keys
 use Rattle.regions.specs.Layouts.{one_region, split_fault, remove_focused}
 use Rattle.regions.specs.declared.way.Way.{Way}
 use Rattle.session_model.specs.Deeds.{hearing, without_window}
-use Rattle.session_model.specs.Events.{resized, is_client_size}
+use Rattle.session_model.specs.Comings.{resized, is_client_size}
 use Rattle.session_clients.specs.declared.client.Client.{Client}
-use Rattle.session_clients.specs.Moves.{attached, moved_to, without, fitted}
+use Rattle.session_model.specs.Comings.{attached}
+use Rattle.session_clients.specs.Moves.{moved_to, without, fitted}
 use Rattle.session_clients.specs.Stands.{ClientStands, IsScreen}
 
 pub keeps_heard : (message : Message) (m : model.Client) (c d : Client)

@@ -1,7 +1,7 @@
 -- Clients to whom a view is drawn.
 use Rattle.std.specs.Prelude.{◌≡◌, ℕ, List, [], ◌++◌, Some}
-use Rattle.terminal_model.specs.Shows.{View, ShowsFromAny}
-use Rattle.session_model.specs.Framed.{IsFrame, NeedsDraw, NeedsNoDraw}
+use Rattle.terminal_model.specs.Shows.{View, ShowsFromAny, NeedsDraw, NeedsNoDraw}
+use Rattle.session_model.specs.Framed.{IsFrame}
 use Rattle.session_model.specs.Tables as model
 use Rattle.session_model.specs.Tables.{row_of, with_row}
 use Rattle.session_clients.specs.declared.client.Client.{Client}

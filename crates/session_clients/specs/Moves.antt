@@ -1,15 +1,13 @@
 -- Clients whose pages change.
-use Rattle.std.specs.Prelude.{ℕ, List, [], Option, None, slice_get, map, if◌then◌else◌}
+use Rattle.std.specs.Prelude.{ℕ, List, Option, None, slice_get, map, if◌then◌else◌}
 use Rattle.std.specs.Option.{option_and_then}
 use Rattle.regions.specs.declared.shown.Shown.{Shown}
-use Rattle.acl.specs.declared.user_id.UserId.{UserId}
-use Rattle.regions.specs.Layouts.{Arrangement, one_region, emptied, kept_alone}
+use Rattle.regions.specs.Layouts.{Arrangement, emptied, kept_alone}
 use Rattle.regions.specs.Pages.{has_room}
 use Rattle.session_model.specs.declared.event.Effect.{Effect}
 use Rattle.session_model.specs.declared.event.Effect.TheVariants.{Say}
-use Rattle.session_model.specs.declared.message.Message.TheVariants.{Silence, Text}
-use Rattle.session_model.specs.Tables as model
-use Rattle.session_model.specs.Tables.{last_after, former_after, seeing, focused}
+use Rattle.session_model.specs.declared.message.Message.TheVariants.{Text}
+use Rattle.session_model.specs.Tables.{last_after, former_after, focused}
 use Rattle.session_clients.specs.declared.client.Client.{Client}
 
 -- the window in the focused region
@@ -40,23 +38,6 @@ fitted rows columns c = record c {
   layout = if has_room c.layout.shape rows columns then c.layout else kept_alone c.layout;
   shadow = record { rows = rows; columns = columns; known = None };
 }
-
--- a new client whose one region shows this window, if there is one
-abbrev pub attached : ℕ → UserId → ℕ → ℕ → Option ℕ → model.Client
-attached serial user rows columns window =
-    let c : model.Client = record {
-      serial = serial;
-      user = user;
-      rows = rows;
-      columns = columns;
-      keys = [];
-      delivered = [];
-      drawn = None;
-      layout = one_region (record { window = window; back = 0 });
-      last = None;
-      former = None;
-      message = Silence;
-    } in seeing (focused c) c
 
 -- what is said to a client
 abbrev pub said : List ℕ → Client → Effect

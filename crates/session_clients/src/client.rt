@@ -5,7 +5,7 @@ ghost use Rattle.std.specs.Prelude.{slice_set, slice_get, unwrap_or};
 ghost use Rattle.regions.specs.Layouts.{empty, split_focused, remove_focused, next_focus};
 ghost use Rattle.regions.specs.Layouts.{kept_alone, split_fault};
 ghost use Rattle.regions.specs.Pages.{has_room};
-ghost use Rattle.session_model.specs.Events.{is_client_size};
+ghost use Rattle.session_model.specs.Comings.{is_client_size};
 
 use acl::UserId;
 use keys::KeyReader;
@@ -43,7 +43,8 @@ impl Serial for Client {
 }
 
 impl Client {
-    ghost use Rattle.session_clients.specs.Moves.{attached, seen, moved_to, without, fitted};
+    ghost use Rattle.session_model.specs.Comings.{attached};
+    ghost use Rattle.session_clients.specs.Moves.{seen, moved_to, without, fitted};
     ghost use Rattle.session_clients.specs.Stands.{ClientStands, IsFaultOf, IsRemoval};
 
     /// A new client, whose one region shows this window.

@@ -12,7 +12,8 @@ ghost use Rattle.session_model.specs.Tables as model;
 ghost use Rattle.session_model.specs.Tables.{row_of, with_layout};
 ghost use Rattle.session_model.specs.Deeds.{hearing, showing, shown_in_focus, is_of};
 ghost use Rattle.session_model.specs.Deeds.{without_window};
-ghost use Rattle.session_model.specs.Events.{resized, reading, is_client_size};
+ghost use Rattle.session_model.specs.Comings.{resized, is_client_size};
+ghost use Rattle.session_model.specs.Answering.{reading};
 ghost use Rattle.view.specs.View.{HasSize};
 ghost use Rattle.view.specs.Drawable.{IsDrawable};
 
@@ -55,7 +56,7 @@ impl Model for Clients {
 
 impl Clients {
     ghost use Rattle.session_clients.specs.declared.client.Client.{Client};
-    ghost use Rattle.session_clients.specs.Moves.{attached};
+    ghost use Rattle.session_model.specs.Comings.{attached};
     ghost use Rattle.session_clients.specs.Exchanges.{Exchanged, HasReadMore, PutsBack};
     ghost use Rattle.session_clients.specs.Draws.{Draws, DrawsNothing};
     ghost use Rattle.session_clients.specs.Stands.{Attaches, Keeps, Changes, ChangesAll, Finds};

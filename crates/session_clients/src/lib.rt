@@ -4,10 +4,8 @@
 
 mod client;
 mod clients;
-mod laws;
 mod reading;
 
 pub use client::Client;
 pub use clients::{Clients, messages_of};
-pub use laws::attached_as_new;
 pub use reading::{Reading, read_keys};

@@ -19,8 +19,9 @@ use Rattle.session_model.specs.Tables.{Tables, Client, is_known}
 use Rattle.session_model.specs.Lines.{Caller, line_caller}
 use Rattle.session_model.specs.Commands.{Ruling, ruling}
 use Rattle.session_model.specs.Deeds.{Deed, Answer, given}
-use Rattle.session_model.specs.Events.{Outcome, outcome, finished, refused, done, reply_of}
-use Rattle.session_model.specs.Events.{answered, commanded, line_ruling, keys_outcome}
+use Rattle.session_model.specs.Outcomes.{Outcome, finished, refused, done, reply_of}
+use Rattle.session_model.specs.Events.{outcome}
+use Rattle.session_model.specs.Answering.{answered, commanded, line_ruling, keys_outcome}
 use Rattle.session_rows.proofs.Serials.{if_true, if_false}
 use Rattle.session_state.specs.declared.step_output.StepOutput.{StepOutput}
 use Rattle.session_state.specs.declared.state.State.{State}

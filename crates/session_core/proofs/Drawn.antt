@@ -11,7 +11,8 @@ use Rattle.session_model.specs.declared.verdict.Verdict.{Verdict}
 use Rattle.session_model.specs.Trace.{Entry, Draw, Reply}
 use Rattle.session_model.specs.Tables.{Client, Tables, client_at}
 use Rattle.session_model.specs.Deeds.{changing}
-use Rattle.session_model.specs.Events.{Outcome, outcome, finished, refused, done, left_acts}
+use Rattle.session_model.specs.Outcomes.{Outcome, finished, refused, done, left_acts}
+use Rattle.session_model.specs.Events.{outcome}
 use Rattle.session_model.specs.Run.{IsDraw, drawn_on}
 use Rattle.session_state.specs.declared.step_output.StepOutput.{StepOutput}
 use Rattle.session_state.specs.declared.state.State.{State}

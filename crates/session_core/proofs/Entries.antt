@@ -6,7 +6,8 @@ use Rattle.session_model.specs.declared.refusal.Refusal.{Refusal}
 use Rattle.session_model.specs.declared.verdict.Verdict.{Verdict}
 use Rattle.session_model.specs.Trace.{EventValue, Draw, Reply}
 use Rattle.session_model.specs.Tables.{Tables}
-use Rattle.session_model.specs.Events.{Outcome, outcome}
+use Rattle.session_model.specs.Outcomes.{Outcome}
+use Rattle.session_model.specs.Events.{outcome}
 use Rattle.session_model.specs.Run.{HasEffects, drawn}
 use Rattle.session_state.specs.declared.step_output.StepOutput.{StepOutput}
 use Rattle.session_state.specs.declared.state.State.{State}

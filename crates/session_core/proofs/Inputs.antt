@@ -15,7 +15,7 @@ use Rattle.session_model.specs.Tables.{Window, Client, Tables, window_at, client
 use Rattle.session_model.specs.Tables.{focused_window}
 use Rattle.session_model.specs.Checks.{first_fault, typing_checks}
 use Rattle.session_model.specs.Deeds.{Deed, changing}
-use Rattle.session_model.specs.Events.{input_in, says_why}
+use Rattle.session_model.specs.Answering.{input_in, says_why}
 use Rattle.session_model.specs.Texts.{text_of}
 use Rattle.session_rows.proofs.Serials.{serial_is}
 use Rattle.session_state.specs.declared.step_output.StepOutput.{StepOutput}

@@ -24,8 +24,9 @@ use Rattle.session_model.specs.Tables.{Tables, Client, Window, client_at, with_c
 use Rattle.session_model.specs.Checks.{first_fault, typing_checks}
 use Rattle.session_model.specs.Deeds.{Deed, changing, hearing}
 use Rattle.session_model.specs.Keying.{items_behind, taken, typed_bytes, command_item, completes}
-use Rattle.session_model.specs.Events.{Ordered, ordered, types, typing_verdicts, reading, input_in, says_why}
-use Rattle.session_model.specs.Events.{unsaid, left_acts}
+use Rattle.session_model.specs.Answering.{Ordered, ordered, types, typing_verdicts, reading, input_in, says_why}
+use Rattle.session_model.specs.Answering.{unsaid}
+use Rattle.session_model.specs.Outcomes.{left_acts}
 use Rattle.session_model.specs.Texts.{text_of}
 use Rattle.session_laws.proofs.Unread.{client_read, nobody_left}
 use Rattle.session_leaving.specs.Leaving.{HasLeft}

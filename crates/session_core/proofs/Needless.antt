@@ -4,7 +4,7 @@ use Rattle.std.specs.Prelude.{if◌then◌else◌, ◌==◌, ◌||◌, MatchOpti
 use Rattle.std.specs.List.{list_any}
 use Rattle.acl.specs.History.{followed_by}
 use Rattle.keys.specs.Grammar.{items}
-use Rattle.terminal_model.specs.Shows.{View, ShowsFromAny}
+use Rattle.terminal_model.specs.Shows.{View, ShowsFromAny, LooksLike, NeedsNoDraw}
 use Rattle.view.specs.Granted.{view_in}
 use Rattle.session_model.specs.declared.event.Effect.{Effect}
 use Rattle.session_model.specs.declared.message.Message.{Message}
@@ -15,9 +15,9 @@ use Rattle.session_model.specs.Tables.{Tables, Client, client_at, with_client, r
 use Rattle.session_model.specs.Texts.{separated, client_item}
 use Rattle.session_model.specs.Keying.{open_line}
 use Rattle.session_model.specs.Granted.{granted_view, part_shown, layout_of, message_text, status_text}
-use Rattle.session_model.specs.Framed.{LooksLike, NeedsNoDraw}
 use Rattle.session_model.specs.Deeds.{changing}
-use Rattle.session_model.specs.Events.{Outcome, outcome, finished, refused, done}
+use Rattle.session_model.specs.Outcomes.{Outcome, finished, refused, done}
+use Rattle.session_model.specs.Events.{outcome}
 use Rattle.session_model.specs.Run.{IsDraw, IsStep, HasEffects, drawn, drawn_on, after, deliveries}
 use Rattle.session_rows.proofs.Serials.{serial_is, with_back, with_same, with_other, is_equal, same_number}
 use Rattle.session_laws.proofs.Leaving.{none_left}

@@ -11,7 +11,7 @@ use Rattle.session_model.specs.Tables.{Client, Tables, client_at}
 use Rattle.session_model.specs.Lines as model
 use Rattle.session_model.specs.Deeds.{Deed}
 use Rattle.session_model.specs.Commands.{Ruling, ruling}
-use Rattle.session_model.specs.Events.{says, keyed, with_listed, message_of}
+use Rattle.session_model.specs.Answering.{says, keyed, with_listed, message_of}
 use Rattle.session_model.specs.Texts.{text_of}
 use Rattle.session_clients.specs.Stands.{ClientStands}
 use Rattle.session_rows.proofs.Matching.{rows_match, both_there, both_back}

@@ -10,7 +10,7 @@ use Rattle.session_model.specs.Trace.{Reply}
 use Rattle.session_model.specs.Tables.{Tables}
 use Rattle.session_model.specs.Checks.{verdicts, first_fault}
 use Rattle.session_model.specs.Deeds.{Deed}
-use Rattle.session_model.specs.Events.{Outcome, finished, refused, where_passed, left_acts}
+use Rattle.session_model.specs.Outcomes.{Outcome, finished, refused, where_passed, left_acts}
 use Rattle.session_state.specs.declared.step_output.StepOutput.{StepOutput}
 use Rattle.session_state.specs.declared.state.State.{State}
 use Rattle.session_state.specs.Stands.{Stands}

@@ -6,7 +6,7 @@ use Rattle.std.specs.Prelude.{not, if◌then◌else◌}
 use Rattle.std.specs.List.{remove, list_any}
 use Rattle.std.proofs.lemmas.List.Elements.{filter-append}
 use Rattle.session_model.specs.declared.event.Effect.{Effect}
-use Rattle.session_model.specs.Events.{says_same, unsaid}
+use Rattle.session_model.specs.Answering.{says_same, unsaid}
 use Rattle.session_core.specs.Dropping.{is_said}
 
 pub removed : {A : Type 0} (front rest : List A) (e : A)

@@ -11,7 +11,9 @@ use Rattle.session_model.specs.declared.refusal.Refusal.TheVariants.{NoWindow}
 use Rattle.session_model.specs.Trace.{Keys, Reply}
 use Rattle.session_model.specs.Tables.{Tables, Client, client_at}
 use Rattle.session_model.specs.Keying.{is_command, completes, taken}
-use Rattle.session_model.specs.Events.{outcome, keys_outcome, reply_of}
+use Rattle.session_model.specs.Events.{outcome}
+use Rattle.session_model.specs.Answering.{keys_outcome}
+use Rattle.session_model.specs.Outcomes.{reply_of}
 use Rattle.session_laws.proofs.Outcomes.{found}
 use Rattle.session_rows.proofs.Serials.{if_true, if_false}
 use Rattle.session_core.specs.Headline.{untaken_keys, read_by}

@@ -10,7 +10,8 @@ use Rattle.session_model.specs.declared.verdict.Verdict.{Verdict}
 use Rattle.session_model.specs.Trace.{EventValue, Keys, Draw}
 use Rattle.session_model.specs.Trace.{happening, Reply, Entry, Trace, with_step}
 use Rattle.session_model.specs.Tables.{Tables}
-use Rattle.session_model.specs.Events.{outcome, done}
+use Rattle.session_model.specs.Events.{outcome}
+use Rattle.session_model.specs.Outcomes.{done}
 use Rattle.session_model.specs.Run as run
 use Rattle.session_model.specs.Run.{IsRun, IsStep, tables_of}
 use Rattle.session_laws.proofs.Promising.{step_keeps}

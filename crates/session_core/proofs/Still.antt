@@ -7,7 +7,7 @@ use Rattle.acl.specs.declared.act.Act.{Act}
 use Rattle.acl.specs.declared.act.Act.TheVariants.{Left}
 use Rattle.acl.proofs.StandsForLemmas.{same_user-refl}
 use Rattle.session_model.specs.Tables.{Client, focused, is_window, is_in_focus, shows}
-use Rattle.session_model.specs.Events.{left_by, left_acts}
+use Rattle.session_model.specs.Outcomes.{left_acts_of, left_acts}
 use Rattle.session_rows.proofs.Serials.{if_true, same_number}
 
 or_true : (a b : Bool) → b ≡ true → (a || b) ≡ true
@@ -26,12 +26,12 @@ pub none_left : (before after : List Client)
     → left_acts before after ≡ []
 none_left [] after still = refl
 none_left (c ∷ before) after still =
-    ap (λ (acts : List Act). left_by c (focused c) before after ++ acts)
+    ap (λ (acts : List Act). left_acts_of c (focused c) before after ++ acts)
     (none_left before after
     (λ user w is. still user w (or_true (shows user w c) (is_in_focus before user w) is)))
-    ∙ append-nil (left_by c (focused c) before after)
+    ∙ append-nil (left_acts_of c (focused c) before after)
     ∙ one (focused c) refl where
-      one : (o : Option ℕ) → focused c ≡ o → left_by c o before after ≡ []
+      one : (o : Option ℕ) → focused c ≡ o → left_acts_of c o before after ≡ []
       one None is = refl
       one (Some w) is =
           if_true (is_in_focus before c.user w || is_in_focus after c.user w) [] (Left c.user w ∷ [])

@@ -2,7 +2,7 @@
 use Rattle.std.specs.Prelude.{ℕ, ◌≡◌, ◌++◌, Bool, List, ◌∷◌, length}
 use Rattle.std.specs.List.{list_any}
 use Rattle.session_model.specs.declared.event.Effect.{Effect}
-use Rattle.session_model.specs.Events.{says_same, unsaid}
+use Rattle.session_model.specs.Answering.{says_same, unsaid}
 
 -- whether the same was said to the same client before
 abbrev pub is_said : List Effect → Effect → Bool

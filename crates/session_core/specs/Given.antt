@@ -8,7 +8,7 @@ use Rattle.keys.specs.Grammar.{Item, bound, line}
 use Rattle.session_model.specs.Lines.{read_line}
 use Rattle.session_model.specs.Tables.{Tables, Client}
 use Rattle.session_model.specs.Deeds.{changing}
-use Rattle.session_model.specs.Events.{Ordered, by_line}
+use Rattle.session_model.specs.Answering.{Ordered, by_line}
 
 -- that of a line of the prompt, or its fault; an empty line gives none
 abbrev pub given_line : List ℕ → Option (Result Command ParseFault)

@@ -6,8 +6,8 @@ use Rattle.session_model.specs.declared.verdict.Verdict.{Verdict}
 use Rattle.session_model.specs.Tables.{Tables, Client, client_at, with_client}
 use Rattle.session_model.specs.Deeds.{Deed}
 use Rattle.session_model.specs.Keying.{items_behind, taken, typed_bytes, command_item}
-use Rattle.session_model.specs.Events.{Ordered, ordered, types, typing_verdicts, reading, unsaid}
-use Rattle.session_model.specs.Events.{left_acts}
+use Rattle.session_model.specs.Answering.{Ordered, ordered, types, typing_verdicts, reading, unsaid}
+use Rattle.session_model.specs.Outcomes.{left_acts}
 use Rattle.session_state.specs.declared.step_output.StepOutput.{StepOutput}
 use Rattle.session_state.specs.declared.state.State.{State}
 use Rattle.session_state.specs.Stands.{Stands}

@@ -4,7 +4,7 @@ use Rattle.session_model.specs.declared.refusal.Refusal.{Refusal}
 use Rattle.session_model.specs.declared.refusal.Refusal.TheVariants.{NoMemory}
 use Rattle.session_model.specs.declared.message.Message.{Message}
 use Rattle.session_model.specs.Tables.{Tables, Client, client_at}
-use Rattle.session_model.specs.Events.{says}
+use Rattle.session_model.specs.Answering.{says}
 use Rattle.session_state.specs.declared.step_output.StepOutput.{StepOutput}
 use Rattle.session_state.specs.declared.state.State.{State}
 use Rattle.session_state.specs.Stands.{Stands}

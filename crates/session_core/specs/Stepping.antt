@@ -4,7 +4,8 @@ use Rattle.session_model.specs.declared.refusal.Refusal.TheVariants.{NoMemory}
 use Rattle.session_model.specs.declared.verdict.Verdict.{Verdict}
 use Rattle.session_model.specs.Trace.{EventValue, Reply}
 use Rattle.session_model.specs.Tables.{Tables}
-use Rattle.session_model.specs.Events.{Outcome, outcome}
+use Rattle.session_model.specs.Outcomes.{Outcome}
+use Rattle.session_model.specs.Events.{outcome}
 use Rattle.session_state.specs.declared.step_output.StepOutput.{StepOutput}
 use Rattle.session_state.specs.declared.state.State.{State}
 use Rattle.session_state.specs.Stands.{Stands}

@@ -8,7 +8,7 @@ use Rattle.session_model.specs.declared.message.Message.TheVariants.{Silence, Te
 use Rattle.session_model.specs.declared.verdict.Verdict.{Verdict}
 use Rattle.session_model.specs.Tables.{Tables, Client, client_at, focused, focused_window}
 use Rattle.session_model.specs.Checks.{first_fault, typing_checks}
-use Rattle.session_model.specs.Events.{types, typing_verdicts}
+use Rattle.session_model.specs.Answering.{types, typing_verdicts}
 use Rattle.session_model.specs.Texts.{text_of}
 use Rattle.session_state.specs.declared.caller.Caller.{Caller}
 use Rattle.session_state.specs.declared.step_output.StepOutput.{StepOutput}

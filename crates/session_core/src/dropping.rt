@@ -2,7 +2,7 @@
 
 ghost use Rattle.std.specs.Prelude.{◌≡◌, ◌<◌, true, length};
 ghost use Rattle.std.specs.List.{remove};
-ghost use Rattle.session_model.specs.Events.{says_same};
+ghost use Rattle.session_model.specs.Answering.{says_same};
 ghost use Rattle.session_core.specs.Dropping.{is_said, SaysAgain, DropsSaid};
 
 use session_model::Effect;

@@ -1,7 +1,7 @@
 //! Commands by keys, and what their client is told of them.
 
 ghost use Rattle.std.specs.Prelude.{◌≡◌, Ok, Some, IfOk, IfErr, OnOk};
-ghost use Rattle.session_model.specs.Events.{message_of};
+ghost use Rattle.session_model.specs.Answering.{message_of};
 ghost use Rattle.session_model.specs.declared.refusal.Refusal.TheVariants.{NoMemory};
 ghost use Rattle.session_state.specs.Doing.{IsWhole};
 ghost use Rattle.session_core.specs.Obeying.{Obeys};

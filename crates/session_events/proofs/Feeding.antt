@@ -11,7 +11,7 @@ use Rattle.session_model.specs.declared.refusal.Refusal.TheVariants.{NoMemory}
 use Rattle.session_model.specs.Tables.{Tables, Window, window_at, with_row}
 use Rattle.session_model.specs.Terminals.{terminal_of}
 use Rattle.session_model.specs.Deeds.{input_of}
-use Rattle.session_model.specs.Events.{outputs}
+use Rattle.session_model.specs.Comings.{outputs}
 use Rattle.session_windows.specs.declared.window.Window.{Window as Row}
 use Rattle.session_windows.specs.Standing.{StandFor, AnsweredIfRoom, serial, written, written_to, fed_in}
 use Rattle.session_windows.proofs.Callers.{row_done, row_refused_as}

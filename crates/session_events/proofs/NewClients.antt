@@ -12,9 +12,8 @@ use Rattle.session_model.specs.Tables.{Tables, Window, Client, with_client, with
 use Rattle.session_model.specs.Tables.{client_at}
 use Rattle.session_model.specs.Naming.{lowest}
 use Rattle.session_model.specs.Deeds.{acting, changing, entering}
-use Rattle.session_model.specs.Events.{new_client, attaches, resized}
+use Rattle.session_model.specs.Comings.{attached, new_client, attaches, resized}
 use Rattle.session_clients.specs.declared.client.Client.{Client as Row}
-use Rattle.session_clients.specs.Moves.{attached}
 use Rattle.session_clients.specs.Stands as clients
 use Rattle.session_clients.specs.Stands.{AreClients}
 use Rattle.session_rows.proofs.Serials.{serial_is as serial_at}

@@ -15,7 +15,7 @@ use Rattle.session_model.specs.declared.refusal.Refusal.TheVariants.{NoMemory}
 use Rattle.session_model.specs.Tables.{Tables, Window, is_known}
 use Rattle.session_model.specs.Naming.{free_number, is_title}
 use Rattle.session_model.specs.Checks.{first_fault}
-use Rattle.session_model.specs.Events.{is_window_size, has_place, open_checks, new_window, opens}
+use Rattle.session_model.specs.Comings.{is_window_size, has_place, open_checks, new_window, opens}
 use Rattle.session_model.specs.Sound.{AreFit, Rises, window_serials}
 use Rattle.session_windows.specs.declared.window.Window.{Window as Row}
 use Rattle.session_windows.specs.Standing.{StandFor, AnsweredIfRoom, is_above, opened, new_row, numbered}

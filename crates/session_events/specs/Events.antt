@@ -9,8 +9,8 @@ use Rattle.session_model.specs.declared.refusal.Refusal.TheVariants.{NoMemory, B
 use Rattle.session_model.specs.Tables.{Window, Client, Tables, window_at, client_at, with_client}
 use Rattle.session_model.specs.Checks.{first_fault}
 use Rattle.session_model.specs.Deeds.{Deed, changing}
-use Rattle.session_model.specs.Events.{is_client_size, attach_checks, new_client, attaches}
-use Rattle.session_model.specs.Events.{open_checks, new_window, opens, resized, outputs}
+use Rattle.session_model.specs.Comings.{is_client_size, attach_checks, new_client, attaches}
+use Rattle.session_model.specs.Comings.{open_checks, new_window, opens, resized, outputs}
 use Rattle.session_state.specs.declared.step_output.StepOutput.{StepOutput}
 use Rattle.session_state.specs.declared.state.State.{State}
 use Rattle.session_state.specs.Stands.{Stands}

@@ -5,7 +5,7 @@ ghost use Rattle.std.specs.Option.{option_map};
 ghost use Rattle.session_model.specs.Tables.{Tables, Window};
 ghost use Rattle.session_model.specs.Naming.{lowest};
 ghost use Rattle.session_model.specs.Deeds.{acting, entering};
-ghost use Rattle.session_model.specs.Events.{is_client_size};
+ghost use Rattle.session_model.specs.Comings.{is_client_size};
 ghost use Rattle.session_state.specs.Stands.{Stands};
 ghost use Rattle.session_state.specs.Doing.{HasDone, IsAsBefore, IsWhole};
 ghost use Rattle.session_state.specs.Doing.{HasRoom, HasRoomToAct, HasRoomToLeave};

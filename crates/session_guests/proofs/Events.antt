@@ -13,7 +13,9 @@ use Rattle.session_model.specs.declared.refusal.Refusal.TheVariants.{BadSize}
 use Rattle.session_model.specs.Tables.{Tables, Window, Client, window_at, client_at, with_client, focused, is_in_focus}
 use Rattle.session_model.specs.Checks.{first_fault, verdicts}
 use Rattle.session_model.specs.Deeds.{Deed, changing, parts, closes, entering}
-use Rattle.session_model.specs.Events.{outcome, Outcome, left_by, left_acts, attach_checks, attaches, new_client, open_checks, opens, new_window, reply_of, finished, done, where_passed, is_client_size, resized, outputs}
+use Rattle.session_model.specs.Events.{outcome}
+use Rattle.session_model.specs.Outcomes.{Outcome, left_acts_of, left_acts, reply_of, finished, done, where_passed}
+use Rattle.session_model.specs.Comings.{attach_checks, attaches, new_client, open_checks, opens, new_window, is_client_size, resized, outputs}
 use Rattle.session_model.specs.Run.{IsStep, after, drawn, drawn_on}
 use Rattle.session_model.specs.Trace.{EventValue, Attach, Detach, Keys, Command, Resize, Open, Output, Closed, Draw, Entry}
 use Rattle.session_laws.proofs.Lists.{equal, all_of, all_map, all_passed, all_append}
@@ -53,8 +55,8 @@ PlainTo t event o = Plain t event o.acts o.tables
 -- users that leave windows
 pub all_left : (P : Act → Type 0) (before after : List Client) → ((user : UserId) (w : ℕ) → P (act.Left user w)) → AllByRecursion P (left_acts before after)
 all_left P [] after on = tt
-all_left P (c ∷ before) after on = all_append P (left_by c (focused c) before after) (left_acts before after) (one (focused c)) (all_left P before after on) where
-  one : (o : Option ℕ) → AllByRecursion P (left_by c o before after)
+all_left P (c ∷ before) after on = all_append P (left_acts_of c (focused c) before after) (left_acts before after) (one (focused c)) (all_left P before after on) where
+  one : (o : Option ℕ) → AllByRecursion P (left_acts_of c o before after)
   one None = tt
   one (Some w) = left (is_in_focus before c.user w || is_in_focus after c.user w) where
     left : (b : Bool) → AllByRecursion P (if b then [] else act.Left c.user w ∷ [])

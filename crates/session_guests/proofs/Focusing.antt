@@ -15,7 +15,7 @@ use Rattle.session_model.specs.Tables.{Tables, Client, row_of, with_row, client_
 use Rattle.session_model.specs.Lines.{Caller}
 use Rattle.session_model.specs.Deeds.{Deed, hearing}
 use Rattle.session_model.specs.Commands.{does, caller_client}
-use Rattle.session_model.specs.Events.{left_by, left_acts}
+use Rattle.session_model.specs.Outcomes.{left_acts_of, left_acts}
 use Rattle.session_laws.proofs.Lists.{itself, row_serial, contradicts, all_append}
 use Rattle.session_laws.proofs.Doing.{Either, caller_is}
 use Rattle.session_guests.specs.Changing.{changes_rights}
@@ -132,7 +132,7 @@ all_focus x (c ∷ cs) = ((λ w is. or_early (shows c.user w c) (is_in_focus cs 
 left_none : (x : UserId) (before after all : List Client) → ((w : ℕ) → is_in_focus after x w ≡ is_in_focus all x w) → InFocus x all before → AllByRecursion (NotHis x) (left_acts before after)
 left_none x [] after all same seen = tt
 left_none x (c ∷ before) after all same seen =
-    all_append (NotHis x) (left_by c (focused c) before after) (left_acts before after) (one (focused c) refl) (left_none x before after all same seen.1) where
+    all_append (NotHis x) (left_acts_of c (focused c) before after) (left_acts before after) (one (focused c) refl) (left_none x before after all same seen.1) where
       his : (w : ℕ) → focused c ≡ Some w → same_user c.user x ≡ true → is_in_focus after c.user w ≡ true
       his w at is =
           let user : c.user ≡ x = same_user-true c.user x is in
@@ -144,7 +144,7 @@ left_none x (c ∷ before) after all same seen =
       leaves w at false false true is of = absurd (let f : is_in_focus after c.user w ≡ true = his w at of in cc (f, is))
       leaves w at false false false is of = (of, tt)
 
-      one : (o : Option ℕ) → focused c ≡ o → AllByRecursion (NotHis x) (left_by c o before after)
+      one : (o : Option ℕ) → focused c ≡ o → AllByRecursion (NotHis x) (left_acts_of c o before after)
       one None at = tt
       one (Some w) at = leaves w at (is_in_focus before c.user w) (is_in_focus after c.user w) (same_user c.user x) refl refl
 

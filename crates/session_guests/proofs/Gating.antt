@@ -18,7 +18,7 @@ use Rattle.session_model.specs.Tables.{Tables}
 use Rattle.session_model.specs.Checks.{first_fault, checks_by}
 use Rattle.session_model.specs.Commands.{does}
 use Rattle.session_model.specs.Deeds.{Answer}
-use Rattle.session_model.specs.Events.{left_acts}
+use Rattle.session_model.specs.Outcomes.{left_acts}
 use Rattle.session_model.specs.Given.{Given, commands_of}
 use Rattle.session_model.specs.Lines.{Caller}
 use Rattle.command_lang.specs.Needs.{needs}

@@ -18,7 +18,7 @@ use Rattle.command_lang.specs.command.Command.TheVariants as command
 use Rattle.command_lang.specs.Names.{name_of}
 use Rattle.session_model.specs.declared.check.Check.{Check}
 use Rattle.session_model.specs.Checks.{first_fault, checks_by, window_checks}
-use Rattle.session_model.specs.Events.{left_acts}
+use Rattle.session_model.specs.Outcomes.{left_acts}
 use Rattle.session_model.specs.Given.{Given, commands_of, with_order, order_in, ok_of}
 use Rattle.session_model.specs.Keying.{step_items, command_item}
 use Rattle.session_model.specs.Lines.{Caller, caller_of, line_caller, read_line}

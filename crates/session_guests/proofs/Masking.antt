@@ -13,7 +13,9 @@ use Rattle.session_model.specs.declared.event.Effect.{Effect}
 use Rattle.session_model.specs.declared.verdict.Verdict.{Verdict}
 use Rattle.session_model.specs.Tables.{Tables, Window, Client}
 use Rattle.session_model.specs.Checks.{first_fault, verdicts}
-use Rattle.session_model.specs.Events.{outcome, Outcome, left_acts, open_checks, opens, new_window, reply_of}
+use Rattle.session_model.specs.Events.{outcome}
+use Rattle.session_model.specs.Outcomes.{Outcome, left_acts, reply_of}
+use Rattle.session_model.specs.Comings.{open_checks, opens, new_window}
 use Rattle.session_model.specs.Run.{IsStep}
 use Rattle.session_model.specs.Trace.{EventValue, Open, Reply, Entry}
 use Rattle.session_laws.proofs.Lists.{itself}

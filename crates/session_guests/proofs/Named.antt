@@ -16,7 +16,9 @@ use Rattle.session_model.specs.declared.verdict.Verdict.{Verdict}
 use Rattle.session_model.specs.Checks.{first_fault, verdicts}
 use Rattle.session_model.specs.Commands.{does}
 use Rattle.session_model.specs.Deeds.{Deed, Answer, closes}
-use Rattle.session_model.specs.Events.{outcome, Outcome, finished, done, reply_of, open_checks, opens, new_window, outputs}
+use Rattle.session_model.specs.Events.{outcome}
+use Rattle.session_model.specs.Outcomes.{Outcome, finished, done, reply_of}
+use Rattle.session_model.specs.Comings.{open_checks, opens, new_window, outputs}
 use Rattle.session_model.specs.Given.{Given, commands_of, with_order, order_in, ok_of}
 use Rattle.session_model.specs.Keying.{step_items, command_item}
 use Rattle.session_model.specs.Lines.{Caller, caller_of, line_caller, read_line}

@@ -11,7 +11,7 @@ use Rattle.writelock.specs.Holding.{clients_of}
 use Rattle.command_lang.specs.command.Command.{Command as Order}
 use Rattle.command_lang.specs.command.Command.TheVariants as command
 use Rattle.command_lang.specs.Names.{name_of}
-use Rattle.session_model.specs.Events.{left_acts}
+use Rattle.session_model.specs.Outcomes.{left_acts}
 use Rattle.session_model.specs.Given.{Given, commands_of, has_x}
 use Rattle.session_model.specs.Promises.{SomeOf}
 use Rattle.session_model.specs.Run.{IsStep, after}

@@ -26,7 +26,9 @@ use Rattle.session_model.specs.declared.refusal.Refusal.TheVariants.{BadSize}
 use Rattle.session_model.specs.Checks.{first_fault, checks_by, window_checks, verdicts}
 use Rattle.session_model.specs.Commands.{does}
 use Rattle.session_model.specs.Deeds.{Deed, Answer, changing, parts, entering}
-use Rattle.session_model.specs.Events.{outcome, Outcome, left_acts, finished, done, reply_of, where_passed, attach_checks, attaches, new_client, open_checks, opens, new_window, is_client_size, resized}
+use Rattle.session_model.specs.Events.{outcome}
+use Rattle.session_model.specs.Outcomes.{Outcome, left_acts, finished, done, reply_of, where_passed}
+use Rattle.session_model.specs.Comings.{attach_checks, attaches, new_client, open_checks, opens, new_window, is_client_size, resized}
 use Rattle.session_model.specs.Given.{Given, commands_of, with_order, order_in, ok_of}
 use Rattle.session_model.specs.Keying.{step_items, command_item}
 use Rattle.session_model.specs.Lines.{Caller, caller_of, line_caller, read_line}

@@ -21,7 +21,9 @@ use Rattle.session_model.specs.Checks.{checks, first_fault}
 use Rattle.session_model.specs.Deeds.{Deed, Answer}
 use Rattle.session_model.specs.Commands.{does, ruling}
 use Rattle.session_model.specs.Keying.{taken, step_items, typed_bytes, command_item}
-use Rattle.session_model.specs.Events.{outcome, Outcome, reading, refused, keys_outcome, left_acts, told}
+use Rattle.session_model.specs.Events.{outcome}
+use Rattle.session_model.specs.Outcomes.{Outcome, refused, left_acts}
+use Rattle.session_model.specs.Answering.{reading, keys_outcome, told}
 use Rattle.session_model.specs.Given.{Given, commands_of, with_order, order_in, ok_of}
 use Rattle.session_model.specs.Promises.{SomeOf, OnlyRead, unread, ChangesNothing}
 use Rattle.session_model.specs.Run.{after}
@@ -142,7 +144,7 @@ module _ (t : Tables) (e : Entry) (client : ℕ) (bytes : List ℕ) (c : Client)
 
   heard_read : (v : Tables) (order : Order) (o : Option (List ℕ)) → OnlyRead v (heard c.serial order o v)
   heard_read v order None = same_tables v
-  heard_read v order (Some text) = told_read v v c.serial (Rattle.session_model.specs.Events.message_of order text) (same_tables v)
+  heard_read v order (Some text) = told_read v v c.serial (Rattle.session_model.specs.Answering.message_of order text) (same_tables v)
 
   did_by : (cs : List Client) (order : Order) (d : Deed) → SameClients t cs → first_fault t (checks t own order) ≡ None → does (with_clients t cs) own order ≡ Ok d
       → DidItsRowByKeys t e c before (record { caller = own; order = order }) d → Did t e (record { caller = own; order = order })

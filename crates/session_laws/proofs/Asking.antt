@@ -24,8 +24,11 @@ use Rattle.session_model.specs.Checks.{checks, first_fault, verdicts, typing_che
 use Rattle.session_model.specs.Deeds.{Answer, Deed, changing, parts, closes}
 use Rattle.session_model.specs.Commands.{does, ruling}
 use Rattle.session_model.specs.Keying.{taken, step_items, command_item}
-use Rattle.session_model.specs.Events.{line_ruling, answered, commanded, outcome, keys_outcome, refused, finished, done, where_passed, Outcome}
-use Rattle.session_model.specs.Events.{attach_checks, open_checks, is_client_size, resized, reply_of, attaches, new_client, opens, new_window, outputs}
+use Rattle.session_model.specs.Answering.{line_ruling, answered, commanded, keys_outcome}
+use Rattle.session_model.specs.Events.{outcome}
+use Rattle.session_model.specs.Outcomes.{refused, finished, done, where_passed, Outcome}
+use Rattle.session_model.specs.Comings.{attach_checks, open_checks, is_client_size, resized, attaches, new_client, opens, new_window, outputs}
+use Rattle.session_model.specs.Outcomes.{reply_of}
 use Rattle.session_model.specs.Given.{commands_of, keys_typed, typed_by_client, with_order, order_in, ok_of}
 use Rattle.session_model.specs.Promises.{SomeOf}
 use Rattle.session_model.specs.Denying.{NamesTruly, Asks, AsksFor, TypesOn, IsWindow}

@@ -17,8 +17,11 @@ use Rattle.session_model.specs.Checks.{checks, first_fault, typing_checks}
 use Rattle.session_model.specs.Deeds.{Deed, Answer, changing, parts, closes}
 use Rattle.session_model.specs.Commands.{does}
 use Rattle.session_model.specs.Keying.{typed_bytes, command_item, taken, step_items}
-use Rattle.session_model.specs.Events.{types, says_why, input_in, ordered, keyed, with_listed, message_of, reading, unsaid, outcome, keys_outcome, finished, done, Outcome, outputs}
-use Rattle.session_model.specs.Events as events
+use Rattle.session_model.specs.Answering.{types, says_why, input_in, ordered, keyed, with_listed, message_of, reading, unsaid, keys_outcome}
+use Rattle.session_model.specs.Events.{outcome}
+use Rattle.session_model.specs.Outcomes.{finished, done, Outcome}
+use Rattle.session_model.specs.Comings.{outputs}
+use Rattle.session_model.specs.Answering as answering
 use Rattle.session_model.specs.Run.{IsStep, HasEffects, IsDraw, DrawsWhereNeeded}
 use Rattle.session_model.specs.Sound.{AreSound}
 use Rattle.session_laws.proofs.Doing.{Either}
@@ -71,10 +74,10 @@ ruled_few : (v : Tables) (client : ℕ) (m : List ℕ → Rattle.session_model.s
 ruled_few v client m k c (Some r) row = omega arith
 ruled_few v client m k c None row = keyed_few v client m (does v k c) (moves v k row c)
 
-order_few : (v : Tables) (d : Client) (order : Order) → length (events.by_line v d (Ok order)).deed.effects ≤ length v.windows + length v.clients + 2
+order_few : (v : Tables) (d : Client) (order : Order) → length (answering.by_line v d (Ok order)).deed.effects ≤ length v.windows + length v.clients + 2
 order_few v d order = ruled_few v d.serial (message_of order) (caller_of v d) order (first_fault v (checks v (caller_of v d) order)) (focus_row v (focused d))
 
-read_few : (v : Tables) (d : Client) (r : Result Order ParseFault) → length (events.by_line v d r).deed.effects ≤ length v.windows + length v.clients + 2
+read_few : (v : Tables) (d : Client) (r : Result Order ParseFault) → length (answering.by_line v d r).deed.effects ≤ length v.windows + length v.clients + 2
 read_few v d (Err f) = omega arith
 read_few v d (Ok order) = order_few v d order
 

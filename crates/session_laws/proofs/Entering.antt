@@ -29,7 +29,10 @@ use Rattle.session_model.specs.Checks.{checks, first_fault, verdicts}
 use Rattle.session_model.specs.Deeds.{Deed, Answer, changing, parts, closes, entering, hearing}
 use Rattle.session_model.specs.Commands.{does}
 use Rattle.session_model.specs.Keying.{taken, step_items, typed_bytes, command_item}
-use Rattle.session_model.specs.Events.{outcome, Outcome, finished, done, where_passed, left_by, left_acts, attach_checks, attaches, new_client, open_checks, opens, new_window, reply_of, is_client_size, resized, outputs, reading, types, told, ordered, keyed, with_listed, message_of, keys_outcome, by_line}
+use Rattle.session_model.specs.Events.{outcome}
+use Rattle.session_model.specs.Outcomes.{Outcome, finished, done, where_passed, left_acts_of, left_acts, reply_of}
+use Rattle.session_model.specs.Comings.{attach_checks, attaches, new_client, open_checks, opens, new_window, is_client_size, resized, outputs}
+use Rattle.session_model.specs.Answering.{reading, types, told, ordered, keyed, with_listed, message_of, keys_outcome, by_line}
 use Rattle.session_model.specs.Granted.{granted_view}
 use Rattle.session_model.specs.Promises.{SomeOf, unread}
 use Rattle.session_model.specs.Run.{drawn, drawn_on, with_drawn, after, IsStep, IsRun, IsRunFrom, tables_from, tables_of}
@@ -60,7 +63,7 @@ left_enter (c ∷ before) after = one (focused c) (left_enter before after) wher
   on true w = refl
   on false w = refl
 
-  one : (o : Option ℕ) → entered_by (left_acts before after) ≡ None → entered_by (left_by c o before after ++ left_acts before after) ≡ None
+  one : (o : Option ℕ) → entered_by (left_acts before after) ≡ None → entered_by (left_acts_of c o before after ++ left_acts before after) ≡ None
   one None rest = rest
   one (Some w) rest = on (is_in_focus before c.user w || is_in_focus after c.user w) w ∙ rest
 

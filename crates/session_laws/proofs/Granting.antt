@@ -33,7 +33,9 @@ use Rattle.session_model.specs.Checks.{passes, refusal_of, first_fault, verdicts
 use Rattle.session_model.specs.Commands.{does, ruling}
 use Rattle.session_model.specs.Deeds.{Answer, Deed, changing, hearing}
 use Rattle.session_model.specs.Denials.{lock_denial}
-use Rattle.session_model.specs.Events.{types, says, told, keyed, ordered, by_line, line_ruling, reading, message_of, answered, commanded, outcome, keys_outcome, refused, Outcome, unsaid, left_acts}
+use Rattle.session_model.specs.Answering.{types, says, told, keyed, ordered, by_line, line_ruling, reading, message_of, answered, commanded, keys_outcome, unsaid}
+use Rattle.session_model.specs.Events.{outcome}
+use Rattle.session_model.specs.Outcomes.{refused, Outcome, left_acts}
 use Rattle.session_model.specs.Given.{has_x, has_x_on, Given, with_order, order_in, ok_of, commands_of}
 use Rattle.session_model.specs.Keying.{typed_bytes, command_item, taken, step_items}
 use Rattle.session_model.specs.Lines.{Caller, caller_of, line_caller, read_line}

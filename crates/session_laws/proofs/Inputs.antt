@@ -8,8 +8,9 @@ use Rattle.session_model.specs.declared.refusal.Refusal.{Refusal}
 use Rattle.session_model.specs.declared.verdict.Verdict.{Verdict}
 use Rattle.session_model.specs.declared.message.Message.{Message}
 use Rattle.session_model.specs.Deeds.{Deed, Answer}
-use Rattle.session_model.specs.Events.{Outcome, finished, refused, answered, keyed, with_listed, says_same}
-use Rattle.session_model.specs.Events.{unsaid}
+use Rattle.session_model.specs.Outcomes.{Outcome, finished, refused}
+use Rattle.session_model.specs.Answering.{answered, keyed, with_listed, says_same}
+use Rattle.session_model.specs.Answering.{unsaid}
 use Rattle.session_model.specs.Promises.{inputs}
 use Rattle.session_model.specs.Tables.{Tables}
 use Rattle.session_model.specs.Trace.{Reply}

@@ -21,7 +21,9 @@ use Rattle.session_model.specs.Checks.{checks, first_fault}
 use Rattle.session_model.specs.Deeds.{Deed, Answer}
 use Rattle.session_model.specs.Commands.{does, ruling}
 use Rattle.session_model.specs.Keying.{taken, step_items, typed_bytes, command_item}
-use Rattle.session_model.specs.Events.{outcome, Outcome, refused, keys_outcome, reading, told, ordered, keyed, with_listed, message_of, unsaid, left_acts, by_line}
+use Rattle.session_model.specs.Events.{outcome}
+use Rattle.session_model.specs.Outcomes.{Outcome, refused, left_acts}
+use Rattle.session_model.specs.Answering.{keys_outcome, reading, told, ordered, keyed, with_listed, message_of, unsaid, by_line}
 use Rattle.session_model.specs.Given.{Given, has_x, with_order, order_in, ok_of}
 use Rattle.session_model.specs.Promises.{unread}
 use Rattle.session_model.specs.Run.{IsStep, after}

@@ -7,7 +7,7 @@ use Rattle.std.proofs.lemmas.Bool.Decides.{nat_tests}
 use Rattle.std.proofs.Common.{arith}
 use Rattle.acl.specs.declared.act.Act.{Act}
 use Rattle.acl.specs.declared.act.Act.TheVariants.{Left}
-use Rattle.session_model.specs.Events.{left_by, left_acts}
+use Rattle.session_model.specs.Outcomes.{left_acts_of, left_acts}
 use Rattle.session_model.specs.Tables.{Client, focused, shows, is_window, is_in_focus}
 
 same_bytes : (xs : List ℕ) → pointwise nat_eq xs xs ≡ true
@@ -25,7 +25,7 @@ shows_own : (c : Client) (w : ℕ) → focused c ≡ Some w → shows c.user w c
 shows_own c w at =
     ap (λ b. b && is_window w (focused c)) (same_bytes c.user.name) ∙ ap (is_window w) at ∙ (let e : (w == w) ≡ true = grind (arith, nat_tests) in e)
 
-stays : (c : Client) (o : Option ℕ) (pre cs : List Client) → focused c ≡ o → left_by c o cs (pre ++ c ∷ cs) ≡ []
+stays : (c : Client) (o : Option ℕ) (pre cs : List Client) → focused c ≡ o → left_acts_of c o cs (pre ++ c ∷ cs) ≡ []
 stays c None pre cs at = refl
 stays c (Some w) pre cs at = by (is_in_focus cs c.user w) (is_in_focus (pre ++ c ∷ cs) c.user w) (among (shows c.user w) pre cs c (shows_own c w at)) where
   by : (a b : Bool) → b ≡ true → (if a || b then (let none : List Act = [] in none) else Left c.user w ∷ []) ≡ []

@@ -11,7 +11,9 @@ use Rattle.session_model.specs.Trace.{EventValue, Attach, Open, Draw, Entry}
 use Rattle.session_model.specs.Tables.{Tables, Window, Client, client_at, focused, fresh}
 use Rattle.session_model.specs.Checks.{first_fault, verdicts}
 use Rattle.session_model.specs.Deeds.{entering}
-use Rattle.session_model.specs.Events.{outcome, Outcome, left_acts, attach_checks, attaches, new_client, open_checks, opens, new_window, reply_of, done}
+use Rattle.session_model.specs.Events.{outcome}
+use Rattle.session_model.specs.Outcomes.{Outcome, left_acts, reply_of, done}
+use Rattle.session_model.specs.Comings.{attach_checks, attaches, new_client, open_checks, opens, new_window}
 use Rattle.session_model.specs.Run.{after, drawn, drawn_on, tables_from}
 use Rattle.session_model.specs.Sound.{AreSound, ActsAgree}
 use Rattle.session_laws.proofs.Numbers.{serial_of}

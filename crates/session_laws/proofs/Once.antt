@@ -24,8 +24,11 @@ use Rattle.session_model.specs.Checks.{checks, first_fault, typing_checks}
 use Rattle.session_model.specs.Deeds.{Deed, Answer, changing, parts, closes, tells}
 use Rattle.session_model.specs.Commands.{does}
 use Rattle.session_model.specs.Keying.{typed_bytes, command_item, taken, step_items}
-use Rattle.session_model.specs.Events.{types, says_why, input_in, ordered, keyed, with_listed, message_of, reading, unsaid, says_same, outcome, keys_outcome, finished, done, Outcome, outputs}
-use Rattle.session_model.specs.Events as events
+use Rattle.session_model.specs.Answering.{types, says_why, input_in, ordered, keyed, with_listed, message_of, reading, unsaid, says_same, keys_outcome}
+use Rattle.session_model.specs.Events.{outcome}
+use Rattle.session_model.specs.Outcomes.{finished, done, Outcome}
+use Rattle.session_model.specs.Comings.{outputs}
+use Rattle.session_model.specs.Answering as answering
 use Rattle.session_model.specs.Run.{IsStep, HasEffects, IsDraw, DrawsWhereNeeded}
 use Rattle.session_model.specs.Sound.{Rises, AreSound, client_serials}
 use Rattle.session_model.specs.Promises.{SomeOf, IsDoneBy}
@@ -180,13 +183,13 @@ keyed_once : (v : Tables) (client : ℕ) (m : List ℕ → Message) (a : Answer)
 keyed_once v client m (Err r) plain = (tt, tt)
 keyed_once v client m (Ok d) all = all.listed client m
 
-order_once : (v : Tables) (d : Client) (order : Order) → Rises (client_serials v.clients) v.next_client → AreSaidOnce (events.by_line v d (Ok order)).deed.effects
+order_once : (v : Tables) (d : Client) (order : Order) → Rises (client_serials v.clients) v.next_client → AreSaidOnce (answering.by_line v d (Ok order)).deed.effects
 order_once v d order rise = on (first_fault v (checks v (caller_of v d) order)) where
   on : (o : Option Refusal) → AreSaidOnce (keyed v d.serial (message_of order) (elim o as (λ _. Answer) [ Some r ↦ Err r | None ↦ does v (caller_of v d) order ])).effects
   on (Some r) = (tt, tt)
   on None = keyed_once v d.serial (message_of order) (does v (caller_of v d) order) (says_once v (caller_of v d) order rise)
 
-read_once : (v : Tables) (d : Client) (r : Result Order ParseFault) → Rises (client_serials v.clients) v.next_client → AreSaidOnce (events.by_line v d r).deed.effects
+read_once : (v : Tables) (d : Client) (r : Result Order ParseFault) → Rises (client_serials v.clients) v.next_client → AreSaidOnce (answering.by_line v d r).deed.effects
 read_once v d (Err f) rise = (tt, tt)
 read_once v d (Ok order) rise = order_once v d order rise
 

@@ -16,7 +16,10 @@ use Rattle.session_model.specs.Lines.{Caller, line_caller, read_line}
 use Rattle.session_model.specs.Checks.{checks, first_fault, verdicts}
 use Rattle.session_model.specs.Deeds.{Answer, Deed, changing, parts, closes}
 use Rattle.session_model.specs.Commands.{does}
-use Rattle.session_model.specs.Events.{reading, types, ordered, Ordered, unsaid, Outcome, outcome, refused, finished, where_passed, reply_of, done, answered, commanded, line_ruling, keys_outcome, attach_checks, new_client, attaches, is_client_size, resized, open_checks, new_window, opens, outputs}
+use Rattle.session_model.specs.Answering.{reading, types, ordered, Ordered, unsaid, answered, commanded, line_ruling, keys_outcome}
+use Rattle.session_model.specs.Outcomes.{Outcome, refused, finished, where_passed, reply_of, done}
+use Rattle.session_model.specs.Events.{outcome}
+use Rattle.session_model.specs.Comings.{attach_checks, new_client, attaches, is_client_size, resized, open_checks, new_window, opens, outputs}
 use Rattle.session_model.specs.Keying.{taken, items_behind, typed_bytes, command_item}
 use Rattle.keys.specs.Grammar.{Item}
 

@@ -16,8 +16,8 @@ use Rattle.session_model.specs.Lines.{caller_of, read_line}
 use Rattle.session_model.specs.Checks.{checks, first_fault}
 use Rattle.session_model.specs.Deeds.{Answer, hearing}
 use Rattle.session_model.specs.Commands.{does}
-use Rattle.session_model.specs.Events.{types, ordered, keyed, with_listed, message_of, told}
-use Rattle.session_model.specs.Events as events
+use Rattle.session_model.specs.Answering.{types, ordered, keyed, with_listed, message_of, told}
+use Rattle.session_model.specs.Answering as answering
 use Rattle.session_model.specs.Run.{deliveries}
 use Rattle.session_model.specs.Given.{Given, commands_of}
 use Rattle.session_model.specs.Promises.{SomeOf, IsEffectOf, IsDoneByRight}
@@ -127,13 +127,13 @@ keyed_keeps v client m (Ok d) all = on d.lists where
   on None = all
   on (Some bytes) = keeps_then v.clients d.tables.clients (told d.tables client (m bytes)).clients all (told_keeps d.tables client (m bytes))
 
-order_keeps : (v : Tables) (d : Client) (order : Order) → Keeps v.clients (events.by_line v d (Ok order)).deed.tables.clients
+order_keeps : (v : Tables) (d : Client) (order : Order) → Keeps v.clients (answering.by_line v d (Ok order)).deed.tables.clients
 order_keeps v d order = on (first_fault v (checks v (caller_of v d) order)) where
   on : (o : Option Refusal) → Keeps v.clients (keyed v d.serial (message_of order) (elim o as (λ _. Answer) [ Some r ↦ Err r | None ↦ does v (caller_of v d) order ])).tables.clients
   on (Some r) = told_keeps v d.serial _
   on None = keyed_keeps v d.serial (message_of order) (does v (caller_of v d) order) (keeps v (caller_of v d) order)
 
-read_keeps : (v : Tables) (d : Client) (r : Result Order ParseFault) → Keeps v.clients (events.by_line v d r).deed.tables.clients
+read_keeps : (v : Tables) (d : Client) (r : Result Order ParseFault) → Keeps v.clients (answering.by_line v d r).deed.tables.clients
 read_keeps v d (Err f) = told_keeps v d.serial _
 read_keeps v d (Ok order) = order_keeps v d order
 

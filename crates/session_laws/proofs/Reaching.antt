@@ -28,9 +28,12 @@ use Rattle.session_model.specs.Commands.{does, ruling}
 use Rattle.session_model.specs.Deeds.{Deed, Answer, given, changing, input_of, hearing, parts}
 use Rattle.session_model.specs.Deeds.{closes}
 use Rattle.session_model.specs.Denials.{entry_denial}
-use Rattle.session_model.specs.Events.{types, says, told, ordered, by_line, line_ruling, reading}
-use Rattle.session_model.specs.Events.{message_of, commanded, keys_outcome, refused, Outcome}
-use Rattle.session_model.specs.Events.{unsaid, finished, outputs, done}
+use Rattle.session_model.specs.Answering.{types, says, told, ordered, by_line, line_ruling, reading}
+use Rattle.session_model.specs.Answering.{message_of, commanded, keys_outcome}
+use Rattle.session_model.specs.Outcomes.{refused, Outcome}
+use Rattle.session_model.specs.Answering.{unsaid}
+use Rattle.session_model.specs.Outcomes.{finished, done}
+use Rattle.session_model.specs.Comings.{outputs}
 use Rattle.session_model.specs.Given.{all_typed, stuffed, with_order, order_in, ok_of, Typed}
 use Rattle.session_model.specs.Given.{typed_by_client}
 use Rattle.session_model.specs.Keying.{typed_bytes, command_item, taken, step_items}

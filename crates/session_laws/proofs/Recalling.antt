@@ -28,7 +28,10 @@ use Rattle.session_model.specs.Checks.{checks, first_fault, verdicts, typing_che
 use Rattle.session_model.specs.Deeds.{Deed, Answer, changing, parts, closes}
 use Rattle.session_model.specs.Commands.{does}
 use Rattle.session_model.specs.Keying.{taken, step_items, typed_bytes, command_item}
-use Rattle.session_model.specs.Events.{outcome, Outcome, refused, finished, done, attach_checks, attaches, new_client, open_checks, opens, new_window, reply_of, outputs, reading, types, says, told, ordered, keyed, with_listed, message_of, unsaid, keys_outcome, commanded, line_ruling, answered, by_line}
+use Rattle.session_model.specs.Events.{outcome}
+use Rattle.session_model.specs.Outcomes.{Outcome, refused, finished, done, reply_of}
+use Rattle.session_model.specs.Comings.{attach_checks, attaches, new_client, open_checks, opens, new_window, outputs}
+use Rattle.session_model.specs.Answering.{reading, types, says, told, ordered, keyed, with_listed, message_of, unsaid, keys_outcome, commanded, line_ruling, answered, by_line}
 use Rattle.session_model.specs.Promises.{SomeOf}
 use Rattle.session_model.specs.Given.{with_order, order_in, ok_of}
 use Rattle.session_model.specs.Run.{HasEffects, IsDraw, DrawsWhereNeeded, drawn, drawn_on, after, IsStep, IsRun, IsRunFrom, tables_from, tables_of}

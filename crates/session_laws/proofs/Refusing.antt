@@ -7,7 +7,8 @@ use Rattle.session_model.specs.declared.refusal.Refusal.TheVariants.{NoWindow}
 use Rattle.session_model.specs.Trace.{EventValue, Draw, Entry}
 use Rattle.session_model.specs.Tables.{Tables, Client, client_at}
 use Rattle.session_model.specs.Deeds.{changing}
-use Rattle.session_model.specs.Events.{outcome, refused, finished, done, Outcome}
+use Rattle.session_model.specs.Events.{outcome}
+use Rattle.session_model.specs.Outcomes.{refused, finished, done, Outcome}
 use Rattle.session_model.specs.Granted.{granted_view}
 use Rattle.session_model.specs.Run.{HasEffects, IsDraw, deliveries, drawn, drawn_on, after, IsStep}
 use Rattle.session_model.specs.Promises.{ChangesNothing, DrawShows, DrawShowsOf}

@@ -17,7 +17,10 @@ use Rattle.session_model.specs.Checks.{first_fault, verdicts}
 use Rattle.session_model.specs.Deeds.{Deed, Answer, changing, parts, closes}
 use Rattle.session_model.specs.Commands.{does}
 use Rattle.session_model.specs.Keying.{taken, step_items, typed_bytes, command_item}
-use Rattle.session_model.specs.Events.{outcome, Outcome, keys_outcome, finished, done, where_passed, attach_checks, attaches, new_client, open_checks, opens, new_window, reply_of, is_client_size, resized, outputs, reading}
+use Rattle.session_model.specs.Events.{outcome}
+use Rattle.session_model.specs.Outcomes.{Outcome, finished, done, where_passed, reply_of}
+use Rattle.session_model.specs.Answering.{keys_outcome, reading}
+use Rattle.session_model.specs.Comings.{attach_checks, attaches, new_client, open_checks, opens, new_window, is_client_size, resized, outputs}
 use Rattle.session_model.specs.Granted.{granted_view}
 use Rattle.session_model.specs.Run.{HasEffects, IsDraw, DrawsWhereNeeded, deliveries, drawn, drawn_on, with_drawn, after, IsStep, IsRun, IsRunFrom, tables_from, tables_of}
 use Rattle.session_model.specs.Promises.{SomeOf, IsEffectOf}

@@ -17,7 +17,9 @@ use Rattle.session_model.specs.Lines.{Caller, line_caller, read_line}
 use Rattle.session_model.specs.Checks.{checks, verdicts}
 use Rattle.session_model.specs.Deeds.{Deed, Answer}
 use Rattle.session_model.specs.Commands.{does, ruling}
-use Rattle.session_model.specs.Events.{Outcome, outcome, finished, reply_of, left_acts, refused, answered, commanded, line_ruling}
+use Rattle.session_model.specs.Outcomes.{Outcome, finished, reply_of, left_acts, refused}
+use Rattle.session_model.specs.Events.{outcome}
+use Rattle.session_model.specs.Answering.{answered, commanded, line_ruling}
 use Rattle.session_model.specs.Given.{Given, commands_of, has_x, with_order, ok_of}
 use Rattle.session_model.specs.Promises.{SomeOf}
 use Rattle.session_model.specs.Run.{IsStep}

@@ -23,9 +23,12 @@ use Rattle.session_model.specs.Checks.{checks, first_fault, typing_checks}
 use Rattle.session_model.specs.Deeds.{Answer, Deed, changing, parts, closes}
 use Rattle.session_model.specs.Commands.{does}
 use Rattle.session_model.specs.Keying.{typed_bytes, command_item, taken, step_items}
-use Rattle.session_model.specs.Events.{types, says_why, input_in, ordered, message_of, keyed, with_listed, reading, outcome, keys_outcome, refused, finished, done}
-use Rattle.session_model.specs.Events as events
-use Rattle.session_model.specs.Events.{unsaid, outputs}
+use Rattle.session_model.specs.Answering.{types, says_why, input_in, ordered, message_of, keyed, with_listed, reading, keys_outcome}
+use Rattle.session_model.specs.Events.{outcome}
+use Rattle.session_model.specs.Outcomes.{refused, finished, done}
+use Rattle.session_model.specs.Answering as answering
+use Rattle.session_model.specs.Answering.{unsaid}
+use Rattle.session_model.specs.Comings.{outputs}
 use Rattle.session_model.specs.Granted.{granted_view}
 use Rattle.session_model.specs.Framed.{IsFrame}
 use Rattle.session_model.specs.Run.{IsStep, HasEffects, IsDraw, DrawsWhereNeeded}
@@ -89,7 +92,7 @@ command_fits t user number bytes =
     let k : Caller = line_caller t user number in
     on (is_known t user) (read_line bytes) refl refl where
       on : (b : Bool) (r : Result Order ParseFault) → is_known t user ≡ b → read_line bytes ≡ r
-          → AllByRecursion (Fits t (Command user number bytes)) (if b then events.commanded t (events.line_ruling t (line_caller t user number) r) else refused t [] Rattle.session_model.specs.declared.refusal.Refusal.TheVariants.UnknownUser).effects
+          → AllByRecursion (Fits t (Command user number bytes)) (if b then answering.commanded t (answering.line_ruling t (line_caller t user number) r) else refused t [] Rattle.session_model.specs.declared.refusal.Refusal.TheVariants.UnknownUser).effects
       on b r known read =
           let event : EventValue = Command user number bytes in
           let k : Caller = line_caller t user number in
@@ -142,7 +145,7 @@ module _ (t : Tables) (client : ℕ) (bytes : List ℕ) (c : Client) (is : clien
       on (Some said) lists = all_append (Fits t (Keys client bytes)) d.effects (Say c.serial said ∷ []) all
           (listed_fits order given has said (sym (told_in t cs same (giving (caller_of t c) order) order) ∙ done.lists said lists), tt)
 
-    order_fits : (read : List ℕ) → AllByRecursion (Fits t (Keys client bytes)) (events.by_line (record t { clients = cs }) (reading read c) (Ok order)).deed.effects
+    order_fits : (read : List ℕ) → AllByRecursion (Fits t (Keys client bytes)) (answering.by_line (record t { clients = cs }) (reading read c) (Ok order)).deed.effects
     order_fits read = on (first_fault t (checks t (caller_of t c) order)) refl (order_names t client bytes c order given) where
       on : (o : Option Refusal) → first_fault t (checks t (caller_of t c) order) ≡ o → OnFault (NamesTruly t (Asks t (Keys client bytes))) o
           → AllByRecursion (Fits t (Keys client bytes)) (keyed (record t { clients = cs }) c.serial (message_of order) (elim o as (λ _. Answer) [ Some r ↦ Err r | None ↦ does (record t { clients = cs }) (caller_of t c) order ])).effects
@@ -150,7 +153,7 @@ module _ (t : Tables) (client : ℕ) (bytes : List ℕ) (c : Client) (is : clien
       on None at names = keyed_fits (message_of order) (passed_has_x t (caller_of t c) order at) (does (record t { clients = cs }) (caller_of t c) order) (done_by (record t { clients = cs }) (caller_of t c) order)
 
   line_read_fits : (cs : List Client) → SameClients t cs → (read : List ℕ) (r : Result Order ParseFault) → commands_of t (Keys client bytes) ≡ with_order (caller_of t c) (ok_of r)
-      → AllByRecursion (Fits t (Keys client bytes)) (events.by_line (record t { clients = cs }) (reading read c) r).deed.effects
+      → AllByRecursion (Fits t (Keys client bytes)) (answering.by_line (record t { clients = cs }) (reading read c) r).deed.effects
   line_read_fits cs same read (Err f) given = (refuses (Line f) tt, tt)
   line_read_fits cs same read (Ok order) given = order_fits cs same order given read
 

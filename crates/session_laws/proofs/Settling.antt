@@ -23,9 +23,11 @@ use Rattle.session_model.specs.Checks.{checks, first_fault, verdicts}
 use Rattle.session_model.specs.Deeds.{Deed, Answer, changing, parts, closes, hearing}
 use Rattle.session_model.specs.Commands.{does}
 use Rattle.session_model.specs.Keying.{typed_bytes, command_item, taken, step_items}
-use Rattle.session_model.specs.Events.{left_by, left_acts, told, types, ordered, keyed, with_listed, message_of, reading, unsaid, keys_outcome, refused, finished, done, where_passed, Outcome, is_client_size, resized, outputs, reply_of}
+use Rattle.session_model.specs.Outcomes.{left_acts_of, left_acts, refused, finished, done, where_passed, Outcome, reply_of}
+use Rattle.session_model.specs.Answering.{told, types, ordered, keyed, with_listed, message_of, reading, unsaid, keys_outcome}
+use Rattle.session_model.specs.Comings.{is_client_size, resized, outputs}
 use Rattle.session_model.specs.Trace.{Reply}
-use Rattle.session_model.specs.Events as events
+use Rattle.session_model.specs.Answering as answering
 use Rattle.session_model.specs.Promises.{unread}
 use Rattle.terminal_model.specs.Reading.{reads}
 use Rattle.session_model.specs.declared.event.Effect.{Effect}
@@ -47,8 +49,8 @@ use Rattle.session_laws.proofs.Outcomes as outcomes
 
 pub left_aside : (before after : List Client) → AllAside (left_acts before after)
 left_aside [] after = tt
-left_aside (c ∷ before) after = aside_append (left_by c (focused c) before after) (left_acts before after) (one (focused c)) (left_aside before after) where
-  one : (o : Option ℕ) → AllAside (left_by c o before after)
+left_aside (c ∷ before) after = aside_append (left_acts_of c (focused c) before after) (left_acts before after) (one (focused c)) (left_aside before after) where
+  one : (o : Option ℕ) → AllAside (left_acts_of c o before after)
   one None = tt
   one (Some w) = on (is_in_focus before c.user w || is_in_focus after c.user w) where
     on : (b : Bool) → AllAside (if b then [] else act.Left c.user w ∷ [])
@@ -128,10 +130,10 @@ pub focus_row : (t : Tables) (o : Option ℕ) (w : Window) → option_and_then (
 focus_row t None w is = absurd (cc (is))
 focus_row t (Some s) w is = ap (window_at t) (row_serial serial_of t.windows s w is) ∙ is
 
-order_moves : (v : Tables) (d : Client) (order : Order) → let e : Deed = (events.by_line v d (Ok order)).deed in Moves v e.tables e.acts 0
+order_moves : (v : Tables) (d : Client) (order : Order) → let e : Deed = (answering.by_line v d (Ok order)).deed in Moves v e.tables e.acts 0
 order_moves v d order = ruled_moves v d.serial (message_of order) (caller_of v d) order (first_fault v (checks v (caller_of v d) order)) (focus_row v (focused d))
 
-read_moves : (v : Tables) (d : Client) (r : Result Order ParseFault) → let e : Deed = (events.by_line v d r).deed in Moves v e.tables e.acts 0
+read_moves : (v : Tables) (d : Client) (r : Result Order ParseFault) → let e : Deed = (answering.by_line v d r).deed in Moves v e.tables e.acts 0
 read_moves v d (Err f) = told_moves v v [] 0 d.serial _ (still_moves v)
 read_moves v d (Ok order) = order_moves v d order
 

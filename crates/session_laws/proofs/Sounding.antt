@@ -16,7 +16,9 @@ use Rattle.session_model.specs.Trace.{EventValue, Attach, Command, Open, Draw, E
 use Rattle.session_model.specs.Tables.{Tables, Window, Client, client_at, is_known, fresh}
 use Rattle.session_model.specs.Naming.{free_number, is_title}
 use Rattle.session_model.specs.Checks.{first_fault, verdicts}
-use Rattle.session_model.specs.Events.{outcome, attach_checks, attaches, new_client, open_checks, opens, new_window, has_place, is_client_size, is_window_size, is_let_in, reply_of}
+use Rattle.session_model.specs.Events.{outcome}
+use Rattle.session_model.specs.Comings.{attach_checks, attaches, new_client, open_checks, opens, new_window, has_place, is_client_size, is_window_size, is_let_in}
+use Rattle.session_model.specs.Outcomes.{reply_of}
 use Rattle.session_model.specs.Granted.{granted_view}
 use Rattle.session_model.specs.Run.{drawn, drawn_on, with_drawn, tables_from}
 use Rattle.session_model.specs.Sound.{Rises, AreSound, client_serials, window_serials}

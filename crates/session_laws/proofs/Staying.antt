@@ -25,8 +25,11 @@ use Rattle.session_model.specs.Checks.{checks, first_fault, verdicts}
 use Rattle.session_model.specs.Deeds.{Deed, Answer, changing, parts, closes, hearing}
 use Rattle.session_model.specs.Commands.{does}
 use Rattle.session_model.specs.Keying.{taken, step_items, typed_bytes, command_item}
-use Rattle.session_model.specs.Events.{outcome, Outcome, finished, done, where_passed, attach_checks, attaches, new_client, open_checks, opens, new_window, reply_of, is_client_size, resized, outputs, reading, keys_outcome, told, ordered, keyed, with_listed, message_of}
-use Rattle.session_model.specs.Events as events
+use Rattle.session_model.specs.Events.{outcome}
+use Rattle.session_model.specs.Outcomes.{Outcome, finished, done, where_passed, reply_of}
+use Rattle.session_model.specs.Comings.{attach_checks, attaches, new_client, open_checks, opens, new_window, is_client_size, resized, outputs}
+use Rattle.session_model.specs.Answering.{reading, keys_outcome, told, ordered, keyed, with_listed, message_of}
+use Rattle.session_model.specs.Answering as answering
 use Rattle.session_model.specs.Granted.{granted_view}
 use Rattle.session_model.specs.Run.{drawn, drawn_on, with_drawn, after, tables_from}
 use Rattle.session_model.specs.Promises.{unread}
@@ -59,13 +62,13 @@ keyed_holds v client m (Ok d) h all = on d.lists where
   on None = all
   on (Some bytes) = told_holds d.tables client (m bytes) all
 
-order_holds : (v : Tables) (d : Client) (order : Order) → is_small order ≡ true → Holds v → Holds (events.by_line v d (Ok order)).deed.tables
+order_holds : (v : Tables) (d : Client) (order : Order) → is_small order ≡ true → Holds v → Holds (answering.by_line v d (Ok order)).deed.tables
 order_holds v d order small h = on (first_fault v (checks v (caller_of v d) order)) where
   on : (o : Option Refusal) → Holds (keyed v d.serial (message_of order) (elim o as (λ _. Answer) [ Some r ↦ Err r | None ↦ does v (caller_of v d) order ])).tables
   on (Some r) = told_holds v d.serial _ h
   on None = keyed_holds v d.serial (message_of order) (does v (caller_of v d) order) h (holds v (caller_of v d) h (λ w is. at_there v (focused d) w is) order small)
 
-read_holds : (v : Tables) (d : Client) (r : Result Order ParseFault) → ((order : Order) → r ≡ Ok order → is_small order ≡ true) → Holds v → Holds (events.by_line v d r).deed.tables
+read_holds : (v : Tables) (d : Client) (r : Result Order ParseFault) → ((order : Order) → r ≡ Ok order → is_small order ≡ true) → Holds v → Holds (answering.by_line v d r).deed.tables
 read_holds v d (Err f) small h = told_holds v d.serial _ h
 read_holds v d (Ok order) small h = order_holds v d order (small order refl) h
 

@@ -28,8 +28,10 @@ use Rattle.session_model.specs.Checks.{checks, first_fault, verdicts, typing_che
 use Rattle.session_model.specs.Deeds.{Answer, Deed, changing}
 use Rattle.session_model.specs.Commands.{does}
 use Rattle.session_model.specs.Keying.{typed_bytes, command_item, taken, step_items}
-use Rattle.session_model.specs.Events.{types, says_why, input_in, ordered, message_of, keyed, reading, outcome, keys_outcome, refused, Outcome, unsaid, says_same, answered, commanded, line_ruling}
-use Rattle.session_model.specs.Events as events
+use Rattle.session_model.specs.Answering.{types, says_why, input_in, ordered, message_of, keyed, reading, keys_outcome, unsaid, says_same, answered, commanded, line_ruling}
+use Rattle.session_model.specs.Events.{outcome}
+use Rattle.session_model.specs.Outcomes.{refused, Outcome}
+use Rattle.session_model.specs.Answering as answering
 use Rattle.session_model.specs.Run.{IsStep}
 use Rattle.session_model.specs.Given.{Given, Typed, has_x, stuffed, typed_by_client, with_order, order_in, ok_of}
 use Rattle.session_model.specs.Promises.{SomeOf, why_not, why_not_into, IsTold, DenialIsTold}
@@ -179,11 +181,11 @@ typed_tells u d (b ∷ bytes) more = why_left d.serial (types u d (b ∷ bytes))
 
 module _ (t : Tables) (c : Client) (said : List Effect) (cs : List Client) (read : List ℕ) where
   order_tells : (order : Order)
-      → AllByRecursion (λ (bs : Typed). TellsIn c.serial (said ++ unsaid said (events.by_line (record t { clients = cs }) (reading read c) (Ok order)).deed.effects) bs.bytes (why_not t bs))
+      → AllByRecursion (λ (bs : Typed). TellsIn c.serial (said ++ unsaid said (answering.by_line (record t { clients = cs }) (reading read c) (Ok order)).deed.effects) bs.bytes (why_not t bs))
       (stuffed t (giving (caller_of t c) order) order ++ [])
   order_tells order =
       let v : Tables = record t { clients = cs } in
-      let effects : List Effect = said ++ unsaid said (events.by_line v (reading read c) (Ok order)).deed.effects in
+      let effects : List Effect = said ++ unsaid said (answering.by_line v (reading read c) (Ok order)).deed.effects in
       stuffed_all (λ (bs : Typed). TellsIn c.serial effects bs.bytes (why_not t bs)) t c.user (Some c.serial) (focused_window t c) order
       (λ w bytes at is has.
       let why : first_fault t (checks t (caller_of t c) order) ≡ why_not_into t c.user w.serial =
@@ -194,7 +196,7 @@ module _ (t : Tables) (c : Client) (said : List Effect) (cs : List Client) (read
       (subst (Why c.serial effects) why (keyed_why v c.serial (message_of order) said (first_fault t (checks t (caller_of t c) order)) (does v (caller_of t c) order))))
 
   line_tells : (r : Result Order ParseFault)
-      → AllByRecursion (λ (bs : Typed). TellsIn c.serial (said ++ unsaid said (events.by_line (record t { clients = cs }) (reading read c) r).deed.effects) bs.bytes (why_not t bs))
+      → AllByRecursion (λ (bs : Typed). TellsIn c.serial (said ++ unsaid said (answering.by_line (record t { clients = cs }) (reading read c) r).deed.effects) bs.bytes (why_not t bs))
       (flat_map (λ g. stuffed t g g.order) (with_order (caller_of t c) (ok_of r)))
   line_tells (Err f) = tt
   line_tells (Ok order) = order_tells order

@@ -15,7 +15,8 @@ use Rattle.session_model.specs.Tables.{Tables, Client, row_of, with_row, client_
 use Rattle.session_model.specs.Texts.{text_of, client_item, clients_text, separated}
 use Rattle.session_model.specs.Checks.{first_fault, typing_checks}
 use Rattle.session_model.specs.Deeds.{Deed, changing, hearing}
-use Rattle.session_model.specs.Events.{left_by, left_acts, says_why, types, input_in}
+use Rattle.session_model.specs.Outcomes.{left_acts_of, left_acts}
+use Rattle.session_model.specs.Answering.{says_why, types, input_in}
 use Rattle.session_model.specs.Given.{Given}
 use Rattle.session_model.specs.Promises.{SomeOf, IsClient, IsDoneBy, is_named, is_owners, unread}
 use Rattle.session_model.specs.Denying.{told_by}
@@ -80,8 +81,8 @@ focus_unread (c ∷ cs) user w = ap (λ b. shows user w c || b) (focus_unread cs
 
 left_same : (before a b : List Client) → ((user : UserId) (w : ℕ) → is_in_focus a user w ≡ is_in_focus b user w) → left_acts before a ≡ left_acts before b
 left_same [] a b same = refl
-left_same (c ∷ before) a b same = ap (λ acts. acts ++ left_acts before a) (one (focused c)) ∙ ap (λ acts. left_by c (focused c) before b ++ acts) (left_same before a b same) where
-  one : (o : Option ℕ) → left_by c o before a ≡ left_by c o before b
+left_same (c ∷ before) a b same = ap (λ acts. acts ++ left_acts before a) (one (focused c)) ∙ ap (λ acts. left_acts_of c (focused c) before b ++ acts) (left_same before a b same) where
+  one : (o : Option ℕ) → left_acts_of c o before a ≡ left_acts_of c o before b
   one None = refl
   one (Some w) = ap (λ x. if is_in_focus before c.user w || x then (let none : List Act = [] in none) else Left c.user w ∷ []) (same c.user w)
 

@@ -20,7 +20,7 @@ use Rattle.session_model.specs.Lines.{Caller}
 use Rattle.session_model.specs.Deeds as deeds
 use Rattle.session_model.specs.Deeds.{Deed, given, removes, parts, closes, is_of}
 use Rattle.session_model.specs.Commands.{does, coding_of}
-use Rattle.session_model.specs.Events.{says_same, unsaid}
+use Rattle.session_model.specs.Answering.{says_same, unsaid}
 use Rattle.session_model.specs.Promises.{SomeOf}
 use Rattle.session_model.specs.Sound.{Rises}
 use Rattle.session_laws.specs.Written.{order_writing, is_own, sizes_of}

@@ -16,7 +16,8 @@ use Rattle.session_model.specs.Lines.{read_line}
 use Rattle.session_model.specs.Deeds.{Deed, Answer}
 use Rattle.session_model.specs.Commands.{ruling}
 use Rattle.session_model.specs.Keying.{taken, step_items, typed_bytes, command_item}
-use Rattle.session_model.specs.Events.{types, reading, told, message_of, unsaid, left_acts}
+use Rattle.session_model.specs.Answering.{types, reading, told, message_of, unsaid}
+use Rattle.session_model.specs.Outcomes.{left_acts}
 use Rattle.session_model.specs.Given.{Given, commands_of, has_x}
 use Rattle.session_model.specs.Promises.{SomeOf}
 use Rattle.session_model.specs.Run.{IsStep, after}

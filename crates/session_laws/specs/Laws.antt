@@ -13,7 +13,7 @@ use Rattle.session_model.specs.Tables.{Tables, is_known}
 use Rattle.session_model.specs.Lines.{read_line, line_caller}
 use Rattle.session_model.specs.Deeds.{Deed}
 use Rattle.session_model.specs.Commands.{does, ruling}
-use Rattle.session_model.specs.Events.{left_acts}
+use Rattle.session_model.specs.Outcomes.{left_acts}
 use Rattle.session_model.specs.Given.{Given, commands_of, has_x}
 use Rattle.session_model.specs.Promises.{SomeOf}
 use Rattle.session_model.specs.Run.{IsStep, IsRun, after, tables_of}

@@ -21,7 +21,7 @@ use Rattle.acl.specs.Same.{same_user}
 use Rattle.session_model.specs.Tables as model
 use Rattle.session_model.specs.Tables.{Tables, focused, is_window, shows, is_in_focus}
 use Rattle.session_model.specs.Deeds.{Deed}
-use Rattle.session_model.specs.Events.{left_by, left_acts}
+use Rattle.session_model.specs.Outcomes.{left_acts_of, left_acts}
 use Rattle.session_rows.proofs.Matching.{length_match}
 use Rattle.session_clients.specs.declared.client.Client.{Client}
 use Rattle.session_clients.specs.Moves.{in_focus}
@@ -63,7 +63,7 @@ by_if user w false true = refl
 by_if user w false false = refl
 
 one_same : (m : model.Client) (o : Option ℕ) (rows now : List model.Client) (cs : List Client) → AreClients now cs
-    → leaving m.user (left_window m.user o (focuses_of rows) cs) ≡ left_by m o rows now
+    → leaving m.user (left_window m.user o (focuses_of rows) cs) ≡ left_acts_of m o rows now
 one_same m None rows now cs st = refl
 one_same m (Some w) rows now cs st =
     by_if m.user w (list_any (looks_at m.user w) (focuses_of rows)) (list_any (shows_now m.user w) cs)
@@ -75,7 +75,7 @@ pub left_same : (rows now : List model.Client) (cs : List Client) → AreClients
 left_same [] now cs st = refl
 left_same (m ∷ rows) now cs st =
     ap (λ acts. acts ++ all_left (focuses_of rows) cs) (one_same m (focused m) rows now cs st)
-    ∙ ap (λ acts. left_by m (focused m) rows now ++ acts) (left_same rows now cs st)
+    ∙ ap (λ acts. left_acts_of m (focused m) rows now ++ acts) (left_same rows now cs st)
 
 -- ---- one focus after another
 
@@ -114,13 +114,13 @@ aside_by : (user : UserId) (w : ℕ) (b : Bool) → AllByRecursion IsAside (if b
 aside_by user w true = tt
 aside_by user w false = (tt, tt)
 
-aside_one : (m : model.Client) (o : Option ℕ) (rows now : List model.Client) → AllByRecursion IsAside (left_by m o rows now)
+aside_one : (m : model.Client) (o : Option ℕ) (rows now : List model.Client) → AllByRecursion IsAside (left_acts_of m o rows now)
 aside_one m None rows now = tt
 aside_one m (Some w) rows now = aside_by m.user w (is_in_focus rows m.user w || is_in_focus now m.user w)
 
 aside_left : (rows now : List model.Client) → AllByRecursion IsAside (left_acts rows now)
 aside_left [] now = tt
-aside_left (m ∷ rows) now = aside_append (left_by m (focused m) rows now) (left_acts rows now) (aside_one m (focused m) rows now) (aside_left rows now)
+aside_left (m ∷ rows) now = aside_append (left_acts_of m (focused m) rows now) (left_acts rows now) (aside_one m (focused m) rows now) (aside_left rows now)
 
 -- the state stands for the step's last tables
 pub has_ended : (t : Tables) (d : Deed) (s : State) (locks : Locks) (acts : List Act) → acts ≡ left_acts t.clients d.tables.clients → Stands (did t d) s

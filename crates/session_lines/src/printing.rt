@@ -220,7 +220,7 @@ fn push_cursor(cursor: Cursor, out: &mut String) -> Result<(), AllocError>
 {
     match cursor {
         Cursor::Hidden => out.push_str("cursor hidden\n"),
-        Cursor::Shown { line, column } => {
+        Cursor::At { line, column } => {
             let line = u32::from(line) + 1;
             let column = u32::from(column) + 1;
             writeln!(out, "cursor {line} {column}")

@@ -1,8 +1,8 @@
 -- A frame that is delivered behind all that was delivered before it.
-use Rattle.std.specs.Prelude.{◌≡◌, ℕ, List, [], ◌∷◌, ◌++◌, Option, Some, None}
+use Rattle.std.specs.Prelude.{◌≡◌, ℕ, List, [], ◌∷◌, ◌++◌}
 use Rattle.terminal_model.specs.Screen.{Page, blank_page}
 use Rattle.terminal_model.specs.Reading.{Terminal, Act, reads}
-use Rattle.terminal_model.specs.Shows.{View, IsOfSize, seen_at}
+use Rattle.terminal_model.specs.Shows.{View, IsOfSize}
 use Rattle.terminal_model.specs.Drawing.{frame_bytes, Draws, AreSpelled}
 
 -- it begins with the reset exactly where it is the first
@@ -32,19 +32,3 @@ pub record IsFrame (rows columns : ℕ) (before : List ℕ) (v : View) (bytes : 
       → Draws (page_behind rows columns before t) v.page (acts_drawn t before rest)
   pub spelled : (t : Terminal) → IsOfSize rows columns t
       → AreSpelled rest (acts_drawn t before rest)
-
--- two views show the same: protection isn't seen
-pub record LooksLike (v w : View) : Type 0 where
-  pub cells : (line column : ℕ) → seen_at v.page line column ≡ seen_at w.page line column
-  pub cursor : v.cursor ≡ w.cursor
-  pub arrows : v.has_application_arrows ≡ w.has_application_arrows
-  pub keypad : v.has_application_keypad ≡ w.has_application_keypad
-
--- nothing was drawn, or the view that was drawn last shows something else
-abbrev pub NeedsDraw : Option View → View → Type 0
-NeedsDraw None v = Unit {0}
-NeedsDraw (Some drawn) v = LooksLike drawn v → ⊥
-
-abbrev pub NeedsNoDraw : Option View → View → Type 0
-NeedsNoDraw None v = ⊥
-NeedsNoDraw (Some drawn) v = LooksLike drawn v

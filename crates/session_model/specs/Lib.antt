@@ -10,6 +10,9 @@ pub mod Checks
 pub mod Deeds
 pub mod Commands
 pub mod Keying
+pub mod Outcomes
+pub mod Comings
+pub mod Answering
 pub mod Events
 pub mod Granted
 pub mod Framed

@@ -2,14 +2,14 @@
 -- that shows the granted view.
 use Rattle.std.specs.Prelude.{ℕ, ◌==◌, List, [], ◌∷◌, ◌++◌, ◌≡◌, Option, Some, None}
 use Rattle.std.specs.Prelude.{if◌then◌else◌, MatchOption}
-use Rattle.terminal_model.specs.Shows.{View, ShowsFromAny}
+use Rattle.terminal_model.specs.Shows.{View, ShowsFromAny, NeedsDraw, NeedsNoDraw}
 use Rattle.session_model.specs.declared.event.Effect.{Effect}
 use Rattle.session_model.specs.declared.event.Effect.TheVariants.{Deliver}
 use Rattle.session_model.specs.Trace.{EventValue, Draw, Entry, Trace}
 use Rattle.session_model.specs.Tables.{Client, Tables, fresh, client_at, with_client}
 use Rattle.session_model.specs.Events.{outcome}
 use Rattle.session_model.specs.Granted.{granted_view}
-use Rattle.session_model.specs.Framed.{IsFrame, NeedsDraw, NeedsNoDraw}
+use Rattle.session_model.specs.Framed.{IsFrame}
 
 -- the bytes that effects deliver to a client
 abbrev pub deliveries : List Effect → ℕ → List ℕ

@@ -5,8 +5,8 @@ use Rattle.session_rows.specs.Finding.{with_row}
 use Rattle.session_rows.specs.contracts.rows.Rows.{the_row}
 
 -- rows over the first of the old ones, of which as many stay as there were
-abbrev pub over : {A : Type 0} → List A → List A → List A
-over old rows = take (length old) (rows ++ drop (length rows) old)
+abbrev pub written_over : {A : Type 0} → List A → List A → List A
+written_over old rows = take (length old) (rows ++ drop (length rows) old)
 
 -- the first row of a serial
 abbrev pub LendsRow : (R : RattleType) →
@@ -17,4 +17,4 @@ LendsRow R serial_of s serial r =
 
 -- all rows
 abbrev pub LendsAll : (R : RattleType) → MutBor (List R.Denot) → MutBor (List R.Denot) → Fml
-LendsAll R s r = Lends (the_row R) (Array R 0) s r (over s.now)
+LendsAll R s r = Lends (the_row R) (Array R 0) s r (written_over s.now)

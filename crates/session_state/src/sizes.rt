@@ -1,7 +1,7 @@
 //! Sizes of clients' terminals and of windows.
 
 ghost use Rattle.std.specs.Prelude.{◌≡◌};
-ghost use Rattle.session_model.specs.Events.{is_client_size};
+ghost use Rattle.session_model.specs.Comings.{is_client_size};
 
 /// What size a window has: lines, columns, and how many lines that left at the top it keeps.
 #[derive(Clone, Copy, PartialEq, Eq, Debug)]

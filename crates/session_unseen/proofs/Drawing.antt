@@ -4,16 +4,16 @@ use Rattle.std.specs.Prelude.{if◌then◌else◌}
 use Rattle.std.specs.Option.{option_map}
 use Rattle.acl.specs.declared.user_id.UserId.{UserId}
 use Rattle.acl.specs.History.{followed_by}
-use Rattle.terminal_model.specs.Shows.{View}
+use Rattle.terminal_model.specs.Shows.{View, NeedsDraw, NeedsNoDraw}
 use Rattle.session_model.specs.declared.event.Effect.{Effect}
 use Rattle.session_model.specs.declared.event.Effect.TheVariants.{Input, Deliver, Say, Size, GoneWindow, GoneClient}
 use Rattle.session_model.specs.declared.refusal.Refusal.TheVariants.{NoWindow}
 use Rattle.session_model.specs.Trace.{Draw}
 use Rattle.session_model.specs.Tables.{Tables, Client, row_of, client_at, with_client}
 use Rattle.session_model.specs.Deeds.{changing}
-use Rattle.session_model.specs.Events.{Outcome, outcome, refused, finished, done}
+use Rattle.session_model.specs.Outcomes.{Outcome, refused, finished, done}
+use Rattle.session_model.specs.Events.{outcome}
 use Rattle.session_model.specs.Granted.{granted_view}
-use Rattle.session_model.specs.Framed.{NeedsDraw, NeedsNoDraw}
 use Rattle.session_model.specs.Run.{drawn, drawn_on, with_drawn, DrawsWhereNeeded, IsDraw}
 use Rattle.session_laws.proofs.Lists.{row_serial}
 use Rattle.session_laws.proofs.Leaving.{none_left}

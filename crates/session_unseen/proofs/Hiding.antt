@@ -8,7 +8,9 @@ use Rattle.terminal_model.specs.Writing as written
 use Rattle.session_model.specs.declared.refusal.Refusal.TheVariants.{NoWindow}
 use Rattle.session_model.specs.Trace.{EventValue, Attach, Detach, Keys, Command, Resize, Open, Output, Closed, Draw, Entry}
 use Rattle.session_model.specs.Tables.{Tables, Window, Client, window_at, with_window}
-use Rattle.session_model.specs.Events.{Outcome, outcome, refused, finished, done, outputs}
+use Rattle.session_model.specs.Outcomes.{Outcome, refused, finished, done}
+use Rattle.session_model.specs.Events.{outcome}
+use Rattle.session_model.specs.Comings.{outputs}
 use Rattle.session_model.specs.Run.{after}
 use Rattle.session_laws.proofs.Lists.{row_serial}
 use Rattle.session_laws.proofs.Leaving.{none_left}

@@ -26,7 +26,10 @@ use Rattle.session_model.specs.Checks.{verdicts, first_fault, typing_checks}
 use Rattle.session_model.specs.Deeds.{Deed, Answer, changing, hearing, input_of}
 use Rattle.session_model.specs.Commands.{ruling}
 use Rattle.session_model.specs.Keying.{items_behind, taken, typed_bytes, command_item}
-use Rattle.session_model.specs.Events.{Outcome, reply_of, done, finished, open_checks, new_window, opens, is_client_size, resized, outputs, told, says, says_why, input_in, types, typing_verdicts, message_of, with_listed, keyed, Ordered, by_ruling, by_line, ordered, unsaid, reading, keys_outcome, where_passed, outcome}
+use Rattle.session_model.specs.Outcomes.{Outcome, reply_of, done, finished, where_passed}
+use Rattle.session_model.specs.Comings.{open_checks, new_window, opens, is_client_size, resized, outputs}
+use Rattle.session_model.specs.Answering.{told, says, says_why, input_in, types, typing_verdicts, message_of, with_listed, keyed, Ordered, by_ruling, by_line, ordered, unsaid, reading, keys_outcome}
+use Rattle.session_model.specs.Events.{outcome}
 use Rattle.session_laws.proofs.Lists.{row_serial}
 use Rattle.session_unseen.specs.Hidden.{is_hidden}
 use Rattle.session_unseen.proofs.Cutting.{cut_window, cut_client, cut, cut_deed, cut_caller, cut_writing, client_cut, with_client_cut, with_window_cut}

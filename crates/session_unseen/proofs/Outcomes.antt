@@ -27,7 +27,10 @@ use Rattle.session_model.specs.Lines.{read_line, Caller, line_caller}
 use Rattle.session_model.specs.Checks.{verdicts, first_fault, checks}
 use Rattle.session_model.specs.Deeds.{Deed, Answer, acting, entering}
 use Rattle.session_model.specs.Commands.{does, ruling}
-use Rattle.session_model.specs.Events.{left_by, left_acts, Outcome, reply_of, finished, refused, where_passed, attach_checks, new_client, attaches, has_place, open_checks, new_window, opens, is_client_size, is_window_size, is_let_in, line_ruling, answered, commanded, with_client_of, with_window_of, outcome}
+use Rattle.session_model.specs.Outcomes.{left_acts_of, left_acts, Outcome, reply_of, finished, refused, where_passed}
+use Rattle.session_model.specs.Comings.{attach_checks, new_client, attaches, has_place, open_checks, new_window, opens, is_client_size, is_window_size, is_let_in}
+use Rattle.session_model.specs.Answering.{line_ruling, answered, commanded}
+use Rattle.session_model.specs.Events.{with_client_of, with_window_of, outcome}
 use Rattle.session_unseen.proofs.Cutting.{read_all, change_all, length_cut, append_cut, cut_window, cut_client, cut, cut_deed, cut_caller, client_cut, window_cut, with_client_cut, with_window_cut}
 use Rattle.session_unseen.proofs.Finding.{lowest_cut, free_cut, in_focus_cut, given_number_cut}
 use Rattle.session_unseen.proofs.Checking.{fault_cut, verdicts_cut, checks_cut}
@@ -48,7 +51,7 @@ module _ (shown : ℕ → Bool) (seeing : UserId → Bool) where
 
   -- ---- leaving
 
-  leaver_cut : (c : Client) (o : Option ℕ) (before after : List Client) → left_by (g c) o (map g before) (map g after) ≡ left_by c o before after
+  leaver_cut : (c : Client) (o : Option ℕ) (before after : List Client) → left_acts_of (g c) o (map g before) (map g after) ≡ left_acts_of c o before after
   leaver_cut c None before after = refl
   leaver_cut c (Some w) before after =
       ap (λ b. if b || is_in_focus (map g after) c.user w then [] else act.Left c.user w ∷ []) (in_focus_cut shown seeing before c.user w)
@@ -58,7 +61,7 @@ module _ (shown : ℕ → Bool) (seeing : UserId → Bool) where
   left_cut [] after = refl
   left_cut (c ∷ before) after =
       ap (λ acts. acts ++ left_acts (map g before) (map g after)) (leaver_cut c (focused c) before after)
-      ∙ ap (λ acts. left_by c (focused c) before after ++ acts) (left_cut before after)
+      ∙ ap (λ acts. left_acts_of c (focused c) before after ++ acts) (left_cut before after)
 
   -- ---- outcomes
 

@@ -28,7 +28,8 @@ use Rattle.session_model.specs.Denials.{entry_denial}
 use Rattle.session_model.specs.Deeds.{Deed, Answer, changing}
 use Rattle.session_model.specs.Commands.{does, caller_client, ruling}
 use Rattle.session_model.specs.Keying.{items_behind, typed_bytes, command_item}
-use Rattle.session_model.specs.Events.{left_acts, types, says, says_why, message_of, with_listed, keyed, by_line, ordered, unsaid, reading, input_in}
+use Rattle.session_model.specs.Outcomes.{left_acts}
+use Rattle.session_model.specs.Answering.{types, says, says_why, message_of, with_listed, keyed, by_line, ordered, unsaid, reading, input_in}
 use Rattle.session_model.specs.Sound.{Rises, client_serials}
 use Rattle.session_laws.proofs.Lists.{row_serial, equal, all_append, all_filter}
 use Rattle.session_guests.proofs.Events.{all_left}

@@ -38,7 +38,10 @@ use Rattle.session_model.specs.Denials.{entry_denial}
 use Rattle.session_model.specs.Deeds.{Deed, Answer, changing, parts, entering}
 use Rattle.session_model.specs.Commands.{ruling}
 use Rattle.session_model.specs.Keying.{taken}
-use Rattle.session_model.specs.Events.{Outcome, outcome, left_acts, finished, refused, done, reply_of, attach_checks, attaches, new_client, open_checks, opens, new_window, is_client_size, is_window_size, is_let_in, has_place, resized, line_ruling, answered, commanded, keys_outcome}
+use Rattle.session_model.specs.Outcomes.{Outcome, left_acts, finished, refused, done, reply_of}
+use Rattle.session_model.specs.Events.{outcome}
+use Rattle.session_model.specs.Comings.{attach_checks, attaches, new_client, open_checks, opens, new_window, is_client_size, is_window_size, is_let_in, has_place, resized}
+use Rattle.session_model.specs.Answering.{line_ruling, answered, commanded, keys_outcome}
 use Rattle.session_model.specs.Granted.{granted_view}
 use Rattle.session_model.specs.Given.{Given, commands_of}
 use Rattle.session_model.specs.Promises.{SomeOf}
@@ -240,16 +243,16 @@ module _ (t : Tables) (user : UserId) (fit : AreFit t) (watches : IsSpectator t 
   opening : (v : UserId) (rows columns keep : ℕ) (title : List ℕ) → v ≡ user → By (outcome t (Open v rows columns keep title))
   opening v rows columns keep title is = subst (λ w. By (outcome t (Open w rows columns keep title))) (sym is) (not_opened (verdicts t (open_checks t user rows columns keep title)) rows columns keep title _ (opens t user (new_window t rows columns keep title)))
 
-  pub left_by : (event : EventValue) (effects : List Effect) → HasEffects t event effects → user_of t event ≡ Some user → Left t user (outcome t event).acts effects (drawn event effects (outcome t event).tables)
-  left_by (Attach v rows columns) effects has is = same_effects (outcome t (Attach v rows columns)) effects has (come v rows columns (let e : v ≡ user = cc (is) in e))
-  left_by (Detach client) effects has is = same_effects (outcome t (Detach client)) effects has (with_client_by client _ is (λ c at mine. detached client c at mine))
-  left_by (Keys client bytes) effects has is = same_effects (outcome t (Keys client bytes)) effects has (with_client_by client _ is (λ c at mine. keyed client c at mine (take (taken c.keys bytes) bytes)))
-  left_by (Command v number bytes) effects has is = same_effects (outcome t (Command v number bytes)) effects has (commands v number bytes (let e : v ≡ user = cc (is) in e))
-  left_by (Resize client rows columns) effects has is = same_effects (outcome t (Resize client rows columns)) effects has (with_client_by client _ is (λ c at mine. sized client c at mine rows columns))
-  left_by (Open v rows columns keep title) effects has is = same_effects (outcome t (Open v rows columns keep title)) effects has (opening v rows columns keep title (let e : v ≡ user = cc (is) in e))
-  left_by (Output window bytes) effects has is = absurd (cc (is))
-  left_by (Closed window) effects has is = absurd (cc (is))
-  left_by (Draw client) effects has is = on (client_at t client) refl has where
+  pub left_acts_of : (event : EventValue) (effects : List Effect) → HasEffects t event effects → user_of t event ≡ Some user → Left t user (outcome t event).acts effects (drawn event effects (outcome t event).tables)
+  left_acts_of (Attach v rows columns) effects has is = same_effects (outcome t (Attach v rows columns)) effects has (come v rows columns (let e : v ≡ user = cc (is) in e))
+  left_acts_of (Detach client) effects has is = same_effects (outcome t (Detach client)) effects has (with_client_by client _ is (λ c at mine. detached client c at mine))
+  left_acts_of (Keys client bytes) effects has is = same_effects (outcome t (Keys client bytes)) effects has (with_client_by client _ is (λ c at mine. keyed client c at mine (take (taken c.keys bytes) bytes)))
+  left_acts_of (Command v number bytes) effects has is = same_effects (outcome t (Command v number bytes)) effects has (commands v number bytes (let e : v ≡ user = cc (is) in e))
+  left_acts_of (Resize client rows columns) effects has is = same_effects (outcome t (Resize client rows columns)) effects has (with_client_by client _ is (λ c at mine. sized client c at mine rows columns))
+  left_acts_of (Open v rows columns keep title) effects has is = same_effects (outcome t (Open v rows columns keep title)) effects has (opening v rows columns keep title (let e : v ≡ user = cc (is) in e))
+  left_acts_of (Output window bytes) effects has is = absurd (cc (is))
+  left_acts_of (Closed window) effects has is = absurd (cc (is))
+  left_acts_of (Draw client) effects has is = on (client_at t client) refl has where
     on : (o : Option Client) → client_at t client ≡ o → MatchOption o (effects ≡ []) (IsDraw t effects) → Left t user (outcome t (Draw client)).acts effects (drawn (Draw client) effects (outcome t (Draw client)).tables)
     on None at none = absurd (let e : None ≡ Some user = sym (ap (option_map (λ (x : Client). x.user)) at) ∙ is in cc (e))
     on (Some c) at draws =
@@ -332,7 +335,7 @@ pub record Laws : Type 0 where
 
 module _ (laws : Laws) (t : Tables) (e : Entry) (user : UserId) (fit : AreFit t) (hold : HoldersMayWrite t) (step : IsStep t e) (by : user_of t e.event ≡ Some user) (watches : IsSpectator t user) where
   left : Left t user e.acts e.effects (after t e)
-  left = subst (λ acts. Left t user acts e.effects (after t e)) (sym step.acts) (left_by t user fit watches e.event e.effects step.effects by)
+  left = subst (λ acts. Left t user acts e.effects (after t e)) (sym step.acts) (left_acts_of t user fit watches e.event e.effects step.effects by)
 
   -- ---- locks
 

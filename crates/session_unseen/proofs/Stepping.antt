@@ -12,7 +12,9 @@ use Rattle.session_model.specs.Trace.{EventValue, Attach, Detach, Keys, Command,
 use Rattle.session_model.specs.Tables.{Tables, Window, Client, client_at, window_at}
 use Rattle.session_model.specs.Terminals.{terminal_of}
 use Rattle.session_model.specs.Deeds.{input_of}
-use Rattle.session_model.specs.Events.{Outcome, outcome, refused, finished, done, outputs}
+use Rattle.session_model.specs.Outcomes.{Outcome, refused, finished, done}
+use Rattle.session_model.specs.Events.{outcome}
+use Rattle.session_model.specs.Comings.{outputs}
 use Rattle.session_model.specs.Granted.{granted_view}
 use Rattle.session_model.specs.Run.{drawn, drawn_on, HasEffects, IsDraw, DrawsWhereNeeded}
 use Rattle.session_guests.specs.Locking.{user_of, client_user}

@@ -21,7 +21,7 @@ use Rattle.session_model.specs.Lines.{Caller}
 use Rattle.session_model.specs.Deeds as deeds
 use Rattle.session_model.specs.Deeds.{Deed, Answer, given, unless, refused_if, parts, arranges, enters, selects, entering, hearing}
 use Rattle.session_model.specs.Commands.{does, caller_client, on_client}
-use Rattle.session_model.specs.Events.{told}
+use Rattle.session_model.specs.Answering.{told}
 use Rattle.session_laws.proofs.Lists.{row_serial, equal, all_map, all_passed, all_of}
 use Rattle.session_unseen.specs.Watching.{is_watching, others_clients}
 

@@ -1,9 +1,9 @@
 -- Views that are drawn.
 use Rattle.std.proofs.Common.{◌≡◌, ℕ, List, [], ◌∷◌, ◌++◌, Some, ap, sym, ◌∙◌, subst, append-nil}
 use Rattle.std.specs.Prelude.{◌==◌}
-use Rattle.terminal_model.specs.Shows.{View, ShowsFromAny}
+use Rattle.terminal_model.specs.Shows.{View, ShowsFromAny, NeedsDraw, NeedsNoDraw}
 use Rattle.session_model.specs.declared.event.Effect.TheVariants.{Deliver}
-use Rattle.session_model.specs.Framed.{IsFrame, NeedsDraw, NeedsNoDraw}
+use Rattle.session_model.specs.Framed.{IsFrame}
 use Rattle.session_model.specs.Granted.{granted_view}
 use Rattle.session_model.specs.Run.{deliveries, drawn_on}
 use Rattle.session_model.specs.Tables as model

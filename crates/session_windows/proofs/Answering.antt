@@ -8,7 +8,7 @@ use Rattle.session_model.specs.declared.refusal.WindowsFault.TheVariants.{Number
 use Rattle.session_model.specs.Tables as model
 use Rattle.session_model.specs.Tables.{row_of, with_row}
 use Rattle.session_model.specs.Naming.{is_title}
-use Rattle.session_model.specs.Events.{is_window_size}
+use Rattle.session_model.specs.Comings.{is_window_size}
 use Rattle.terminal_model.specs.Writing.{Output}
 use Rattle.session_rows.proofs.Serials.{if_true, if_false, with_back, serial_is}
 use Rattle.session_rows.proofs.Matching.{none_back, rows_match, with_match, row_back, row_there, without_match, push_match}

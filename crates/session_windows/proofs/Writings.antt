@@ -12,7 +12,7 @@ use Rattle.emulator.specs.Standing as emulator
 use Rattle.emulator.specs.Standing.{Parts}
 use Rattle.session_model.specs.Tables as model
 use Rattle.session_model.specs.Terminals.{terminal_of}
-use Rattle.session_model.specs.Events.{is_window_size}
+use Rattle.session_model.specs.Comings.{is_window_size}
 use Rattle.session_model.specs.Naming.{is_title}
 use Rattle.session_model.specs.declared.refusal.Refusal.TheVariants.{BadSize, Windows}
 use Rattle.session_model.specs.declared.refusal.WindowsFault.TheVariants.{BadTitle}

@@ -16,7 +16,7 @@ use Rattle.session_model.specs.declared.refusal.WindowsFault.TheVariants.{BadTit
 use Rattle.session_model.specs.Tables as model
 use Rattle.session_model.specs.Tables.{row_of, with_row}
 use Rattle.session_model.specs.Naming.{with_number, free_number, is_title}
-use Rattle.session_model.specs.Events.{is_window_size}
+use Rattle.session_model.specs.Comings.{is_window_size}
 use Rattle.session_model.specs.Terminals.{terminal_of}
 use Rattle.session_rows.specs.Matched.{Matched, BothOrNone}
 use Rattle.session_windows.specs.declared.window.Window.{Window}

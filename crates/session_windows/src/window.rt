@@ -2,7 +2,7 @@
 
 ghost use Rattle.std.specs.Prelude.{◌≡◌, true, IfOk, IfErr, OnOk, OnErr};
 ghost use Rattle.terminal_model.specs.Writing.{Clear, Reset, Encoding};
-ghost use Rattle.session_model.specs.Events.{is_window_size};
+ghost use Rattle.session_model.specs.Comings.{is_window_size};
 
 use crate::titles::is_title;
 use cells::{Cell, GridFault};

@@ -7,7 +7,7 @@ use Rattle.std.specs.Str.{chars}
 use Rattle.acl.specs.declared.edition.Edition.TheVariants.{Second}
 use Rattle.keys.specs.Grammar.{items_from}
 use Rattle.command_lang.specs.Names.{command_named}
-use Rattle.terminal_model.specs.Shows.{ShowsFromAny}
+use Rattle.terminal_model.specs.Shows.{ShowsFromAny, LooksLike, NeedsDraw}
 use Rattle.terminal_model.specs.Printing.{columns_of, drawn}
 use Rattle.terminal_model.specs.Table.{acted_from}
 use Rattle.terminal_model.specs.Writing.{writes_all}
@@ -23,7 +23,7 @@ use Rattle.session_model.specs.declared.event.Effect.TheVariants.{Deliver}
 use Rattle.session_model.specs.Deeds.{unless, refused_if, given}
 use Rattle.session_model.specs.Tables.{Tables, Client}
 use Rattle.session_model.specs.Granted.{granted_view}
-use Rattle.session_model.specs.Framed.{IsFrame, LooksLike, NeedsDraw}
+use Rattle.session_model.specs.Framed.{IsFrame}
 use Rattle.session_model.specs.Run.{IsDraw, deliveries}
 use Rattle.session_model.specs.Trace.{Draw}
 use Rattle.session_worked.specs.Setup.{bob, client, several, then_comes}

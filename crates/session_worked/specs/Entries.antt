@@ -11,7 +11,7 @@ use Rattle.session_model.specs.declared.event.Effect.TheVariants.{Input, Say, Go
 use Rattle.session_model.specs.declared.event.Reason.TheVariants as reason
 use Rattle.session_model.specs.declared.refusal.Refusal.TheVariants.{Acl}
 use Rattle.session_model.specs.Trace.{Keys}
-use Rattle.session_model.specs.Events.{Outcome}
+use Rattle.session_model.specs.Outcomes.{Outcome}
 use Rattle.command_lang.specs.command.Command.{Command as Order}
 use Rattle.session_model.specs.Tables.{Tables}
 use Rattle.session_model.specs.Rights.{may_in}

@@ -12,7 +12,8 @@ use Rattle.session_model.specs.declared.refusal.Refusal.TheVariants.{BadSize, No
 use Rattle.session_model.specs.declared.refusal.WindowsFault.TheVariants as fault
 use Rattle.session_model.specs.Trace.{Keys, Attach, Open, Resize}
 use Rattle.session_model.specs.Tables.{Tables}
-use Rattle.session_model.specs.Events.{outcome, new_window}
+use Rattle.session_model.specs.Events.{outcome}
+use Rattle.session_model.specs.Comings.{new_window}
 use Rattle.session_worked.specs.Setup.{user, own, bob, window, several, ordered, after, typed}
 use Rattle.session_worked.specs.Setup.{then_comes, listed}
 

@@ -20,8 +20,11 @@ use Rattle.session_model.specs.Texts.{text_of}
 use Rattle.session_model.specs.Tables.{Tables, Window, Client, fresh}
 use Rattle.session_model.specs.Lines.{line_caller}
 use Rattle.session_model.specs.Commands.{ruling}
-use Rattle.session_model.specs.Events.{Outcome, outcome, commanded, finished, done, opens}
-use Rattle.session_model.specs.Events.{new_window}
+use Rattle.session_model.specs.Outcomes.{Outcome, finished, done}
+use Rattle.session_model.specs.Events.{outcome}
+use Rattle.session_model.specs.Answering.{commanded}
+use Rattle.session_model.specs.Comings.{opens}
+use Rattle.session_model.specs.Comings.{new_window}
 
 abbrev pub user : List ℕ → UserId
 user word = record { name = word ++ replicate (20 - length word) 0 }

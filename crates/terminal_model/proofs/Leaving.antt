@@ -24,7 +24,7 @@ use Rattle.terminal_model.specs.Sizing.{resized}
 use Rattle.terminal_model.specs.Table.{acted_from, acted, all_acted, effect}
 use Rattle.terminal_model.specs.Reading.{Terminal, IsTerminal, Act, Read, ready, read_units, read_byte, reads}
 use Rattle.terminal_model.specs.Writing.{Writing, Output, Size, Clear, Reset, Encoding, IsWriting, writes, writes_all}
-use Rattle.terminal_model.specs.Scrollback.{indexed_out, is_wrapped, printed_out, acted_out, all_acted_out, lines_out, lines_of, left_by, all_left, KeepsLast}
+use Rattle.terminal_model.specs.Scrollback.{indexed_out, is_wrapped, printed_out, acted_out, all_acted_out, lines_out, lines_of, left_by_writing, all_left, KeepsLast}
 use Rattle.terminal_model.proofs.Readings.{effects, acts_of, read_units-is}
 use Rattle.terminal_model.proofs.Sound.{IsSound-acted, IsSound-effect}
 use Rattle.terminal_model.proofs.Terminals.{IsTerminal-read_byte, IsTerminal-ready, IsTerminal-writes}
@@ -198,7 +198,7 @@ unfolding resized
 resized_keeps rows columns x lines h =
     ap (map (line_resized columns)) h ∙ take_map (line_resized columns) x.keep (reverse lines) ∙ ap (take x.keep) (reverse_map (line_resized columns) lines)
 
-writes_keep : (t : Terminal) (w : Writing) (lines : Page) → IsTerminal t → KeepsLast lines t.screen → KeepsLast (left_by lines t w) (writes t w).terminal.screen
+writes_keep : (t : Terminal) (w : Writing) (lines : Page) → IsTerminal t → KeepsLast lines t.screen → KeepsLast (left_by_writing lines t w) (writes t w).terminal.screen
 writes_keep t (Output bytes) lines k h = keeps_on t.screen (reads t bytes).terminal.screen lines (lines_of (reads t bytes).acts) h (reads_push t bytes k)
 writes_keep t (Size rows columns) lines k h = resized_keeps rows columns t.screen lines h
 writes_keep t Clear lines k h = keeps_on t.screen (writes t Clear).terminal.screen lines (lines_of (writes t Clear).acts) h (reads_push (ready t.screen) _ (IsTerminal-ready t.screen k.sound))
@@ -209,7 +209,7 @@ writes_keep t (Encoding coding) lines k h =
 pub writing_keeps : (t : Terminal) (ws : List Writing) (lines : Page) → AllByRecursion IsWriting ws → IsTerminal t → KeepsLast lines t.screen → KeepsLast (all_left lines t ws) (writes_all t ws).terminal.screen
 unfolding writes_all
 writing_keeps t [] lines g k h = h
-writing_keeps t (w ∷ later) lines g k h = writing_keeps (writes t w).terminal later (left_by lines t w) g.1 (IsTerminal-writes t w g.0 k) (writes_keep t w lines k h)
+writing_keeps t (w ∷ later) lines g k h = writing_keeps (writes t w).terminal later (left_by_writing lines t w) g.1 (IsTerminal-writes t w g.0 k) (writes_keep t w lines k h)
 
 pub take_none : {X : Type 0} → (n : ℕ) → take {A = X} n [] ≡ []
 take_none zero = refl

@@ -6,7 +6,6 @@ use Rattle.charsets.specs.declared.sets.CharacterSet.TheVariants.{Ascii}
 use Rattle.charsets.specs.Shifts.{set_at}
 use Rattle.cells.specs.declared.cell.Cell.{Cell}
 use Rattle.cells.specs.declared.cell.Colour.{Colour}
-use Rattle.cells.specs.declared.cell.Colour.TheVariants.{Default}
 use Rattle.cells.specs.declared.cell.Rendition.{Rendition}
 use Rattle.cells.specs.Line.{blank, cell_at, is_left, is_right, marked, narrow_cell, left_cell}
 use Rattle.cells.specs.Line.{right_cell}
@@ -86,8 +85,8 @@ value_if b n = cond b (n ∷ []) []
 
 -- the value of a colour, from that of colour 0 on; 0 has set the terminal's own
 abbrev pub value_of_colour : ℕ → Colour → List ℕ
-value_of_colour base Default = []
-value_of_colour base colour = (base + colour_digit colour) ∷ []
+value_of_colour base colour =
+    if colour_digit colour == 9 then [] else (base + colour_digit colour) ∷ []
 
 abbrev pub colour_values : Rendition → List ℕ
 colour_values r =

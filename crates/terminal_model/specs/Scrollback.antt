@@ -56,13 +56,13 @@ lines_of acts = flat_map (λ a. lines_out a.before a.func) acts
 
 -- ALL LINES that left while a window wrote, behind those that had left before; a change of size
 -- cuts or fills each of them.
-abbrev pub left_by : Page → Terminal → Writing → Page
-left_by lines t (Size rows columns) = map (line_resized columns) lines
-left_by lines t w = lines ++ lines_of (writes t w).acts
+abbrev pub left_by_writing : Page → Terminal → Writing → Page
+left_by_writing lines t (Size rows columns) = map (line_resized columns) lines
+left_by_writing lines t w = lines ++ lines_of (writes t w).acts
 
 abbrev pub all_left : Page → Terminal → List Writing → Page
 all_left lines t [] = lines
-all_left lines t (w ∷ later) = all_left (left_by lines t w) (writes t w).terminal later
+all_left lines t (w ∷ later) = all_left (left_by_writing lines t w) (writes t w).terminal later
 
 -- a screen keeps the last ones of the lines, the newest first
 abbrev pub KeepsLast : Page → Screen → Type 0

@@ -28,6 +28,23 @@ blank_view rows columns = record {
 abbrev pub seen_at : Page → ℕ → ℕ → Cell
 seen_at page line column = unprotected (cell_at (line_at page line) column)
 
+-- two views show the same: protection isn't seen
+pub record LooksLike (v w : View) : Type 0 where
+  pub cells : (line column : ℕ) → seen_at v.page line column ≡ seen_at w.page line column
+  pub cursor : v.cursor ≡ w.cursor
+  pub arrows : v.has_application_arrows ≡ w.has_application_arrows
+  pub keypad : v.has_application_keypad ≡ w.has_application_keypad
+
+-- nothing is known of a terminal, or it is known to show something else
+abbrev pub NeedsDraw : Option View → View → Type 0
+NeedsDraw None v = Prim.Unit {0}
+NeedsDraw (Some known) v = LooksLike known v → ⊥
+
+-- it is known to show the same
+abbrev pub NeedsNoDraw : Option View → View → Type 0
+NeedsNoDraw None v = ⊥
+NeedsNoDraw (Some known) v = LooksLike known v
+
 abbrev pub ShowsCursor : Option Position → Screen → Type 0
 ShowsCursor None x = x.state.modes.shows_cursor ≡ false
 ShowsCursor (Some p) x =

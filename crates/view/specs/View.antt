@@ -9,12 +9,12 @@ use Rattle.terminal_model.specs.declared.state.Position.{Position}
 use Rattle.terminal_model.specs.Screen.{IsInside}
 use Rattle.terminal_model.specs.Shows.{View}
 use Rattle.view.specs.declared.view.Cursor.{Cursor}
-use Rattle.view.specs.declared.view.Cursor.TheVariants.{Hidden, Shown}
+use Rattle.view.specs.declared.view.Cursor.TheVariants.{Hidden, At}
 use Rattle.view.specs.declared.view.KeyModes.{KeyModes}
 
 abbrev pub place_of : Cursor → Option Position
 place_of Hidden = None
-place_of (Shown line column) = Some (record { line = line; column = column })
+place_of (At line column) = Some (record { line = line; column = column })
 
 -- a view whose modes are these
 abbrev pub view_with : List (List Cell) → Option Position → KeyModes → View
@@ -33,8 +33,8 @@ key_modes v = record {
 }
 
 -- a blank page without a cursor, and the modes as a terminal starts
-abbrev pub blank_view : ℕ → ℕ → View
-blank_view rows columns = record {
+abbrev pub blank_without_cursor : ℕ → ℕ → View
+blank_without_cursor rows columns = record {
   page = replicate rows (replicate columns blank);
   cursor = None;
   has_application_arrows = false;

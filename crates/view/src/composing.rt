@@ -231,7 +231,7 @@ fn cursor_in(rect: Rect, contents: &Contents) -> Cursor
         Some((line, column)) => {
             let row = line.saturating_sub(first_shown(contents, rows));
             if contents.shows_cursor && row < rows && column < columns {
-                Cursor::Shown {
+                Cursor::At {
                     line: rect.line.saturating_sub(1).saturating_add(row as u16),
                     column: rect.column.saturating_sub(1).saturating_add(column as u16),
                 }

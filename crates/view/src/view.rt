@@ -12,7 +12,7 @@ use std::marker::Model;
 #[derive(Clone, Copy, Debug, PartialEq, Eq)]
 pub enum Cursor {
     Hidden,
-    Shown { line: u16, column: u16 },
+    At { line: u16, column: u16 },
 }
 
 /// What the keyboard sends: cursor keys (DECCKM) and keypad (DECKPAM) in application mode.
@@ -52,13 +52,13 @@ impl Model for View {
 }
 
 impl View {
-    ghost use Rattle.view.specs.View.{HasSize, KeepsSize, LiesOn, blank_view, key_modes, place_of};
+    ghost use Rattle.view.specs.View.{HasSize, KeepsSize, LiesOn, blank_without_cursor, key_modes, place_of};
     ghost use Rattle.view.specs.View.{PutsCursor, PutsCells};
 
     /// A blank page of this size, its cursor hidden. It is `BadSize` outside 2 to 200 lines by 2 to
     /// 300 columns.
     pub fn blank(alloc: Global, rows: usize, columns: usize) -> Result<View, GridFault>
-        ensures ok { IfOk result (λ v. v ≡ blank_view rows columns) }
+        ensures ok { IfOk result (λ v. v ≡ blank_without_cursor rows columns) }
         ensures size { IfOk result (HasSize rows columns) }
         ensures bad_size { (result ≡ Err GridFault.BadSize) ↔ (¬ IsGridSize rows columns) }
     {
@@ -135,7 +135,7 @@ impl View {
         ensures value { PutsCursor cursor self.old self.new }
     {
         self.cursor = match cursor {
-            Cursor::Shown { line, column }
+            Cursor::At { line, column }
                 if (line as usize) < self.grid.rows() && (column as usize) < self.grid.columns() =>
                 { cursor }
             _ => Cursor::Hidden,

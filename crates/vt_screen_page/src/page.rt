@@ -8,7 +8,7 @@ ghost use Rattle.cells.specs.Page.{IsGrid, IsGridSize, line_at, page_from, page_
 ghost use Rattle.cells.specs.Page.{page_spliced, edited};
 ghost use Rattle.cells.specs.Moves.{scrolled_up, scrolled_down, erased_lines, filled};
 ghost use Rattle.cells.specs.Resizing.{page_resized};
-ghost use Rattle.scrollback.specs.Kept.{taken_in, Continues};
+ghost use Rattle.scrollback.specs.Kept.{with_line, Continues};
 ghost use Rattle.vt_screen_page.specs.Store.{placed_in_order, turned};
 
 use crate::store;
@@ -307,7 +307,7 @@ impl Page {
         requires width { ring.old.columns ≡ length (line_at self.old.lines 0) }
         ensures lines { self.new.lines ≡ page_from (scrolled_up 0 bottom 1) self.old.lines }
         ensures places { self.new.places ≡ turned 0 bottom 1 self.old.places }
-        ensures kept { ring.new ≡ taken_in ring.old (line_at self.old.lines 0) }
+        ensures kept { ring.new ≡ with_line ring.old (line_at self.old.lines 0) }
         ensures stands { Continues ring.old ring.new (line_at self.old.lines 0) }
     {
         store::scroll_into(
@@ -329,7 +329,7 @@ impl Page {
             ≡ page_spliced bottom 0 (narrow_cells codes.now plain false) (length codes.now)
             (page_from (scrolled_up 0 bottom 1) self.old.lines) }
         ensures places { self.new.places ≡ turned 0 bottom 1 self.old.places }
-        ensures kept { ring.new ≡ taken_in ring.old (line_at self.old.lines 0) }
+        ensures kept { ring.new ≡ with_line ring.old (line_at self.old.lines 0) }
         ensures stands { Continues ring.old ring.new (line_at self.old.lines 0) }
     {
         store::scroll_in_run(

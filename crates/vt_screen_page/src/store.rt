@@ -6,7 +6,7 @@ ghost use Rattle.std.specs.List.{range_with_len};
 ghost use Rattle.cells.specs.Line.{blank, narrow_cells, plain};
 ghost use Rattle.cells.specs.Page.{line_at, page_from, page_spliced};
 ghost use Rattle.cells.specs.Moves.{scrolled_up, scrolled_down, erased_lines};
-ghost use Rattle.scrollback.specs.Kept.{taken_in, Continues};
+ghost use Rattle.scrollback.specs.Kept.{with_line, Continues};
 ghost use Rattle.cells.specs.Resizing.{line_resized, page_resized};
 ghost use Rattle.vt_screen_page.specs.Store.{IsStore, IsTurned, AreCleared, lines_in_order, turned};
 
@@ -104,7 +104,7 @@ pub fn scroll_into(stored: &mut [Line], places: &mut [u8], ring: &mut Ring, bott
     ensures page { lines_in_order stored.new places.new
         ≡ page_from (scrolled_up 0 bottom 1) (lines_in_order stored.old places.old) }
     ensures places { places.new ≡ turned 0 bottom 1 places.old }
-    ensures kept { ring.new ≡ taken_in ring.old (line_at (lines_in_order stored.old places.old) 0) }
+    ensures kept { ring.new ≡ with_line ring.old (line_at (lines_in_order stored.old places.old) 0) }
     ensures stands { Continues ring.old ring.new
         (line_at (lines_in_order stored.old places.old) 0) }
 {
@@ -134,7 +134,7 @@ pub fn scroll_in_run(
         ≡ page_spliced bottom 0 (narrow_cells codes.now plain false) (length codes.now)
         (page_from (scrolled_up 0 bottom 1) (lines_in_order stored.old places.old)) }
     ensures places { places.new ≡ turned 0 bottom 1 places.old }
-    ensures kept { ring.new ≡ taken_in ring.old (line_at (lines_in_order stored.old places.old) 0) }
+    ensures kept { ring.new ≡ with_line ring.old (line_at (lines_in_order stored.old places.old) 0) }
     ensures stands { Continues ring.old ring.new
         (line_at (lines_in_order stored.old places.old) 0) }
 {

@@ -20,8 +20,8 @@ reverse-keep_last {X} n xs =
     (cases_lt n (length xs))
 
 -- one more line
-pub reverse-taken_in : {X : Type 0} (n : ℕ) (xs : List X) (x : X) → reverse (keep_last n (xs ++ x ∷ [])) ≡ take n (x ∷ reverse xs)
-reverse-taken_in n xs x = reverse-keep_last n (xs ++ x ∷ []) ∙ ap (take n) (reverse-append xs (x ∷ []))
+pub reverse-with_line : {X : Type 0} (n : ℕ) (xs : List X) (x : X) → reverse (keep_last n (xs ++ x ∷ [])) ≡ take n (x ∷ reverse xs)
+reverse-with_line n xs x = reverse-keep_last n (xs ++ x ∷ []) ∙ ap (take n) (reverse-append xs (x ∷ []))
 
 pub reverse-map : {X Y : Type 0} (f : X → Y) (xs : List X) → reverse (map f xs) ≡ map f (reverse xs)
 reverse-map f [] = refl

@@ -2,9 +2,9 @@ use Rattle.std.proofs.Common.{◌≡◌, ◌++◌, refl, subst, ap, ◌∙◌, [
 use Rattle.std.specs.Prelude.{Some}
 use Rattle.std.proofs.lemmas.Option.{MatchOption-at_some, MatchOption-at_none}
 use Rattle.cells.specs.Page.{IsGrid}
-use Rattle.terminal_model.specs.Shows.{View}
+use Rattle.terminal_model.specs.Shows.{View, NeedsDraw, NeedsNoDraw}
 use Rattle.view.specs.Drawable.{IsDrawable}
-use Rattle.redraw.specs.Shadow.{Knowledge, NeedsDraw, IsKnown}
+use Rattle.redraw.specs.Shadow.{Knowledge}
 use Rattle.redraw.specs.Frames.{CanBeShown, DrawsBytes}
 use Rattle.redraw.proofs.Ends.{redraws}
 use Rattle.redraw.proofs.frames.frame.Goals as goal
@@ -28,7 +28,7 @@ returns-clause-draws c =
 
 pub returns-in_default-clause-draws : goal.returns-in_default-clause-draws
 returns-in_default-clause-draws c = inl (record {
-  known = MatchOption-at_none (IsKnown c.args.shadow.now.known c.args.view.now) _ c.in_default.is c.in_ok-bytes.ensures.needless;
+  known = MatchOption-at_none (NeedsNoDraw c.args.shadow.now.known c.args.view.now) _ c.in_default.is c.in_ok-bytes.ensures.needless;
   same = refl;
   bytes = refl;
 })

@@ -2,9 +2,9 @@ use Rattle.std.proofs.Common.{subst, ap, ◌∙◌, []}
 use Rattle.std.specs.Prelude.{Option}
 use Rattle.std.proofs.lemmas.Option.{MatchOption-at_some}
 use Rattle.cells.specs.Page.{IsGrid}
-use Rattle.terminal_model.specs.Shows.{View}
+use Rattle.terminal_model.specs.Shows.{View, NeedsDraw}
 use Rattle.view.specs.Drawable.{IsDrawable}
-use Rattle.redraw.specs.Shadow.{Knowledge, NeedsDraw}
+use Rattle.redraw.specs.Shadow.{Knowledge}
 use Rattle.redraw.specs.Frames.{CanBeShown, DrawsBytes}
 use Rattle.redraw.proofs.Ends.{redraws}
 use Rattle.redraw.proofs.frames.frame_sparing.Goals as goal

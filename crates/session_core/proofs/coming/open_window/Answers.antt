@@ -3,7 +3,9 @@ use Rattle.session_model.specs.declared.check.Check.{Check}
 use Rattle.session_model.specs.Trace.{Open}
 use Rattle.session_model.specs.Tables.{Window}
 use Rattle.session_model.specs.Deeds.{Deed}
-use Rattle.session_model.specs.Events.{outcome, reply_of, open_checks, opens, new_window}
+use Rattle.session_model.specs.Events.{outcome}
+use Rattle.session_model.specs.Outcomes.{reply_of}
+use Rattle.session_model.specs.Comings.{open_checks, opens, new_window}
 use Rattle.session_state.specs.declared.step_output.StepOutput.{StepOutput}
 use Rattle.session_core.proofs.Outcomes.{was_passed}
 use Rattle.session_core.proofs.coming.open_window.Goals as goal

@@ -6,7 +6,9 @@ use Rattle.session_model.specs.declared.refusal.Refusal.TheVariants.{BadSize}
 use Rattle.session_model.specs.Trace.{Resize}
 use Rattle.session_model.specs.Tables.{Client, client_at, with_client}
 use Rattle.session_model.specs.Deeds.{Deed, changing}
-use Rattle.session_model.specs.Events.{outcome, done, where_passed, is_client_size, resized}
+use Rattle.session_model.specs.Events.{outcome}
+use Rattle.session_model.specs.Outcomes.{done, where_passed}
+use Rattle.session_model.specs.Comings.{is_client_size, resized}
 use Rattle.session_rows.proofs.Matching.{both_back}
 use Rattle.session_clients.specs.Stands.{ClientStands}
 use Rattle.session_state.specs.declared.step_output.StepOutput.{StepOutput}

@@ -4,7 +4,7 @@ use Rattle.session_rows.proofs.Serials.{serial_is, with_same}
 use Rattle.session_clients.specs.declared.client.Client.{Client as Row}
 use Rattle.session_state.specs.declared.state.State.{State}
 use Rattle.session_core.specs.KeyStepping.{read_by}
-use Rattle.session_model.specs.Events.{reading}
+use Rattle.session_model.specs.Answering.{reading}
 use Rattle.session_core.proofs.Putting.{serial, fit_put, stands_read}
 use Rattle.session_core.proofs.key_step.obey_read.Goals as goal
 

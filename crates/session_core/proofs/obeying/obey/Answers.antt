@@ -6,7 +6,7 @@ use Rattle.command_lang.specs.fault.ParseFault.{ParseFault}
 use Rattle.session_model.specs.declared.message.Message.TheVariants.{Text}
 use Rattle.session_model.specs.declared.refusal.Refusal.{Refusal}
 use Rattle.session_model.specs.declared.refusal.Refusal.TheVariants.{Line}
-use Rattle.session_model.specs.Events.{says}
+use Rattle.session_model.specs.Answering.{says}
 use Rattle.session_model.specs.Texts.{text_of}
 use Rattle.session_rows.proofs.Serials.{on_ok}
 use Rattle.session_state.specs.Doing.{HasDone}

@@ -2,7 +2,9 @@ use Rattle.std.proofs.Common.{[], Ok, refl, ap, sym, append-nil}
 use Rattle.std.specs.Option.{option_copied}
 use Rattle.session_model.specs.Trace.{Output}
 use Rattle.session_model.specs.Tables.{Window, window_at}
-use Rattle.session_model.specs.Events.{outcome, done, finished, outputs}
+use Rattle.session_model.specs.Events.{outcome}
+use Rattle.session_model.specs.Outcomes.{done, finished}
+use Rattle.session_model.specs.Comings.{outputs}
 use Rattle.session_rows.proofs.Matching.{both_back}
 use Rattle.session_windows.specs.Standing.{WindowStands, at_serial}
 use Rattle.session_state.specs.declared.step_output.StepOutput.{StepOutput}

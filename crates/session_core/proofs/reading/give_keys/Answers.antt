@@ -1,7 +1,7 @@
 use Rattle.std.proofs.Common.{None, refl}
 use Rattle.std.proofs.lemmas.Result.{err_from_is_err_and}
 use Rattle.session_model.specs.Tables.{client_at}
-use Rattle.session_model.specs.Events.{reply_of}
+use Rattle.session_model.specs.Outcomes.{reply_of}
 use Rattle.session_core.proofs.Answered.{was_read, was_unread}
 use Rattle.session_core.proofs.reading.give_keys.Goals as goal
 

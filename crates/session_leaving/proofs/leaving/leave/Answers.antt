@@ -1,5 +1,5 @@
 use Rattle.std.proofs.Common.{◌≡◌, ◌∙◌, ◌++◌, ap, refl}
-use Rattle.session_model.specs.Events.{left_acts}
+use Rattle.session_model.specs.Outcomes.{left_acts}
 use Rattle.session_leaving.specs.Leaving.{all_left, focuses_of}
 use Rattle.session_leaving.proofs.Left.{left_same, has_ended}
 use Rattle.session_leaving.proofs.leaving.leave.Goals as goal

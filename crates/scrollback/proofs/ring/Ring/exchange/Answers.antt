@@ -2,7 +2,7 @@ use Rattle.std.proofs.Common.{◌≡◌, ℕ, ◌+◌, ◌<◌, ◌≤◌, min, 
 use Rattle.std.specs.Prelude.{slice_get, None}
 use Rattle.circular_buffer.specs.Buffer.{Buffer, buffer, keep_last}
 use Rattle.cells.specs.declared.cell.Cell.{Cell}
-use Rattle.scrollback.specs.Kept.{Kept, taken_in}
+use Rattle.scrollback.specs.Kept.{Kept, with_line}
 use Rattle.scrollback.proofs.Lasts.{keep_all, keep_next, head_inside, head_is, widths_next, length_next}
 use Rattle.scrollback.proofs.Ringing.{continues}
 use Rattle.scrollback.proofs.ring.Ring.exchange.Goals as goal
@@ -53,7 +53,7 @@ returns-in-Some-clause-kept c =
     ∙ ap (λ k. kept_of (buffer (drop 1 items ++ c.args.line.now ∷ []) keep) k c.self.inside.columns) n
     ∙ ap (λ (ls : List (List Cell)). kept_with keep c.self.inside.columns ls)
     (keep_next keep c.self.inside.count items c.args.line.now c.self.invariant.full (rw (sym c.self.invariant.full) some) c.self.invariant.inside)
-    ∙ ap (λ (k : Kept). taken_in k c.args.line.now) c.self.view_is
+    ∙ ap (λ (k : Kept). with_line k c.args.line.now) c.self.view_is
 
 pub returns-in-Some-clause-stands : goal.returns-in-Some-clause-stands
 returns-in-Some-clause-stands c = continues c.args.self.now _ c.args.line.now (returns-in-Some-clause-kept c)
@@ -67,7 +67,7 @@ returns-in-Some-clause-width c =
 
 -- a buffer without room
 none_kept : (popped : Buffer (List Cell)) (items : List (List Cell)) (keep count columns : ℕ) (line : List Cell) → length items ≡ keep → None ≡ slice_get items 0 → popped ≡ buffer (drop 1 items) keep
-    → kept_of popped count columns ≡ taken_in (kept_with keep columns (keep_last count items)) line
+    → kept_of popped count columns ≡ with_line (kept_with keep columns (keep_last count items)) line
 none_kept popped [] keep count columns line full none is =
     let left : keep_last count [] ≡ [] = keep_all count [] (omega arith) in
     ap (λ (b : Buffer (List Cell)). kept_of b count columns) is
@@ -77,7 +77,7 @@ none_kept popped (x ∷ items) keep count columns line full none is = absurd cc
 pub returns-in_default-clause-kept : goal.returns-in_default-clause-kept
 returns-in_default-clause-kept c =
     none_kept c.pop_front.new.self c.self.inside.lines.items c.self.inside.lines.capacity c.self.inside.count c.self.inside.columns c.args.line.now c.self.invariant.full c.in_default.ensures.value c.in_default.ensures.items
-    ∙ ap (λ (k : Kept). taken_in k c.args.line.now) c.self.view_is
+    ∙ ap (λ (k : Kept). with_line k c.args.line.now) c.self.view_is
 
 pub returns-in_default-clause-stands : goal.returns-in_default-clause-stands
 returns-in_default-clause-stands c = continues c.args.self.now _ c.args.line.now (returns-in_default-clause-kept c)

@@ -3,7 +3,7 @@ use Rattle.session_model.specs.Tables as model
 use Rattle.session_rows.proofs.Serials.{on_ok}
 use Rattle.session_rows.proofs.Matching.{push_match}
 use Rattle.session_clients.specs.declared.client.Client.{Client}
-use Rattle.session_clients.specs.Moves.{attached}
+use Rattle.session_model.specs.Comings.{attached}
 use Rattle.session_clients.specs.Stands.{ClientStands, AreClients}
 use Rattle.session_clients.proofs.clients.Clients.attach.Goals as goal
 

@@ -1,6 +1,6 @@
 use Rattle.std.proofs.Common.{◌≡◌, ◌∙◌, ap, subst, refl}
 use Rattle.session_model.specs.Tables.{with_row}
-use Rattle.session_model.specs.Events.{reading}
+use Rattle.session_model.specs.Answering.{reading}
 use Rattle.session_clients.specs.declared.client.Client.{Client}
 use Rattle.session_clients.specs.Exchanges.{Exchanged}
 use Rattle.session_clients.proofs.Changing.{changed_row, no_row, lent_at, none_lent, serial_of}

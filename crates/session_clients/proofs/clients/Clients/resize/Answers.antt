@@ -1,4 +1,4 @@
-use Rattle.session_model.specs.Events.{resized}
+use Rattle.session_model.specs.Comings.{resized}
 use Rattle.session_clients.proofs.Keeping.{keeps_resized}
 use Rattle.session_clients.proofs.Changing.{changed_row, no_row}
 use Rattle.session_clients.proofs.clients.Clients.resize.Goals as goal

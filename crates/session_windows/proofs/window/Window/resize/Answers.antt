@@ -1,5 +1,5 @@
 use Rattle.std.proofs.Common.{true, ◌≡◌, sym, ◌∙◌}
-use Rattle.session_model.specs.Events.{is_window_size}
+use Rattle.session_model.specs.Comings.{is_window_size}
 use Rattle.session_model.specs.Terminals.{terminal_of}
 use Rattle.terminal_model.specs.Writing.{Size}
 use Rattle.session_windows.specs.Standing.{written_to}

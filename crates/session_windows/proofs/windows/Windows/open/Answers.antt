@@ -1,5 +1,5 @@
 use Rattle.std.proofs.Common.{◌≡◌, ◌∙◌, sym, ap, subst, true, List, ◌∷◌, ◌++◌, []}
-use Rattle.session_model.specs.Events.{is_window_size}
+use Rattle.session_model.specs.Comings.{is_window_size}
 use Rattle.session_model.specs.Naming.{is_title}
 use Rattle.session_windows.specs.declared.window.Window.{Window}
 use Rattle.session_windows.specs.Rows.{AreRows}

@@ -1,14 +1,14 @@
 use Rattle.std.proofs.Common.{◌≡◌, ◌==◌, true, sym, eq-eqb}
 use Rattle.cells.specs.Page.{line_at}
 use Rattle.vt_screen_rows.specs.Displays.{screen_of}
-use Rattle.vt_screen_rows.proofs.KeptLines.{reverse-taken_in}
+use Rattle.vt_screen_rows.proofs.KeptLines.{reverse-with_line}
 use Rattle.vt_screen_rows.proofs.LineRuns.{scrolled_run}
 use Rattle.vt_screen_rows.proofs.display.Display.scroll_in_run.Goals as goal
 
 pub returns-clause-screen : goal.returns-clause-screen
 returns-clause-screen c =
     let d = c.args.self.now in
-    rw (c.advance.ensures, c.scroll_in_run.ensures.lines, c.scroll_in_run.ensures.kept, reverse-taken_in d.ring.keep d.ring.lines (line_at d.page.lines 0))
+    rw (c.advance.ensures, c.scroll_in_run.ensures.lines, c.scroll_in_run.ensures.kept, reverse-with_line d.ring.keep d.ring.lines (line_at d.page.lines 0))
     (sym (scrolled_run (screen_of d) c.args.codes.now c.requires.fit.sound c.requires.scrolls))
 
 pub returns-clause-places : goal.returns-clause-places
