@@ -11,6 +11,7 @@ use Rattle.terminal_model.specs.Drawing.{frame_bytes, Draws, AreSpelled, Agrees}
 use Rattle.terminal_model.specs.Drawable.{HaveHalves}
 use Rattle.redraw.specs.declared.pen.Pen.{Pen}
 use Rattle.view.specs.Drawable.{IsDrawable}
+use Rattle.view.specs.View.{HasSize}
 use Rattle.redraw.specs.Shadow.{Knowledge}
 use Rattle.redraw.specs.Drawing.{Takes, Stage, ShowsView}
 use Rattle.redraw.specs.Steps.{Bytes}
@@ -128,6 +129,19 @@ SkipsKnown old v new frame = IfNone frame (DrawsNothing old v new)
 -- Where there is a frame, the view had to be drawn, it draws that, and that is known then.
 abbrev pub FrameDraws : Knowledge → View → Knowledge → Option Bytes → Type 0
 FrameDraws old v new frame = IfSome frame (λ bytes. DrawsFrame old v new bytes.items)
+
+-- ---- a frame that several terminals read
+
+-- what was known before it, what it shows, and its bytes
+pub record Made : Type 0 where
+  pub before : Knowledge
+  pub view : View
+  pub bytes : List ℕ
+
+-- the view has the terminal's size and has to be drawn, and the bytes draw it
+pub record IsFrameFor (before : Knowledge) (v : View) (bytes : List ℕ) : Type 0 where
+  pub size : HasSize before.rows before.columns v
+  pub draws : DrawsFrame before v (record before { known = Some v }) bytes
 
 -- ---- where a frame is appended
 

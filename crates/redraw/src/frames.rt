@@ -12,6 +12,7 @@ ghost use Rattle.redraw.specs.Shadow.{AreAlikeAbove};
 use crate::painting::paint;
 use crate::pen::Pen;
 use crate::shadow::{Shadow, first_change};
+use crate::shared::SharedView;
 use cells::Rendition;
 use std::alloc::{AllocError, Global};
 use std::mem;
@@ -76,8 +77,17 @@ fn next_bytes(old: &View, view: &View, from: usize, out: &mut Vec<u8>) -> Result
     Ok(())
 }
 
+/// A view that isn't needed any more, where nobody else has it.
+pub(crate) fn unshared(view: Option<SharedView>) -> Option<View> {
+    view?.into_view()
+}
+
 /// The bytes from what is known of a terminal to a view; none where it is known to show that.
-fn draw(alloc: Global, shadow: &Shadow, view: &View) -> Result<Option<Vec<u8>>, AllocError>
+pub(crate) fn draw(
+    alloc: Global,
+    shadow: &Shadow,
+    view: &View,
+) -> Result<Option<Vec<u8>>, AllocError>
     requires size { HasSize shadow.now.rows shadow.now.columns view.now }
     ensures needless { IfOk result (λ frame. IfNone frame (NeedsNoDraw shadow.now.known view.now)) }
     ensures needed { IfOk result (λ frame. IsNeeded shadow.now.known view.now frame) }
@@ -87,6 +97,7 @@ fn draw(alloc: Global, shadow: &Shadow, view: &View) -> Result<Option<Vec<u8>>, 
     match &shadow.known {
         None => first_bytes(alloc, view, &mut bytes)?,
         Some(last) => {
+            let last = last.get();
             let Some(from) = first_change(last, view) else {
                 return Ok(None);
             };
@@ -104,7 +115,7 @@ pub fn needs_draw(shadow: &Shadow, view: &View) -> bool
 {
     match &shadow.known {
         None => true,
-        Some(last) => first_change(last, view).is_some(),
+        Some(last) => first_change(last.get(), view).is_some(),
     }
 }
 
@@ -126,8 +137,8 @@ pub fn frame_keeping(
     frame_sparing(alloc, shadow, view, &mut spare)
 }
 
-/// The same; the view that isn't needed any more, if there is one, is handed back as `spare`, for its
-/// memory.
+/// The same; the view that isn't needed any more, where nobody else has it, is handed back as `spare`,
+/// for its memory.
 pub fn frame_sparing(
     alloc: Global,
     shadow: &mut Shadow,
@@ -143,7 +154,8 @@ pub fn frame_sparing(
         *spare = Some(view);
         return Ok(None);
     };
-    *spare = mem::replace(&mut shadow.known, Some(view));
+    let known = SharedView::new(alloc, view)?;
+    *spare = unshared(mem::replace(&mut shadow.known, Some(known)));
     Ok(Some(bytes))
 }
 
@@ -167,7 +179,7 @@ pub fn frame(
     let Some(bytes) = draw(alloc, shadow, view)? else {
         return Ok(());
     };
-    let known = view.copied(alloc)?;
+    let known = SharedView::new(alloc, view.copied(alloc)?)?;
     out.extend_from_slice(bytes.as_slice())?;
     shadow.known = Some(known);
     Ok(())

@@ -7,6 +7,10 @@ mod painting;
 mod pen;
 mod rendition;
 mod shadow;
+mod shared;
+mod taking;
 
 pub use frames::{frame, frame_keeping, frame_sparing, needs_draw};
 pub use shadow::Shadow;
+pub use shared::SharedView;
+pub use taking::Frame;

@@ -1,12 +1,15 @@
 //! What is known of a client's terminal.
 
 ghost use Rattle.std.specs.Prelude.{◌≡◌, ◌<◌, ◌≤◌, ◌↔◌, None, IsTrue, IfNone, IfSome, length};
+ghost use Rattle.std.specs.Prelude.{IfOk};
 ghost use Rattle.cells.specs.Page.{IsGrid};
 ghost use Rattle.view.specs.View.{KeepsSize, place_of};
 ghost use Rattle.terminal_model.specs.Shows.{LooksLike};
 ghost use Rattle.redraw.specs.Shadow.{AreAlikeAbove, AreAlikeUpTo};
 
+use crate::shared::SharedView;
 use cells::next_unlike;
+use std::alloc::AllocError;
 use std::marker::Model;
 use view::{Cursor, KeyModes, View};
 
@@ -14,7 +17,7 @@ use view::{Cursor, KeyModes, View};
 pub struct Shadow {
     pub(crate) rows: u16,
     pub(crate) columns: u16,
-    pub(crate) known: Option<View>,
+    pub(crate) known: Option<SharedView>,
 }
 
 impl Drop for Shadow {
@@ -63,6 +66,37 @@ impl Shadow {
         ensures { result ≡ self.now.columns }
     {
         self.columns
+    }
+
+    /// The same knowledge, which shares the view.
+    pub(crate) fn shared(&self) -> Result<Shadow, AllocError>
+        ensures { IfOk result (λ s. s ≡ self.now) }
+    {
+        Ok(Shadow {
+            rows: self.rows,
+            columns: self.columns,
+            known: shared_view(&self.known)?,
+        })
+    }
+
+    /// The view that is known.
+    pub(crate) fn into_known(self) -> Option<SharedView> {
+        let Shadow {
+            rows: _,
+            columns: _,
+            known,
+        } = self;
+        known
+    }
+}
+
+/// The same view, if there is one, for one more owner.
+fn shared_view(known: &Option<SharedView>) -> Result<Option<SharedView>, AllocError>
+    ensures { IfOk result (λ view. view ≡ known.now) }
+{
+    match known {
+        Some(view) => Ok(Some(view.shared()?)),
+        None => Ok(None),
     }
 }
 

@@ -18,9 +18,10 @@ use Rattle.session_model.specs.Framed.{IsFrame}
 use Rattle.session_model.specs.Tables as model
 use Rattle.session_model.specs.Tables.{row_of, with_row}
 use Rattle.session_clients.specs.declared.client.Client.{Client}
-use Rattle.session_clients.specs.Stands.{ClientStands, IsScreen, Finds}
-use Rattle.session_clients.specs.Draws.{ShowsAlready, Draws, DrawsNothing}
-use Rattle.session_clients.proofs.Changing.{serial_of, lent_at, lent_back, found, found_none, changed}
+use Rattle.session_clients.specs.Stands.{AreClients, ClientStands, IsScreen, Finds}
+use Rattle.session_clients.specs.Draws.{ShowsAlready, Draws, LeadsFrom}
+use Rattle.session_rows.specs.Matched.{BothOrNone}
+use Rattle.session_clients.proofs.Changing.{model_serial, serial_of, lent_at, found, found_none, changed}
 use Rattle.session_clients.proofs.Frames.{frame_behind, then_delivered}
 
 -- ---- what is known
@@ -157,14 +158,15 @@ module _ (m : model.Client) (c : Client) (v : View) (bytes : List ℕ) (st : Cli
       })
 
 pub drawn_row : (old inside : List Client) (serial : ℕ) (r : Option (MutBor Client))
-    (b : MutBor Client) (lender : Client → List Client) (v : View) (known : Knowledge)
+    (b : MutBor Client) (lender : Client → List Client) (v : View) (before known : Knowledge)
     (bytes : List ℕ) → inside ≡ old → option_copied_mut r ≡ row_of serial_of inside serial
     → ((w : Client) → OnSome r (lender w ≡ with_row serial_of inside serial w)) → r ≡ Some b
-    → DrawsFrame b.now.shadow v known bytes → IsDrawable v
-    → Draws serial v bytes old (lender (record b.now { shadow = known }))
-drawn_row old inside serial r b lender v known bytes same at holds is drawn drawable rows m st there =
+    → (b.now.shadow ≡ before → DrawsFrame b.now.shadow v known bytes) → IsDrawable v
+    → LeadsFrom serial old before → Draws serial v bytes old (lender (record b.now { shadow = known }))
+drawn_row old inside serial r b lender v before known bytes same at holds is follows drawable leads rows m st there =
     let d : Client = record b.now { shadow = known } in
     let here = lent_at old inside serial r b lender d same at holds is in
+    let drawn = follows (leads b.now here.0) in
     let stands : ClientStands m b.now =
     found (λ n. ClientStands n b.now) old inside serial r b same at is (λ n s. s) rows m st
     there in
@@ -182,29 +184,28 @@ drawn_row old inside serial r b lender v known bytes same at holds is drawn draw
           (ap (λ (k : Knowledge). record b.now { shadow = k }) drawn.known)) rows m st there;
     }
 
-pub nothing_drawn : (old inside : List Client) (serial : ℕ) (r : Option (MutBor Client))
-    (b : MutBor Client) (lender : Client → List Client) (v : View) (known : Knowledge)
-    → inside ≡ old → option_copied_mut r ≡ row_of serial_of inside serial
-    → ((w : Client) → OnSome r (lender w ≡ with_row serial_of inside serial w)) → r ≡ Some b
-    → ((c : Client) → row_of serial_of old serial ≡ Some c
-    → HasSize c.shadow.rows c.shadow.columns v)
-    → frames.DrawsNothing b.now.shadow v known
-    → DrawsNothing serial v old (lender (record b.now { shadow = known }))
-nothing_drawn old inside serial r b lender v known same at holds is size drawn =
-    let here = lent_at old inside serial r b lender b.now same at holds is in record {
-      needless =
-          found (λ n. ShowsAlready n v) old inside serial r b same at is
-          (λ n s. shows_already n b.now v s (size b.now here.0) drawn.known drawn.grid);
-      same =
-          ap (λ (k : Knowledge). lender (record b.now { shadow = k })) drawn.same
-          ∙ lent_back old inside serial r b lender same at holds is;
-    }
+-- a row that was looked for
+pub found_shows : (clients : List Client) (serial : ℕ) (c : Client) (v : View)
+    → ((rows : List model.Client) → AreClients rows clients
+    → BothOrNone ClientStands (row_of model_serial rows serial) (Some c))
+    → HasSize c.shadow.rows c.shadow.columns v → NeedsNoDraw c.shadow.known v → IsGrid v.page
+    → Finds serial clients (λ m. ShowsAlready m v)
+found_shows clients serial c v stands size known grid rows m are at =
+    shows_already m c v
+    (subst (λ o. BothOrNone ClientStands o (Some c)) at (stands rows are)) size known grid
 
-pub nobody_drawn : (old inside : List Client) (serial : ℕ) (r : Option (MutBor Client)) (v : View)
-    → inside ≡ old → option_copied_mut r ≡ row_of serial_of inside serial → r ≡ None
-    → Finds serial old (λ m. ShowsAlready m v)
-nobody_drawn old inside serial r v same at is =
-    found_none (λ n. ShowsAlready n v) old inside serial r same at is
+pub found_nobody : (P : model.Client → Type 0) (clients : List Client) (serial : ℕ)
+    → ((rows : List model.Client) → AreClients rows clients
+    → BothOrNone ClientStands (row_of model_serial rows serial) None)
+    → Finds serial clients P
+found_nobody P clients serial stands rows m are at =
+    absurd (subst (λ o. BothOrNone ClientStands o None) at (stands rows are))
+
+pub nobody_drawn : (old inside new : List Client) (serial : ℕ) (r : Option (MutBor Client)) (v : View)
+    (bytes : List ℕ) → inside ≡ old → option_copied_mut r ≡ row_of serial_of inside serial → r ≡ None
+    → Draws serial v bytes old new
+nobody_drawn old inside new serial r v bytes same at is rows m st there =
+    absurd (found_none (λ n. ⊥) old inside serial r same at is rows m st there)
 
 pub none_then : {A P Q : Type 0} (o : Option A) → (P → Q) → IfNone o P → IfNone o Q
 none_then None f p = f p

@@ -1,21 +1,29 @@
 -- Clients to whom a view is drawn.
 use Rattle.std.specs.Prelude.{◌≡◌, ℕ, List, [], ◌++◌, Some}
 use Rattle.terminal_model.specs.Shows.{View, ShowsFromAny, NeedsDraw, NeedsNoDraw}
+use Rattle.redraw.specs.Shadow.{Knowledge}
+use Rattle.view.specs.View.{HasSize}
 use Rattle.session_model.specs.Framed.{IsFrame}
 use Rattle.session_model.specs.Tables as model
 use Rattle.session_model.specs.Tables.{row_of, with_row}
 use Rattle.session_clients.specs.declared.client.Client.{Client}
-use Rattle.session_clients.specs.Stands.{AreClients, Finds}
+use Rattle.session_clients.specs.Stands.{AreClients}
 
 -- no draw is needed: all that was delivered shows the view
 pub record ShowsAlready (m : model.Client) (v : View) : Type 0 where
   pub needless : NeedsNoDraw m.drawn v
   pub shows : ShowsFromAny (m.delivered ++ []) m.rows m.columns v
 
--- nothing needs to be drawn, and nothing changes
-pub record DrawsNothing (serial : ℕ) (v : View) (old new : List Client) : Type 0 where
-  pub needless : Finds serial old (λ m. ShowsAlready m v)
-  pub same : new ≡ old
+-- what is known of the terminal of a client, if that is there, is what was known before a frame
+abbrev pub LeadsFrom : ℕ → List Client → Knowledge → Type 0
+LeadsFrom serial clients before =
+    (c : Client) → row_of (λ (d : Client). d.serial) clients serial ≡ Some c → c.shadow ≡ before
+
+-- a view has the size of the terminal of a client, if that is there
+abbrev pub FitsIn : ℕ → List Client → View → Type 0
+FitsIn serial clients v =
+    (c : Client) → row_of (λ (d : Client). d.serial) clients serial ≡ Some c
+    → HasSize c.shadow.rows c.shadow.columns v
 
 -- A draw is needed, and these bytes are a frame of the view. All that was delivered shows the view
 -- with it, whichever terminal of the client's size reads it; and the row knows that.

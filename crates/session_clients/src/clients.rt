@@ -1,7 +1,7 @@
 //! The clients of a session.
 
 ghost use Rattle.std.specs.Prelude.{◌≡◌, ◌==◌, ◌<◌, ◌+◌, [], ℕ, List, Option};
-ghost use Rattle.std.specs.Prelude.{true, false, not, Some, length, map, replicate};
+ghost use Rattle.std.specs.Prelude.{true, false, not, Some, length, map, replicate, ◌↔◌};
 ghost use Rattle.std.specs.Prelude.{OnOk, OnErr, IfOk, IfNone, IfSome, option_copied};
 ghost use Rattle.regions.specs.Layouts.{split_focused, remove_focused, next_focus, kept_alone};
 ghost use Rattle.regions.specs.Layouts.{split_fault};
@@ -20,7 +20,7 @@ ghost use Rattle.view.specs.Drawable.{IsDrawable};
 use crate::client::Client;
 use acl::UserId;
 use keys::KeyReader;
-use redraw::frame_sparing;
+use redraw::{Frame, Shadow, SharedView};
 use regions::{RegionFault, Shown, Way};
 use session_model::{Bytes, Effect, Message};
 use session_rows::Rows;
@@ -58,7 +58,7 @@ impl Clients {
     ghost use Rattle.session_clients.specs.declared.client.Client.{Client};
     ghost use Rattle.session_model.specs.Comings.{attached};
     ghost use Rattle.session_clients.specs.Exchanges.{Exchanged, HasReadMore, PutsBack};
-    ghost use Rattle.session_clients.specs.Draws.{Draws, DrawsNothing};
+    ghost use Rattle.session_clients.specs.Draws.{Draws, FitsIn, LeadsFrom, ShowsAlready};
     ghost use Rattle.session_clients.specs.Stands.{Attaches, Keeps, Changes, ChangesAll, Finds};
     ghost use Rattle.session_clients.specs.Stands.{AreClients, ClientStands, IsFaultOf, IsRemoval};
     ghost use Rattle.session_rows.specs.Matched.{BothOrNone};
@@ -256,26 +256,49 @@ impl Clients {
         self.spare.take()
     }
 
-    /// Draws a view for a client, of its size: the frame, or none where its terminal is known to
-    /// show the view.
-    pub fn draw(
-        &mut self,
+    /// Keeps a view that isn't needed any more, if there is one, for its memory.
+    pub fn keep_spare(&mut self, view: Option<View>)
+        ensures { self.new ≡ self.old }
+    {
+        if view.is_some() {
+            self.spare = view;
+        }
+    }
+
+    /// The frame that leads a client's terminal to a view: none where it is known to show the view,
+    /// or has another size.
+    pub fn frame(
+        &self,
         alloc: Global,
         serial: u32,
-        view: View,
-    ) -> Result<Option<Vec<u8>>, AllocError>
-        requires { (c : Client) → row_of (λ (c : Client). c.serial) self.old serial ≡ Some c
-            → HasSize c.shadow.rows c.shadow.columns view }
-        ensures needless { IfOk result (λ frame. IfNone frame
-            (DrawsNothing serial view self.old self.new)) }
-        ensures drawn { IfOk result (λ frame. IfSome frame (λ bytes. IsDrawable view
-            → Draws serial view bytes.items self.old self.new)) }
+        view: &SharedView,
+    ) -> Result<Option<Frame>, AllocError>
+        ensures needless { IfOk result (λ frame. IfNone frame (FitsIn serial self.now view.now
+            → Finds serial self.now (λ m. ShowsAlready m view.now))) }
+        ensures made { IfOk result (λ frame. IfSome frame (λ f.
+            LeadsFrom serial self.now f.before × (f.view ≡ view.now))) }
+    {
+        let Some(client) = self.get(serial) else {
+            return Ok(None);
+        };
+        if !has_size_of(&client.shadow, view.get()) {
+            return Ok(None);
+        }
+        Frame::to(alloc, &client.shadow, view)
+    }
+
+    /// A client's terminal reads a frame: where it is one of which the same was known as before the
+    /// frame, the view is drawn.
+    pub fn follow(&mut self, serial: u32, frame: &Frame) -> Result<(), AllocError>
+        ensures drawn { OnOk result (IsDrawable frame.now.view
+            → LeadsFrom serial self.old frame.now.before
+            → Draws serial frame.now.view frame.now.bytes self.old self.new) }
         ensures err { OnErr result (self.new ≡ self.old) }
     {
         let Some(client) = self.rows.get_mut(serial) else {
-            return Ok(None);
+            return Ok(());
         };
-        frame_sparing(alloc, &mut client.shadow, view, &mut self.spare)
+        client.shadow.follow(frame)
     }
 
     /// What is said to each client.
@@ -310,6 +333,13 @@ impl Clients {
             client.hear(next_message(messages));
         }
     }
+}
+
+/// Whether a view has a terminal's size.
+fn has_size_of(shadow: &Shadow, view: &View) -> bool
+    ensures { (result ≡ true) ↔ HasSize shadow.now.rows shadow.now.columns view.now }
+{
+    view.rows() == usize::from(shadow.rows()) && view.columns() == usize::from(shadow.columns())
 }
 
 /// The last of some messages, which are all the same.

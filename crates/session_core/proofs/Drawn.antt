@@ -42,13 +42,18 @@ module _ (t : Tables) (client : ℕ) where
   left = none_left t.clients t.clients (λ user w is. is)
 
   pub drawn_taken : (c : Client) (reply : Reply) (new : State) (before after : StepOutput)
-      (past : List Verdict) → client_at t client ≡ Some c → done ≡ reply
-      → HasDrawn t c new before after → TakenAs (Draw client) reply t new before after past past
-  drawn_taken c reply new before after past at same drawn =
+      (past : List Verdict) (P : Tables → Type 0) → client_at t client ≡ Some c → done ≡ reply
+      → (drawn : HasDrawn t c new before after) → P (drawn_on (Some c) drawn.effects t)
+      → TakenAs (Draw client) reply t P new before after past past
+  drawn_taken c reply new before after past P at same drawn holds =
       let is : outcome t (Draw client) ≡ finished t [] done (changing t) = ap outcome_of at in
       let kept : (outcome t (Draw client)).tables ≡ t =
       ap (λ (o : Outcome). o.tables) is
-      ∙ ap (λ (acts : List Act). record t { acts = followed_by t.acts acts }) left in (
+      ∙ ap (λ (acts : List Act). record t { acts = followed_by t.acts acts }) left in
+      let then : drawn_on (client_at (outcome t (Draw client)).tables client) drawn.effects (outcome t (Draw client)).tables
+      ≡ drawn_on (Some c) drawn.effects t =
+      ap (λ (u : Tables). drawn_on (client_at u client) drawn.effects u) kept
+      ∙ ap (λ (o : Option Client). drawn_on o drawn.effects t) at in (
         entry reply drawn.effects,
         refl,
         refl,
@@ -60,22 +65,25 @@ module _ (t : Tables) (client : ℕ) where
             effects = subst (λ (o : Option Client). MatchOption o (drawn.effects ≡ [])
                 (IsDraw t drawn.effects)) (sym at) drawn.is_draw;
           };
-          stands = subst (λ (u : Tables). Stands u new)
-              (sym (ap (λ (u : Tables). drawn_on (client_at u client) drawn.effects u) kept
-              ∙ ap (λ (o : Option Client). drawn_on o drawn.effects t) at)) drawn.stands;
+          stands = subst (λ (u : Tables). Stands u new) (sym then) drawn.stands;
           acts = drawn.acts_are ∙ sym (append-nil before.acts.items);
           effects = drawn.effects_are;
           verdicts = sym (append-nil past);
         },
+        subst P (sym then) holds,
       )
 
   -- no client has the serial
-  pub undrawn_taken : (r : Refusal) (old new : State) (before after : StepOutput) (past : List Verdict)
-      → client_at t client ≡ None → r ≡ NoWindow → Stands t old → IsAsBefore old new before after
-      → TakenAs (Draw client) (Err r) t new before after past past
-  undrawn_taken r old new before after past at why st same =
+  undrawn_taken : (r : Refusal) (old new : State) (before after : StepOutput) (past : List Verdict)
+      (P : Tables → Type 0) → client_at t client ≡ None → r ≡ NoWindow → Stands t old
+      → IsAsBefore old new before after → P t
+      → TakenAs (Draw client) (Err r) t P new before after past past
+  undrawn_taken r old new before after past P at why st same holds =
       let none : List Effect = [] in
-      let is : outcome t (Draw client) ≡ refused t [] NoWindow = ap outcome_of at in (
+      let is : outcome t (Draw client) ≡ refused t [] NoWindow = ap outcome_of at in
+      let then : drawn_on (client_at (outcome t (Draw client)).tables client) [] (outcome t (Draw client)).tables ≡ t =
+      ap (λ (u : Tables). drawn_on (client_at u client) [] u) (ap (λ (o : Outcome). o.tables) is)
+      ∙ ap (λ (o : Option Client). drawn_on o [] t) at in (
         entry (Err r) [],
         refl,
         refl,
@@ -87,23 +95,21 @@ module _ (t : Tables) (client : ℕ) where
             effects = subst (λ (o : Option Client). MatchOption o (none ≡ []) (IsDraw t none))
                 (sym at) refl;
           };
-          stands = subst (λ (u : Tables). Stands u new)
-              (sym (ap (λ (u : Tables). drawn_on (client_at u client) [] u)
-              (ap (λ (o : Outcome). o.tables) is)
-              ∙ ap (λ (o : Option Client). drawn_on o [] t) at))
+          stands = subst (λ (u : Tables). Stands u new) (sym then)
               (subst (λ (s : State). Stands t s) (sym same.state) st);
           acts = same.acts ∙ sym (append-nil before.acts.items);
           effects = same.effects ∙ sym (append-nil before.effects.items);
           verdicts = sym (append-nil past);
         },
+        subst P (sym then) holds,
       )
 
   pub undrawn_or : (r : Refusal) (old new : State) (before after : StepOutput) (past : List Verdict)
-      → (r ≡ NoMemory) ⊎ ((r ≡ NoWindow) × (client_at t client ≡ None)) → Stands t old
-      → IsAsBefore old new before after → wants_memory (Err r) ≡ false
-      → TakenAs (Draw client) (Err r) t new before after past past
-  undrawn_or r old new before after past (inr why) st same other =
-      undrawn_taken r old new before after past why.1 why.0 st same
-  undrawn_or r old new before after past (inl full) st same other =
+      (P : Tables → Type 0) → (r ≡ NoMemory) ⊎ ((r ≡ NoWindow) × (client_at t client ≡ None))
+      → Stands t old → IsAsBefore old new before after → P t → wants_memory (Err r) ≡ false
+      → TakenAs (Draw client) (Err r) t P new before after past past
+  undrawn_or r old new before after past P (inr why) st same holds other =
+      undrawn_taken r old new before after past P why.1 why.0 st same holds
+  undrawn_or r old new before after past P (inl full) st same holds other =
       let want : wants_memory (Err r) ≡ true = ap (λ (f : Refusal). wants_memory (Err f)) full in
       absurd (cc (want, other))

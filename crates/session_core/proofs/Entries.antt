@@ -13,7 +13,8 @@ use Rattle.session_state.specs.declared.step_output.StepOutput.{StepOutput}
 use Rattle.session_state.specs.declared.state.State.{State}
 use Rattle.session_state.specs.Stands.{Stands}
 use Rattle.session_core.specs.Stepping.{HasHappened, Stepped, Steps}
-use Rattle.session_core.specs.Taking.{TakenAs, Takes, wants_memory}
+use Rattle.session_core.specs.declared.sharing.Sharing.{Sharing}
+use Rattle.session_core.specs.Taking.{TakenAs, StayShared, Takes, wants_memory}
 
 -- whether it is a draw
 abbrev pub is_draw : EventValue → Bool
@@ -30,11 +31,11 @@ not_drawn : (event : EventValue) (effects : List Effect) (t : Tables) → is_dra
 not_drawn (Draw client) effects t plain = absurd (cc (plain))
 not_drawn event effects t plain = refl
 
-happened_taken : (t : Tables) (event : EventValue) (reply : Reply) (new : State)
-    (before after : StepOutput) (past noted : List Verdict) → is_draw event ≡ false
-    → HasHappened (outcome t event) reply new before after past noted
-    → TakenAs event reply t new before after past noted
-happened_taken t event reply new before after past noted plain h =
+happened_taken : (t : Tables) (event : EventValue) (reply : Reply) (P : Tables → Type 0)
+    (new : State) (before after : StepOutput) (past noted : List Verdict) → is_draw event ≡ false
+    → ((u : Tables) → P u) → HasHappened (outcome t event) reply new before after past noted
+    → TakenAs event reply t P new before after past noted
+happened_taken t event reply P new before after past noted plain holds h =
     let o : Outcome = outcome t event in (
       record {
         event = event;
@@ -58,6 +59,7 @@ happened_taken t event reply new before after past noted plain h =
         effects = h.effects;
         verdicts = h.verdicts;
       },
+      holds _,
     )
 
 unless_memory : (o : Outcome) (reply : Reply) (new : State) (before after : StepOutput)
@@ -70,14 +72,20 @@ unless_memory o (Err r) new before after past noted other (inl full) =
     let want : wants_memory (Err r) ≡ true = ap (λ (f : Refusal). wants_memory (Err f)) full in
     absurd (cc (want, other))
 
+still_shared : (event : EventValue) (shared : Sharing) (t : Tables) → is_draw event ≡ false
+    → StayShared event shared shared t
+still_shared (Draw client) shared t plain = absurd (cc (plain))
+still_shared event shared t plain = refl
+
 -- an event that is no draw
-pub taken : (event told : EventValue) (old new : State) (reply : Reply) (before after : StepOutput)
-    (past noted : List Verdict) → event ≡ told → is_draw told ≡ false
-    → Steps told old reply new before after past noted
-    → Takes event old reply new before after past noted
-taken event told old new reply before after past noted is plain steps =
-    subst (λ (e : EventValue). Takes e old reply new before after past noted) (sym is)
-    (λ t st fit other. happened_taken t told reply new before after past noted plain
+pub taken : (event told : EventValue) (old new : State) (shared : Sharing) (reply : Reply)
+    (before after : StepOutput) (past noted : List Verdict) → event ≡ told
+    → is_draw told ≡ false → Steps told old reply new before after past noted
+    → Takes event old shared reply new shared before after past noted
+taken event told old new shared reply before after past noted is plain steps =
+    subst (λ (e : EventValue). Takes e old shared reply new shared before after past noted) (sym is)
+    (λ t st fit so other. happened_taken t told reply (StayShared told shared shared) new before after past
+    noted plain (λ u. still_shared told shared u plain)
     (unless_memory (outcome t told) reply new before after past noted other (steps t st fit)))
 
 pub wanted : {P : Type 0} (reply : Reply) (r : Refusal) → OnErr reply P → reply ≡ Err r → P

@@ -1,12 +1,14 @@
 pub mod Acting
 pub mod Answered
 pub mod Crossing
+pub mod Drawings
 pub mod Drawn
 pub mod Entries
 pub mod Fitting
 pub mod Inputs
 pub mod KeyReading
 pub mod KeyStepping
+pub mod Left
 pub mod Lowest
 pub mod Needless
 pub mod Numbered
@@ -18,5 +20,6 @@ pub mod Rests
 pub mod RunReading
 pub mod Runs
 pub mod Seeing
+pub mod Shared
 pub mod Still
 pub mod Telling

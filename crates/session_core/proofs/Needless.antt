@@ -26,7 +26,7 @@ use Rattle.session_laws.proofs.Outcomes as outcomes
 use Rattle.session_laws.proofs.Refusing.{refusals}
 use Rattle.session_core.specs.Drawn.{IsDrawn, AreDrawn, AreNoted}
 
-abbrev serial_of : Client → ℕ
+abbrev pub serial_of : Client → ℕ
 serial_of c = c.serial
 
 -- ---- views, once a client was drawn
@@ -47,10 +47,10 @@ looks_itself v = record { cells = λ line column. refl; cursor = refl; arrows = 
 
 module _ (t : Tables) (c : Client) (own : client_at t c.serial ≡ Some c) (bytes : List ℕ) where
   -- the client and the tables then
-  abbrev shown : Client
+  abbrev pub shown : Client
   shown = record c { delivered = c.delivered ++ bytes; drawn = Some (granted_view t c) }
 
-  abbrev now : Tables
+  abbrev pub now : Tables
   now = with_client t shown
 
   message_same : (d : Client) (m : Message) → message_text now d m ≡ message_text t d m
@@ -65,7 +65,7 @@ module _ (t : Tables) (c : Client) (own : client_at t c.serial ≡ Some c) (byte
     on (Some line) = refl
     on None = message_same d d.message
 
-  view_same : (d : Client) → granted_view now d ≡ granted_view t d
+  pub view_same : (d : Client) → granted_view now d ≡ granted_view t d
   view_same d = ap (view_in (layout_of d) (map (part_shown t d.user) d.layout.shown)) (status_same d)
 
   -- ---- draws, once it was drawn
@@ -110,7 +110,7 @@ module _ (t : Tables) (client : ℕ) where
   drawn_after : (effects : List Effect) → drawn (Draw client) effects (outcome t (Draw client)).tables ≡ drawn_on (client_at t client) effects t
   drawn_after effects = ap (λ u. drawn_on (client_at u client) effects u) quiet
 
-  back : (c : Client) → client_at t client ≡ Some c → drawn_on (Some c) [] t ≡ t
+  pub back : (c : Client) → client_at t client ≡ Some c → drawn_on (Some c) [] t ≡ t
   back c at =
       let own : client_at t c.serial ≡ Some c = ap (client_at t) (serial_is serial_of t.clients client c at) ∙ at in
       ap (λ cs. record t { clients = cs }) (with_back serial_of t.clients c.serial c own)

@@ -18,7 +18,10 @@ use Rattle.session_laws.proofs.Promising.{step_keeps}
 use Rattle.session_state.specs.declared.step_output.StepOutput.{StepOutput}
 use Rattle.session_state.specs.declared.state.State.{State}
 use Rattle.session_state.specs.Stands.{Stands}
-use Rattle.session_core.specs.Taking.{TakenAs}
+use Rattle.session_core.specs.declared.sharing.Sharing.{Sharing}
+use Rattle.session_core.specs.Sharing.{IsShared, AreLeft}
+use Rattle.session_core.specs.Taking.{TakenAs, StayShared}
+use Rattle.session_core.proofs.Left.{stay_shared}
 use Rattle.session_core.specs.Noted.{Noted, nothing}
 use Rattle.session_core.specs.Drawn.{AreDrawn, AreNoted, draws_one_of}
 use Rattle.session_core.proofs.Needless.{needs_none, one_drawn, stay_drawn}
@@ -82,28 +85,30 @@ same_entry e event reply acts verdicts event_is reply_is acts_are verdicts_are =
     ∙ ap (λ x. let d : Entry = record e { event = event; reply = reply; acts = acts; verdicts = x } in d) verdicts_are
 
 -- what was made from nothing is the entry's
-taken_as : (event : EventValue) (reply : Reply) (t : Tables) (new : State) (before after : StepOutput) (old noted : List Verdict) → before.acts.items ≡ [] → old ≡ [] → TakenAs event reply t new before after old noted
+taken_as : (event : EventValue) (reply : Reply) (t : Tables) (P : Tables → Type 0) (new : State) (before after : StepOutput) (old noted : List Verdict) → before.acts.items ≡ [] → old ≡ [] → TakenAs event reply t P new before after old noted
     → (made : List Effect) × (after.effects.items ≡ before.effects.items ++ made)
     × IsStep t (entry_of event reply (record { acts = after.acts.items; verdicts = noted }) made)
     × Stands (run.after t (entry_of event reply (record { acts = after.acts.items; verdicts = noted }) made)) new
-taken_as event reply t new before after old noted no_acts none (e, event_is, reply_is, taken) =
+    × P (run.after t (entry_of event reply (record { acts = after.acts.items; verdicts = noted }) made))
+taken_as event reply t P new before after old noted no_acts none (e, event_is, reply_is, taken, holds) =
     let same : e ≡ entry_of event reply (record { acts = after.acts.items; verdicts = noted }) e.effects =
     same_entry e event reply after.acts.items noted event_is reply_is
     (sym (taken.acts ∙ ap (λ xs. xs ++ e.acts) no_acts)) (sym (taken.verdicts ∙ ap (λ xs. xs ++ e.verdicts) none)) in
-    (e.effects, taken.effects, subst (λ x. IsStep t x) same taken.step, subst (λ x. Stands (run.after t x) new) same taken.stands)
+    (e.effects, taken.effects, subst (λ x. IsStep t x) same taken.step, subst (λ x. Stands (run.after t x) new) same taken.stands, subst (λ x. P (run.after t x)) same holds)
 
 -- what the state takes the session takes
-pub step_taken : (h : Trace) (old new : Session) (event : EventValue) (reply : Reply) (noted : Noted) (before after : StepOutput) (past verdicts : List Verdict)
+pub step_taken : (h : Trace) (old new : Session) (shared : Sharing) (event : EventValue) (reply : Reply) (noted : Noted) (before after : StepOutput) (past verdicts : List Verdict)
     → noted ≡ record { acts = after.acts.items; verdicts = verdicts } → before.acts.items ≡ [] → past ≡ [] → StandsFor h old → AreNoted reply event old.drawn.items new.drawn.items
-    → TakenAs event reply (tables_of h) new.state before after past verdicts
+    → AreLeft reply event shared new.sharing → TakenAs event reply (tables_of h) (StayShared event old.sharing shared) new.state before after past verdicts
     → (made : List Effect) × (after.effects.items ≡ before.effects.items ++ made) × StandsFor (with_step h (entry_of event reply noted made)) new
-step_taken h old new event reply noted before after past verdicts noted_is no_acts none st drawn taken =
-    let made = taken_as event reply (tables_of h) new.state before after past verdicts no_acts none taken in
+step_taken h old new shared event reply noted before after past verdicts noted_is no_acts none st drawn left taken =
+    let made = taken_as event reply (tables_of h) (StayShared event old.sharing shared) new.state before after past verdicts no_acts none taken in
     let e : Entry = entry_of event reply (record { acts = after.acts.items; verdicts = verdicts }) made.0 in
     let stands : StandsFor (with_step h e) new = record {
       run = (st.run, made.2);
       stands = made.3;
       drawn = stay_drawn (tables_of h) e made.2 old.drawn.items new.drawn.items st.drawn drawn;
+      shared = stay_shared (tables_of h) e made.2 old.sharing shared new.sharing st.shared made.4 left;
     } in (made.0, made.1, subst (λ n. StandsFor (with_step h (entry_of event reply n made.0)) new) (sym noted_is) stands)
 
 -- a draw that is needless
@@ -115,6 +120,7 @@ draw_taken h s (Draw client) reply noted one replied noted_is st =
       run = (st.run, none.0);
       stands = subst (λ t. Stands t s.state) (sym none.1) st.stands;
       drawn = subst (λ t. AreDrawn t s.drawn.items) (sym none.1) st.drawn;
+      shared = subst (λ t. IsShared t s.sharing) (sym none.1) st.shared;
     } in
     subst (λ r. StandsFor (with_step h (entry_of (Draw client) r noted [])) s) replied
     (subst (λ n. StandsFor (with_step h (entry_of (Draw client) done n [])) s) (sym noted_is) stands)

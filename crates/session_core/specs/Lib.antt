@@ -14,3 +14,4 @@ pub mod Stands
 pub mod Stepping
 pub mod Taking
 pub mod Typing
+pub mod Sharing

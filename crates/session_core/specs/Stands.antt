@@ -6,14 +6,17 @@ use Rattle.session_model.specs.Run.{IsRun, tables_of}
 use Rattle.session_state.specs.Stands.{Stands}
 pub use Rattle.session_core.specs.Taking.{wants_memory}
 use Rattle.session_core.specs.Drawn.{AreDrawn}
+use Rattle.session_core.specs.Sharing.{IsShared}
 use Rattle.session_core.specs.Noted.{Noted}
 use Rattle.session_core.specs.declared.session.Session.{Session}
 
--- all its steps, whose tables its state stands for, and clients that need no draw in them
+-- all its steps, whose tables its state stands for, clients that need no draw in them, and frames
+-- that are shared
 pub record StandsFor (h : Trace) (s : Session) : Type 0 where
   pub run : IsRun h
   pub stands : Stands (tables_of h) s.state
   pub drawn : AreDrawn (tables_of h) s.drawn.items
+  pub shared : IsShared (tables_of h) s.sharing
 
 -- a fact, unless the step was refused for want of memory
 abbrev pub IfTaken : Reply → Type 0 → Type 0

@@ -1,15 +1,18 @@
 -- Steps that a session's state has taken.
-use Rattle.std.specs.Prelude.{◌≡◌, ◌++◌, Bool, true, false, List, Err}
+use Rattle.std.specs.Prelude.{ℕ, ◌≡◌, ◌++◌, Bool, true, false, List, Some, Err}
 use Rattle.session_model.specs.declared.refusal.Refusal.TheVariants.{NoMemory}
 use Rattle.session_model.specs.declared.verdict.Verdict.{Verdict}
-use Rattle.session_model.specs.Trace.{EventValue, Entry, Reply}
-use Rattle.session_model.specs.Tables.{Tables}
+use Rattle.session_model.specs.Trace.{EventValue, Draw, Entry, Reply}
+use Rattle.session_model.specs.Tables.{Client, Tables, client_at}
 use Rattle.session_model.specs.Run as run
-use Rattle.session_model.specs.Run.{IsStep}
+use Rattle.session_model.specs.Run.{IsStep, drawn_on}
 use Rattle.session_state.specs.declared.step_output.StepOutput.{StepOutput}
 use Rattle.session_state.specs.declared.state.State.{State}
 use Rattle.session_state.specs.Stands.{Stands}
 use Rattle.session_model.specs.Sound.{AreFit}
+use Rattle.session_view.specs.Drawn.{HasDrawnSo}
+use Rattle.session_core.specs.declared.sharing.Sharing.{Sharing}
+use Rattle.session_core.specs.Sharing.{IsShared}
 
 -- whether memory was wanting
 abbrev pub wants_memory : Reply → Bool
@@ -26,15 +29,28 @@ pub record HasTaken (t : Tables) (e : Entry) (new : State) (before after : StepO
   pub effects : after.effects.items ≡ before.effects.items ++ e.effects
   pub verdicts : noted ≡ old ++ e.verdicts
 
--- one of this event, with this reply
-abbrev pub TakenAs : EventValue → Reply → Tables → State → StepOutput → StepOutput → List Verdict →
-    List Verdict → Type 0
-TakenAs event reply t new before after old noted =
+-- one of this event, with this reply, behind which a fact holds of the tables
+abbrev pub TakenAs : EventValue → Reply → Tables → (Tables → Type 0) → State → StepOutput →
+    StepOutput → List Verdict → List Verdict → Type 0
+TakenAs event reply t P new before after old noted =
     (e : Entry) × (e.event ≡ event) × (e.reply ≡ reply) × HasTaken t e new before after old noted
+    × P (run.after t e)
+
+-- the frames that are shared are so behind a Draw, and stay at any other event
+abbrev pub StayShared : EventValue → Sharing → Sharing → Tables → Type 0
+StayShared (Draw client) old new after = IsShared after new
+StayShared event old new after = new ≡ old
 
 -- whichever tables the state stood for, unless memory was wanting
-abbrev pub Takes : EventValue → State → Reply → State → StepOutput → StepOutput → List Verdict →
-    List Verdict → Type 0
-Takes event old reply new before after past noted =
-    (t : Tables) → Stands t old → AreFit t → wants_memory reply ≡ false
-    → TakenAs event reply t new before after past noted
+abbrev pub Takes : EventValue → State → Sharing → Reply → State → Sharing → StepOutput →
+    StepOutput → List Verdict → List Verdict → Type 0
+Takes event old shared result new shares before after past noted =
+    (t : Tables) → Stands t old → AreFit t → IsShared t shared → wants_memory result ≡ false
+    → TakenAs event result t (StayShared event shared shares) new before after past noted
+
+-- the client of a serial is there and was drawn, and the frames that are shared are so then
+abbrev pub DrawsSharing : ℕ → State → Sharing → State → Sharing → StepOutput → StepOutput → Type 0
+DrawsSharing client old shared new shares before after =
+    (t : Tables) → Stands t old → AreFit t → IsShared t shared
+    → (c : Client) × (client_at t client ≡ Some c)
+    × HasDrawnSo (λ effects. IsShared (drawn_on (Some c) effects t) shares) t c new before after

@@ -1,24 +1,97 @@
 //! Draws.
 
-ghost use Rattle.std.specs.Prelude.{◌≡◌, List, OnErr};
+ghost use Rattle.std.specs.Prelude.{◌≡◌, List, IfOk, OnOk, OnErr, true, false};
 ghost use Rattle.session_model.specs.declared.verdict.Verdict.{Verdict};
 ghost use Rattle.session_model.specs.Trace.{Draw, happening};
 ghost use Rattle.session_state.specs.Doing.{IsAsBefore};
-ghost use Rattle.session_core.specs.Taking.{Takes};
+ghost use Rattle.session_view.specs.Drawn.{IsRefusedFor};
 ghost use Rattle.session_core.specs.Drawn.{draws_one_of, AreNoted};
+ghost use Rattle.session_core.specs.Sharing.{SharesOrForgets};
+ghost use Rattle.session_core.specs.Taking.{Takes, DrawsSharing};
 
 use crate::coming::made_so;
-use session_model::{Event, Reply};
+use crate::sharing::Sharing;
+use redraw::Frame;
+use session_model::{Event, Refusal, Reply};
 use session_state::{State, StepOutput};
-use session_view::draw;
+use session_view::{Lead, draw, draw_like};
+
+/// Draws for a client by the frame that others follow, where it sees the same as they do. Nothing
+/// is done where that isn't so.
+fn follow(
+    state: &mut State,
+    sharing: &mut Sharing,
+    client: u32,
+    made: &mut StepOutput,
+) -> Result<bool, Refusal>
+    ensures drawn { IfOk result (λ follows. follows ≡ true → DrawsSharing client state.old
+        sharing.old state.new sharing.new made.old made.new) }
+    ensures other { IfOk result (λ follows. follows ≡ false
+        → IsAsBefore state.old state.new made.old made.new) }
+    ensures same { IfOk result (λ follows. follows ≡ false → sharing.new ≡ sharing.old) }
+    ensures err { OnErr result (IsAsBefore state.old state.new made.old made.new) }
+    ensures unshared { OnErr result (sharing.new ≡ sharing.old) }
+    ensures refused { IsRefusedFor client state.old result }
+{
+    let Some(lead) = sharing.lead() else {
+        return Ok(false);
+    };
+    if !draw_like(state, client, lead, sharing.knows(client), made)? {
+        return Ok(false);
+    }
+    sharing.join(client);
+    Ok(true)
+}
+
+/// A client was drawn by a frame of its own, which others may follow or not.
+fn share(state: &mut State, sharing: &mut Sharing, client: u32, frame: Frame)
+    ensures state { state.new ≡ state.old }
+    ensures shared { SharesOrForgets client frame sharing.old sharing.new }
+{
+    if sharing.may_lead(client) {
+        sharing.begin(Lead { client, frame });
+    } else {
+        sharing.forget(client);
+        state.clients.keep_spare(frame.into_spare());
+    }
+}
+
+/// Draws for a client by a frame of its own.
+fn draw_alone(
+    state: &mut State,
+    sharing: &mut Sharing,
+    client: u32,
+    made: &mut StepOutput,
+) -> Result<(), Refusal>
+    ensures drawn { OnOk result (DrawsSharing client state.old sharing.old
+        state.new sharing.new made.old made.new) }
+    ensures err { OnErr result (IsAsBefore state.old state.new made.old made.new) }
+    ensures unshared { OnErr result (sharing.new ≡ sharing.old) }
+    ensures refused { IsRefusedFor client state.old result }
+{
+    let Some(frame) = draw(state, client, made)? else {
+        return Ok(());
+    };
+    share(state, sharing, client, frame);
+    Ok(())
+}
 
 /// A client is sent what its terminal is to show.
-pub(crate) fn draw_client(state: &mut State, client: u32, made: &mut StepOutput) -> Reply
-    ensures step { (past : List Verdict) → Takes (Draw client) state.old result state.new
-        made.old made.new past past }
+pub(crate) fn draw_client(
+    state: &mut State,
+    sharing: &mut Sharing,
+    client: u32,
+    made: &mut StepOutput,
+) -> Reply
+    ensures step { (past : List Verdict) → Takes (Draw client) state.old sharing.old result
+        state.new sharing.new made.old made.new past past }
     ensures err { OnErr result (IsAsBefore state.old state.new made.old made.new) }
+    ensures unshared { OnErr result (sharing.new ≡ sharing.old) }
 {
-    draw(state, client, made)?;
+    if follow(state, sharing, client, made)? {
+        return Ok(made_so(0, 0));
+    }
+    draw_alone(state, sharing, client, made)?;
     Ok(made_so(0, 0))
 }
 

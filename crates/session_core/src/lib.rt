@@ -15,6 +15,7 @@ mod programs;
 mod reading;
 mod saying;
 mod session;
+mod sharing;
 mod step_notes;
 mod taking;
 mod typing;

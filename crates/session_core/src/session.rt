@@ -18,6 +18,7 @@ ghost use Rattle.session_core.specs.Headline.{read_by};
 use crate::coming::made_so;
 use crate::drawing::{draws_one_of, note_drawn};
 use crate::notes::Notes;
+use crate::sharing::{Sharing, note_step};
 use crate::step_notes::Step;
 use crate::taking::take;
 use acl::{Edition, UserId};
@@ -35,6 +36,8 @@ pub struct Session {
     state: State,
     /// Clients that need no draw.
     drawn: Vec<u32>,
+    /// Frames that several clients read.
+    sharing: Sharing,
 }
 
 impl Drop for Session {
@@ -43,6 +46,7 @@ impl Drop for Session {
             alloc: _,
             state: _,
             drawn: _,
+            sharing: _,
         } = self;
     }
 }
@@ -109,7 +113,7 @@ impl Session {
         };
         let verdicts = Vec::new(self.alloc);
         let mut step = Step { made, verdicts };
-        let reply = take(&mut self.state, event, &mut step);
+        let reply = take(&mut self.state, &mut self.sharing, event, &mut step);
         let Step { made, verdicts } = step;
         *effects = made.effects;
         if wants_memory(&reply) {
@@ -117,6 +121,7 @@ impl Session {
         }
         *notes = Notes::of(made.acts, verdicts);
         note_drawn(&mut self.drawn, event, &reply);
+        note_step(&mut self.state, &mut self.sharing, event, &reply);
         reply
     }
 
@@ -207,10 +212,12 @@ impl Session {
     {
         let state = State::new(alloc, owner, edition)?;
         let drawn = Vec::with_capacity(alloc, CLIENTS)?;
+        let sharing = Sharing::new(alloc)?;
         Ok(Session {
             alloc,
             state,
             drawn,
+            sharing,
         })
     }
 

@@ -12,6 +12,7 @@ use crate::drawing::draw_client;
 use crate::going::{end_window, let_go};
 use crate::programs::write;
 use crate::reading::give_keys;
+use crate::sharing::Sharing;
 use crate::step_notes::Step;
 use session_model::{Event, Reply};
 use session_state::{State, WindowSize};
@@ -19,11 +20,12 @@ use session_state::{State, WindowSize};
 /// A step of a session: its checks are made and noted, then it does what its event does, and at its
 /// end users leave the windows that none of their clients has in focus any more. Nothing is left of
 /// a step that found no memory but what was checked.
-pub fn take(state: &mut State, event: Event, step: &mut Step) -> Reply
-    ensures step { Takes (happening event.entry) state.old result state.new
+pub fn take(state: &mut State, sharing: &mut Sharing, event: Event, step: &mut Step) -> Reply
+    ensures step { Takes (happening event.entry) state.old sharing.old result state.new sharing.new
         step.old.made step.new.made step.old.verdicts.items step.new.verdicts.items }
     ensures memory { result ≡ Err NoMemory → IsAsBefore state.old state.new
         step.old.made step.new.made }
+    ensures unshared { result ≡ Err NoMemory → sharing.new ≡ sharing.old }
 {
     match event {
         Event::Attach {
@@ -55,6 +57,6 @@ pub fn take(state: &mut State, event: Event, step: &mut Step) -> Reply
         }
         Event::Output { window, bytes } => write(state, window, bytes, &mut step.made),
         Event::Closed { window } => end_window(state, window, &mut step.made),
-        Event::Draw { client } => draw_client(state, client, &mut step.made),
+        Event::Draw { client } => draw_client(state, sharing, client, &mut step.made),
     }
 }

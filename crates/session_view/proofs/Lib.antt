@@ -6,3 +6,5 @@ pub mod Lines
 pub mod Panes
 pub mod Granting
 pub mod Delivering
+pub mod Alike
+pub mod Led

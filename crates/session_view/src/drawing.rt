@@ -1,18 +1,40 @@
 //! Draws.
 
-ghost use Rattle.std.specs.Prelude.{OnOk, OnErr};
+ghost use Rattle.std.specs.Prelude.{IfOk, OnOk, OnErr};
 ghost use Rattle.session_state.specs.Doing.{IsAsBefore};
-ghost use Rattle.session_view.specs.Drawn.{DrawsFor, IsRefusedFor};
+ghost use Rattle.session_view.specs.Drawn.{DrawsFor, DrawsBy, Delivers, IsRefusedFor};
 
 use crate::viewing::view_for;
+use redraw::{Frame, SharedView};
 use session_model::{Bytes, Effect, Refusal};
 use session_state::{State, StepOutput};
+use std::alloc::AllocError;
+
+/// One effect delivers a frame to a client. A refusal leaves all as it was.
+pub(crate) fn deliver(
+    state: &mut State,
+    client: u32,
+    frame: &Frame,
+    made: &mut StepOutput,
+) -> Result<(), AllocError>
+    ensures ok { OnOk result
+        (Delivers client frame.now state.old state.new made.old made.new) }
+    ensures err { OnErr result (IsAsBefore state.old state.new made.old made.new) }
+{
+    made.effects.reserve(1)?;
+    let bytes = Bytes::of(state.alloc, frame.bytes())?;
+    state.clients.follow(client, frame)?;
+    made.effects.push(Effect::Deliver(client, bytes)).unwrap();
+    Ok(())
+}
 
 /// Draws for a client what it is granted to see: one effect delivers a frame to it, but none where
 /// its terminal is known to show that already. It is `NoWindow` where no client has the serial. A
-/// refusal leaves all as it was.
-pub fn draw(state: &mut State, client: u32, made: &mut StepOutput) -> Result<(), Refusal>
+/// refusal leaves all as it was. The frame is handed back.
+pub fn draw(state: &mut State, client: u32, made: &mut StepOutput) -> Result<Option<Frame>, Refusal>
     ensures ok { OnOk result (DrawsFor client state.old state.new made.old made.new) }
+    ensures by { IfOk result (λ frame.
+        DrawsBy client frame state.old state.new made.old made.new) }
     ensures refused { IsRefusedFor client state.old result }
     ensures err { OnErr result (IsAsBefore state.old state.new made.old made.new) }
 {
@@ -20,12 +42,11 @@ pub fn draw(state: &mut State, client: u32, made: &mut StepOutput) -> Result<(),
     let Some(row) = state.clients.get(client) else {
         return Err(Refusal::NoWindow);
     };
-    let view = view_for(state, row, spare)?;
-    made.effects.reserve(1)?;
-    let Some(bytes) = state.clients.draw(state.alloc, client, view)? else {
-        return Ok(());
+    let view = SharedView::new(state.alloc, view_for(state, row, spare)?)?;
+    let Some(frame) = state.clients.frame(state.alloc, client, &view)? else {
+        state.clients.keep_spare(view.into_view());
+        return Ok(None);
     };
-    let frame = Effect::Deliver(client, Bytes::from_vec(bytes));
-    made.effects.push(frame).unwrap();
-    Ok(())
+    deliver(state, client, &frame, made)?;
+    Ok(Some(frame))
 }

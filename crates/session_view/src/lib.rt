@@ -2,15 +2,18 @@
 #![tactic(auto)]
 
 mod drawing;
+mod following;
 mod items;
 mod laws;
 mod lists;
 mod parts;
+mod sameness;
 mod status;
 mod texts;
 mod viewing;
 
 pub use drawing::draw;
+pub use following::{Lead, draw_like};
 pub use lists::{aclgrp_of, displays, screen, windows};
 pub use texts::{clients_text, leaders_text, windows_text};
 pub use viewing::view_of;

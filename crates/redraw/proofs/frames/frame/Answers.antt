@@ -13,8 +13,8 @@ pub returns-clause-draws : goal.returns-clause-draws
 returns-clause-draws c =
     let v : View = c.args.view.now in
     let k : Knowledge = c.args.shadow.now in
-    let same : c.in_ok-known.known ≡ v = c.in_ok-known.ensures in
-    let grid : IsGrid v.page = subst IsGrid (ap (λ (w : View). w.page) (c.known.view_is ∙ same)) c.known.invariant.grid in inr (record {
+    let same : c.in_ok-known.known ≡ v = c.in_ok-known.ensures.value ∙ c.in_ok-copied.ensures in
+    let grid : IsGrid v.page = subst IsGrid (ap (λ (w : View). w.page) same) c.in_ok-known.ensures.grid in inr (record {
       frame = c.in-Some.bytes.items;
       appended = c.in_ok-extend_from_slice.ensures.items ∙ ap (λ xs. c.args.out.now.items ++ xs) c.as_slice.ensures.value;
       draws = record {

@@ -1,5 +1,5 @@
 use Rattle.std.proofs.Common.{subst, ap, ◌∙◌, []}
-use Rattle.std.specs.Prelude.{Option}
+use Rattle.std.specs.Prelude.{Option, Some}
 use Rattle.std.proofs.lemmas.Option.{MatchOption-at_some}
 use Rattle.cells.specs.Page.{IsGrid}
 use Rattle.terminal_model.specs.Shows.{View, NeedsDraw}
@@ -18,5 +18,5 @@ returns-clause-drawn c =
       redraws = λ od nd. redraws k.rows k.columns k.known v c.in-Some.bytes.items c.requires.size grid
           (MatchOption-at_some _ (λ bytes. CanBeShown k.known → IsDrawable v → DrawsBytes k.known v [] bytes.items) c.in-Some.bytes c.in-Some.is c.in_ok-bytes.ensures.drawn od nd);
       known = ap (λ (s : Knowledge). record s { known = c.replace.new.dest }) c.shadow.view_is
-          ∙ ap (λ (known : Option View). record k { known = known }) c.replace.ensures.after;
+          ∙ ap (λ (known : Option View). record k { known = known }) (c.replace.ensures.after ∙ ap Some c.in_ok-known.ensures.value);
     }

@@ -1,8 +1,11 @@
-use Rattle.std.proofs.Common.{◌≡◌, [], true, ap, sym, ◌∙◌, ◌++◌, Vec, Global, append-nil}
+use Rattle.std.proofs.Common.{◌≡◌, [], true, ap, sym, subst, ◌∙◌, ◌++◌, Vec, Global, append-nil}
 use Rattle.session_model.specs.declared.event.Effect.{Effect}
-use Rattle.session_model.specs.Trace.{happening}
+use Rattle.session_model.specs.Trace.{EventValue, happening}
 use Rattle.session_model.specs.Run.{tables_of}
+use Rattle.session_state.specs.declared.state.State.{State}
+use Rattle.session_state.specs.declared.step_output.StepOutput.{StepOutput}
 use Rattle.session_core.specs.Drawn.{draws_one_of}
+use Rattle.session_core.specs.Taking.{TakenAs, StayShared}
 use Rattle.session_core.specs.declared.session.Session.{Session}
 use Rattle.session_core.proofs.Fitting.{run_is_fit}
 use Rattle.session_core.proofs.Runs.{step_taken, draw_taken}
@@ -19,8 +22,13 @@ returns-then-draws_one_of-clause-step c = λ taken h st.
 
 pub returns-clause-step : goal.returns-clause-step
 returns-clause-step c = λ taken h st.
-    let new : Session = record { alloc = c.args.self.now.alloc; state = c.take-reply.new.state; drawn = c.note_drawn.new.clients } in
-    let made = step_taken h c.args.self.now new (happening c.args.event) c.take-reply.result c.of.result
-    (record { acts = c.new-2.result; effects = c.replace.result }) c.take-reply.new.step.made c.new-verdicts.result.items c.take-reply.new.step.verdicts.items
-    c.of.ensures c.new-2.ensures.items c.new-verdicts.ensures.items st c.note_drawn.ensures (c.take-reply.ensures.step (tables_of h) st.stands (run_is_fit h) taken) in
+    let old : Session = c.args.self.now in
+    let event : EventValue = happening c.args.event in
+    let new : Session = record { alloc = old.alloc; state = c.note_step.new.state; drawn = c.note_drawn.new.clients; sharing = c.note_step.new.sharing } in
+    let before : StepOutput = record { acts = c.new-2.result; effects = c.replace.result } in
+    let step = subst (λ (s : State). TakenAs event c.take-reply.result (tables_of h) (StayShared event old.sharing c.take-reply.new.sharing) s before c.take-reply.new.step.made
+    c.new-verdicts.result.items c.take-reply.new.step.verdicts.items) (sym c.note_step.ensures.state)
+    (c.take-reply.ensures.step (tables_of h) st.stands (run_is_fit h) st.shared taken) in
+    let made = step_taken h old new c.take-reply.new.sharing event c.take-reply.result c.of.result before c.take-reply.new.step.made c.new-verdicts.result.items c.take-reply.new.step.verdicts.items
+    c.of.ensures c.new-2.ensures.items c.new-verdicts.ensures.items st c.note_drawn.ensures c.note_step.ensures.left step in
     (made.0, made.1 ∙ ap (λ (v : Vec Effect Global). v.items ++ made.0) c.replace.ensures.value, made.2)

@@ -1,0 +1,16 @@
+use Rattle.std.proofs.Common.{List, ℕ, sym, subst}
+use Rattle.session_model.specs.Tables.{Tables}
+use Rattle.session_model.specs.Trace.{begun}
+use Rattle.session_model.specs.Run.{tables_of}
+use Rattle.session_core.specs.Drawn.{AreDrawn}
+use Rattle.session_core.proofs.Left.{none_shared}
+use Rattle.session_core.proofs.session.Session.of.Goals as goal
+
+pub returns-clause-ok : goal.returns-clause-ok
+returns-clause-ok c =
+    let t : Tables = tables_of (begun c.args.edition c.args.owner) in record {
+      run = tt;
+      stands = c.in_ok-state.ensures;
+      drawn = subst (λ (ns : List ℕ). AreDrawn t ns) (sym c.in_ok-drawn.ensures.items) tt;
+      shared = none_shared t c.in_ok-sharing.sharing c.in_ok-sharing.ensures.lead c.in_ok-sharing.ensures.alike;
+    }

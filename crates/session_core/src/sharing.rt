@@ -1,0 +1,145 @@
+//! Frames that several clients read.
+
+ghost use Rattle.std.specs.Prelude.{◌≡◌, [], None, IfOk, option_copied};
+ghost use Rattle.session_model.specs.Trace.{happening};
+ghost use Rattle.session_core.specs.Sharing.{is_one_of, without, Forgets, Joins, Begins};
+ghost use Rattle.session_core.specs.Sharing.{PassesOn, AreLeft};
+
+use session_model::{CLIENTS, Event, Reply};
+use session_state::State;
+use session_view::Lead;
+use std::alloc::{AllocError, Global};
+use std::mem;
+
+/// The frame that clients follow, and what is known of them.
+pub struct Sharing {
+    /// The frame, with the client for which it was made.
+    lead: Option<Lead>,
+    /// Clients that were drawn the same last: what was known before the frame.
+    alike: Vec<u32>,
+    /// Clients that were drawn what the frame shows.
+    followers: Vec<u32>,
+}
+
+impl Drop for Sharing {
+    fn drop(self) {
+        let Sharing {
+            lead: _,
+            alike: _,
+            followers: _,
+        } = self;
+    }
+}
+
+/// Takes a client out of a list.
+fn leave_out(clients: &mut Vec<u32>, client: u32)
+    ensures { clients.new.items ≡ without client clients.old.items }
+{
+    clients.retain(|other| *other != client);
+}
+
+impl Sharing {
+    /// No frame.
+    pub(crate) fn new(alloc: Global) -> Result<Sharing, AllocError>
+        ensures lead { IfOk result (λ s. s.lead ≡ None) }
+        ensures alike { IfOk result (λ s. s.alike.items ≡ []) }
+    {
+        Ok(Sharing {
+            lead: None,
+            alike: Vec::with_capacity(alloc, CLIENTS)?,
+            followers: Vec::with_capacity(alloc, CLIENTS)?,
+        })
+    }
+
+    /// The frame, if there is one.
+    pub(crate) fn lead(&self) -> Option<&Lead>
+        ensures { option_copied result ≡ self.now.lead }
+    {
+        self.lead.as_ref()
+    }
+
+    /// Whether a client is known to have been drawn what is known before the frame.
+    pub(crate) fn knows(&self, client: u32) -> bool
+        ensures { result ≡ is_one_of client self.now.alike.items }
+    {
+        self.alike.contains(&client)
+    }
+
+    /// Whether a client's own frame may be the one that others follow: nobody follows another one,
+    /// and few clients would be forgotten.
+    pub(crate) fn may_lead(&self, client: u32) -> bool {
+        let is_free = self.lead.is_none() || self.followers.len() < 2;
+        is_free && (self.alike.len() < 2 || self.knows(client))
+    }
+
+    /// A client was drawn something else.
+    pub(crate) fn forget(&mut self, client: u32)
+        ensures { Forgets client self.old self.new }
+    {
+        leave_out(&mut self.alike, client);
+        leave_out(&mut self.followers, client);
+    }
+
+    /// A client was drawn what the frame shows.
+    pub(crate) fn join(&mut self, client: u32)
+        ensures { Joins client self.old self.new }
+    {
+        self.forget(client);
+        let _kept = self.followers.push(client);
+    }
+
+    /// A client was drawn by this frame, which others may follow now.
+    pub(crate) fn begin(&mut self, lead: Lead)
+        ensures { Begins lead self.old self.new }
+    {
+        let client = lead.client;
+        if self.knows(client) {
+            leave_out(&mut self.alike, client);
+        } else {
+            self.alike.clear();
+        }
+        self.followers.clear();
+        let _kept = self.followers.push(client);
+        self.lead = Some(lead);
+    }
+
+    /// The followers are those that were drawn the same last, and there is no frame; the frame that
+    /// there was.
+    fn pass_on(&mut self) -> Option<Lead>
+        ensures lead { result ≡ self.old.lead }
+        ensures passes { PassesOn self.old.lead self.old self.new }
+    {
+        let lead = self.lead.take()?;
+        mem::swap(&mut self.alike, &mut self.followers);
+        self.followers.clear();
+        Some(lead)
+    }
+
+    /// Nothing is known.
+    fn clear(&mut self)
+        ensures lead { self.new.lead ≡ None }
+        ensures alike { self.new.alike.items ≡ [] }
+    {
+        self.lead = None;
+        self.alike.clear();
+        self.followers.clear();
+    }
+}
+
+/// Notes a step: an output leaves all terminals as they are, and any other event but a Draw may
+/// have changed them. The memory of a frame that isn't needed any more is kept.
+pub(crate) fn note_step(state: &mut State, sharing: &mut Sharing, event: Event, reply: &Reply)
+    ensures state { state.new ≡ state.old }
+    ensures left { AreLeft reply.now (happening event.entry) sharing.old sharing.new }
+{
+    match (reply, event) {
+        (Err(_refusal), _) => {}
+        (Ok(_done), Event::Draw { .. }) => {}
+        (Ok(_done), Event::Output { .. }) => {
+            if let Some(lead) = sharing.pass_on() {
+                state.clients.keep_spare(lead.into_spare());
+            }
+        }
+        (Ok(_done), _) => sharing.clear(),
+    }
+}

@@ -1,0 +1,57 @@
+-- Clients that see the same as the one for which a frame was made.
+use Rattle.std.proofs.Common.{◌≡◌, ℕ, List, Some, ap, sym, ◌∙◌, subst}
+use Rattle.redraw.specs.Shadow.{Knowledge, knowledge_of}
+use Rattle.redraw.specs.Frames.{Made}
+use Rattle.session_model.specs.Tables as model
+use Rattle.session_model.specs.Tables.{Tables, client_at}
+use Rattle.session_model.specs.Granted.{granted_view}
+use Rattle.session_rows.proofs.Matching.{row_there}
+use Rattle.session_clients.specs.Stands.{ClientStands}
+use Rattle.session_clients.specs.Draws.{LeadsFrom}
+use Rattle.session_clients.proofs.Changing.{model_serial, serial_of, serials}
+use Rattle.session_state.specs.declared.state.State.{State}
+use Rattle.session_state.specs.Stands.{Stands}
+use Rattle.session_view.specs.declared.following.Lead.{Lead}
+use Rattle.session_view.specs.Viewed.{IsGranted}
+use Rattle.session_view.specs.Drawn.{LeadsOn}
+use Rattle.session_view.specs.Sameness.{SeesAlso}
+use Rattle.session_view.specs.Following.{Leads, IsLed}
+use Rattle.session_view.proofs.Delivering.{shadow_is}
+
+module _ (t : Tables) (s : State) (client : ℕ) (l : Lead) (st : Stands t s) (m n : model.Client)
+    (at : client_at t client ≡ Some m) (there : client_at t l.client ≡ Some n) (same : SeesAlso t m n)
+    (led : IsLed t l) where
+  abbrev its : Leads t n l
+  its = led n there
+
+  pub sees : l.frame.view ≡ granted_view t m
+  sees = its.granted.granted ∙ sym same.granted
+
+  granted_also : IsGranted t m l.frame.view
+  granted_also = record {
+    granted = sees;
+    drawable = its.granted.drawable;
+    size = record {
+      rows_are = its.granted.size.rows_are ∙ sym same.rows;
+      columns_are = its.granted.size.columns_are ∙ sym same.columns;
+    };
+  }
+
+  -- by the same frame
+  pub leads_also : m.drawn ≡ l.frame.before.known → LeadsOn t m l.frame
+  leads_also known =
+      let b : Knowledge = l.frame.before in record {
+        before =
+            ap (λ r. knowledge_of r b.columns b.known) (its.rows ∙ sym same.rows)
+            ∙ (ap (λ c. knowledge_of m.rows c b.known) (its.columns ∙ sym same.columns)
+            ∙ ap (λ k. knowledge_of m.rows m.columns k) (sym known));
+        granted = granted_also;
+      }
+
+  -- by a frame of its own
+  pub own_leads : (f : Made) → LeadsFrom client s.clients f.before → f.view ≡ l.frame.view → LeadsOn t m f
+  own_leads f leads view =
+      let row = row_there ClientStands model_serial serial_of serials t.clients s.clients client m st.clients at in record {
+        before = sym (leads row.0 row.1) ∙ shadow_is m row.0 row.2;
+        granted = subst (IsGranted t m) (sym view) granted_also;
+      }
