@@ -3,7 +3,7 @@ use Rattle.std.proofs.Common.{◌≡◌, ℕ, ◌+◌, ◌-◌, ◌<◌, ◌≤�
 use Rattle.std.proofs.lemmas.List.{take_all}
 use Rattle.session_model.specs.declared.event.Effect.{Effect}
 use Rattle.session_model.specs.Trace.{Keys, Reply}
-use Rattle.session_core.specs.Noted.{Noted}
+use Rattle.session_state.specs.Noted.{Noted}
 use Rattle.session_core.specs.declared.session.Session.{Session}
 use Rattle.session_core.specs.declared.session.Taken.TheVariants.{Whole}
 use Rattle.session_core.specs.Stands.{Takes}

@@ -22,7 +22,7 @@ use Rattle.session_core.specs.declared.sharing.Sharing.{Sharing}
 use Rattle.session_core.specs.Sharing.{IsShared, AreLeft}
 use Rattle.session_core.specs.Taking.{TakenAs, StayShared}
 use Rattle.session_core.proofs.Left.{stay_shared}
-use Rattle.session_core.specs.Noted.{Noted, nothing}
+use Rattle.session_state.specs.Noted.{Noted, nothing}
 use Rattle.session_core.specs.Drawn.{AreDrawn, AreNoted, draws_one_of}
 use Rattle.session_core.proofs.Needless.{needs_none, one_drawn, stay_drawn}
 use Rattle.session_core.specs.declared.session.Session.{Session}

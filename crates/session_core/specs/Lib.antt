@@ -1,3 +1,4 @@
+pub use Rattle.session_state.specs.Noted
 pub mod Drawn
 pub mod Dropping
 pub mod Given
@@ -5,7 +6,6 @@ pub mod Headline
 pub mod KeyStepping
 pub mod Least
 pub mod Lines
-pub mod Noted
 pub mod Obeying
 pub mod Reads
 pub mod Ruled

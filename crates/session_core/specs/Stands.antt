@@ -7,7 +7,7 @@ use Rattle.session_state.specs.Stands.{Stands}
 pub use Rattle.session_core.specs.Taking.{wants_memory}
 use Rattle.session_core.specs.Drawn.{AreDrawn}
 use Rattle.session_core.specs.Sharing.{IsShared}
-use Rattle.session_core.specs.Noted.{Noted}
+use Rattle.session_state.specs.Noted.{Noted}
 use Rattle.session_core.specs.declared.session.Session.{Session}
 
 -- all its steps, whose tables its state stands for, clients that need no draw in them, and frames

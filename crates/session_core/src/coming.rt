@@ -6,13 +6,12 @@ ghost use Rattle.session_model.specs.Outcomes.{reply_of};
 ghost use Rattle.session_state.specs.Doing.{IsAsBefore};
 ghost use Rattle.session_core.specs.Stepping.{Steps};
 
-use crate::step_notes::Step;
 use acl::UserId;
 use session_checks::{check_attach, check_open, check_resize};
 use session_events::{attach, open, resize};
 use session_leaving::{Focuses, leave};
 use session_model::{Done, Refusal, Reply};
-use session_state::{State, WindowSize};
+use session_state::{State, Step, WindowSize};
 
 /// What is answered where nothing was read and nothing is listed: the serial of what was made, and
 /// its number.

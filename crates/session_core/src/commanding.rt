@@ -7,13 +7,12 @@ ghost use Rattle.session_core.specs.Lines.{line_refusal, Parses, IsNumbered};
 ghost use Rattle.session_core.specs.Stepping.{Steps};
 
 use crate::orders::order;
-use crate::step_notes::Step;
 use acl::UserId;
 use command_lang::{Command, FaultKind, ParseFault, parse};
 use session_checks::is_known;
 use session_leaving::{Focuses, leave};
 use session_model::{Done, Refusal, Reply};
-use session_state::{Caller, State};
+use session_state::{Caller, State, Step};
 use std::alloc::Global;
 
 /// Why a line with a fault is refused.

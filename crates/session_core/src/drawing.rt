@@ -16,8 +16,7 @@ use session_model::{Event, Refusal, Reply};
 use session_state::{State, StepOutput};
 use session_view::{Lead, draw, draw_like};
 
-/// Draws for a client by the frame that others follow, where it sees the same as they do. Nothing
-/// is done where that isn't so.
+/// Draws for a client by the frame that others follow, where it sees the same; else does nothing.
 fn follow(
     state: &mut State,
     sharing: &mut Sharing,

@@ -8,7 +8,6 @@ mod dropping;
 mod given;
 mod going;
 mod key_step;
-mod notes;
 mod obeying;
 mod orders;
 mod programs;
@@ -16,13 +15,12 @@ mod reading;
 mod saying;
 mod session;
 mod sharing;
-mod step_notes;
 mod taking;
 mod typing;
 
-pub use notes::Notes;
 pub use session::Session;
 pub use session_model::{
     Bytes, Denied, Done, Effect, EntryDenied, Event, LockDenied, Ran, Reason, Refusal, Reply,
     Verdict, WindowsFault,
 };
+pub use session_state::Notes;

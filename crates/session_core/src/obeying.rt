@@ -8,10 +8,9 @@ ghost use Rattle.session_core.specs.Obeying.{Obeys};
 
 use crate::orders::order;
 use crate::saying::{say, say_why, wants_memory};
-use crate::step_notes::{KeyCaller, Step};
 use command_lang::{Command, ParseFault};
 use session_model::{Bytes, Message, Refusal};
-use session_state::State;
+use session_state::{KeyCaller, State, Step};
 use std::alloc::{AllocError, Global};
 
 /// What a client's status line says of what a command lists: the lists of windows and of clients

@@ -6,7 +6,6 @@ ghost use Rattle.session_state.specs.Doing.{Does, HasRoomToAct, IsAsBefore, IsWh
 ghost use Rattle.session_model.specs.declared.refusal.Refusal.TheVariants.{NoWindow};
 ghost use Rattle.session_core.specs.Ruled.{Rules};
 
-use crate::step_notes::Step;
 use command_lang::Command;
 use session_checks::check_command;
 use session_commands::{
@@ -18,7 +17,7 @@ use session_model::{Bytes, Refusal};
 use session_pages::{
     client_of, fit, focus, next, only, other, prev, remove, scrollview, select, split,
 };
-use session_state::{Caller, State, StepOutput};
+use session_state::{Caller, State, Step, StepOutput};
 use session_view::{aclgrp_of, displays, screen, windows};
 
 /// The window of a caller's command, by its serial.

@@ -6,9 +6,8 @@ ghost use Rattle.session_state.specs.Doing.{IsAsBefore};
 ghost use Rattle.session_core.specs.Stepping.{Steps};
 
 use crate::key_step::keys;
-use crate::step_notes::Step;
 use session_model::{Done, Reply};
-use session_state::State;
+use session_state::{State, Step};
 
 /// A client gives keys: they are read up to the first that completes a command or a line. Users
 /// leave windows only where there is one.

@@ -17,14 +17,12 @@ ghost use Rattle.session_core.specs.Headline.{read_by};
 
 use crate::coming::made_so;
 use crate::drawing::{draws_one_of, note_drawn};
-use crate::notes::Notes;
 use crate::sharing::{Sharing, note_step};
-use crate::step_notes::Step;
 use crate::taking::take;
 use acl::{Edition, UserId};
 use session_clients::Client;
 use session_model::{CLIENTS, Effect, Event, Ran, Refusal, Reply};
-use session_state::{State, StepOutput};
+use session_state::{Notes, State, Step, StepOutput};
 use session_view::view_of;
 use std::alloc::Global;
 use std::mem;

@@ -103,8 +103,7 @@ impl Sharing {
         self.lead = Some(lead);
     }
 
-    /// The followers are those that were drawn the same last, and there is no frame; the frame that
-    /// there was.
+    /// The followers are those that were drawn the same last now. The frame that there was.
     fn pass_on(&mut self) -> Option<Lead>
         ensures lead { result ≡ self.old.lead }
         ensures passes { PassesOn self.old.lead self.old self.new }

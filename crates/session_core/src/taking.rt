@@ -13,9 +13,8 @@ use crate::going::{end_window, let_go};
 use crate::programs::write;
 use crate::reading::give_keys;
 use crate::sharing::Sharing;
-use crate::step_notes::Step;
 use session_model::{Event, Reply};
-use session_state::{State, WindowSize};
+use session_state::{State, Step, WindowSize};
 
 /// A step of a session: its checks are made and noted, then it does what its event does, and at its
 /// end users leave the windows that none of their clients has in focus any more. Nothing is left of

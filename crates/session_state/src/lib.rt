@@ -1,12 +1,16 @@
-//! What a session has at a moment, and what its commands are given and give.
+//! What a session has at a moment, and what its steps are given and give.
 #![tactic(auto)]
 
 mod caller;
+mod notes;
 mod sizes;
 mod state;
+mod step_notes;
 mod step_output;
 
 pub use caller::Caller;
+pub use notes::Notes;
 pub use sizes::{WindowSize, is_client_size};
 pub use state::State;
+pub use step_notes::{KeyCaller, KeyOrder, Step};
 pub use step_output::StepOutput;

@@ -1,8 +1,9 @@
 //! What a step makes and checks.
 
+use crate::caller::Caller;
+use crate::step_output::StepOutput;
 use command_lang::{Command, ParseFault};
 use session_model::Verdict;
-use session_state::{Caller, StepOutput};
 
 /// What a step has made so far, and what it has checked. What was checked stays where a step is
 /// refused.

@@ -1,7 +1,7 @@
 //! What is noted of a step.
 
 ghost use Rattle.std.specs.Prelude.{◌≡◌};
-ghost use Rattle.session_core.specs.Noted.{nothing};
+ghost use Rattle.session_state.specs.Noted.{nothing};
 
 use acl::Act;
 use session_model::Verdict;
@@ -25,7 +25,7 @@ impl Drop for Notes {
 }
 
 impl Model for Notes {
-    ghost use Rattle.session_core.specs.Noted.{Noted};
+    ghost use Rattle.session_state.specs.Noted.{Noted};
 
     ghost Value = { Noted };
 
@@ -64,7 +64,7 @@ impl Notes {
     }
 
     /// Notes of these acts and verdicts.
-    pub(crate) fn of(acts: Vec<Act>, verdicts: Vec<Verdict>) -> Notes
+    pub fn of(acts: Vec<Act>, verdicts: Vec<Verdict>) -> Notes
         ensures { result ≡ record { acts = acts.items; verdicts = verdicts.items } }
     {
         Notes { acts, verdicts }
