@@ -10,7 +10,7 @@ ghost use Rattle.session_core.specs.Sharing.{SharesOrForgets};
 ghost use Rattle.session_core.specs.Taking.{Takes, DrawsSharing};
 
 use crate::coming::made_so;
-use crate::sharing::Sharing;
+use crate::sharing::{Sharing, keep_memory};
 use redraw::Frame;
 use session_model::{Event, Refusal, Reply};
 use session_state::{State, StepOutput};
@@ -48,7 +48,8 @@ fn share(state: &mut State, sharing: &mut Sharing, client: u32, frame: Frame)
     ensures shared { SharesOrForgets client frame sharing.old sharing.new }
 {
     if sharing.may_lead(client) {
-        sharing.begin(Lead { client, frame });
+        let last = sharing.begin(Lead { client, frame });
+        keep_memory(state, last);
     } else {
         sharing.forget(client);
         state.clients.keep_spare(frame.into_spare());

@@ -88,8 +88,8 @@ impl Sharing {
         let _kept = self.followers.push(client);
     }
 
-    /// A client was drawn by this frame, which others may follow now.
-    pub(crate) fn begin(&mut self, lead: Lead)
+    /// A client was drawn by this frame, which others may follow now; the one that there was.
+    pub(crate) fn begin(&mut self, lead: Lead) -> Option<Lead>
         ensures { Begins lead self.old self.new }
     {
         let client = lead.client;
@@ -100,7 +100,7 @@ impl Sharing {
         }
         self.followers.clear();
         let _kept = self.followers.push(client);
-        self.lead = Some(lead);
+        mem::replace(&mut self.lead, Some(lead))
     }
 
     /// The followers are those that were drawn the same last now. The frame that there was.
@@ -114,14 +114,23 @@ impl Sharing {
         Some(lead)
     }
 
-    /// Nothing is known.
-    fn clear(&mut self)
+    /// Nothing is known, and there is no frame; the frame that there was.
+    fn clear(&mut self) -> Option<Lead>
         ensures lead { self.new.lead ≡ None }
         ensures alike { self.new.alike.items ≡ [] }
     {
-        self.lead = None;
         self.alike.clear();
         self.followers.clear();
+        self.lead.take()
+    }
+}
+
+/// Keeps the memory of a frame that isn't needed any more, if there is one.
+pub(crate) fn keep_memory(state: &mut State, lead: Option<Lead>)
+    ensures { state.new ≡ state.old }
+{
+    if let Some(lead) = lead {
+        state.clients.keep_spare(lead.into_spare());
     }
 }
 
@@ -135,10 +144,12 @@ pub(crate) fn note_step(state: &mut State, sharing: &mut Sharing, event: Event, 
         (Err(_refusal), _) => {}
         (Ok(_done), Event::Draw { .. }) => {}
         (Ok(_done), Event::Output { .. }) => {
-            if let Some(lead) = sharing.pass_on() {
-                state.clients.keep_spare(lead.into_spare());
-            }
+            let lead = sharing.pass_on();
+            keep_memory(state, lead);
         }
-        (Ok(_done), _) => sharing.clear(),
+        (Ok(_done), _) => {
+            let lead = sharing.clear();
+            keep_memory(state, lead);
+        }
     }
 }
