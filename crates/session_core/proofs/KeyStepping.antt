@@ -38,7 +38,7 @@ use Rattle.session_state.specs.declared.step_output.StepOutput.{StepOutput}
 use Rattle.session_state.specs.declared.state.State.{State}
 use Rattle.session_state.specs.Stands.{Stands}
 use Rattle.session_state.specs.Doing.{did}
-use Rattle.session_core.specs.Dropping.{DropsSaid}
+use Rattle.session_events.specs.Dropping.{DropsSaid}
 use Rattle.session_core.specs.Given.{given, ordered_by}
 use Rattle.session_core.specs.Obeying.{Obeyed}
 use Rattle.session_core.specs.Reads.{typing, order, keys_deed, read_of, HasEnded, ReadFor}

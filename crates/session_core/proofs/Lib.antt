@@ -14,7 +14,6 @@ pub mod Needless
 pub mod Numbered
 pub mod Ordered
 pub mod Outcomes
-pub mod Parts
 pub mod Putting
 pub mod Rests
 pub mod RunReading

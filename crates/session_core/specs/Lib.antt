@@ -1,6 +1,5 @@
 pub use Rattle.session_state.specs.Noted
 pub mod Drawn
-pub mod Dropping
 pub mod Given
 pub mod Headline
 pub mod KeyStepping

@@ -47,13 +47,14 @@ fn share(state: &mut State, sharing: &mut Sharing, client: u32, frame: Frame)
     ensures state { state.new ≡ state.old }
     ensures shared { SharesOrForgets client frame sharing.old sharing.new }
 {
-    if sharing.may_lead(client) {
-        let last = sharing.begin(Lead { client, frame });
-        keep_memory(state, last);
+    let lead = Lead { client, frame };
+    let unneeded = if sharing.may_lead(client) {
+        sharing.begin(lead)
     } else {
         sharing.forget(client);
-        state.clients.keep_spare(frame.into_spare());
-    }
+        Some(lead)
+    };
+    keep_memory(state, unneeded);
 }
 
 /// Draws for a client by a frame of its own.

@@ -7,13 +7,13 @@ ghost use Rattle.session_core.specs.Reads.{Reads};
 ghost use Rattle.session_core.specs.KeyStepping.{caller_now, IsHere, ReadsOf, ObeysRead};
 ghost use Rattle.session_core.specs.KeyStepping.{Gives, Ends};
 
-use crate::dropping::drop_said;
 use crate::given::command_given;
 use crate::obeying::obey;
 use crate::typing::type_bytes;
 use command_lang::{Command, ParseFault};
 use keys::KeyReader;
 use session_clients::{Client, read_keys};
+use session_events::drop_said;
 use session_leaving::{Focuses, leave};
 use session_model::{Bytes, Message, Refusal};
 use session_state::{Caller, KeyCaller, KeyOrder, State, Step};

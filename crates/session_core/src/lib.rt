@@ -4,7 +4,6 @@
 mod coming;
 mod commanding;
 mod drawing;
-mod dropping;
 mod given;
 mod going;
 mod key_step;

@@ -140,16 +140,11 @@ pub(crate) fn note_step(state: &mut State, sharing: &mut Sharing, event: Event, 
     ensures state { state.new ≡ state.old }
     ensures left { AreLeft reply.now (happening event.entry) sharing.old sharing.new }
 {
-    match (reply, event) {
-        (Err(_refusal), _) => {}
-        (Ok(_done), Event::Draw { .. }) => {}
-        (Ok(_done), Event::Output { .. }) => {
-            let lead = sharing.pass_on();
-            keep_memory(state, lead);
-        }
-        (Ok(_done), _) => {
-            let lead = sharing.clear();
-            keep_memory(state, lead);
-        }
-    }
+    let ended = match (reply, event) {
+        (Err(_refusal), _) => None,
+        (Ok(_done), Event::Draw { .. }) => None,
+        (Ok(_done), Event::Output { .. }) => sharing.pass_on(),
+        (Ok(_done), _) => sharing.clear(),
+    };
+    keep_memory(state, ended);
 }

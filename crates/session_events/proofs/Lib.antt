@@ -3,3 +3,4 @@ pub mod Finding
 pub mod NewClients
 pub mod NewWindows
 pub mod Feeding
+pub mod Parts

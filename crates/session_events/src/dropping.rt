@@ -3,7 +3,7 @@
 ghost use Rattle.std.specs.Prelude.{◌≡◌, ◌<◌, true, length};
 ghost use Rattle.std.specs.List.{remove};
 ghost use Rattle.session_model.specs.Answering.{says_same};
-ghost use Rattle.session_core.specs.Dropping.{is_said, SaysAgain, DropsSaid};
+ghost use Rattle.session_events.specs.Dropping.{is_said, SaysAgain, DropsSaid};
 
 use session_model::Effect;
 
@@ -48,7 +48,7 @@ fn remove_at(effects: &mut Vec<Effect>, place: usize)
 }
 
 /// Takes away what is said behind these two places and was said between them.
-pub(crate) fn drop_said(effects: &mut Vec<Effect>, from: usize, to: usize)
+pub fn drop_said(effects: &mut Vec<Effect>, from: usize, to: usize)
     ensures { DropsSaid from to effects.old.items effects.new.items }
 {
     let count = effects.len();

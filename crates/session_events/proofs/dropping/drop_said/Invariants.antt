@@ -1,6 +1,6 @@
 use Rattle.std.proofs.Common.{◌≤◌}
-use Rattle.session_core.proofs.Parts.{DropsSoFar}
-use Rattle.session_core.proofs.dropping.drop_said.Given as goal
+use Rattle.session_events.proofs.Parts.{DropsSoFar}
+use Rattle.session_events.proofs.dropping.drop_said.Given as goal
 
 abbrev pub invariant-loop-turn : goal.invariant-loop-turn
 invariant-loop-turn l =

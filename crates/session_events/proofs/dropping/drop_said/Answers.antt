@@ -1,9 +1,9 @@
 use Rattle.std.proofs.Common.{◌≡◌, ◌+◌, ℕ, List, true, false, arith, length, ap, sym, subst, ◌∙◌}
 use Rattle.session_model.specs.declared.event.Effect.{Effect}
-use Rattle.session_core.specs.Dropping.{SaysAgain}
-use Rattle.session_core.proofs.Parts.{Part, goes_on}
-use Rattle.session_core.proofs.dropping.drop_said.Goals.{then-says_again, else-says_again}
-use Rattle.session_core.proofs.dropping.drop_said.Goals as goal
+use Rattle.session_events.specs.Dropping.{SaysAgain}
+use Rattle.session_events.proofs.Parts.{Part, goes_on}
+use Rattle.session_events.proofs.dropping.drop_said.Goals.{then-says_again, else-says_again}
+use Rattle.session_events.proofs.dropping.drop_said.Goals as goal
 
 pub loop-turn-preserved : goal.loop-turn-preserved
 loop-turn-preserved c =

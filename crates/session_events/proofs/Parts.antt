@@ -7,7 +7,7 @@ use Rattle.std.specs.List.{remove, list_any}
 use Rattle.std.proofs.lemmas.List.Elements.{filter-append}
 use Rattle.session_model.specs.declared.event.Effect.{Effect}
 use Rattle.session_model.specs.Answering.{says_same, unsaid}
-use Rattle.session_core.specs.Dropping.{is_said}
+use Rattle.session_events.specs.Dropping.{is_said}
 
 pub removed : {A : Type 0} (front rest : List A) (e : A)
     → remove (front ++ e ∷ rest) (length front) ≡ front ++ rest
