@@ -5,7 +5,7 @@ use keys::{Binding, KeyItem, KeyReader};
 use std::alloc::{AllocError, Global};
 
 /// The command of a binding, as it is printed.
-fn printed(alloc: Global, binding: Binding) -> Result<String, AllocError> {
+pub fn printed(alloc: Global, binding: Binding) -> Result<String, AllocError> {
     let command = binding.command(alloc)?;
     print(alloc, &command)
 }

@@ -78,7 +78,7 @@ displays=displays
  quit =quit"##;
 
 /// The command of a line as it is printed, or its fault's number and place.
-fn answer(alloc: Global, line: &[u8]) -> Result<String, AllocError> {
+pub fn answer(alloc: Global, line: &[u8]) -> Result<String, AllocError> {
     match parse(alloc, line) {
         Ok(command) => print(alloc, &command),
         Err(fault) => {
@@ -90,7 +90,7 @@ fn answer(alloc: Global, line: &[u8]) -> Result<String, AllocError> {
 }
 
 /// Whether the line of a row has this answer.
-fn is_answered(alloc: Global, line: &[u8], want: &str) -> bool {
+pub fn is_answered(alloc: Global, line: &[u8], want: &str) -> bool {
     match answer(alloc, line) {
         Ok(found) => found.as_str() == want,
         Err(_) => false,

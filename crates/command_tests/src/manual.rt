@@ -2,7 +2,7 @@
 //! and what it needs.
 
 use command_lang::{Needs, needs_of, parse};
-use std::alloc::{AllocError, Global};
+use std::alloc::Global;
 
 /// A line with all words that the command takes, `=`, which of them can be left out, `=`, and what
 /// the command needs: the list commands multiuser mode, regions and switching a client, and what
@@ -41,33 +41,21 @@ windows=none=
 displays=none=
 quit=none=";
 
-/// What is needed, in words.
-fn in_words(alloc: Global, needs: Needs) -> Result<String, AllocError> {
-    let mut out = String::new(alloc);
-    let words = [
-        (needs.multiuser, " multiuser"),
-        (needs.client, " client"),
-        (needs.window, " window"),
-        (needs.write, " write"),
-        (needs.lock, " lock"),
-    ];
-    for (is_needed, word) in words {
-        if is_needed {
-            out.push_str(word)?;
-        }
+/// What a line's command needs, if it is one.
+fn needs(alloc: Global, line: &str) -> Option<Needs> {
+    match parse(alloc, line.as_bytes()) {
+        Ok(command) => Some(needs_of(&command)),
+        Err(_) => None,
     }
-    Ok(out)
 }
 
-/// Whether the line is a command that needs just this.
-fn needs_just(alloc: Global, line: &str, want: &str) -> bool {
-    let Ok(command) = parse(alloc, line.as_bytes()) else {
-        return false;
-    };
-    match in_words(alloc, needs_of(&command)) {
-        Ok(found) => found.as_str() == want,
-        Err(_) => false,
-    }
+/// Whether just what these words name is needed.
+fn are(needs: Needs, words: &str) -> bool {
+    needs.multiuser == words.contains(" multiuser")
+        && needs.client == words.contains(" client")
+        && needs.window == words.contains(" window")
+        && needs.write == words.contains(" write")
+        && needs.lock == words.contains(" lock")
 }
 
 /// The number of a line's fault, 0 of a command.
@@ -99,9 +87,9 @@ fn is_enough(alloc: Global, line: &str, left_out: &str) -> bool {
 /// Whether a row's command takes its words, and needs what the row says.
 fn is_so(alloc: Global, row: &str) -> Option<bool> {
     let (line, rest) = row.split_once('=')?;
-    let (left_out, needs) = rest.split_once('=')?;
+    let (left_out, words) = rest.split_once('=')?;
     Some(
-        needs_just(alloc, line, needs)
+        are(needs(alloc, line)?, words)
             && is_full(alloc, line, left_out)
             && is_enough(alloc, line, left_out),
     )
