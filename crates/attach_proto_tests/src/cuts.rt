@@ -2,22 +2,9 @@
 
 ghost use Rattle.std.specs.Prelude.{◌<◌};
 
-use crate::framing::{ATTACH, Answer, read};
+use crate::framing::{ATTACH, Answer, gives, read};
 use attach_proto::Side;
 use std::alloc::{AllocError, Global};
-use std::test::Fail;
-
-/// A frame in two pieces, cut at each place.
-#[test]
-fn a_frame_in_two_pieces(rt: HostRuntime) -> Result<(), Fail> {
-    let keys = b"\x4B\x00\x04a\x01nb".as_slice();
-    for cut in 0..keys.len() + 1 {
-        let (first, second) = keys.split_at(cut);
-        let answer = read(rt.alloc(), Side::Server, &[first, second])?;
-        assert!(rt; answer.is(keys, Ok(())), "cut at {cut}");
-    }
-    Ok(())
-}
 
 /// Numbers that look like chance (a linear congruence of 64 bits; its upper bits).
 #[derive(Drop)]
@@ -36,7 +23,7 @@ impl Dice {
     }
 }
 
-const PIECES: [&[u8]; 7] = [
+static PIECES: [&[u8]; 7] = [
     b"\x44\x00\x00",
     b"\x52\x00\x04\x00\x18\x00\x50",
     b"\x4B\x00\x02ab",
@@ -59,35 +46,50 @@ fn made_up(alloc: Global, dice: &mut Dice) -> Result<Vec<u8>, AllocError> {
 }
 
 /// Whether bytes that are cut in two give this answer.
-fn is_cut_alike(
-    dice: &mut Dice,
-    alloc: Global,
-    bytes: &[u8],
-    answer: &Answer,
-) -> Result<bool, Fail> {
+fn is_cut_alike(alloc: Global, dice: &mut Dice, bytes: &[u8], answer: &Answer) -> bool {
     let cut = dice.roll(bytes.len() as u64 + 1) as usize;
     let (first, second) = bytes.split_at(cut);
-    let again = read(alloc, Side::Server, &[first, second])?;
-    Ok(again.is(answer.frames.as_slice(), answer.last))
+    let frames = answer.frames.as_slice();
+    gives(alloc, Side::Server, &[first, second], frames, answer.last)
+}
+
+/// How many lists gave messages, and how many a fault.
+#[derive(Clone, Copy)]
+struct Counts {
+    read: u32,
+    faulty: u32,
+}
+
+/// Whether a made-up list gives the frames that it begins with, in two cuts.
+fn is_so(alloc: Global, dice: &mut Dice, counts: &mut Counts) -> Option<bool> {
+    let bytes = made_up(alloc, dice).ok()?;
+    let answer = read(alloc, Side::Server, &[bytes.as_slice()])?;
+    if !answer.frames.is_empty() {
+        counts.read = counts.read.saturating_add(1);
+    }
+    if answer.last.is_err() {
+        counts.faulty = counts.faulty.saturating_add(1);
+    }
+    Some(
+        bytes.as_slice().starts_with(answer.frames.as_slice())
+            && is_cut_alike(alloc, dice, bytes.as_slice(), &answer)
+            && is_cut_alike(alloc, dice, bytes.as_slice(), &answer),
+    )
+}
+
+/// Whether 10,000 lists are so, many of them with messages and many with a fault.
+fn are_so(alloc: Global) -> bool {
+    let mut dice = Dice(2026);
+    let mut counts = Counts { read: 0, faulty: 0 };
+    for _ in 0..10_000u32 {
+        if is_so(alloc, &mut dice, &mut counts) != Some(true) {
+            return false;
+        }
+    }
+    1000 < counts.read && 1000 < counts.faulty
 }
 
 #[test]
-fn made_up_bytes_in_two_cuts(rt: HostRuntime) -> Result<(), Fail> {
-    let mut dice = Dice(2026);
-    let mut read_some = 0u32;
-    let mut faulty = 0u32;
-    for _ in 0..10_000u32 {
-        let bytes = made_up(rt.alloc(), &mut dice)?;
-        let answer = read(rt.alloc(), Side::Server, &[bytes.as_slice()])?;
-        assert!(rt; bytes.as_slice().starts_with(answer.frames.as_slice()));
-        assert!(rt; is_cut_alike(&mut dice, rt.alloc(), bytes.as_slice(), &answer)?);
-        assert!(rt; is_cut_alike(&mut dice, rt.alloc(), bytes.as_slice(), &answer)?);
-        read_some = read_some.saturating_add(u32::from(!answer.frames.is_empty()));
-        faulty = faulty.saturating_add(u32::from(answer.last.is_err()));
-    }
-    assert!(rt;
-        1000 < read_some && 1000 < faulty,
-        "{read_some} of them gave messages, {faulty} a fault"
-    );
-    Ok(())
+fn made_up_bytes_in_two_cuts(rt: HostRuntime) {
+    assert!(rt; are_so(rt.alloc()));
 }

@@ -1,97 +1,74 @@
 //! Faults of a stream, and the texts of faults.
 
-use crate::framing::{ATTACH, read};
-use attach_proto::{ProtoFault, Side, WriteFault};
-use std::alloc::{AllocError, Global};
-use std::test::Fail;
+use crate::framing::gives;
+use attach_proto::{Bytes, ProtoFault, Side, Text, WriteFault};
+use std::alloc::Global;
 
-const FAULTY_TO_THE_SERVER: [(&[u8], ProtoFault); 6] = [
+// A digit in upper case is none of a token.
+const UPPER_CASE: &[u8] =
+    b"\x41\x00\x47\x00\x18\x00\x500123456789abcdef0123456789Abcdef0123456789abcdef0123456789abcdefbob";
+
+// A name is UTF-8.
+const LATIN: &[u8] =
+    b"\x41\x00\x47\x00\x18\x00\x500123456789abcdef0123456789abcdef0123456789abcdef0123456789abcdefbo\xE9";
+
+static FAULTY_TO_THE_SERVER: [(&[u8], ProtoFault); 8] = [
     (b"\x79", ProtoFault::WrongSide),
     (b"\x00", ProtoFault::BadKind),
     (b"\x4B\x00\x00", ProtoFault::BadPayload),
     (b"\x4B\x20\x01", ProtoFault::TooLong),
     (b"\x44\x00\x01x", ProtoFault::BadPayload),
     (b"\x52\x00\x03\x00\x18\x00", ProtoFault::BadPayload),
+    (UPPER_CASE, ProtoFault::BadPayload),
+    (LATIN, ProtoFault::BadPayload),
 ];
 
-const FAULTY_TO_A_PEER: [(&[u8], ProtoFault); 3] = [
+static FAULTY_TO_A_PEER: [(&[u8], ProtoFault); 3] = [
     (b"\x4B", ProtoFault::WrongSide),
     (b"\x67\x00\x01\x08", ProtoFault::BadPayload),
     (b"\x73\x00\x01\xFF", ProtoFault::BadPayload),
 ];
 
-/// Whether bytes give no message but this fault, and without their last byte neither.
-fn is_faulty(alloc: Global, side: Side, bytes: &[u8], fault: ProtoFault) -> Result<bool, Fail> {
+/// Whether bytes give no message but this fault, for good, and without their last byte neither.
+fn is_faulty(alloc: Global, side: Side, bytes: &[u8], fault: ProtoFault) -> bool {
     let Some((_, before)) = bytes.split_last() else {
-        return Ok(false);
+        return false;
     };
-    let whole = read(alloc, side, &[bytes])?;
-    let part = read(alloc, side, &[before])?;
-    Ok(whole.is(b"", Err(fault)) && part.is(b"", Ok(())))
+    gives(alloc, side, &[before], b"", Ok(()))
+        && gives(alloc, side, &[bytes], b"", Err(fault))
+        && gives(alloc, side, &[bytes, b"\x44\x00\x00", b""], b"", Err(fault))
+}
+
+fn first_wrong(alloc: Global, side: Side, rows: &[(&[u8], ProtoFault)]) -> Option<usize> {
+    for (number, (bytes, fault)) in rows.iter().enumerate() {
+        if !is_faulty(alloc, side, bytes, *fault) {
+            return Some(number);
+        }
+    }
+    None
 }
 
 #[test]
-fn faults_to_the_server(rt: HostRuntime) -> Result<(), Fail> {
-    for (bytes, fault) in FAULTY_TO_THE_SERVER {
-        assert!(rt;
-            is_faulty(rt.alloc(), Side::Server, bytes, fault)?,
-            "{bytes:?}"
-        );
-    }
-    Ok(())
+fn faults(rt: HostRuntime) {
+    assert_eq!(rt;
+        first_wrong(rt.alloc(), Side::Server, &FAULTY_TO_THE_SERVER),
+        None
+    );
+    assert_eq!(rt;
+        first_wrong(rt.alloc(), Side::Peer, &FAULTY_TO_A_PEER),
+        None
+    );
 }
 
+/// Messages before the fault are given.
 #[test]
-fn faults_to_a_peer(rt: HostRuntime) -> Result<(), Fail> {
-    for (bytes, fault) in FAULTY_TO_A_PEER {
-        assert!(rt;
-            is_faulty(rt.alloc(), Side::Peer, bytes, fault)?,
-            "{bytes:?}"
-        );
-    }
-    Ok(())
+fn messages_before_a_fault(rt: HostRuntime) {
+    let pieces = [b"\x44\x00\x00\x4B\x20\x01".as_slice(), b"\x44\x00\x00"];
+    let fault = Err(ProtoFault::TooLong);
+    assert!(rt; gives(rt.alloc(), Side::Server, &pieces, b"\x44\x00\x00", fault));
 }
 
-/// An ATTACH whose byte at this place is another.
-fn spoiled(alloc: Global, place: usize, byte: u8) -> Result<Vec<u8>, Fail> {
-    let mut frame = Vec::from_slice(alloc, ATTACH)?;
-    if let Some(spoiled) = frame.get_mut(place) {
-        *spoiled = byte;
-    }
-    Ok(frame)
-}
-
-/// A digit in upper case is none of a token, and a name is UTF-8.
-#[test]
-fn fields_that_are_none(rt: HostRuntime) -> Result<(), Fail> {
-    for (place, byte) in [(20, b'A'), (73, 0xE9)] {
-        let frame = spoiled(rt.alloc(), place, byte)?;
-        assert!(rt;
-            is_faulty(
-                rt.alloc(),
-                Side::Server,
-                frame.as_slice(),
-                ProtoFault::BadPayload
-            )?,
-            "at {place}"
-        );
-    }
-    Ok(())
-}
-
-/// Messages before the fault are given, and the fault is answered for good.
-#[test]
-fn a_fault_stays(rt: HostRuntime) -> Result<(), Fail> {
-    let answer = read(
-        rt.alloc(),
-        Side::Server,
-        &[b"\x44\x00\x00\x4B\x20\x01", b"\x44\x00\x00", b""],
-    )?;
-    assert!(rt; answer.is(b"\x44\x00\x00", Err(ProtoFault::TooLong)));
-    Ok(())
-}
-
-const TEXTS: [(ProtoFault, &str); 5] = [
+static TEXTS: [(ProtoFault, &str); 5] = [
     (ProtoFault::BadKind, "no frame begins with this byte"),
     (ProtoFault::TooLong, "the frame is too long"),
     (
@@ -105,28 +82,39 @@ const TEXTS: [(ProtoFault, &str); 5] = [
     (ProtoFault::NoMemory, "out of memory"),
 ];
 
-fn is_shown(alloc: Global, fault: ProtoFault, text: &str) -> Result<bool, AllocError> {
-    let shown = fault.to_string(alloc)?;
-    Ok(shown.as_str() == text)
+fn is_shown(alloc: Global, fault: ProtoFault, text: &str) -> bool {
+    match fault.to_string(alloc) {
+        Ok(shown) => shown.as_str() == text,
+        Err(_) => false,
+    }
 }
 
-fn is_shown_in_writing(alloc: Global, fault: WriteFault, text: &str) -> Result<bool, AllocError> {
-    let shown = fault.to_string(alloc)?;
-    Ok(shown.as_str() == text)
+fn is_shown_in_writing(alloc: Global, fault: WriteFault, text: &str) -> bool {
+    match fault.to_string(alloc) {
+        Ok(shown) => shown.as_str() == text,
+        Err(_) => false,
+    }
+}
+
+const UNSPELLABLE: &str = "no frame spells the message";
+
+#[test]
+fn texts_of_faults(rt: HostRuntime) {
+    for (fault, text) in TEXTS {
+        assert!(rt; is_shown(rt.alloc(), fault, text));
+    }
+    assert!(rt; is_shown_in_writing(rt.alloc(), WriteFault::Unspellable, UNSPELLABLE));
+    assert!(rt; is_shown_in_writing(rt.alloc(), WriteFault::NoMemory, "out of memory"));
+}
+
+/// The parts of a message, with ample memory.
+fn are_made(alloc: Global) -> Option<bool> {
+    let bytes = Bytes::new(alloc, b"ab").ok()?;
+    let text = Text::new(alloc, "ab").ok()?;
+    Some(bytes.as_slice() == text.as_str().as_bytes())
 }
 
 #[test]
-fn texts_of_faults(rt: HostRuntime) -> Result<(), Fail> {
-    for (fault, text) in TEXTS {
-        assert!(rt; is_shown(rt.alloc(), fault, text)?, "{text}");
-    }
-    assert!(rt;
-        is_shown_in_writing(
-            rt.alloc(),
-            WriteFault::Unspellable,
-            "no frame spells the message"
-        )?
-    );
-    assert!(rt; is_shown_in_writing(rt.alloc(), WriteFault::NoMemory, "out of memory")?);
-    Ok(())
+fn parts_of_messages(rt: HostRuntime) {
+    assert_eq!(rt; are_made(rt.alloc()), Some(true));
 }

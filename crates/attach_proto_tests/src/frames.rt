@@ -1,11 +1,10 @@
 //! The table of frames: each is read as its message, and the message is written as the frame.
 
-use crate::framing::{ATTACH, COMMAND, LAST_COMMAND, WINDOW, read};
-use attach_proto::{ProtoFault, Reader, Side};
+use crate::framing::{ATTACH, COMMAND, LAST_COMMAND, WINDOW, gives};
+use attach_proto::{Reader, Side};
 use std::alloc::Global;
-use std::test::Fail;
 
-const FRAMES_TO_THE_SERVER: [(&[u8], &str); 8] = [
+static FRAMES_TO_THE_SERVER: [(&[u8], &str); 8] = [
     (
         ATTACH,
         "[Attach { rows: 24, columns: 80, token: Token, name: Text { text: \"bob\" } }]",
@@ -34,7 +33,7 @@ const FRAMES_TO_THE_SERVER: [(&[u8], &str); 8] = [
     (b"\x44\x00\x00", "[Detach]"),
 ];
 
-const FRAMES_TO_A_PEER: [(&[u8], &str); 8] = [
+static FRAMES_TO_A_PEER: [(&[u8], &str); 8] = [
     (b"\x79\x00\x01\x00", "[Welcome(0)]"),
     (b"\x64\x00\x01y", "[Draw(Bytes { items: [121] })]"),
     (b"\x69\x00\x01z", "[Input(Bytes { items: [122] })]"),
@@ -51,50 +50,50 @@ const FRAMES_TO_A_PEER: [(&[u8], &str); 8] = [
     (b"\x67\x00\x01\x07", "[Gone(TrailFull)]"),
 ];
 
-/// The messages of these bytes, as they are shown.
-fn shown(alloc: Global, side: Side, bytes: &[u8]) -> Result<String, ProtoFault> {
+/// Whether these bytes are read as this message.
+fn is_shown(alloc: Global, side: Side, bytes: &[u8], message: &str) -> bool {
     let mut reader = Reader::new(alloc, side);
     let mut messages = Vec::new(alloc);
-    reader.feed(bytes, &mut messages)?;
-    format!(in alloc; "{messages:?}").map_err(|_| ProtoFault::NoMemory)
+    if reader.feed(bytes, &mut messages).is_err() {
+        return false;
+    }
+    match format!(in alloc; "{messages:?}") {
+        Ok(shown) => shown.as_str() == message,
+        Err(_) => false,
+    }
 }
 
-/// Whether a frame is read as this message, and the message written as the frame.
-fn stands_for(alloc: Global, side: Side, frame: &[u8], message: &str) -> Result<bool, Fail> {
-    let shown = shown(alloc, side, frame)?;
-    let again = read(alloc, side, &[frame])?;
-    Ok(shown.as_str() == message && again.is(frame, Ok(())))
+/// Whether the message of a frame is written as the frame, however that is cut in two, and a
+/// beginning gives neither message nor fault.
+fn is_whole(alloc: Global, side: Side, frame: &[u8]) -> bool {
+    for cut in 0..frame.len() {
+        let (front, rest) = frame.split_at(cut);
+        if !gives(alloc, side, &[front], b"", Ok(()))
+            || !gives(alloc, side, &[front, rest], frame, Ok(()))
+        {
+            return false;
+        }
+    }
+    true
+}
+
+fn first_wrong(alloc: Global, side: Side, rows: &[(&[u8], &str)]) -> Option<usize> {
+    for (number, (frame, message)) in rows.iter().enumerate() {
+        if !is_shown(alloc, side, frame, message) || !is_whole(alloc, side, frame) {
+            return Some(number);
+        }
+    }
+    None
 }
 
 #[test]
-fn frames_to_the_server(rt: HostRuntime) -> Result<(), Fail> {
-    for (frame, message) in FRAMES_TO_THE_SERVER {
-        assert!(rt;
-            stands_for(rt.alloc(), Side::Server, frame, message)?,
-            "{message}"
-        );
-    }
-    Ok(())
-}
-
-#[test]
-fn frames_to_a_peer(rt: HostRuntime) -> Result<(), Fail> {
-    for (frame, message) in FRAMES_TO_A_PEER {
-        assert!(rt;
-            stands_for(rt.alloc(), Side::Peer, frame, message)?,
-            "{message}"
-        );
-    }
-    Ok(())
-}
-
-/// Each proper beginning gives neither message nor fault.
-#[test]
-fn beginnings(rt: HostRuntime) -> Result<(), Fail> {
-    for len in 0..ATTACH.len() {
-        let (beginning, _) = ATTACH.split_at(len);
-        let answer = read(rt.alloc(), Side::Server, &[beginning])?;
-        assert!(rt; answer.is(b"", Ok(())), "after {len} bytes");
-    }
-    Ok(())
+fn frames(rt: HostRuntime) {
+    assert_eq!(rt;
+        first_wrong(rt.alloc(), Side::Server, &FRAMES_TO_THE_SERVER),
+        None
+    );
+    assert_eq!(rt;
+        first_wrong(rt.alloc(), Side::Peer, &FRAMES_TO_A_PEER),
+        None
+    );
 }

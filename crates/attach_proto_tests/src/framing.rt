@@ -1,10 +1,7 @@
 //! Frames of messages, and messages of frames.
 
-use attach_proto::{Message, ProtoFault, Reader, Side, WriteFault, write_message};
+use attach_proto::{ProtoFault, Reader, Side, write_message};
 use std::alloc::Global;
-
-/// The 64 digits of a token.
-pub const DIGITS: &[u8] = b"0123456789abcdef0123456789abcdef0123456789abcdef0123456789abcdef";
 
 /// An ATTACH of `bob` on a terminal of 24 lines by 80 columns.
 pub const ATTACH: &[u8] =
@@ -28,23 +25,8 @@ pub struct Answer {
     pub last: Result<(), ProtoFault>,
 }
 
-impl Answer {
-    /// Whether these frames were given, and the last answer was this.
-    pub fn is(&self, frames: &[u8], last: Result<(), ProtoFault>) -> bool {
-        self.frames.as_slice() == frames && self.last == last
-    }
-}
-
-/// Adds the frames of these messages, one after another.
-pub fn write_all(alloc: Global, messages: &[Message], out: &mut Vec<u8>) -> Result<(), WriteFault> {
-    for message in messages {
-        write_message(alloc, message, out)?;
-    }
-    Ok(())
-}
-
-/// What a new reader answers to these pieces in turn.
-pub fn read(alloc: Global, side: Side, pieces: &[&[u8]]) -> Result<Answer, WriteFault> {
+/// What a new reader answers to these pieces in turn; none where memory is wanting.
+pub fn read(alloc: Global, side: Side, pieces: &[&[u8]]) -> Option<Answer> {
     let mut reader = Reader::new(alloc, side);
     let mut messages = Vec::new(alloc);
     let mut last = Ok(());
@@ -52,6 +34,22 @@ pub fn read(alloc: Global, side: Side, pieces: &[&[u8]]) -> Result<Answer, Write
         last = reader.feed(piece, &mut messages);
     }
     let mut frames = Vec::new(alloc);
-    write_all(alloc, messages.as_slice(), &mut frames)?;
-    Ok(Answer { frames, last })
+    for message in &messages {
+        write_message(alloc, message, &mut frames).ok()?;
+    }
+    Some(Answer { frames, last })
+}
+
+/// Whether a new reader gives these frames of these pieces, and answers this to the last of them.
+pub fn gives(
+    alloc: Global,
+    side: Side,
+    pieces: &[&[u8]],
+    frames: &[u8],
+    last: Result<(), ProtoFault>,
+) -> bool {
+    match read(alloc, side, pieces) {
+        Some(answer) => answer.frames.as_slice() == frames && answer.last == last,
+        None => false,
+    }
 }

@@ -12,5 +12,3 @@ mod frames;
 mod framing;
 #[cfg(test)]
 mod refused_memory;
-#[cfg(test)]
-mod unspellable;

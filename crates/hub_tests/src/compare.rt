@@ -6,20 +6,18 @@ use session_model::{Bytes, Effect, Reply};
 /// Whether two effects are the same.
 pub(crate) fn are_same(effect: &Effect, other: &Effect) -> bool {
     match (effect, other) {
-        (Effect::Input(to, bytes), Effect::Input(at, text)) => {
-            to == at && bytes.as_slice() == text.as_slice()
-        }
-        (Effect::Deliver(to, bytes), Effect::Deliver(at, text)) => {
-            to == at && bytes.as_slice() == text.as_slice()
-        }
-        (Effect::Say(to, bytes), Effect::Say(at, text)) => {
+        (Effect::Input(to, bytes), Effect::Input(at, text))
+        | (Effect::Deliver(to, bytes), Effect::Deliver(at, text))
+        | (Effect::Say(to, bytes), Effect::Say(at, text)) => {
             to == at && bytes.as_slice() == text.as_slice()
         }
         (Effect::Size(to, rows, columns), Effect::Size(at, other_rows, other_columns)) => {
             to == at && rows == other_rows && columns == other_columns
         }
-        (Effect::GoneWindow(to, why), Effect::GoneWindow(at, reason)) => to == at && why == reason,
-        (Effect::GoneClient(to, why), Effect::GoneClient(at, reason)) => to == at && why == reason,
+        (Effect::GoneWindow(to, why), Effect::GoneWindow(at, reason))
+        | (Effect::GoneClient(to, why), Effect::GoneClient(at, reason)) => {
+            to == at && why == reason
+        }
         _ => false,
     }
 }
@@ -59,6 +57,17 @@ pub(crate) fn is_same_reply(reply: &Reply, other: &Reply) -> bool {
         (Err(refusal), Err(other)) => refusal == other,
         _ => false,
     }
+}
+
+/// Whether two lists of replies are the same.
+pub(crate) fn are_same_replies(replies: &[Reply], others: &[Reply]) -> bool {
+    for (place, reply) in replies.iter().enumerate() {
+        match others.get(place) {
+            Some(other) if is_same_reply(reply, other) => {}
+            _ => return false,
+        }
+    }
+    replies.len() == others.len()
 }
 
 /// Whether two answers have the same reply at the same place.

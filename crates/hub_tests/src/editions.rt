@@ -3,32 +3,25 @@
 
 ghost use Rattle.std.specs.Prelude.{◌≡◌};
 
+use crate::side::{are_done, begin, close, line_of};
 use acl::{Bit, Edition, Object, UserId};
-use hub::{CheckFault, Filed, Hub, KeptEvent, Seat, Session, Trail, check_trail};
+use hub::{CheckFault, Filed, KeptEvent, Trail, check_trail};
 use hub_check::check_entries;
 use hub_record::{KeptRef, KeptReply};
 use hub_trail::Ending;
 use session_model::{Done, Event, Refusal, Reply, Verdict};
 use std::alloc::{AllocError, Global};
 use std::marker::Brand;
-use std::process::Abort;
 use std::str::from_utf8;
 use std::sync::Wait;
 use std::sync::ledger::{Blank, Ledger as Roll};
-use std::test::*;
 
 /// The place of the entry of bob's keys.
 const KEYS: usize = 8;
 
 /// Opens window 0, on which bob and ann lose w and eve keeps it; ann leads bob, then eve does, then
-/// ann again. Then bob attaches and types. Whether all was done.
-fn plays<L: Roll, R: Wait>(
-    rt: &R,
-    hub: &Hub<L>,
-    seat: &mut Seat<L>,
-    people: (UserId, UserId),
-) -> bool {
-    let (owner, bob) = people;
+/// ann again. Then bob attaches and types.
+fn events(owner: UserId, bob: UserId) -> [Event<'static>; 9] {
     let open = Event::Open {
         user: owner,
         rows: 24,
@@ -36,23 +29,6 @@ fn plays<L: Roll, R: Wait>(
         keep: 0,
         title: "sh",
     };
-    let mut all = submits(rt, hub, seat, open);
-    let lines = [
-        b"multiuser on".as_slice(),
-        b"acladd bob,ann,eve".as_slice(),
-        b"aclchg bob,ann -w 0".as_slice(),
-        b"aclgrp bob ann".as_slice(),
-        b"aclgrp bob eve".as_slice(),
-        b"aclgrp bob ann".as_slice(),
-    ];
-    for line in lines {
-        let command = Event::Command {
-            user: owner,
-            window: None,
-            line,
-        };
-        all = all && submits(rt, hub, seat, command);
-    }
     let attach = Event::Attach {
         user: bob,
         rows: 24,
@@ -62,15 +38,17 @@ fn plays<L: Roll, R: Wait>(
         client: 0,
         bytes: b"x",
     };
-    all && submits(rt, hub, seat, attach) && submits(rt, hub, seat, keys)
-}
-
-/// Whether an event is submitted and not refused.
-fn submits<L: Roll, R: Wait>(rt: &R, hub: &Hub<L>, seat: &mut Seat<L>, event: Event<'_>) -> bool {
-    match hub.submit(rt, seat, event) {
-        Ok(answer) => answer.reply().is_ok(),
-        Err(_fault) => false,
-    }
+    [
+        open,
+        line_of(owner, b"multiuser on"),
+        line_of(owner, b"acladd bob,ann,eve"),
+        line_of(owner, b"aclchg bob,ann -w 0"),
+        line_of(owner, b"aclgrp bob ann"),
+        line_of(owner, b"aclgrp bob eve"),
+        line_of(owner, b"aclgrp bob ann"),
+        attach,
+        keys,
+    ]
 }
 
 /// The event of an entry; of Keys without its bytes.
@@ -186,93 +164,76 @@ fn judged(
     Ok(check_entries(alloc, edition, trail.owner(), entries.as_slice()))
 }
 
-/// Each verdict of each entry, turned round. How many there are.
-fn turn_each(rt: &impl Abort, alloc: Global, trail: &Trail) -> Result<usize, AllocError> {
+/// How many verdicts the trail has, if each of them, turned round, is found at its entry.
+fn found_verdicts(alloc: Global, trail: &Trail) -> Result<Option<usize>, AllocError> {
     let mut count = 0usize;
     for place in 0..trail.len() {
-        let entry = trail.at(place);
-        for verdict in 0..entry.verdicts().len() {
-            let bad = Err(CheckFault::BadEntry { place });
-            assert_eq!(rt;
-                judged(alloc, trail, trail.acl_edition(), Some((place, verdict)))?,
-                bad,
-                "a turned verdict"
-            );
+        for verdict in 0..trail.at(place).verdicts().len() {
+            let answer = judged(alloc, trail, trail.acl_edition(), Some((place, verdict)))?;
+            if answer != Err(CheckFault::BadEntry { place }) {
+                return Ok(None);
+            }
             count = count.saturating_add(1);
         }
     }
-    Ok(count)
+    Ok(Some(count))
 }
 
 /// The trail of what is played in an edition.
-fn trail_of<L: Roll, R: Wait + Abort>(
+fn trail_of<L: Roll, R: Wait>(
     rt: &R,
     alloc: Global,
     blank: Blank,
     edition: Edition,
     people: (UserId, UserId),
-) -> Result<Trail, Fail>
-    requires { (blank.name ≡ L.name) × (blank.parts ≡ L.parts) × (blank.parts ≡ 1) }
-{
-    let (owner, _bob) = people;
-    let session = match edition {
-        Edition::First => Session::first_edition(alloc, owner),
-        Edition::Second => Session::new(alloc, owner),
-    };
-    let Ok(session) = session else {
-        return Err(Fail::from("session"));
-    };
-    let Ok((hub, mut seats)) = Hub::<L>::new(alloc, blank, edition, owner, session, 1) else {
-        return Err(Fail::from("hub"));
-    };
-    let Some(mut seat) = seats.pop() else {
-        return Err(Fail::from("seat"));
-    };
-    assert!(rt; plays(rt, &hub, &mut seat, people), "all is done");
-    seats.push(seat)?;
-    let (trail, wrong) = hub.close(seats);
-    assert!(rt; wrong.is_none(), "each entry has its receipt");
-    Ok(trail)
-}
-
-/// The trail of an edition has its number and is legal in it, and by the other edition bob's right
-/// to type would be another; each verdict that is turned round is found at its entry.
-fn judge<L: Roll, R: Wait + Abort>(
-    rt: &R,
-    alloc: Global,
-    blank: Blank,
-    edition: Edition,
-    people: (UserId, UserId),
-) -> Result<(), Fail>
+) -> Option<Trail>
     requires { (blank.name ≡ L.name) × (blank.parts ≡ L.parts) × (blank.parts ≡ 1) }
 {
     let (owner, bob) = people;
-    let trail = trail_of::<L, R>(rt, alloc, blank, edition, people)?;
-    let (number, other, may_type, verdicts) = match edition {
-        Edition::First => (1, Edition::Second, false, 8),
-        Edition::Second => (2, Edition::First, true, 9),
-    };
-    assert_eq!(rt; trail.edition(), number);
-    assert_eq!(rt; check_trail(alloc, &trail, owner), Ok(()), "it is legal");
+    let mut side = begin::<L>(alloc, blank, edition, owner)?;
+    if !are_done(rt, &mut side, &events(owner, bob)) {
+        return None;
+    }
+    close(side)
+}
+
+/// Whether bob's keys have this verdict on his right to type.
+fn may_type(trail: &Trail, bob: UserId, answer: bool) -> bool {
     let asked = Verdict::Right {
         user: bob,
         bit: Bit::Write,
         object: Object::Window(0),
-        answer: may_type,
+        answer,
     };
-    if trail.len() <= KEYS {
-        return Err(Fail::from("keys"));
+    KEYS < trail.len() && trail.at(KEYS).verdicts().first().copied() == Some(asked)
+}
+
+/// Whether the trail of an edition has its number and is legal in it, and by the other edition bob's
+/// right to type would be another; and how many verdicts are found at their entries, turned round.
+fn judge<L: Roll, R: Wait>(
+    rt: &R,
+    alloc: Global,
+    blank: Blank,
+    edition: Edition,
+    people: (UserId, UserId),
+) -> Option<usize>
+    requires { (blank.name ≡ L.name) × (blank.parts ≡ L.parts) × (blank.parts ≡ 1) }
+{
+    let (owner, bob) = people;
+    let trail = trail_of::<L, R>(rt, alloc, blank, edition, people)?;
+    let (number, other) = match edition {
+        Edition::First => (1, Edition::Second),
+        Edition::Second => (2, Edition::First),
+    };
+    let otherwise = judged(alloc, &trail, other, None).ok()?;
+    if trail.edition() != number
+        || check_trail(alloc, &trail, owner) != Ok(())
+        || !may_type(&trail, bob, number == 2)
+        || otherwise != Err(CheckFault::BadEntry { place: KEYS })
+    {
+        return None;
     }
-    let keys = trail.at(KEYS);
-    assert_eq!(rt; keys.verdicts().first().copied(), Some(asked));
-    let bad = Err(CheckFault::BadEntry { place: KEYS });
-    assert_eq!(rt;
-        judged(alloc, &trail, other, None)?,
-        bad,
-        "otherwise judged"
-    );
-    assert_eq!(rt; turn_each(rt, alloc, &trail)?, verdicts);
-    Ok(())
+    found_verdicts(alloc, &trail).ok()?
 }
 
 fn people() -> Option<(UserId, UserId)> {
@@ -280,17 +241,19 @@ fn people() -> Option<(UserId, UserId)> {
 }
 
 #[test]
-fn the_first_edition_has_one_leader(rt: HostRuntime) -> Result<(), Fail> {
+fn the_first_edition_has_one_leader(rt: HostRuntime) {
     let Some(people) = people() else {
-        return Err(Fail::from("names"));
+        panic!(rt; "names")
     };
-    judge::<Brand, _>(&rt, rt.alloc(), Blank::new(1), Edition::First, people)
+    let found = judge::<Brand, _>(&rt, rt.alloc(), Blank::new(1), Edition::First, people);
+    assert_eq!(rt; found, Some(8));
 }
 
 #[test]
-fn the_second_edition_has_all_leaders(rt: HostRuntime) -> Result<(), Fail> {
+fn the_second_edition_has_all_leaders(rt: HostRuntime) {
     let Some(people) = people() else {
-        return Err(Fail::from("names"));
+        panic!(rt; "names")
     };
-    judge::<Brand, _>(&rt, rt.alloc(), Blank::new(1), Edition::Second, people)
+    let found = judge::<Brand, _>(&rt, rt.alloc(), Blank::new(1), Edition::Second, people);
+    assert_eq!(rt; found, Some(9));
 }

@@ -3,28 +3,18 @@
 ghost use Rattle.std.specs.Prelude.{◌≡◌};
 
 use crate::compare::is_same_entry;
+use crate::side::{Side, begin, close, line_of};
 use acl::{Edition, UserId};
-use hub::{Answer, Hub, Seat, Session, Trail};
+use hub::{Answer, Trail};
 use session_model::Event;
 use std::alloc::Global;
 use std::marker::Brand;
-use std::process::Abort;
 use std::sync::Wait;
 use std::sync::ledger::{Blank, Ledger as Roll};
-use std::test::*;
-
-/// A line of a user.
-fn line_of(user: UserId, line: &[u8]) -> Event<'_> {
-    Event::Command {
-        user,
-        window: None,
-        line,
-    }
-}
 
 /// Whether an event is answered without an entry.
-fn has_none<L: Roll, R: Wait>(rt: &R, hub: &Hub<L>, seat: &mut Seat<L>, event: Event<'_>) -> bool {
-    match hub.submit(rt, seat, event) {
+fn has_none<L: Roll, R: Wait>(rt: &R, side: &mut Side<L>, event: Event<'_>) -> bool {
+    match side.hub.submit(rt, &mut side.seat, event) {
         Ok(answer) => answer.entry().is_none(),
         Err(_fault) => false,
     }
@@ -38,45 +28,25 @@ fn has_its_entry(answer: &Answer<'_>, trail: &Trail) -> bool {
     place < trail.len() && is_same_entry(entry, trail.at(place))
 }
 
-fn asking<L: Roll, R: Wait + Abort>(
-    rt: &R,
-    alloc: Global,
-    blank: Blank,
-    owner: UserId,
-) -> Result<(), Fail>
+/// Whether a seat has no entry before it asks, none of a Draw, and else its own.
+fn asking<L: Roll, R: Wait>(rt: &R, alloc: Global, blank: Blank, owner: UserId) -> Option<bool>
     requires { (blank.name ≡ L.name) × (blank.parts ≡ L.parts) × (blank.parts ≡ 1) }
 {
-    let Ok(session) = Session::new(alloc, owner) else {
-        return Err(Fail::from("session"));
-    };
-    let Ok((hub, mut seats)) = Hub::<L>::new(alloc, blank, Edition::Second, owner, session, 1)
-    else {
-        return Err(Fail::from("hub"));
-    };
-    let Some(mut seat) = seats.pop() else {
-        return Err(Fail::from("seat"));
-    };
-    let opens = line_of(owner, b"multiuser on");
-    assert!(rt; has_none(rt, &hub, &mut seat, opens), "it hasn't asked");
-    seat.ask_for_entries();
-    assert!(rt;
-        has_none(rt, &hub, &mut seat, Event::Draw { client: 0 }),
-        "a Draw writes none"
-    );
-    let Ok(answer) = hub.submit(rt, &mut seat, line_of(owner, b"acladd bob")) else {
-        return Err(Fail::from("answer"));
-    };
-    seats.push(seat)?;
-    let (trail, _wrong) = hub.close(seats);
-    assert_eq!(rt; trail.len(), 2);
-    assert!(rt; has_its_entry(&answer, &trail), "it has asked");
-    Ok(())
+    let mut side = begin::<L>(alloc, blank, Edition::Second, owner)?;
+    let had_none = has_none(rt, &mut side, line_of(owner, b"multiuser on"));
+    side.seat.ask_for_entries();
+    let draws = has_none(rt, &mut side, Event::Draw { client: 0 });
+    let adds = line_of(owner, b"acladd bob");
+    let answer = side.hub.submit(rt, &mut side.seat, adds).ok()?;
+    let trail = close(side)?;
+    Some(had_none && draws && trail.len() == 2 && has_its_entry(&answer, &trail))
 }
 
 #[test]
-fn a_seat_that_asks_has_its_entry(rt: HostRuntime) -> Result<(), Fail> {
+fn a_seat_that_asks_has_its_entry(rt: HostRuntime) {
     let Some(owner) = UserId::of(b"root") else {
-        return Err(Fail::from("a name"));
+        panic!(rt; "a name")
     };
-    asking::<Brand, _>(&rt, rt.alloc(), Blank::new(1), owner)
+    let asked = asking::<Brand, _>(&rt, rt.alloc(), Blank::new(1), owner);
+    assert_eq!(rt; asked, Some(true));
 }

@@ -1,5 +1,5 @@
-//! Tests of the hub: threads that share one, what a seat takes, trails, and growths that
-//! are refused.
+//! Tests of the hub: threads that share one, what a seat takes, trails, and growths of hub and
+//! session that are refused.
 #![tactic(auto)]
 
 #[cfg(test)]
@@ -9,10 +9,18 @@ mod editions;
 #[cfg(test)]
 mod entries;
 #[cfg(test)]
+mod events;
+#[cfg(test)]
 mod fresh;
 #[cfg(test)]
 mod many;
 #[cfg(test)]
 mod refusals;
 #[cfg(test)]
+mod runs;
+#[cfg(test)]
+mod side;
+#[cfg(test)]
 mod totals;
+#[cfg(test)]
+mod windows;

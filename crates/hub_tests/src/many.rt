@@ -5,15 +5,14 @@
 ghost use Rattle.std.specs.Prelude.{◌≡◌, ◌≤◌};
 
 use crate::compare::{are_same, is_same_reply};
+use crate::side::read_by;
 use acl::{Edition, UserId};
-use hub::{CheckFault, Hub, Seat, Session, Trail, check_trail};
+use hub::{Hub, Seat, Session};
 use session_model::{Effect, Event, Reply};
 use std::alloc::Global;
 use std::marker::Brand;
-use std::process::Abort;
 use std::sync::Wait;
 use std::sync::ledger::{Blank, Ledger as Roll};
-use std::test::*;
 
 /// How many turns of twenty steps.
 const TURNS: u32 = 50;
@@ -131,14 +130,6 @@ fn took(taken: &[Effect], made: &[Effect], second: bool) -> bool {
     next == taken.len()
 }
 
-/// How many bytes of keys a step read.
-fn read_by(reply: &Reply) -> usize {
-    match reply {
-        Ok(done) => done.taken,
-        Err(_refusal) => 0,
-    }
-}
-
 /// Submits an event, and keys again until all are read. How many entries it wrote; `None` where the
 /// last answer hasn't this reply.
 fn submit_all<L: Roll, R: Wait>(
@@ -211,26 +202,22 @@ fn step<L: Roll, R: Wait>(
     }
 }
 
-fn thousand<L: Roll, R: Wait + Abort>(
+/// Whether the seats take what the session made, over all steps, and the trail has the entries that
+/// were written.
+fn thousand<L: Roll, R: Wait>(
     rt: &R,
     alloc: Global,
     blank: Blank,
     owner: UserId,
     bob: UserId,
-) -> Result<(), Fail>
+) -> Option<bool>
     requires { (blank.name ≡ L.name) × (blank.parts ≡ L.parts) × (blank.parts ≡ 2) }
 {
-    let (Ok(session), Ok(mut twin)) = (Session::new(alloc, owner), Session::new(alloc, owner))
-    else {
-        return Err(Fail::from("sessions"));
-    };
-    let Ok((hub, mut seats)) = Hub::<L>::new(alloc, blank, Edition::Second, owner, session, 2)
-    else {
-        return Err(Fail::from("hub"));
-    };
-    let (Some(mut b), Some(mut a)) = (seats.pop(), seats.pop()) else {
-        return Err(Fail::from("seats"));
-    };
+    let session = Session::new(alloc, owner).ok()?;
+    let mut twin = Session::new(alloc, owner).ok()?;
+    let (hub, mut seats) = Hub::<L>::new(alloc, blank, Edition::Second, owner, session, 2).ok()?;
+    let mut b = seats.pop()?;
+    let mut a = seats.pop()?;
     let mut entries = 0usize;
     for line in [b"multiuser on".as_slice(), b"acladd bob".as_slice()] {
         let command = Event::Command {
@@ -238,45 +225,28 @@ fn thousand<L: Roll, R: Wait + Abort>(
             window: None,
             line,
         };
-        let wrote = step(rt, &hub, (&mut a, &mut b), &mut twin, command, false, alloc);
-        assert_eq!(rt; wrote, Some(1), "set up");
-        entries = entries.saturating_add(1);
+        let wrote = step(rt, &hub, (&mut a, &mut b), &mut twin, command, false, alloc)?;
+        entries = entries.saturating_add(wrote);
     }
     for turn in 0..TURNS {
         for number in 0..STEPS {
             let event = event_at(turn, number, owner, bob);
             let second = second_submits(turn, number);
-            let wrote = step(rt, &hub, (&mut a, &mut b), &mut twin, event, second, alloc);
-            let Some(wrote) = wrote else {
-                return Err(Fail::from("a step"));
-            };
+            let wrote = step(rt, &hub, (&mut a, &mut b), &mut twin, event, second, alloc)?;
             entries = entries.saturating_add(wrote);
         }
     }
-    seats.push(a)?;
-    seats.push(b)?;
+    seats.push(a).ok()?;
+    seats.push(b).ok()?;
     let (trail, wrong) = hub.close(seats);
-    assert_eq!(rt; trail.len(), entries);
-    assert!(rt; wrong.is_none(), "each entry has its receipt");
-    judge(rt, alloc, &trail, owner, bob);
-    Ok(())
-}
-
-/// The trail begins with a command of its owner: it is legal as his, and as another's its first
-/// entry isn't.
-fn judge(rt: &impl Abort, alloc: Global, trail: &Trail, owner: UserId, other: UserId) {
-    assert_eq!(rt; check_trail(alloc, trail, owner), Ok(()), "it is legal");
-    assert_eq!(rt;
-        check_trail(alloc, trail, other),
-        Err(CheckFault::BadEntry { place: 0 }),
-        "of another owner it isn't"
-    );
+    Some(trail.len() == entries && wrong.is_none())
 }
 
 #[test]
-fn seats_take_what_the_session_made(rt: HostRuntime) -> Result<(), Fail> {
+fn seats_take_what_the_session_made(rt: HostRuntime) {
     let (Some(owner), Some(bob)) = (UserId::of(b"root"), UserId::of(b"bob")) else {
-        return Err(Fail::from("names"));
+        panic!(rt; "names")
     };
-    thousand::<Brand, _>(&rt, rt.alloc(), Blank::new(2), owner, bob)
+    let took = thousand::<Brand, _>(&rt, rt.alloc(), Blank::new(2), owner, bob);
+    assert_eq!(rt; took, Some(true));
 }

@@ -4,113 +4,15 @@
 ghost use Rattle.std.specs.Prelude.{◌≡◌};
 
 use crate::compare::{are_all_same, are_same_entries, is_same_answer};
+use crate::events::{users_come, users_go};
+use crate::side::{Side, begin, close, read_by};
 use acl::{Edition, UserId};
-use hub::{Answer, Hub, HubFault, Seat, Session};
-use session_model::{Event, Reply};
+use hub::{Answer, HubFault};
+use session_model::Event;
 use std::alloc::Global;
 use std::marker::Brand;
-use std::process::Abort;
 use std::sync::Wait;
 use std::sync::ledger::{Blank, Ledger as Roll};
-use std::test::*;
-
-/// A hub with its one seat.
-#[derive(Drop)]
-struct Side<L: Roll> {
-    hub: Hub<L>,
-    seat: Seat<L>,
-    rest: Vec<Seat<L>>,
-}
-
-/// What a play of the script comes to.
-#[derive(Clone, Copy, PartialEq, Eq, Debug)]
-enum Outcome {
-    /// Memory for a hub was refused.
-    Unmade,
-    /// Something differs.
-    Wrong,
-    Right,
-}
-
-/// A line of a user, perhaps for a window.
-fn told(user: UserId, window: Option<u8>, line: &'static [u8]) -> Event<'static> {
-    Event::Command { user, window, line }
-}
-
-/// Windows and users come, type and are denied, and see it.
-fn users_come(own: UserId, bob: UserId) -> [Event<'static>; 18] {
-    let window = |title| Event::Open {
-        user: own,
-        rows: 24,
-        columns: 80,
-        keep: 5,
-        title,
-    };
-    let client = |user| Event::Attach {
-        user,
-        rows: 24,
-        columns: 80,
-    };
-    let typed = |client, bytes| Event::Keys { client, bytes };
-    [
-        window("zero"),
-        window("one"),
-        client(own),
-        told(own, None, b"multiuser on"),
-        told(own, None, b"acladd ann,bob"),
-        client(bob),
-        told(own, None, b"aclchg bob -w 0"),
-        typed(1, b"\x01:select 0\rdenied"),
-        told(own, None, b"aclgrp bob ann"),
-        typed(1, b"typed"),
-        typed(0, b"\x01:select 0\r\x01:writelock auto\r"),
-        typed(1, b"locked"),
-        Event::Draw { client: 0 },
-        Event::Output {
-            window: 0,
-            bytes: b"a\x1b[6n\r\n\xE6\xBC\xA2\x1b[31mred\x1b[5n",
-        },
-        Event::Draw { client: 1 },
-        told(own, None, b"windows"),
-        told(own, None, b"wall to all"),
-        told(own, None, b"no such command"),
-    ]
-}
-
-/// A page is split, a size changes, and all goes.
-fn users_go(own: UserId) -> [Event<'static>; 12] {
-    let typed = |client, bytes| Event::Keys { client, bytes };
-    [
-        typed(0, b"\x01S\x01\t\x01:select 1\r"),
-        Event::Resize {
-            client: 1,
-            rows: 30,
-            columns: 100,
-        },
-        Event::Draw { client: 0 },
-        typed(1, b"\x01:fit\r"),
-        told(own, Some(1), b"stuff abc"),
-        Event::Output {
-            window: 9,
-            bytes: b"nowhere",
-        },
-        told(own, None, b"aclchg * +rwx \"#?\""),
-        Event::Closed { window: 1 },
-        Event::Draw { client: 1 },
-        told(own, None, b"acldel bob"),
-        Event::Detach { client: 1 },
-        typed(0, b"\x07\x01:quit\r"),
-    ]
-}
-
-fn begin<L: Roll>(alloc: Global, blank: Blank, owner: UserId) -> Option<Side<L>>
-    requires { (blank.name ≡ L.name) × (blank.parts ≡ L.parts) × (blank.parts ≡ 1) }
-{
-    let session = Session::new(alloc, owner).ok()?;
-    let (hub, mut rest) = Hub::<L>::new(alloc, blank, Edition::Second, owner, session, 1).ok()?;
-    let seat = rest.pop()?;
-    Some(Side { hub, seat, rest })
-}
 
 /// Whether the same waits on both sides, and both are marked or neither is.
 fn take_same<L: Roll, M: Roll, R: Wait>(rt: &R, one: &mut Side<L>, two: &mut Side<M>) -> bool {
@@ -151,14 +53,6 @@ fn submit_tried<'a, L: Roll, M: Roll, R: Wait>(
         side.hub.submit(rt, &mut side.seat, event).ok()
     } else {
         None
-    }
-}
-
-/// How many bytes of keys a step read.
-fn read_by(reply: &Reply) -> usize {
-    match reply {
-        Ok(done) => done.taken,
-        Err(_refusal) => 0,
     }
 }
 
@@ -224,63 +118,46 @@ fn play_part<L: Roll, M: Roll, R: Wait>(
     true
 }
 
-/// Whether this seat's hub has an entry for each of its receipts, and how many.
+/// Whether both trails have the same entries, each with its receipt.
 fn close_same<L: Roll, M: Roll>(one: Side<L>, two: Side<M>) -> bool {
-    let Side { hub, seat, rest } = one;
-    let mut seats = rest;
-    if seats.push(seat).is_err() {
+    let (Some(trail), Some(other)) = (close(one), close(two)) else {
         return false;
-    }
-    let (trail, wrong) = hub.close(seats);
-    let Side { hub, seat, rest } = two;
-    let mut seats = rest;
-    if seats.push(seat).is_err() {
-        return false;
-    }
-    let (other, strange) = hub.close(seats);
-    wrong.is_none() && strange.is_none() && are_same_entries(&trail, &other)
+    };
+    are_same_entries(&trail, &other)
 }
 
-/// Of two plays of the same events at most one meets the refusal.
+/// Whether two plays of the same events, of which at most one meets the refusal, come to the same;
+/// none where memory for a hub was refused.
 fn play<L: Roll, M: Roll, R: Wait>(
     rt: &R,
     alloc: Global,
     first: Blank,
     second: Blank,
-    own: UserId,
-    bob: UserId,
-) -> Outcome
+    people: (UserId, UserId),
+) -> Option<bool>
     requires first { (first.name ≡ L.name) × (first.parts ≡ L.parts) × (first.parts ≡ 1) }
     requires second { (second.name ≡ M.name) × (second.parts ≡ M.parts) × (second.parts ≡ 1) }
 {
-    let (Some(mut one), Some(mut two)) = (
-        begin::<L>(alloc, first, own),
-        begin::<M>(alloc, second, own),
-    ) else {
-        return Outcome::Unmade;
-    };
-    if play_part(rt, &mut one, &mut two, &users_come(own, bob))
-        && play_part(rt, &mut one, &mut two, &users_go(own))
-        && close_same(one, two)
-    {
-        Outcome::Right
-    } else {
-        Outcome::Wrong
-    }
+    let (own, bob) = people;
+    let mut one = begin::<L>(alloc, first, Edition::Second, own)?;
+    let mut two = begin::<M>(alloc, second, Edition::Second, own)?;
+    Some(
+        play_part(rt, &mut one, &mut two, &users_come(own, bob))
+            && play_part(rt, &mut one, &mut two, &users_go(own))
+            && close_same(one, two),
+    )
 }
 
 #[test]
-fn what_is_refused_leaves_no_trace(rt: HostRuntime) -> Result<(), Fail> {
+fn what_is_refused_leaves_no_trace(rt: HostRuntime) {
     let (Some(own), Some(bob)) = (UserId::of(b"own"), UserId::of(b"bob")) else {
-        return Err(Fail::from("names"));
+        panic!(rt; "names")
     };
     let alloc = rt.alloc();
-    let played = play::<Brand, Brand, _>(&rt, alloc, Blank::new(1), Blank::new(1), own, bob);
-    if played == Outcome::Unmade {
-        let again = play::<Brand, Brand, _>(&rt, alloc, Blank::new(1), Blank::new(1), own, bob);
-        assert_eq!(rt; again, Outcome::Right);
-    } else {
-        assert_eq!(rt; played, Outcome::Right);
+    let people = (own, bob);
+    let mut played = play::<Brand, Brand, _>(&rt, alloc, Blank::new(1), Blank::new(1), people);
+    if played.is_none() {
+        played = play::<Brand, Brand, _>(&rt, alloc, Blank::new(1), Blank::new(1), people);
     }
-    Ok(())
+    assert_eq!(rt; played, Some(true));
 }

@@ -1,11 +1,13 @@
-//! Tests of draws: views that are composed, frames from one to another, and terminals that read
-//! them.
+//! Tests of draws: layouts of regions, views that are composed, frames from one to another, and
+//! terminals that read them.
 #![tactic(auto)]
 
 #[cfg(test)]
 mod appended;
 #[cfg(test)]
 mod colours;
+#[cfg(test)]
+mod layouts;
 #[cfg(test)]
 mod lengths;
 #[cfg(test)]

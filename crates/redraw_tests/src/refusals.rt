@@ -9,8 +9,6 @@ use cells::{Cell, Rendition};
 use redraw::{Shadow, frame_keeping};
 use regions::Rects;
 use std::alloc::{AllocError, Global};
-use std::process::Abort;
-use std::test::Fail;
 use view::{Contents, KeyModes, Pane, View, compose_over};
 
 pub const LETTERS: [Cell; 3] = [
@@ -87,27 +85,28 @@ fn frame_at_last(
     }
 }
 
-/// The bytes of a frame from unknown, and of one behind it; one to the same view has none.
-fn two_frames(rt: &(impl Abort + AllocGlobal)) -> Result<(Vec<u8>, Vec<u8>), Fail> {
-    let alloc = rt.alloc();
+/// The bytes of a frame from unknown, and of one behind it.
+type Frames = (Option<Vec<u8>>, Option<Vec<u8>>);
+
+fn two_frames(alloc: Global) -> Result<Frames, AllocError> {
     let mut shadow = Shadow::unknown(4, 20);
     let first = frame_at_last(alloc, &mut shadow, &LETTERS[..2])?;
     let second = frame_at_last(alloc, &mut shadow, &LETTERS)?;
-    let third = frame_at_last(alloc, &mut shadow, &LETTERS)?;
-    assert!(rt; third.is_none());
-    match (first, second) {
-        (Some(first), Some(second)) => Ok((first, second)),
-        _ => Err(Fail::from("no frame")),
-    }
+    Ok((first, second))
+}
+
+/// Whether two clients are drawn the same, of whom at most one met a refusal.
+fn are_drawn_alike(alloc: Global) -> Result<bool, AllocError> {
+    let (first, second) = two_frames(alloc)?;
+    let frames = two_frames(alloc)?;
+    let has_begun = match &first {
+        Some(bytes) => bytes.starts_with(b"\x18\x1bc\x1b%G\x1b[?7l"),
+        None => false,
+    };
+    Ok(has_begun && second.is_some() && frames == (first, second))
 }
 
 #[test]
-fn a_refused_growth_changes_nothing(rt: HostRuntime) -> Result<(), Fail> {
-    let (first, second) = two_frames(&rt)?;
-    let (first_again, second_again) = two_frames(&rt)?;
-    assert!(rt; first.starts_with(b"\x18\x1bc\x1b%G\x1b[?7l"));
-    assert!(rt; !second.is_empty());
-    assert_eq!(rt; first.as_slice(), first_again.as_slice());
-    assert_eq!(rt; second.as_slice(), second_again.as_slice());
-    Ok(())
+fn a_refused_growth_changes_nothing(rt: HostRuntime) {
+    assert_eq!(rt; are_drawn_alike(rt.alloc()), Ok(true));
 }

@@ -7,7 +7,6 @@ use cells::Cell;
 use emulator::Emulator;
 use regions::{Layout, Rects, Shown, Way};
 use std::alloc::{AllocError, Global};
-use std::test::Fail;
 use view::{Contents, Cursor, KeyModes, Pane, View, compose};
 
 /// The client's lines and columns.
@@ -103,27 +102,27 @@ pub struct Stage {
     text: usize,
 }
 
-fn terminal(alloc: Global, rows: usize, columns: usize) -> Result<Emulator, Fail> {
+fn terminal(alloc: Global, rows: usize, columns: usize) -> Result<Emulator, AllocError> {
     match Emulator::new(alloc, rows, columns, 0) {
         Ok(emulator) => Ok(emulator),
-        Err(_) => Err(Fail::from("no terminal")),
+        Err(_) => Err(AllocError),
     }
 }
 
-/// A terminal of the client's size that reads bytes.
-pub fn read(terminal: &mut Emulator, alloc: Global, bytes: &[u8]) -> Result<(), Fail> {
+/// Whether a terminal reads all of the bytes.
+pub fn reads(terminal: &mut Emulator, alloc: Global, bytes: &[u8]) -> bool {
     let mut reports = Vec::new(alloc);
-    match terminal.feed_all(bytes, &mut reports) {
-        Ok(()) => Ok(()),
-        Err(_) => Err(Fail::from("stopped")),
-    }
+    terminal.feed_all(bytes, &mut reports).is_ok()
 }
 
 /// A terminal of the client's size in some state.
-pub fn terminal_in_some_state(alloc: Global, dice: &mut Dice) -> Result<Emulator, Fail> {
-    let mut made = terminal(alloc, ROWS as usize, COLUMNS as usize)?;
-    read(&mut made, alloc, STATES[dice.below(STATES.len())])?;
-    Ok(made)
+pub fn terminal_in_some_state(alloc: Global, dice: &mut Dice) -> Option<Emulator> {
+    let mut made = terminal(alloc, ROWS as usize, COLUMNS as usize).ok()?;
+    if reads(&mut made, alloc, STATES[dice.below(STATES.len())]) {
+        Some(made)
+    } else {
+        None
+    }
 }
 
 /// Whether the terminal shows the view.
@@ -156,7 +155,15 @@ pub fn shows(terminal: &Emulator, view: &View) -> bool {
 
 /// Whether lines look alike.
 fn is_like(a: &[Cell], b: &[Cell]) -> bool {
-    a.len() == b.len() && a.iter().zip(b).all(|(x, y)| x.is_like(y))
+    for (place, cell) in a.iter().enumerate() {
+        let Some(other) = b.get(place) else {
+            return false;
+        };
+        if !cell.is_like(other) {
+            return false;
+        }
+    }
+    a.len() == b.len()
 }
 
 fn lines(alloc: Global, window: &Emulator) -> Result<Vec<&[Cell]>, AllocError> {
@@ -185,12 +192,12 @@ fn contents<'a>(number: u8, window: &Emulator, lines: &'a [&'a [Cell]]) -> Conte
 }
 
 impl Stage {
-    pub fn new(alloc: Global) -> Result<Stage, Fail> {
+    pub fn new(alloc: Global) -> Result<Stage, AllocError> {
         let mut layout = Layout::new(alloc, Shown::EMPTY)?;
         if layout.split(alloc, Way::Right, ROWS, COLUMNS).is_err()
             || layout.split(alloc, Way::Below, ROWS, COLUMNS).is_err()
         {
-            return Err(Fail::from("no regions"));
+            return Err(AllocError);
         }
         Ok(Stage {
             first: terminal(alloc, 6, 12)?,
@@ -202,25 +209,28 @@ impl Stage {
     }
 
     /// Something happens.
-    pub fn step(&mut self, alloc: Global, dice: &mut Dice) -> Result<(), Fail> {
+    pub fn step(&mut self, alloc: Global, dice: &mut Dice) {
         let printed = PRINTED[dice.below(PRINTED.len())];
         match dice.below(16) {
             0 => self.layout.focus_next(),
             1 => self.may_read = !self.may_read,
             2 => self.text = dice.below(TEXTS.len()),
-            3..=8 => read(&mut self.first, alloc, printed)?,
-            9..=14 => read(&mut self.second, alloc, printed)?,
+            3..=8 => {
+                reads(&mut self.first, alloc, printed);
+            }
+            9..=14 => {
+                reads(&mut self.second, alloc, printed);
+            }
             _ => {}
         }
-        Ok(())
     }
 
     /// What the client is to see.
-    pub fn view(&self, alloc: Global) -> Result<View, Fail>
+    pub fn view(&self, alloc: Global) -> Result<View, AllocError>
         ensures { IfOk result (HasSize 10 24) }
     {
         let Ok(rects) = self.layout.rects(alloc, ROWS, COLUMNS) else {
-            return Err(Fail::from("no rectangles"));
+            return Err(AllocError);
         };
         let text = match self.text {
             1 => TEXTS[1],
@@ -229,33 +239,13 @@ impl Stage {
             _ => TEXTS[0],
         };
         let first = lines(alloc, &self.first)?;
-        let own = contents(0, &self.first, &first);
-        if self.may_read {
-            let second = lines(alloc, &self.second)?;
-            let other = contents(1, &self.second, &second);
-            Ok(composed(
-                alloc,
-                &rects,
-                Pane::Readable(own),
-                Pane::Readable(other),
-                text,
-            )?)
+        let second = lines(alloc, &self.second)?;
+        let own = Pane::Readable(contents(0, &self.first, &first));
+        let other = if self.may_read {
+            Pane::Readable(contents(1, &self.second, &second))
         } else {
-            let other = Pane::Hidden { number: 1 };
-            Ok(composed(alloc, &rects, Pane::Readable(own), other, text)?)
-        }
+            Pane::Hidden { number: 1 }
+        };
+        compose(alloc, &rects, &[own, other, Pane::Empty], text)
     }
-}
-
-/// The view of two panes and an empty one.
-fn composed<'a>(
-    alloc: Global,
-    rects: &Rects,
-    first: Pane<'a>,
-    second: Pane<'a>,
-    text: &[u8],
-) -> Result<View, AllocError>
-    ensures { IfOk result (HasSize rects.now.status.line rects.now.status.columns) }
-{
-    compose(alloc, rects, &[first, second, Pane::Empty], text)
 }

@@ -12,7 +12,7 @@ draw 0
 keys 0 x
 ";
 
-const CASES: [Case; 6] = [
+static CASES: [Case; 6] = [
     Case {
         title: "a new character is printed alone",
         words: &["own"],

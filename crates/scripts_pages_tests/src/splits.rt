@@ -3,7 +3,7 @@
 use scripts::{Case, Row, judge, judge_behind};
 use std::test::Fail;
 
-const ROWS: [Row; 10] = [
+static ROWS: [Row; 10] = [
     Row {
         title: "a page of 24 lines that is split twice has regions of 5, 5 and 10",
         script: r"
@@ -329,7 +329,7 @@ cursor 2 2
     },
 ];
 
-const CASES: [Case; 5] = [
+static CASES: [Case; 5] = [
     Case {
         title: "sixteen regions are not split, also where their halves would be too small",
         words: &["own"],

@@ -3,7 +3,7 @@
 use scripts::{Case, FOUR_CLIENTS, Row, judge, judge_behind};
 use std::test::Fail;
 
-const ROWS: [Row; 6] = [
+static ROWS: [Row; 6] = [
     Row {
         title: "a window that may not be read has no cursor, and what stands beside it is shown",
         script: r"
@@ -267,7 +267,7 @@ cursor 1 1
     },
 ];
 
-const CASES: [Case; 5] = [
+static CASES: [Case; 5] = [
     Case {
         title: "a title that may not be read is a question mark in a list too",
         words: &["own"],

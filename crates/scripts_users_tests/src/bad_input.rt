@@ -2,12 +2,12 @@
 
 use scripts::{arguments, play};
 use session::{Asked, simulate};
+use std::alloc::{AllocError, Global};
 use std::io::{Read, Write};
-use std::test::Fail;
 use std::{io, str};
 
 /// Lines that aren't understood.
-const NO_EVENTS: [&str; 24] = [
+static NO_EVENTS: [&str; 24] = [
     "zap",
     "open",
     "open own 2 5 0",
@@ -34,85 +34,94 @@ const NO_EVENTS: [&str; 24] = [
     "closed -",
 ];
 
+/// Whether the lines before this one are played, and no line behind it.
+fn is_refused(alloc: Global, line: &str) -> Result<bool, AllocError> {
+    let script = format!(in alloc; "open own 2 5 0 sh\n\n{line}\nattach own 4 20\n")?;
+    let played = play(alloc, &["--show", "own"], script.as_str().as_bytes())?;
+    Ok(
+        played.status == 1
+            && played.output.as_slice() == b"opened 0 0\n".as_slice()
+            && played.errors.as_slice() == b"muxsim: line 3: not understood\n".as_slice(),
+    )
+}
+
 #[test]
-fn lines_before_the_first_bad_one_are_played(rt: HostRuntime) -> Result<(), Fail> {
+fn lines_before_the_first_bad_one_are_played(rt: HostRuntime) {
     for line in NO_EVENTS {
-        let script = format!(in rt.alloc(); "open own 2 5 0 sh\n\n{line}\nattach own 4 20\n")?;
-        let played = play(rt.alloc(), &["--show", "own"], script.as_str().as_bytes())?;
-        assert_eq!(rt; played.status, 1, "{line}");
-        assert_eq!(rt;
-            played.output.as_slice(),
-            b"opened 0 0\n".as_slice(),
-            "{line}"
-        );
-        assert_eq!(rt;
-            played.errors.as_slice(),
-            b"muxsim: line 3: not understood\n".as_slice(),
-            "{line}"
-        );
+        assert_eq!(rt; is_refused(rt.alloc(), line), Ok(true), "{line}");
     }
-    Ok(())
+}
+
+/// The status of a script with a text of so many bytes.
+fn status_of(alloc: Global, count: usize) -> Result<u8, AllocError> {
+    let mut script = Vec::from_slice(alloc, b"open own 2 5 0 sh\noutput 0 ")?;
+    for _ in 0..count {
+        script.push(b'x')?;
+    }
+    Ok(play(alloc, &["own"], &script)?.status)
 }
 
 #[test]
-fn texts_have_8192_bytes_at_most(rt: HostRuntime) -> Result<(), Fail> {
-    for (count, status) in [(8192usize, 0u8), (8193, 1)] {
-        let mut script = Vec::new(rt.alloc());
-        script.extend_from_slice(b"open own 2 5 0 sh\noutput 0 ")?;
-        for _ in 0..count {
-            script.push(b'x')?;
-        }
-        let played = play(rt.alloc(), &["own"], &script)?;
-        assert_eq!(rt; played.status, status, "{count}");
-    }
-    Ok(())
+fn texts_have_8192_bytes_at_most(rt: HostRuntime) {
+    assert_eq!(rt; status_of(rt.alloc(), 8192), Ok(0));
+    assert_eq!(rt; status_of(rt.alloc(), 8193), Ok(1));
 }
 
-#[test]
-fn output_of_any_bytes_is_safe(rt: HostRuntime) -> Result<(), Fail> {
-    let mut script = Vec::new(rt.alloc());
-    script.extend_from_slice(b"open own 4 20 5 sh\n")?;
+/// The status of 256 lines of output, and how many of them are done.
+fn all_bytes(alloc: Global) -> Result<(u8, usize), AllocError> {
+    let mut script = String::from_str(alloc, "open own 4 20 5 sh\n")?;
     for first in 0..=255u8 {
-        writeln!(
-            &mut script,
-            "output 0 \\{first:02x}\\1b\\{first:02x}\\9b{first}\\{first:02x}z"
+        write!(
+            script,
+            "output 0 \\{first:02x}\\1b\\{first:02x}\\9b{first}\\{first:02x}z\n"
         )?;
     }
-    let played = play(rt.alloc(), &["own"], &script)?;
-    assert_eq!(rt; played.status, 0);
+    let played = play(alloc, &["own"], script.as_bytes())?;
     let printed = str::from_utf8(&played.output).unwrap_or("");
-    let count = printed.lines().filter(|line| *line == "ok").count();
-    assert_eq!(rt; count, 256);
-    Ok(())
+    let mut count = 0usize;
+    for line in printed.lines() {
+        if line == "ok" {
+            count = count.saturating_add(1);
+        }
+    }
+    Ok((played.status, count))
 }
 
 #[test]
-fn words_are_the_owner_the_edition_and_show(rt: HostRuntime) -> Result<(), Fail> {
-    let no_words: [&[&str]; 9] = [
-        &[],
-        &["Own"],
-        &["none"],
-        &["own", "own"],
-        &["--shew", "own"],
-        &["--show"],
-        &["--edition", "0", "own"],
-        &["--edition", "3", "own"],
-        &["--edition", "one", "own"],
-    ];
-    for words in no_words {
-        let played = play(rt.alloc(), words, b"")?;
-        assert_eq!(rt; played.status, 2);
-        assert!(rt; played.output.is_empty());
-        assert!(rt; !played.errors.is_empty());
+fn output_of_any_bytes_is_safe(rt: HostRuntime) {
+    assert_eq!(rt; all_bytes(rt.alloc()), Ok((0, 256)));
+}
+
+/// Words that aren't understood.
+static NO_WORDS: [&[&str]; 9] = [
+    &[],
+    &["Own"],
+    &["none"],
+    &["own", "own"],
+    &["--shew", "own"],
+    &["--show"],
+    &["--edition", "0", "own"],
+    &["--edition", "one", "own"],
+    &["--edition", "3", "own"],
+];
+
+/// The status of some words, whether something is printed, and whether this is told.
+fn answer(alloc: Global, words: &[&str], told: &str) -> Result<(u8, bool, bool), AllocError> {
+    let played = play(alloc, words, b"")?;
+    let errors = str::from_utf8(&played.errors).unwrap_or("");
+    let is_told = !errors.is_empty() && errors.contains(told);
+    Ok((played.status, !played.output.is_empty(), is_told))
+}
+
+#[test]
+fn words_are_the_owner_the_edition_and_show(rt: HostRuntime) {
+    for words in NO_WORDS {
+        assert_eq!(rt; answer(rt.alloc(), words, ""), Ok((2, false, true)));
     }
-    let played = play(rt.alloc(), &["--edition", "3", "own"], b"")?;
-    let told = str::from_utf8(&played.errors).unwrap_or("");
-    assert!(rt; told.contains("--edition <N>"), "{told}");
-    let played = play(rt.alloc(), &["--help"], b"")?;
-    assert_eq!(rt; played.status, 0);
-    assert!(rt; !played.output.is_empty());
-    assert!(rt; played.errors.is_empty());
-    Ok(())
+    let edition = ["--edition", "3", "own"];
+    let refused = answer(rt.alloc(), &edition, "--edition <N>");
+    assert_eq!(rt; refused, Ok((2, false, true)));
+    assert_eq!(rt; answer(rt.alloc(), &["--help"], ""), Ok((0, true, false)));
 }
 
 /// A reader that fails once its bytes are read.
@@ -146,39 +155,44 @@ impl Write for Full {
 
 const SCRIPT: &[u8] = b"open own 2 5 0 sh\n";
 
-#[test]
-fn failing_reads_are_told(rt: HostRuntime) -> Result<(), Fail> {
-    let words = arguments(rt.alloc(), &["own"])?;
-    let mut output = Vec::new(rt.alloc());
-    let mut errors = Vec::new(rt.alloc());
+/// Whether a reader that fails behind its lines is told of, and the lines are played.
+fn is_torn(alloc: Global) -> Result<bool, AllocError> {
+    let words = arguments(alloc, &["own"])?;
+    let mut output = Vec::new(alloc);
+    let mut errors = Vec::new(alloc);
     let torn = Torn { bytes: SCRIPT };
     let asked = Asked {
         words: &words,
         setup: b"",
     };
-    let status = simulate(rt.alloc(), asked, torn, &mut output, &mut errors);
-    assert_eq!(rt; status, 1);
-    assert_eq!(rt; output.as_slice(), b"opened 0 0\n".as_slice());
-    assert!(rt; errors.starts_with(b"muxsim: "));
-    Ok(())
+    let status = simulate(alloc, asked, torn, &mut output, &mut errors);
+    Ok(
+        status == 1
+            && output.as_slice() == b"opened 0 0\n".as_slice()
+            && errors.starts_with(b"muxsim: "),
+    )
 }
 
-#[test]
-fn failing_writes_are_told(rt: HostRuntime) -> Result<(), Fail> {
-    let words = arguments(rt.alloc(), &["own"])?;
-    let mut errors = Vec::new(rt.alloc());
+/// Whether a writer that fails is told of.
+fn is_full(alloc: Global) -> Result<bool, AllocError> {
+    let words = arguments(alloc, &["own"])?;
+    let mut errors = Vec::new(alloc);
     let asked = Asked {
         words: &words,
         setup: b"",
     };
-    let status = simulate(rt.alloc(), asked, SCRIPT, &mut Full, &mut errors);
-    assert_eq!(rt; status, 1);
-    assert!(rt; errors.starts_with(b"muxsim: "));
-    Ok(())
+    let status = simulate(alloc, asked, SCRIPT, &mut Full, &mut errors);
+    Ok(status == 1 && errors.starts_with(b"muxsim: "))
+}
+
+#[test]
+fn failing_reads_and_writes_are_told(rt: HostRuntime) {
+    assert_eq!(rt; is_torn(rt.alloc()), Ok(true));
+    assert_eq!(rt; is_full(rt.alloc()), Ok(true));
 }
 
 // A setup, and what is told of it: the first line that is refused, and why.
-const REFUSED: [(&[u8], &str); 4] = [
+static REFUSED: [(&[u8], &str); 4] = [
     (
         b"multiuser on\n\naclchg bob +q shop\nquit now\n",
         "muxsim: setup there: line 3: aclchg bob +q shop: line: 5 at 11 (no bits: +q)\n",
@@ -197,20 +211,25 @@ const REFUSED: [(&[u8], &str); 4] = [
     ),
 ];
 
+fn is_setup_refused(alloc: Global, setup: &[u8], told: &str) -> Result<bool, AllocError> {
+    let words = arguments(alloc, &["--setup", "there", "own"])?;
+    let mut output = Vec::new(alloc);
+    let mut errors = Vec::new(alloc);
+    let asked = Asked {
+        words: &words,
+        setup,
+    };
+    let status = simulate(alloc, asked, SCRIPT, &mut output, &mut errors);
+    Ok(status == 1 && output.is_empty() && errors.as_slice() == told.as_bytes())
+}
+
 #[test]
-fn refused_setups_are_told(rt: HostRuntime) -> Result<(), Fail> {
-    let words = arguments(rt.alloc(), &["--setup", "there", "own"])?;
+fn refused_setups_are_told(rt: HostRuntime) {
     for (setup, told) in REFUSED {
-        let mut output = Vec::new(rt.alloc());
-        let mut errors = Vec::new(rt.alloc());
-        let asked = Asked {
-            words: &words,
-            setup,
-        };
-        let status = simulate(rt.alloc(), asked, SCRIPT, &mut output, &mut errors);
-        assert_eq!(rt; status, 1);
-        assert!(rt; output.is_empty());
-        assert_eq!(rt; str::from_utf8(&errors).unwrap_or(""), told);
+        assert_eq!(rt;
+            is_setup_refused(rt.alloc(), setup, told),
+            Ok(true),
+            "{told}"
+        );
     }
-    Ok(())
 }

@@ -1,7 +1,7 @@
 //! Keys that are cut in every place.
 
 use scripts::{compare, play};
-use std::alloc::AllocError;
+use std::alloc::{AllocError, Global};
 use std::str;
 use std::test::Fail;
 
@@ -34,32 +34,41 @@ client 0
 cursor 1 1
 ";
 
-/// Appends the keys as two events.
+/// Two events of these keys.
 fn put_keys(cut: usize, script: &mut String) -> Result<(), AllocError> {
     script.push_str("keys 0 ")?;
     for (place, key) in KEYS.iter().enumerate() {
         if place == cut {
             script.push_str("\nkeys 0 ")?;
         }
-        write!(script, "\\{key:02x}").map_err(|_| AllocError)?;
+        write!(script, "\\{key:02x}")?;
     }
     script.push('\n')
 }
 
+/// What is printed of the keys cut there, but for the lines that end each event.
+fn printed(alloc: Global, cut: usize) -> Result<String, AllocError> {
+    let mut script = String::from_str(alloc, BEFORE)?;
+    put_keys(cut, &mut script)?;
+    let played = play(alloc, &["--show", "own"], script.as_bytes())?;
+    let mut kept = String::new(alloc);
+    for line in str::from_utf8(&played.output)
+        .unwrap_or("not UTF-8")
+        .lines()
+    {
+        if line != "ok" {
+            kept.push_str(line)?;
+            kept.push('\n')?;
+        }
+    }
+    Ok(kept)
+}
+
 #[test]
 fn keys_do_the_same_wherever_they_are_cut(rt: HostRuntime) -> Result<(), Fail> {
-    let alloc = rt.alloc();
-    for (cut, _) in KEYS.iter().enumerate() {
-        let mut script = String::from_str(alloc, BEFORE)?;
-        put_keys(cut, &mut script)?;
-        let played = play(alloc, &["--show", "own"], script.as_bytes())?;
-        let printed = str::from_utf8(&played.output).unwrap_or("not UTF-8");
-        let mut kept = String::new(alloc);
-        for line in printed.lines().filter(|line| *line != "ok") {
-            writeln!(&mut kept, "{line}")?;
-        }
-        let title = format!(in alloc; "keys cut at {cut}")?;
-        compare(rt.alloc(), title.as_str(), kept.as_str(), LINES)?;
+    for cut in 0..KEYS.len() {
+        let printed = printed(rt.alloc(), cut)?;
+        compare(rt.alloc(), "keys that are cut", printed.as_str(), LINES)?;
     }
     Ok(())
 }

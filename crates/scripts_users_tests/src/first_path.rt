@@ -3,7 +3,7 @@
 use scripts::{Row, judge};
 use std::test::Fail;
 
-const ROWS: [Row; 12] = [
+static ROWS: [Row; 12] = [
     Row {
         title: "the first run: a window prints, its client draws and types",
         script: r"

@@ -1,11 +1,10 @@
 //! That what isn't as it is wanted is told.
 
 use scripts::{Case, Row, Wrong, compare, judge, judge_behind};
-use std::alloc::{AllocError, Global};
-use std::test::Fail;
+use std::alloc::Global;
 
 /// What is printed and what is wanted, with what is told of it: nothing where they agree.
-const COMPARED: [(&str, &str, &str); 9] = [
+static COMPARED: [(&str, &str, &str); 9] = [
     ("a\nb\n", "\na\nb\n", ""),
     ("a\nb\n", "a\nc\n", "t: \"c\" is wanted, \"b\" printed"),
     ("a\nb\n", "a\n", "t: nothing more is wanted, \"b\" printed"),
@@ -29,21 +28,23 @@ const COMPARED: [(&str, &str, &str); 9] = [
     ),
 ];
 
-/// What is told.
-fn told(alloc: Global, judged: Result<(), Wrong>) -> Result<String, AllocError> {
-    match judged {
-        Ok(()) => Ok(String::new(alloc)),
-        Err(wrong) => wrong.to_string(alloc),
+/// Whether just this is told.
+fn is_told(alloc: Global, judged: Result<(), Wrong>, text: &str) -> bool {
+    let Err(wrong) = judged else {
+        return text.is_empty();
+    };
+    match wrong.to_string(alloc) {
+        Ok(told) => told.as_str() == text,
+        Err(_) => false,
     }
 }
 
 #[test]
-fn lines_that_differ_are_told(rt: HostRuntime) -> Result<(), Fail> {
+fn lines_that_differ_are_told(rt: HostRuntime) {
     for (printed, lines, text) in COMPARED {
-        let told = told(rt.alloc(), compare(rt.alloc(), "t", printed, lines))?;
-        assert_eq!(rt; told.as_str(), text);
+        let judged = compare(rt.alloc(), "t", printed, lines);
+        assert!(rt; is_told(rt.alloc(), judged, text));
     }
-    Ok(())
 }
 
 /// A client that isn't drawn behind the last output.
@@ -80,15 +81,8 @@ const STALE: &str = r"t: the terminal of client 0 shows
 cursor 1 1
 ";
 
-#[test]
-fn terminals_that_show_something_else_are_told(rt: HostRuntime) -> Result<(), Fail> {
-    let told = told(rt.alloc(), judge(rt.alloc(), &UNDRAWN))?;
-    assert_eq!(rt; told.as_str(), STALE);
-    Ok(())
-}
-
 /// A script that isn't understood, and views that aren't the first lines of a longer script.
-const FAILING: [(&str, Case, &str); 2] = [
+static FAILING: [(&str, Case, &str); 2] = [
     (
         "",
         Case {
@@ -112,10 +106,11 @@ const FAILING: [(&str, Case, &str); 2] = [
 ];
 
 #[test]
-fn runs_that_fail_are_told(rt: HostRuntime) -> Result<(), Fail> {
+fn runs_that_fail_are_told(rt: HostRuntime) {
+    let stale = judge(rt.alloc(), &UNDRAWN);
+    assert!(rt; is_told(rt.alloc(), stale, STALE));
     for (first, case, text) in &FAILING {
-        let told = told(rt.alloc(), judge_behind(rt.alloc(), first, case))?;
-        assert_eq!(rt; told.as_str(), *text);
+        let judged = judge_behind(rt.alloc(), first, case);
+        assert!(rt; is_told(rt.alloc(), judged, text));
     }
-    Ok(())
 }

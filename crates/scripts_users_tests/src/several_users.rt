@@ -4,7 +4,7 @@ use scripts::{Case, FOUR_CLIENTS, Row, compare, judge, judge_behind, play};
 use std::str;
 use std::test::Fail;
 
-const CASES: [Case; 16] = [
+static CASES: [Case; 16] = [
     Case {
         title: "who may not write in a window may by his leader's entry, until that is taken too",
         words: &["own"],
@@ -310,7 +310,7 @@ fn cases_are_printed(rt: HostRuntime) -> Result<(), Fail> {
     Ok(())
 }
 
-const ROWS: [Row; 4] = [
+static ROWS: [Row; 4] = [
     Row {
         title: "a user who may not read a window sees its number alone",
         script: r"

@@ -1,0 +1,284 @@
+//! Histories of calls, with the answer that a check gives behind each.
+
+use crate::stage::{Answer, Call, Name, Stage, user};
+use Bit::{Execute, Read, Write};
+use Call::{
+    Add, Change, Close, Default, Enter, Group, Leave, Lock, Mask, Nothing, Open, Part, Preset,
+    Remove, TakeAndGive,
+};
+use Name::{Ann, Bob, Eve, Own, Zed};
+use Want::{Leader, Leaders, Locked, NoEntry, Passes};
+use acl::{Bit, CommandName, Edition, LockMode, Object, PresetKind};
+use std::alloc::Global;
+
+/// What a check is to answer.
+#[derive(Clone, Copy)]
+enum Want {
+    Passes,
+    /// Denied, and he has no leader.
+    NoEntry,
+    /// Denied, and his leader, who is named, hasn't it either.
+    Leader(Name),
+    /// Denied, and these two lead him, in this order.
+    Leaders(Name, Name),
+    /// Another user, who is named, holds the lock.
+    Locked(Name),
+}
+
+/// A call, and then a check of a user's bit on an object.
+type Row = (Call, Name, Bit, Object, Want);
+
+const KILL: Object = Object::Command(CommandName::Kill);
+
+const ZERO: Object = Object::Window(0);
+
+const ONE: Object = Object::Window(1);
+
+const TWO: Object = Object::Window(2);
+
+const THREE: Object = Object::Window(3);
+
+/// A right is taken, his leader has it, and then loses it.
+const LED: [Row; 12] = [
+    (Nothing, Bob, Write, TWO, Passes),
+    (Change(Bob, Write, false, TWO), Bob, Write, TWO, NoEntry),
+    (Nothing, Bob, Write, ONE, Passes),
+    (Nothing, Bob, Read, TWO, Passes),
+    (Nothing, Own, Write, TWO, Passes),
+    (Group(Bob, Some(Ann)), Bob, Write, TWO, Passes),
+    (Change(Ann, Write, false, TWO), Bob, Write, TWO, Leader(Ann)),
+    // A leader's own leader isn't asked.
+    (Group(Ann, Some(Eve)), Bob, Write, TWO, Leader(Ann)),
+    (Nothing, Ann, Write, TWO, Passes),
+    (Group(Bob, Some(Eve)), Bob, Write, TWO, Passes),
+    (Group(Bob, None), Bob, Write, TWO, NoEntry),
+    (Change(Bob, Write, true, TWO), Bob, Write, TWO, Passes),
+];
+
+/// A leader goes, and so does what his group has by him.
+const LEADER_GONE: [Row; 4] = [
+    (Change(Bob, Write, false, TWO), Bob, Write, TWO, NoEntry),
+    (Group(Bob, Some(Ann)), Bob, Write, TWO, Passes),
+    (Remove(Ann), Bob, Write, TWO, NoEntry),
+    (Add(Ann, 2), Bob, Write, TWO, NoEntry),
+];
+
+/// The first edition: a new leader takes the former one's place.
+const ONE_GROUP: [Row; 5] = [
+    (Change(Bob, Write, false, TWO), Bob, Write, TWO, NoEntry),
+    (Change(Ann, Write, false, TWO), Bob, Write, TWO, NoEntry),
+    (Group(Bob, Some(Ann)), Bob, Write, TWO, Leader(Ann)),
+    (Group(Bob, Some(Eve)), Bob, Write, TWO, Passes),
+    (Group(Bob, Some(Ann)), Bob, Write, TWO, Leader(Ann)),
+];
+
+/// The second edition: a new leader comes last, and one who is there keeps his place.
+const TWO_GROUPS: [Row; 11] = [
+    (Change(Bob, Write, false, TWO), Bob, Write, TWO, NoEntry),
+    (Change(Ann, Write, false, TWO), Bob, Write, TWO, NoEntry),
+    (Group(Bob, Some(Ann)), Bob, Write, TWO, Leader(Ann)),
+    (Group(Bob, Some(Eve)), Bob, Write, TWO, Passes),
+    (
+        Change(Eve, Write, false, TWO),
+        Bob,
+        Write,
+        TWO,
+        Leaders(Ann, Eve),
+    ),
+    (Group(Bob, Some(Ann)), Bob, Write, TWO, Leaders(Ann, Eve)),
+    (Remove(Ann), Bob, Write, TWO, Leader(Eve)),
+    // She comes back with each right, and leads nobody.
+    (Add(Ann, 2), Bob, Write, TWO, Leader(Eve)),
+    // A leader's own leaders aren't asked.
+    (Group(Eve, Some(Ann)), Bob, Write, TWO, Leader(Eve)),
+    (Group(Bob, Some(Ann)), Bob, Write, TWO, Passes),
+    (Group(Bob, None), Bob, Write, TWO, NoEntry),
+];
+
+/// A lock goes with the right of the leader by whom its holder may write, be he the first or not.
+const LOCKED_BY_GROUP: [Row; 6] = [
+    (Change(Bob, Write, false, TWO), Bob, Write, TWO, NoEntry),
+    (Group(Bob, Some(Ann)), Bob, Write, TWO, Passes),
+    (Group(Bob, Some(Eve)), Bob, Write, TWO, Passes),
+    (Lock(Bob, 2, LockMode::On), Own, Write, TWO, Locked(Bob)),
+    (Change(Ann, Write, false, TWO), Own, Write, TWO, Locked(Bob)),
+    (Change(Eve, Write, false, TWO), Own, Write, TWO, Passes),
+];
+
+/// A window goes, and one that is opened later has none of its entries, but what the mask says.
+const MASKED: [Row; 9] = [
+    (Change(Bob, Read, false, TWO), Bob, Read, TWO, NoEntry),
+    (Mask(Bob, Write, false), Bob, Write, TWO, Passes),
+    (Close(2), Bob, Write, ONE, Passes),
+    (Open(Own, 3), Bob, Read, THREE, Passes),
+    (Nothing, Bob, Execute, THREE, Passes),
+    (Nothing, Bob, Write, THREE, NoEntry),
+    (Nothing, Ann, Write, THREE, Passes),
+    // The mask is the owner's alone, and none counts for the opener himself.
+    (Open(Ann, 4), Bob, Write, Object::Window(4), Passes),
+    (Open(Bob, 5), Bob, Write, Object::Window(5), Passes),
+];
+
+/// A name that comes back has neither its old entries nor its old masks, but what the presets say.
+const RETURNED: [Row; 9] = [
+    (Change(Bob, Read, false, ZERO), Bob, Read, ZERO, NoEntry),
+    (Mask(Bob, Write, false), Bob, Write, ONE, Passes),
+    (
+        Preset(PresetKind::Windows, Execute, false),
+        Bob,
+        Execute,
+        ONE,
+        Passes,
+    ),
+    (Remove(Bob), Bob, Write, ONE, NoEntry),
+    (Change(Bob, Write, false, TWO), Bob, Read, ZERO, Passes),
+    (Nothing, Bob, Execute, ONE, NoEntry),
+    (Nothing, Bob, Write, TWO, NoEntry),
+    (Nothing, Bob, Execute, KILL, Passes),
+    (Open(Own, 3), Bob, Write, THREE, Passes),
+];
+
+/// What a new name gets on commands, and that a command's entry is a window's no more than another
+/// command's.
+const COMMANDS: [Row; 7] = [
+    (
+        Change(Bob, Execute, false, KILL),
+        Bob,
+        Execute,
+        KILL,
+        NoEntry,
+    ),
+    (
+        Nothing,
+        Bob,
+        Execute,
+        Object::Command(CommandName::Stuff),
+        Passes,
+    ),
+    (Nothing, Bob, Execute, ZERO, Passes),
+    (Nothing, Zed, Execute, KILL, NoEntry),
+    (
+        Preset(PresetKind::Commands, Execute, false),
+        Zed,
+        Execute,
+        KILL,
+        NoEntry,
+    ),
+    (Add(Zed, 0), Zed, Execute, KILL, NoEntry),
+    (Nothing, Zed, Execute, ZERO, Passes),
+];
+
+/// A holder stops each other user, the owner too, until -w names him.
+const HELD: [Row; 6] = [
+    (Lock(Eve, 2, LockMode::Auto), Bob, Write, TWO, Locked(Eve)),
+    (Nothing, Own, Write, TWO, Locked(Eve)),
+    (Nothing, Eve, Write, TWO, Passes),
+    (Nothing, Bob, Write, ONE, Passes),
+    (TakeAndGive(Eve, 2), Bob, Write, TWO, Passes),
+    (Nothing, Eve, Write, TWO, Passes),
+];
+
+/// A lock goes with the rights of its holder, with his leader's, with him, and with his last
+/// client.
+const RELEASED: [Row; 10] = [
+    (Lock(Eve, 2, LockMode::On), Bob, Write, TWO, Locked(Eve)),
+    (Group(Eve, Some(Ann)), Bob, Write, TWO, Locked(Eve)),
+    (Change(Eve, Read, false, TWO), Bob, Write, TWO, Locked(Eve)),
+    (Change(Eve, Write, false, TWO), Bob, Write, TWO, Passes),
+    (Lock(Eve, 2, LockMode::On), Bob, Write, TWO, Locked(Eve)),
+    (Change(Ann, Write, false, TWO), Bob, Write, TWO, Passes),
+    (Lock(Bob, 2, LockMode::On), Own, Write, TWO, Locked(Bob)),
+    (Part(Bob), Own, Write, TWO, Passes),
+    (Lock(Bob, 2, LockMode::On), Own, Write, TWO, Locked(Bob)),
+    (Remove(Bob), Own, Write, TWO, Passes),
+];
+
+/// In auto a lock is taken by who enters and freed by who leaves; in on neither.
+const ENTERED: [Row; 10] = [
+    (Enter(Bob, 2), Eve, Write, TWO, Passes),
+    (Lock(Eve, 2, LockMode::Auto), Bob, Write, TWO, Locked(Eve)),
+    (Enter(Bob, 2), Bob, Write, TWO, Locked(Eve)),
+    (Leave(Bob, 2), Bob, Write, TWO, Locked(Eve)),
+    (Leave(Eve, 2), Bob, Write, TWO, Passes),
+    (Enter(Bob, 2), Eve, Write, TWO, Locked(Bob)),
+    (Lock(Bob, 2, LockMode::On), Eve, Write, TWO, Locked(Bob)),
+    (Leave(Bob, 2), Eve, Write, TWO, Locked(Bob)),
+    (Lock(Bob, 2, LockMode::Off), Eve, Write, TWO, Passes),
+    (Enter(Bob, 2), Eve, Write, TWO, Passes),
+];
+
+/// The mode of windows that are opened later: in on they are held by who opens them, in auto by
+/// nobody yet.
+const DEFAULTS: [Row; 7] = [
+    (Default(LockMode::On), Ann, Write, TWO, Passes),
+    (Open(Ann, 3), Own, Write, THREE, Locked(Ann)),
+    (Default(LockMode::Auto), Own, Write, THREE, Locked(Ann)),
+    (Close(3), Own, Write, TWO, Passes),
+    (Open(Ann, 4), Own, Write, Object::Window(4), Passes),
+    (Enter(Eve, 4), Own, Write, Object::Window(4), Locked(Eve)),
+    (Nothing, Ann, Write, Object::Window(4), Locked(Eve)),
+];
+
+/// The histories, each in an edition.
+static HISTORIES: [(Edition, &[Row]); 14] = [
+    (Edition::First, &LED),
+    (Edition::First, &LEADER_GONE),
+    (Edition::Second, &LEADER_GONE),
+    (Edition::Second, &MASKED),
+    (Edition::Second, &RETURNED),
+    (Edition::Second, &COMMANDS),
+    (Edition::First, &ONE_GROUP),
+    (Edition::Second, &TWO_GROUPS),
+    (Edition::Second, &LOCKED_BY_GROUP),
+    (Edition::First, &HELD),
+    (Edition::First, &RELEASED),
+    (Edition::Second, &RELEASED),
+    (Edition::Second, &ENTERED),
+    (Edition::Second, &DEFAULTS),
+];
+
+fn wanted(want: Want) -> Option<Answer> {
+    match want {
+        Passes => Some(Answer::Passes),
+        NoEntry => Some(Answer::NoEntry([None, None])),
+        Leader(name) => Some(Answer::NoEntry([Some(user(name)?), None])),
+        Leaders(name, next) => Some(Answer::NoEntry([Some(user(name)?), Some(user(next)?)])),
+        Locked(name) => Some(Answer::Locked(user(name)?)),
+    }
+}
+
+fn is_answered(stage: &Stage, name: Name, bit: Bit, object: Object, want: Want) -> bool {
+    match user(name) {
+        Some(asker) => wanted(want) == Some(stage.answer(asker, bit, object)),
+        None => false,
+    }
+}
+
+/// Plays the calls of a history in turn, and asks behind each: the place of the first row that has
+/// another answer.
+fn first_wrong(alloc: Global, edition: Edition, rows: &[Row]) -> Option<usize> {
+    let Some(mut stage) = Stage::new(alloc, edition) else {
+        return Some(0);
+    };
+    for (place, (call, name, bit, object, want)) in rows.iter().enumerate() {
+        if stage.play(*call).is_err() || !is_answered(&stage, *name, *bit, *object, *want) {
+            return Some(place);
+        }
+    }
+    None
+}
+
+/// The first history with a row that has another answer, and that row.
+fn first_wrong_history(alloc: Global) -> Option<(usize, usize)> {
+    for (number, (edition, rows)) in HISTORIES.iter().enumerate() {
+        if let Some(place) = first_wrong(alloc, *edition, rows) {
+            return Some((number, place));
+        }
+    }
+    None
+}
+
+#[test]
+fn histories(rt: HostRuntime) {
+    assert_eq!(rt; first_wrong_history(rt.alloc()), None);
+}

@@ -1,0 +1,17 @@
+//! Tests of commands: the lines and keys that give them, and the rights and locks that they change.
+#![tactic(auto)]
+
+#[cfg(test)]
+mod bounds;
+#[cfg(test)]
+mod client_keys;
+#[cfg(test)]
+mod histories;
+#[cfg(test)]
+mod lines;
+#[cfg(test)]
+mod manual;
+#[cfg(test)]
+mod refused_memory;
+#[cfg(test)]
+mod stage;

@@ -1,0 +1,238 @@
+//! A session's lists and locks, as calls change them.
+
+use acl::{
+    Acl, AclFault, Act, Bit, BitChange, CommandName, Edition, LockMode, MaskEntry, MaskScope,
+    NewLeader, Object, PresetKind, UserId,
+};
+use std::alloc::Global;
+use writelock::Locks;
+
+/// The users of the tests. Own is the owner; ann, bob and eve are added, yan and zed are not.
+#[derive(Clone, Copy)]
+pub enum Name {
+    Own,
+    Ann,
+    Bob,
+    Eve,
+    Yan,
+    Zed,
+}
+
+/// A call.
+#[derive(Clone, Copy)]
+pub enum Call {
+    Nothing,
+    Add(Name, u32),
+    AddAll(Name, Name, Name),
+    Change(Name, Bit, bool, Object),
+    /// `-w+w` on a window.
+    TakeAndGive(Name, u32),
+    Remove(Name),
+    Group(Name, Option<Name>),
+    /// The owner's mask of a user.
+    Mask(Name, Bit, bool),
+    Preset(PresetKind, Bit, bool),
+    Open(Name, u32),
+    Close(u32),
+    Lock(Name, u32, LockMode),
+    Default(LockMode),
+    Enter(Name, u32),
+    Leave(Name, u32),
+    /// The user's last client goes.
+    Part(Name),
+}
+
+/// What a check answers, with the leaders, at most two, or the holder whom a denial names.
+#[derive(Clone, Copy, PartialEq, Eq)]
+pub enum Answer {
+    Passes,
+    NoEntry([Option<UserId>; 2]),
+    Locked(UserId),
+}
+
+/// The lists and locks of a session, and the acts of its list commands.
+#[derive(Drop)]
+pub struct Stage {
+    pub acl: Acl,
+    pub locks: Locks,
+    pub acts: Vec<Act>,
+}
+
+/// The name's user.
+pub fn user(name: Name) -> Option<UserId> {
+    match name {
+        Name::Own => UserId::of(b"own"),
+        Name::Ann => UserId::of(b"ann"),
+        Name::Bob => UserId::of(b"bob"),
+        Name::Eve => UserId::of(b"eve"),
+        Name::Yan => UserId::of(b"yan"),
+        Name::Zed => UserId::of(b"zed"),
+    }
+}
+
+/// The lists of a session of own. Made again where memory was refused.
+fn new_acl(alloc: Global, owner: UserId, edition: Edition) -> Option<Acl> {
+    match Acl::new(alloc, owner, edition) {
+        Ok(acl) => Some(acl),
+        Err(_) => Acl::new(alloc, owner, edition).ok(),
+    }
+}
+
+/// Own adds ann, bob and eve, and opens the windows 0, 1 and 2.
+const BEGINNING: [Call; 4] = [
+    Call::AddAll(Name::Ann, Name::Bob, Name::Eve),
+    Call::Open(Name::Own, 0),
+    Call::Open(Name::Own, 1),
+    Call::Open(Name::Own, 2),
+];
+
+impl Stage {
+    /// Own, ann, bob and eve, and three windows.
+    pub fn new(alloc: Global, edition: Edition) -> Option<Stage> {
+        let mut stage = Stage {
+            acl: new_acl(alloc, user(Name::Own)?, edition)?,
+            locks: Locks::new(),
+            acts: Vec::new(alloc),
+        };
+        for call in BEGINNING {
+            stage.play(call).ok()?;
+        }
+        Some(stage)
+    }
+
+    /// Does a call, once more where memory was refused: at most one allocation is in a run.
+    pub fn play(&mut self, call: Call) -> Result<(), AclFault> {
+        match self.call(call) {
+            Err(AclFault::NoMemory) => self.call(call),
+            answer => answer,
+        }
+    }
+
+    fn call(&mut self, call: Call) -> Result<(), AclFault> {
+        match call {
+            Call::Add(name, window) => self.acl.add(
+                &[user(name)],
+                &[Object::Window(window)],
+                &mut self.acts,
+                0,
+                &mut self.locks,
+            ),
+            Call::AddAll(first, second, third) => self.acl.add(
+                &[user(first), user(second), user(third)],
+                &[Object::Command(CommandName::Kill)],
+                &mut self.acts,
+                0,
+                &mut self.locks,
+            ),
+            Call::Change(name, bit, value, object) => {
+                self.change(name, &[BitChange { bit, value }], object)
+            }
+            Call::TakeAndGive(name, window) => self.take_and_give(name, window),
+            Call::Remove(name) => {
+                self.acl
+                    .remove(user(name), &mut self.acts, 0, &mut self.locks)
+            }
+            Call::Group(name, leader) => self.group(name, leader),
+            Call::Mask(name, bit, value) => self.mask(MaskScope::User(user(name)), bit, value),
+            Call::Preset(kind, bit, value) => self.mask(MaskScope::Preset(kind), bit, value),
+            _ => {
+                self.act(call);
+                Ok(())
+            }
+        }
+    }
+
+    fn change(
+        &mut self,
+        name: Name,
+        changes: &[BitChange],
+        object: Object,
+    ) -> Result<(), AclFault> {
+        self.acl.change(
+            &[user(name)],
+            changes,
+            &[object],
+            &mut self.acts,
+            0,
+            &mut self.locks,
+        )
+    }
+
+    fn take_and_give(&mut self, name: Name, window: u32) -> Result<(), AclFault> {
+        let take = BitChange {
+            bit: Bit::Write,
+            value: false,
+        };
+        let give = BitChange {
+            bit: Bit::Write,
+            value: true,
+        };
+        self.change(name, &[take, give], Object::Window(window))
+    }
+
+    fn group(&mut self, name: Name, leader: Option<Name>) -> Result<(), AclFault> {
+        let leader = match leader {
+            Some(leader) => NewLeader::Named(user(leader)),
+            None => NewLeader::Nobody,
+        };
+        self.acl
+            .group(user(name), leader, &mut self.acts, 0, &mut self.locks)
+    }
+
+    fn mask(&mut self, scope: MaskScope, bit: Bit, value: bool) -> Result<(), AclFault> {
+        let owner = self.acl.owner();
+        self.acl.mask(
+            owner,
+            &[MaskEntry { scope, bit, value }],
+            &mut self.acts,
+            0,
+            &mut self.locks,
+        )
+    }
+
+    /// A call that takes no memory. A name always has a user.
+    fn act(&mut self, call: Call) {
+        match call {
+            Call::Open(name, window) => if let Some(by) = user(name) {
+                self.acl.window_opened(by, window);
+                self.locks.opened(by, window);
+            },
+            Call::Close(window) => {
+                self.acl.window_closed(window);
+                self.locks.closed(window);
+            }
+            Call::Lock(name, window, mode) => if let Some(by) = user(name) {
+                self.locks.set_mode(by, window, mode);
+            },
+            Call::Default(mode) => self.locks.set_default(mode),
+            Call::Enter(name, window) => if let Some(user) = user(name) {
+                let may_write = self
+                    .acl
+                    .may(user, Bit::Write, Object::Window(window))
+                    .is_ok();
+                self.locks.entered(user, window, may_write);
+            },
+            Call::Leave(name, window) => if let Some(user) = user(name) {
+                self.locks.left(user, window);
+            },
+            Call::Part(name) => self.locks.parted(user(name)),
+            _ => {}
+        }
+    }
+
+    /// Whether the user has the bit on the object, and for w on a window also whether no lock stops
+    /// him.
+    pub fn answer(&self, user: UserId, bit: Bit, object: Object) -> Answer {
+        if let Err(denial) = self.acl.may(user, bit, object) {
+            let leaders = denial.leaders.as_slice();
+            return Answer::NoEntry([leaders.get(0).copied(), leaders.get(1).copied()]);
+        }
+        match (bit, object) {
+            (Bit::Write, Object::Window(window)) => match self.locks.may_type(user, window) {
+                Err(denial) => Answer::Locked(denial.holder),
+                Ok(()) => Answer::Passes,
+            },
+            _ => Answer::Passes,
+        }
+    }
+}

@@ -1,8 +1,0 @@
-use Rattle.std.proofs.Common.{◌≡◌}
-use Rattle.redraw_tests.proofs.steps.both_ways_lead_to_the_view.Given as goal
-
-abbrev pub invariant-loop-step : goal.invariant-loop-step
-invariant-loop-step g l = record {
-  rows : l.shadow.rows ≡ 10;
-  columns : l.shadow.columns ≡ 24;
-}

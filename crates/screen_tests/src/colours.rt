@@ -1,0 +1,148 @@
+//! Colours of cells (ECMA-48, 8.3.117).
+
+use crate::judging::{Size, read};
+use cells::{Cell, Rendition};
+use emulator::MovedPage;
+use std::alloc::Global;
+use std::str::Chars;
+
+/// Bytes; the foregrounds of the page's cells and their backgrounds, line by line, each line ended
+/// by `|`: a colour's number, or `.` for none.
+type Row = (&'static [u8], &'static str, &'static str);
+
+const SMALL: Size = (2, 5, 0);
+
+static ROWS: [Row; 16] = [
+    (
+        b"\x1B[31;44ma\x1B[39mb\x1B[0mc",
+        "1....|.....|",
+        "44...|.....|",
+    ),
+    (b"\x1B[38;5;1ma", ".....|.....|", ".....|.....|"),
+    (b"\x1B[42m\x1B[2J", ".....|.....|", ".....|.....|"),
+    (b"\x1B[33m\x1B7\x1B[m\x1B8a", "3....|.....|", ".....|.....|"),
+    (
+        b"\x1B[30ma\x1B[32mb\x1B[34mc\x1B[35md\x1B[36me\x1B[37mf",
+        "02456|7....|",
+        ".....|.....|",
+    ),
+    (
+        b"\x1B[40ma\x1B[41mb\x1B[43mc\x1B[45md\x1B[46me\x1B[47mf",
+        ".....|.....|",
+        "01356|7....|",
+    ),
+    (
+        b"\x1B[31;42ma\x1B[49mb\x1B[29;48;50;90;107mc",
+        "111..|.....|",
+        "2....|.....|",
+    ),
+    (b"\x1B[32;41m\xE6\xBC\xA2x", "222..|.....|", "111..|.....|"),
+    (
+        b"\x1B[32;41m\xE6\xBC\xA2x\x1B[m\x1B[1;2Hy",
+        "..2..|.....|",
+        "..1..|.....|",
+    ),
+    (
+        b"\x1B[34mab\x1B[H\x1B[41m\x1B[2@",
+        "..44.|.....|",
+        ".....|.....|",
+    ),
+    (
+        b"\x1B[34mab\r\n\x1B[45mc\x1B[H\x1B[M",
+        "4....|.....|",
+        "5....|.....|",
+    ),
+    (
+        b"\x1B[36mab\r\n\x1B[45mc\r\n",
+        "6....|.....|",
+        "5....|.....|",
+    ),
+    (b"\x1B[31;42m\x1B[!pa", ".....|.....|", ".....|.....|"),
+    (b"\x1B[31;42m\x1Bca", ".....|.....|", ".....|.....|"),
+    (
+        b"\x1B[31;42m\x1BP$qm\x1B\\a\x1B]4;1;rgb:ff/00/00\x07b",
+        "11...|.....|",
+        "22...|.....|",
+    ),
+    (b"\x1B[31;42m\x1B#8", ".....|.....|", ".....|.....|"),
+];
+
+/// The sign of a colour.
+fn sign(colour: Option<u8>) -> char {
+    match colour {
+        Some(0) => '0',
+        Some(1) => '1',
+        Some(2) => '2',
+        Some(3) => '3',
+        Some(4) => '4',
+        Some(5) => '5',
+        Some(6) => '6',
+        Some(7) => '7',
+        Some(_) => '?',
+        None => '.',
+    }
+}
+
+/// Whether texts go on with the foregrounds and the backgrounds of a line, and then `|`.
+fn go_on_with_line(fore: &mut Chars<'_>, back: &mut Chars<'_>, line: &[Cell]) -> bool {
+    for cell in line {
+        if fore.next() != Some(sign(cell.fore())) || back.next() != Some(sign(cell.back())) {
+            return false;
+        }
+    }
+    fore.next() == Some('|') && back.next() == Some('|')
+}
+
+/// Whether the cells of a page have these colours.
+fn has_colours(page: &MovedPage<'_>, fore: &str, back: &str) -> bool {
+    let mut fore = fore.chars();
+    let mut back = back.chars();
+    for line in 0..page.rows() {
+        if !go_on_with_line(&mut fore, &mut back, page.line(line)) {
+            return false;
+        }
+    }
+    fore.next().is_none() && back.next().is_none()
+}
+
+fn is_coloured(alloc: Global, row: &Row) -> bool {
+    let (bytes, fore, back) = *row;
+    let mut answers = Vec::new(alloc);
+    match read(alloc, SMALL, &[bytes], &mut answers) {
+        Some(emulator) => has_colours(&emulator.page(0), fore, back),
+        None => false,
+    }
+}
+
+fn first_wrong(alloc: Global) -> Option<usize> {
+    for (number, row) in ROWS.iter().enumerate() {
+        if !is_coloured(alloc, row) {
+            return Some(number);
+        }
+    }
+    None
+}
+
+#[test]
+fn cells_have_colours(rt: HostRuntime) {
+    assert_eq!(rt; first_wrong(rt.alloc()), None);
+}
+
+/// The values 38, 5 and 1 are read each by itself.
+fn is_bold_and_blinking(alloc: Global) -> Option<bool> {
+    let mut answers = Vec::new(alloc);
+    let emulator = read(alloc, SMALL, &[b"\x1B[38;5;1ma"], &mut answers)?;
+    let rendition = Rendition {
+        is_bold: true,
+        is_blinking: true,
+        ..Rendition::PLAIN
+    };
+    let page = emulator.page(0);
+    let first = page.line(0).first()?;
+    Some(*first == Cell::narrow('a', rendition, false))
+}
+
+#[test]
+fn other_values_stay_by_themselves(rt: HostRuntime) {
+    assert_eq!(rt; is_bold_and_blinking(rt.alloc()), Some(true));
+}

@@ -1,0 +1,167 @@
+//! Bytes as control functions, cut at every place, and how those are spelled.
+
+use charsets::{Coding, Decoder, Unit, Units};
+use control_parser::{Func, Intermediates, Params, Parser, spell};
+use std::alloc::{AllocError, Global};
+
+/// Bytes in a coding, and the spellings of the functions that they are, each ended by `|`
+/// (ECMA-48, 5.2 to 5.6; the Unicode core specification, 3.9).
+type Row = (Coding, &'static [u8], &'static [u8]);
+
+static ROWS: [Row; 23] = [
+    (Coding::Utf8, b"a\x1b[1;\n31mb", b"a|\n|\x1b[1;31m|b|"),
+    (Coding::Utf8, b"\x1b(0q\x1b(Bq", b"\x1b(0|q|\x1b(B|q|"),
+    (Coding::Utf8, b"\xe2\x82\x41", b"\xef\xbf\xbd|A|"),
+    (Coding::Utf8, b"\xe6\xbc\x18\xa2", b"\xef\xbf\xbd|"),
+    (Coding::Utf8, b"\xe6\xbc\xa2", b"\xe6\xbc\xa2|"),
+    (
+        Coding::Utf8,
+        b"e\xcc\x81\xcc\x82\xcc\x83",
+        b"e|\xcc\x81|\xcc\x82|\xcc\x83|",
+    ),
+    (Coding::Utf8, b"\x1b%@\x1b*<", b"\x1b%@|\x1b*<|"),
+    (Coding::Utf8, b"\x1b+0\x1bOqq", b"\x1b+0|\x1bO|q|q|"),
+    (
+        Coding::Utf8,
+        b"\xed\xa0\x80",
+        b"\xef\xbf\xbd|\xef\xbf\xbd|\xef\xbf\xbd|",
+    ),
+    (
+        Coding::Utf8,
+        b"\xf4\x90\x80\x80",
+        b"\xef\xbf\xbd|\xef\xbf\xbd|\xef\xbf\xbd|\xef\xbf\xbd|",
+    ),
+    (Coding::Utf8, b"\xf0\x90\x80\x41", b"\xef\xbf\xbd|A|"),
+    (
+        Coding::Utf8,
+        b"\xc0\x80\xf4\x8f\xbf\xbf",
+        b"\xef\xbf\xbd|\xef\xbf\xbd|\xf4\x8f\xbf\xbf|",
+    ),
+    (
+        Coding::Utf8,
+        b"\x1b[99999999999999999999;2H",
+        b"\x1b[9999;2H|",
+    ),
+    (Coding::Utf8, b"\x1b[1$$$p\x1b[?1?h\x1b[1:2Ha", b"a|"),
+    (Coding::Utf8, b"\x1bPx\x07y\x18a", b"a|"),
+    (Coding::Utf8, b"\x1b]xx\x07a\x1b]x\x1b\\b", b"a|\x1b\\|b|"),
+    (
+        Coding::Utf8,
+        b"\x1bkt\x1b\\\x1b_t\x1b[1K",
+        b"\x1b\\|\x1b[1K|",
+    ),
+    (
+        Coding::Utf8,
+        b"\xc2\x9b?5h\x1b(0\x1bM\xc2\x84\xc2\x9dt\x07",
+        b"\x1b[?5h|\x1b(0|\x1bM|\x1bD|",
+    ),
+    (
+        Coding::Utf8,
+        b"\x1b[1\x1a2\x1a\x18\x7f\x1b$$$~3",
+        b"\xef\xbf\xbd|2|3|",
+    ),
+    (
+        Coding::Utf8,
+        b"\x1b[1\xc3\xa92\x1b[\x1b[mx",
+        b"\xc3\xa9|2|\x1b[m|x|",
+    ),
+    (
+        Coding::Utf8,
+        b"\x1b[;;1\"q\x1b[0!p\x1b[>c",
+        b"\x1b[;;1\"q|\x1b[!p|\x1b[>c|",
+    ),
+    (
+        Coding::Ecma35,
+        b"\x9b3mA\xa9\x1b[\xff\x85",
+        b"\x1b[3m|A|\xa9|\xff|\x1bE|",
+    ),
+    (
+        Coding::Utf8,
+        b"\x1b[1;1;1;1;1;1;1;1;1;1;1;1;1;1;1;1;1;1;1H",
+        b"\x1b[1;1;1;1;1;1;1;1;1;1;1;1;1;1;1;1H|",
+    ),
+];
+
+/// Appends the spelling of the function that a unit ends.
+fn take(parser: &mut Parser, unit: Unit, out: &mut Vec<u8>) -> Result<(), AllocError> {
+    match parser.push(unit) {
+        Some(func) => {
+            spell(&func, out)?;
+            out.push(b'|')?;
+            Ok(())
+        }
+        None => Ok(()),
+    }
+}
+
+/// The same of all units of some bytes.
+fn read(
+    decoder: &mut Decoder,
+    parser: &mut Parser,
+    bytes: &[u8],
+    out: &mut Vec<u8>,
+) -> Result<(), AllocError> {
+    for byte in bytes {
+        match decoder.push(*byte) {
+            Units::Nothing => {}
+            Units::One(unit) => take(parser, unit, out)?,
+            Units::Two(first, second) => {
+                take(parser, first, out)?;
+                take(parser, second, out)?;
+            }
+        }
+    }
+    Ok(())
+}
+
+/// Whether a row's bytes, cut there, are its functions, and nothing is left.
+fn are_read(alloc: Global, row: &Row, cut: usize) -> bool {
+    let (coding, bytes, want) = *row;
+    let mut decoder = Decoder::new();
+    decoder.set_coding(coding);
+    let mut parser = Parser::new();
+    let mut out = Vec::new(alloc);
+    let (front, rest) = bytes.split_at(cut.min(bytes.len()));
+    read(&mut decoder, &mut parser, front, &mut out).is_ok()
+        && read(&mut decoder, &mut parser, rest, &mut out).is_ok()
+        && out.as_slice() == want
+        && decoder.is_idle()
+        && parser.is_idle()
+}
+
+fn first_wrong(alloc: Global) -> Option<(usize, usize)> {
+    for (number, row) in ROWS.iter().enumerate() {
+        for cut in 0..=row.1.len() {
+            if !are_read(alloc, row, cut) {
+                return Some((number, cut));
+            }
+        }
+    }
+    None
+}
+
+#[test]
+fn functions_of_bytes(rt: HostRuntime) {
+    assert_eq!(rt; first_wrong(rt.alloc()), None);
+}
+
+/// Whether the spellings of functions are appended (ECMA-48, 5.4.2).
+fn are_spelled(alloc: Global) -> bool {
+    let place = Func::Csi {
+        mark: None,
+        params: Params::from_slice(&[24, 1000]),
+        intermediates: Intermediates::none(),
+        last: b'H',
+    };
+    let mut out = Vec::new(alloc);
+    spell(&Func::Print('A'), &mut out).is_ok()
+        && out.as_slice() == b"A".as_slice()
+        && spell(&place, &mut out).is_ok()
+        && spell(&Func::High(0xA9), &mut out).is_ok()
+        && out.as_slice() == b"A\x1b[24;1000H\xa9".as_slice()
+}
+
+#[test]
+fn spellings(rt: HostRuntime) {
+    assert!(rt; are_spelled(rt.alloc()));
+}

@@ -1,0 +1,63 @@
+//! Growths that are refused. Played as it stands this meets no refusal;
+//! `rt try --test --fail-alloc 1..` refuses each allocation in turn, and what was there must then
+//! still be there.
+
+use crate::judging::shows;
+use cells::GridFault;
+use emulator::{Emulator, Stopped};
+use std::alloc::Global;
+
+/// At most one allocation is refused in a run, so a second try never is.
+const TRIES: usize = 2;
+
+fn made_at_last(alloc: Global) -> Option<Emulator> {
+    match Emulator::new(alloc, 2, 5, 1) {
+        Ok(emulator) => Some(emulator),
+        Err(_) => Emulator::new(alloc, 2, 5, 1).ok(),
+    }
+}
+
+/// Reads bytes to their end, from where it stopped.
+fn reads_at_last(emulator: &mut Emulator, bytes: &[u8], answers: &mut Vec<u8>) -> bool {
+    let mut rest = bytes;
+    for _ in 0..TRIES {
+        match emulator.feed_all(rest, answers) {
+            Ok(()) => return true,
+            Err(Stopped { read }) => rest = rest.split_at(read).1,
+        }
+    }
+    false
+}
+
+/// Changes the size. Whether it is changed in the end, and all is as it was where it is refused.
+fn is_resized_at_last(emulator: &mut Emulator) -> bool {
+    match emulator.resized(3, 4) {
+        Ok(()) => true,
+        Err(GridFault::BadSize) => false,
+        Err(GridFault::NoMemory) => {
+            shows(&emulator.page(1), "a____|b____|")
+                && emulator.cursor() == (1, 4)
+                && emulator.resized(3, 4).is_ok()
+        }
+    }
+}
+
+fn is_all_left(alloc: Global) -> Option<bool> {
+    let mut emulator = made_at_last(alloc)?;
+    let mut answers = Vec::new(alloc);
+    let text = b"a\r\nb\r\nabc\xE6\xBC\xA2\x1B[6n";
+    let is_read = reads_at_last(&mut emulator, text, &mut answers);
+    Some(
+        is_read
+            && answers.as_slice() == b"\x1B[2;5R".as_slice()
+            && is_resized_at_last(&mut emulator)
+            && shows(&emulator.page(0), "b___|abc_|____|")
+            && shows(&emulator.page(1), "a___|b___|abc_|")
+            && emulator.cursor() == (1, 3),
+    )
+}
+
+#[test]
+fn refused_growths_leave_all(rt: HostRuntime) {
+    assert_eq!(rt; is_all_left(rt.alloc()), Some(true));
+}

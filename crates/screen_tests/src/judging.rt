@@ -1,0 +1,147 @@
+//! An emulator for a test, and what its page shows.
+
+use cells::{Cell, Marks, Shape};
+use emulator::{Emulator, MovedPage};
+use std::alloc::Global;
+use std::str::Chars;
+
+/// Lines, columns, and lines to keep.
+pub type Size = (usize, usize, usize);
+
+/// An emulator of this size that has read these pieces; what it answered is appended.
+pub fn read(
+    alloc: Global,
+    size: Size,
+    pieces: &[&[u8]],
+    answers: &mut Vec<u8>,
+) -> Option<Emulator> {
+    let mut emulator = Emulator::new(alloc, size.0, size.1, size.2).ok()?;
+    for piece in pieces {
+        emulator.feed_all(piece, answers).ok()?;
+    }
+    Some(emulator)
+}
+
+/// What comes of some bytes.
+#[derive(Clone, Copy)]
+pub struct Row {
+    pub size: Size,
+    pub bytes: &'static [u8],
+    /// By how many kept lines the page is moved back.
+    pub back: usize,
+    /// Its lines, each ended by `|`; a blank is `_`.
+    pub page: &'static str,
+    /// The cursor's line and column, from 0.
+    pub cursor: (usize, usize),
+    /// The letters of the modes that are set.
+    pub modes: &'static [u8],
+    pub answer: &'static [u8],
+}
+
+fn is_so(alloc: Global, row: &Row, cut: usize) -> bool {
+    let (front, rest) = row.bytes.split_at(cut.min(row.bytes.len()));
+    let mut answers = Vec::new(alloc);
+    let Some(emulator) = read(alloc, row.size, &[front, rest], &mut answers) else {
+        return false;
+    };
+    shows(&emulator.page(row.back), row.page)
+        && emulator.cursor() == row.cursor
+        && has_modes(&emulator, row.modes)
+        && answers.as_slice() == row.answer
+}
+
+/// Whether a row's bytes do what it says, however they are cut in two.
+pub fn is_so_at_each_cut(alloc: Global, row: &Row) -> bool {
+    for cut in 0..=row.bytes.len() {
+        if !is_so(alloc, row, cut) {
+            return false;
+        }
+    }
+    true
+}
+
+/// Whether a text goes on with a cell: `_` is a blank, and a right half is nothing.
+fn goes_on(text: &mut Chars<'_>, cell: &Cell) -> bool {
+    if cell.shape == Shape::Right {
+        return true;
+    }
+    let shown = if *cell == Cell::BLANK {
+        '_'
+    } else {
+        cell.character
+    };
+    if text.next() != Some(shown) {
+        return false;
+    }
+    match cell.marks {
+        Marks::Bare => true,
+        Marks::One(mark) => text.next() == Some(mark),
+        Marks::Two(first, second) => text.next() == Some(first) && text.next() == Some(second),
+    }
+}
+
+/// Whether a text goes on with a line, and then `|`.
+fn goes_on_with_line(text: &mut Chars<'_>, line: &[Cell]) -> bool {
+    for cell in line {
+        if !goes_on(text, cell) {
+            return false;
+        }
+    }
+    text.next() == Some('|')
+}
+
+/// Whether the page is this text: its lines, each ended by `|`.
+pub fn shows(page: &MovedPage<'_>, text: &str) -> bool {
+    let mut text = text.chars();
+    for line in 0..page.rows() {
+        if !goes_on_with_line(&mut text, page.line(line)) {
+            return false;
+        }
+    }
+    text.next().is_none()
+}
+
+/// Whether two pages have the same cells.
+pub fn are_alike(page: &MovedPage<'_>, other: &MovedPage<'_>) -> bool {
+    if page.rows() != other.rows() {
+        return false;
+    }
+    for line in 0..page.rows() {
+        if page.line(line) != other.line(line) {
+            return false;
+        }
+    }
+    true
+}
+
+/// The letters of the modes: IRM, LNM, ?1, ?5, ?6, ?7, ?25, and an application keypad.
+const LETTERS: [u8; 8] = *b"ilavowck";
+
+/// The modes of a new screen.
+pub const NEW: &[u8] = b"wc";
+
+/// Which modes are set, in the order of their letters.
+pub fn modes_of(emulator: &Emulator) -> [bool; 8] {
+    let modes = emulator.modes();
+    [
+        modes.inserts,
+        modes.starts_lines,
+        modes.has_application_arrows,
+        modes.is_inverted,
+        modes.counts_from_margin,
+        modes.wraps,
+        modes.shows_cursor,
+        modes.has_application_keypad,
+    ]
+}
+
+/// Whether those modes are set that have these letters, and no others.
+fn has_modes(emulator: &Emulator, letters: &[u8]) -> bool {
+    let modes = modes_of(emulator);
+    for place in 0..LETTERS.len() {
+        if letters.contains(&LETTERS[place]) != modes[place] {
+            return false;
+        }
+    }
+    true
+}

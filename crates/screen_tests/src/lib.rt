@@ -1,0 +1,21 @@
+//! Tests of screens: bytes as control functions, the pages that have read them, and their cells.
+#![tactic(auto)]
+
+#[cfg(test)]
+mod colours;
+#[cfg(test)]
+mod cuts;
+#[cfg(test)]
+mod functions;
+#[cfg(test)]
+mod growths;
+#[cfg(test)]
+mod judging;
+#[cfg(test)]
+mod pages;
+#[cfg(test)]
+mod runs;
+#[cfg(test)]
+mod sizes;
+#[cfg(test)]
+mod table;

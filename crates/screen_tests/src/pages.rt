@@ -1,0 +1,204 @@
+//! What pages show when they have read some bytes.
+
+use crate::judging::{NEW, Row, Size, is_so_at_each_cut, read, shows};
+use std::alloc::Global;
+
+/// A size; by how many kept lines the page is moved back; bytes; its lines, each ended by `|`, where
+/// a blank is `_`; the cursor. The modes are those of a new screen, and nothing is answered.
+type Shown = (Size, usize, &'static [u8], &'static str, (usize, usize));
+
+const SMALL: Size = (2, 5, 0);
+
+static ROWS: [Shown; 31] = [
+    // starts blank
+    ((3, 3, 0), 0, b"", "___|___|___|", (0, 0)),
+    // wraps behind the last column
+    (SMALL, 0, b"abcdef", "abcde|f____|", (1, 1)),
+    // a function ends the pending wrap
+    (SMALL, 0, b"abcde\x08X", "abcXe|_____|", (0, 4)),
+    // DECSC ends the pending wrap
+    (SMALL, 0, b"abcde\x1B7f", "abcdf|_____|", (0, 4)),
+    // a wide character goes to the next line whole
+    ((2, 3, 0), 0, b"ab\xE6\xBC\xA2", "ab_|漢_|", (1, 2)),
+    // half a wide character is overwritten
+    (SMALL, 0, b"\xE6\xBC\xA2x\ra", "a_x__|_____|", (0, 1)),
+    // DCH cuts a wide character
+    (
+        SMALL,
+        0,
+        b"a\xE6\xBC\xA2b\x1B[1;3H\x1B[P",
+        "a_b__|_____|",
+        (0, 2),
+    ),
+    // DCH joins no halves of two characters
+    (
+        (2, 6, 0),
+        0,
+        b"a\xE6\xBC\xA2\xE5\xAD\x97\x1B[1;3H\x1B[2P",
+        "a_____|______|",
+        (0, 2),
+    ),
+    // DECSED leaves protected cells
+    (
+        SMALL,
+        0,
+        b"\x1B[1\"qab\x1B[0\"qc\x1B[?2J",
+        "ab___|_____|",
+        (0, 3),
+    ),
+    // ED erases all
+    (SMALL, 0, b"abc\x1B[2J", "_____|_____|", (0, 3)),
+    // special graphics, and a broken character
+    (
+        SMALL,
+        0,
+        b"\x1B(0q\x1B(Bq\xE2\x82A",
+        "\u{2500}q\u{FFFD}A_|_____|",
+        (0, 4),
+    ),
+    // a third mark is dropped
+    (
+        SMALL,
+        0,
+        b"e\xCC\x81\xCC\x82\xCC\x83",
+        "e\u{301}\u{302}____|_____|",
+        (0, 1),
+    ),
+    // a mark behind a move is dropped
+    (SMALL, 0, b"e\x08a\r\xCC\x81", "a____|_____|", (0, 0)),
+    // CAN ends a character
+    (SMALL, 0, b"\xE6\xBC\x18\xA2", "\u{FFFD}____|_____|", (0, 1)),
+    // the supplemental set in ECMA-35
+    (SMALL, 0, b"\x1B%@\x1B*<\xA9", "\u{A9}____|_____|", (0, 1)),
+    // a single shift
+    (SMALL, 0, b"\x1B+0\x1BOqq", "\u{2500}q___|_____|", (0, 2)),
+    // a page above its kept line
+    ((2, 5, 1), 0, b"a\r\nb\r\nc\r\nd", "c____|d____|", (1, 1)),
+    // moved back by a kept line
+    ((2, 5, 1), 1, b"a\r\nb\r\nc\r\nd", "b____|c____|", (1, 1)),
+    // moved back by all kept lines
+    ((2, 5, 1), 9, b"a\r\nb\r\nc\r\nd", "b____|c____|", (1, 1)),
+    // moved back above its first line
+    (
+        (2, 5, 5),
+        3,
+        b"a\r\nb\r\nc\r\nd\r\ne",
+        "a____|b____|",
+        (1, 1),
+    ),
+    // margins that begin at the first line keep lines
+    (
+        (3, 5, 5),
+        1,
+        b"\x1B[1;2ra\r\nb\r\nc",
+        "a____|b____|c____|",
+        (1, 1),
+    ),
+    // DL keeps no line
+    (
+        (3, 5, 5),
+        3,
+        b"a\r\nb\x1B[H\x1B[M",
+        "b____|_____|_____|",
+        (0, 0),
+    ),
+    // IL outside the margins moves nothing
+    (
+        (4, 5, 0),
+        0,
+        b"\x1B[2;3ra\x1B[L",
+        "a____|_____|_____|_____|",
+        (0, 1),
+    ),
+    // margins of one line change nothing
+    (SMALL, 0, b"ab\x1B[2;2r", "ab___|_____|", (0, 2)),
+    // a great parameter goes to the last line
+    (
+        SMALL,
+        0,
+        b"\x1B[99999999999999999999;2H",
+        "_____|_____|",
+        (1, 1),
+    ),
+    // ill-formed sequences are ignored
+    (
+        SMALL,
+        0,
+        b"\x1B[1$$$p\x1B[?1?h\x1B[1:2Ha",
+        "a____|_____|",
+        (0, 1),
+    ),
+    // CAN ends a string
+    (SMALL, 0, b"\x1BPx\x07y\x18a", "a____|_____|", (0, 1)),
+    // a surrogate is three broken bytes
+    (
+        SMALL,
+        0,
+        b"\xED\xA0\x80",
+        "\u{FFFD}\u{FFFD}\u{FFFD}__|_____|",
+        (0, 3),
+    ),
+    // a code above 10FFFF is four broken bytes
+    (
+        SMALL,
+        0,
+        b"\xF4\x90\x80\x80",
+        "\u{FFFD}\u{FFFD}\u{FFFD}\u{FFFD}_|_____|",
+        (0, 4),
+    ),
+    // three bytes of four are one
+    (SMALL, 0, b"\xF0\x90\x80A", "\u{FFFD}A___|_____|", (0, 2)),
+    // tab stops stand in each eighth column
+    (
+        (2, 20, 0),
+        0,
+        b"\ta\tb",
+        "________a_______b___|____________________|",
+        (0, 17),
+    ),
+];
+
+fn first_wrong(alloc: Global) -> Option<usize> {
+    for (number, (size, back, bytes, page, cursor)) in ROWS.iter().enumerate() {
+        let row = Row {
+            size: *size,
+            bytes,
+            back: *back,
+            page,
+            cursor: *cursor,
+            modes: NEW,
+            answer: b"",
+        };
+        if !is_so_at_each_cut(alloc, &row) {
+            return Some(number);
+        }
+    }
+    None
+}
+
+#[test]
+fn pages_show_what_was_read(rt: HostRuntime) {
+    assert_eq!(rt; first_wrong(rt.alloc()), None);
+}
+
+/// Whether a control sequence of 20,000 bytes acts, and a string of a million leaves the page as it
+/// is until it is ended.
+fn are_long_ones_read(alloc: Global) -> Option<bool> {
+    let mut answers = Vec::new(alloc);
+    let mut emulator = read(alloc, SMALL, &[b"ab\x1B["], &mut answers)?;
+    for _ in 0..10_000u32 {
+        emulator.feed_all(b"1;", &mut answers).ok()?;
+    }
+    emulator.feed_all(b"Hc\x1B]", &mut answers).ok()?;
+    for _ in 0..1_000u32 {
+        emulator.feed_all(&[b'x'; 1_000], &mut answers).ok()?;
+    }
+    let is_as_it_was = shows(&emulator.page(0), "cb___|_____|");
+    emulator.feed_all(b"\x07d", &mut answers).ok()?;
+    Some(is_as_it_was && shows(&emulator.page(0), "cd___|_____|") && answers.is_empty())
+}
+
+#[test]
+fn long_sequences(rt: HostRuntime) {
+    assert_eq!(rt; are_long_ones_read(rt.alloc()), Some(true));
+}
