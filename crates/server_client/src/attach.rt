@@ -2,13 +2,11 @@
 
 use crate::fault::{ClientFault, Gone};
 use crate::opening::{Opened, Way, open, size, warn_of_token};
-use crate::passing::show;
 use crate::refusals::explain;
-use crate::sending::{start_sending, start_sizes};
-use crate::sources::Sources;
+use crate::showing::show;
 use crate::standing::{Intake, Outlet, Shared, Standing};
 use crate::watching::stand_in;
-use attach_proto::Why;
+use attach_proto::{Reader, Side, Why};
 use clap::ArgMatches;
 use program_words::{of_client, tell};
 use std::alloc::{AllocError, Global};
@@ -26,65 +24,57 @@ const NO_SIZE: &str = "lines of --sizes were dropped: each is ROWS COLS, 4 to 20
 // How long a window's end waits for its standard output, in milliseconds.
 const LAST_WRITING: u64 = 500;
 
-/// What is read by threads of its own, once the peer is welcome.
-#[derive(Drop)]
-struct Apart<I> {
-    /// The input, where it can't be waited for with the socket, as a file.
-    input: Option<I>,
-    sizes: Option<File>,
-}
-
-// The input, where it is waited for with the socket, and where it isn't.
-fn sort_input<I: Drop>(way: Way, sources: &Sources, input: I) -> (Option<I>, Option<I>) {
-    if way != Way::Command && sources.add_input() {
-        (Some(input), None)
-    } else {
-        (None, Some(input))
-    }
-}
-
-fn shared_of<R: Net + Files<File = File> + AllocGlobal, I: AsRawFd + Drop, O: Drop>(
+fn shared_of<R: Net + Files<File = File> + AllocGlobal, I: Drop, O: Drop>(
     rt: &R,
     way: Way,
     matches: &ArgMatches,
     input: I,
     output: O,
-) -> Result<(Shared<I, O>, Apart<I>), ClientFault> {
+) -> Result<Shared<I, O>, ClientFault> {
     let alloc = rt.alloc();
     let (rows, columns) = match way {
         Way::Command => (0, 0),
         Way::Attach | Way::Window => size(matches)?,
     };
-    let Opened {
-        stream,
-        asked,
-        told,
-    } = open(rt, way, matches)?;
-    let sources = Sources::new(rt, alloc, stream.as_raw_fd(), input.as_raw_fd())?;
-    let waker = sources.waker()?;
-    let (polled, unpolled) = sort_input(way, &sources, input);
-    let shared = Shared {
+    let Opened { stream, sizes } = open(rt, way, matches)?;
+    let (asked, told) = match way {
+        Way::Attach => (sizes, None),
+        Way::Window | Way::Command => (None, sizes),
+    };
+    Ok(Shared {
         way,
         rows,
         columns,
         stream,
         sending: Mutex::new(()),
-        intake: Mutex::new(Intake::new(alloc, sources, polled)),
-        outlet: Mutex::new(Outlet::new(output, told)),
-        standing: Mutex::new(Standing::new(alloc)),
+        intake: Mutex::new(Intake {
+            reader: Reader::new(alloc, Side::Peer),
+            input: Some(input),
+            asked,
+            said: None,
+            is_over: false,
+        }),
+        outlet: Mutex::new(Outlet {
+            output,
+            sizes: told,
+        }),
+        standing: Mutex::new(Standing {
+            bytes: Vec::new(alloc),
+            sizes: Vec::new(alloc),
+            is_writing: false,
+            writings: 0,
+            is_watched: false,
+            end: None,
+            input: None,
+            has_dropped: false,
+        }),
         news: Condvar::new(),
         begun: Condvar::new(),
-        waker,
-    };
-    let apart = Apart {
-        input: unpolled,
-        sizes: asked,
-    };
-    Ok((shared, apart))
+    })
 }
 
-// Starts a thread that reads and writes, or one that does so only while the writing of the first
-// takes long.
+// Starts a thread that reads the socket and writes, or one that does so only while the writing of
+// the first takes long.
 fn start_showing<
     R: Threads + Wait + Clock + AllocGlobal + Copy + Send + 'static,
     I: Read + Send + Drop + 'static,
@@ -107,33 +97,6 @@ fn start_showing<
         Ok(_) => Ok(()),
         Err(error) => Err(ClientFault::from(AllocError::from(error))),
     }
-}
-
-// Waits until the peer is welcome, and starts the threads that read apart.
-fn start_apart<
-    R: Threads + Wait + AllocGlobal + Copy + Send + 'static,
-    I: Read + Send + Drop + 'static,
-    O: Write + Send + Drop + 'static,
->(rt: &R, shared: &Arc<Shared<I, O>, Global>, apart: Apart<I>) -> Result<(), ClientFault> {
-    let news = &shared.news;
-    let is_welcome = news
-        .wait_while(
-            rt,
-            shared.standing.lock(rt),
-            |s| !s.is_welcome && s.end.is_none(),
-        )
-        .is_welcome;
-    let Apart { input, sizes } = apart;
-    if !is_welcome {
-        return Ok(());
-    }
-    if let Some(sizes) = sizes {
-        start_sizes(rt, shared, sizes)?;
-    }
-    if let Some(input) = input {
-        start_sending(rt, shared, input)?;
-    }
-    Ok(())
 }
 
 /// How a peer ended.
@@ -180,17 +143,15 @@ fn fill_closed<R: Files<File = File> + AllocGlobal>(rt: &R) -> Result<Vec<File>,
 
 fn run<
     R: Net + Files<File = File> + Clock + Threads + Wait + AllocGlobal + Copy + Send + 'static,
-    I: Read + AsRawFd + Send + Drop + 'static,
+    I: Read + Send + Drop + 'static,
     O: Write + Send + Drop + 'static,
 >(rt: &R, way: Way, matches: &ArgMatches, input: I, output: O) -> Result<Ending, ClientFault> {
     let _kept = fill_closed(rt)?;
-    let (shared, apart) = shared_of(rt, way, matches, input, output)?;
-    let shared = Arc::new(rt.alloc(), shared)?;
+    let shared = Arc::new(rt.alloc(), shared_of(rt, way, matches, input, output)?)?;
     start_showing(rt, &shared, false)?;
-    if way != Way::Command {
+    if way == Way::Window {
         start_showing(rt, &shared, true)?;
     }
-    start_apart(rt, &shared, apart)?;
     Ok(wait_for_end(rt, &shared))
 }
 
@@ -222,7 +183,7 @@ fn tell_end<E: Write>(ending: Ending, way: Way, matches: &ArgMatches, errors: &m
 /// exit with: 0; 1 for a fault; 2 where the words aren't understood.
 pub fn client<
     R: Net + Files<File = File> + Clock + Threads + Wait + AllocGlobal + Copy + Send + 'static,
-    I: Read + AsRawFd + Send + Drop + 'static,
+    I: Read + Send + Drop + 'static,
     O: Write + Send + Drop + 'static,
     E: Write,
 >(rt: &R, words: &[String], input: I, output: O, errors: &mut E) -> u8 {

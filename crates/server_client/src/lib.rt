@@ -4,13 +4,10 @@
 mod attach;
 mod fault;
 mod opening;
-mod passing;
 mod refusals;
 mod sending;
 mod showing;
-mod sources;
 mod standing;
 mod watching;
-mod writing;
 
 pub use attach::client;

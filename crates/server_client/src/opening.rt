@@ -215,10 +215,7 @@ fn connect_with<R: Net + AllocGlobal>(
 #[derive(Drop)]
 pub struct Opened {
     pub stream: UnixStream,
-    /// Where a client's sizes come from.
-    pub asked: Option<File>,
-    /// Where a window's sizes are told.
-    pub told: Option<File>,
+    pub sizes: Option<File>,
 }
 
 /// Begins a connection. What is wrong is found in the words first, then in files, then at the socket.
@@ -232,13 +229,5 @@ pub fn open<R: Net + Files<File = File> + AllocGlobal>(
     let sizes = open_sizes(rt, way, matches)?;
     let frame = first_frame(rt.alloc(), way, matches, token)?;
     let stream = connect_with(rt, matches, &frame)?;
-    let (asked, told) = match way {
-        Way::Attach => (sizes, None),
-        Way::Window | Way::Command => (None, sizes),
-    };
-    Ok(Opened {
-        stream,
-        asked,
-        told,
-    })
+    Ok(Opened { stream, sizes })
 }

@@ -1,4 +1,4 @@
-//! What goes to the server: the input, and sizes.
+//! What goes to the server: standard input, and sizes.
 
 use crate::fault::ClientFault;
 use crate::opening::Way;
@@ -15,47 +15,33 @@ use std::thread::Threads;
 // The errno of a terminal whose other end is gone: the input ends.
 const EIO: i32 = 5;
 
-// Reads the input once, and sends that. The answer is whether it goes on.
-fn send_once<R: Wait + AllocGlobal, I: Read, J, O>(
+// Sends what it reads, until the input ends.
+fn send_all<R: Wait + AllocGlobal, I: Read, J, O>(
     rt: &R,
     shared: &Shared<J, O>,
     input: &mut I,
-    buffer: &mut [u8],
-) -> Result<bool, ClientFault> {
-    let count = match input.read(buffer) {
-        Ok(0) => return Ok(false),
-        Ok(count) => count,
-        Err(error) if error.raw_os_error() == Some(EIO) => return Ok(false),
-        Err(error) => return Err(ClientFault::Input(error)),
-    };
-    let bytes = Bytes::new(rt.alloc(), &buffer[..count])?;
-    let message = match shared.way {
-        Way::Window => Message::Output(bytes),
-        Way::Attach | Way::Command => Message::Keys(bytes),
-    };
-    match shared.send(rt, rt.alloc(), &message) {
-        Ok(()) => Ok(true),
-        // What is still to be read of the socket says why it takes no more.
-        Err(ClientFault::Other(_)) => Ok(false),
-        Err(fault) => Err(fault),
+) -> Result<(), ClientFault> {
+    let mut buffer = vec![in rt.alloc(); 0; LONGEST]?;
+    for _ in 0..u64::MAX {
+        let count = match input.read(buffer.as_mut_slice()) {
+            Ok(0) => break,
+            Ok(count) => count,
+            Err(error) if error.raw_os_error() == Some(EIO) => break,
+            Err(error) => return Err(ClientFault::Input(error)),
+        };
+        let bytes = Bytes::new(rt.alloc(), &buffer[..count])?;
+        let message = match shared.way {
+            Way::Window => Message::Output(bytes),
+            Way::Attach | Way::Command => Message::Keys(bytes),
+        };
+        match shared.send(rt, rt.alloc(), &message) {
+            Ok(()) => {}
+            // What is still to be read of the socket says why it takes no more.
+            Err(ClientFault::Other(_)) => break,
+            Err(fault) => return Err(fault),
+        }
     }
-}
-
-/// Reads the input once, and sends that, and at the end of the input that the peer goes. The answer
-/// is whether the input goes on.
-pub fn pass_input<R: Wait + AllocGlobal, I: Read, J, O>(
-    rt: &R,
-    shared: &Shared<J, O>,
-    input: &mut I,
-    buffer: &mut [u8],
-) -> bool {
-    match send_once(rt, shared, input, buffer) {
-        Ok(true) => return true,
-        Ok(false) => {}
-        Err(fault) => shared.standing.lock(rt).input = Some(fault),
-    }
-    let _ = shared.send(rt, rt.alloc(), &Message::Detach);
-    false
+    Ok(())
 }
 
 // Sends the last size of those that came, until the file ends.
@@ -96,14 +82,12 @@ pub fn start_sending<
     let theirs = Arc::try_clone(shared)?;
     let rt_there = *rt;
     let mut input = input;
-    let mut buffer = vec![in rt.alloc(); 0; LONGEST]?;
     let started = thread::spawn(rt, move || {
         let rt = rt_there;
-        for _ in 0..u64::MAX {
-            if !pass_input(&rt, &theirs, &mut input, buffer.as_mut_slice()) {
-                break;
-            }
+        if let Err(fault) = send_all(&rt, &theirs, &mut input) {
+            theirs.standing.lock(&rt).input = Some(fault);
         }
+        let _ = theirs.send(&rt, rt.alloc(), &Message::Detach);
     });
     match started {
         Ok(_) => Ok(()),

@@ -2,9 +2,7 @@
 
 use crate::fault::ClientFault;
 use crate::opening::Way;
-use crate::sources::Sources;
-use attach_proto::{Message, Reader, Side, Why, write_message};
-use mio::Waker;
+use attach_proto::{Message, Reader, Why, write_message};
 use std::alloc::Global;
 use std::fs::File;
 use std::io::Write;
@@ -18,18 +16,12 @@ pub struct Standing {
     pub bytes: Vec<u8>,
     /// For the sizes' file, a line each.
     pub sizes: Vec<u8>,
-    /// The session let the peer in.
-    pub is_welcome: bool,
     /// A thread writes, and takes what waits before it stops.
     pub is_writing: bool,
-    /// What it writes is much.
-    pub writes_much: bool,
     /// How many writings began.
     pub writings: u64,
     /// Another thread looks from time to time whether a writing takes long.
     pub is_watched: bool,
-    /// Another thread reads until nothing is written.
-    pub is_stood_in: bool,
     pub end: Option<Result<Why, ClientFault>>,
     /// Why the input ended before its end.
     pub input: Option<ClientFault>,
@@ -37,55 +29,17 @@ pub struct Standing {
     pub has_dropped: bool,
 }
 
-impl Standing {
-    pub fn new(alloc: Global) -> Standing {
-        Standing {
-            bytes: Vec::new(alloc),
-            sizes: Vec::new(alloc),
-            is_welcome: false,
-            is_writing: false,
-            writes_much: false,
-            writings: 0,
-            is_watched: false,
-            is_stood_in: false,
-            end: None,
-            input: None,
-            has_dropped: false,
-        }
-    }
-}
-
-/// What a reader has.
+/// What a reader of the socket has.
 #[derive(Drop)]
 pub struct Intake<I> {
     pub reader: Reader,
-    pub sources: Sources,
-    /// The input, while it is waited for with the socket.
+    /// The input and the sizes that are read once the peer is welcome.
     pub input: Option<I>,
-    /// The session let the peer in: the input is read.
-    pub is_welcome: bool,
+    pub asked: Option<File>,
     /// What the session said last before it let the peer in.
     pub said: Option<String>,
     /// The peer's end was read: nothing behind it counts.
     pub is_over: bool,
-}
-
-impl<I> Intake<I> {
-    pub fn new(alloc: Global, sources: Sources, input: Option<I>) -> Intake<I> {
-        Intake {
-            reader: Reader::new(alloc, Side::Peer),
-            sources,
-            input,
-            is_welcome: false,
-            said: None,
-            is_over: false,
-        }
-    }
-
-    /// Whether to wait for the input with the socket.
-    pub fn is_polled(&self) -> bool {
-        self.is_welcome && self.input.is_some()
-    }
 }
 
 /// Where is written to: one thread at a time.
@@ -93,12 +47,6 @@ impl<I> Intake<I> {
 pub struct Outlet<O> {
     pub output: O,
     pub sizes: Option<File>,
-}
-
-impl<O> Outlet<O> {
-    pub fn new(output: O, sizes: Option<File>) -> Outlet<O> {
-        Outlet { output, sizes }
-    }
 }
 
 /// A peer, for all of its threads.
@@ -110,16 +58,14 @@ pub struct Shared<I, O> {
     pub stream: UnixStream,
     /// Is held while a frame is written: a frame goes whole.
     pub sending: Mutex<()>,
-    /// Is held while the socket and the input are waited for and read, and what came is put in order.
+    /// Is held while the socket is read, and what came is put in order.
     pub intake: Mutex<Intake<I>>,
     pub outlet: Mutex<Outlet<O>>,
     pub standing: Mutex<Standing>,
-    /// The peer is welcome or ended, or, behind its end, nothing waits to be written any more.
+    /// The peer ended, or, behind its end, nothing waits to be written any more.
     pub news: Condvar,
-    /// A writing begins that is much or that nobody watches, or the peer ended.
+    /// A writing begins that nobody watches, or the peer ended.
     pub begun: Condvar,
-    /// Ends the wait of who reads for a thread that wrote.
-    pub waker: Waker,
 }
 
 impl<I, O> Shared<I, O> {

@@ -1,12 +1,13 @@
-//! A second thread, which reads while the writing of the first takes long.
+//! A window's second thread, which reads the socket while the writing of the first takes long.
 
 use crate::fault::ClientFault;
-use crate::opening::Way;
-use crate::passing::{pass_input_on, pass_on};
+use crate::showing::pass_on;
 use crate::standing::Shared;
 use attach_proto::LONGEST;
+use std::alloc::Global;
 use std::io::{Read, Write};
-use std::sync::Wait;
+use std::sync::{Arc, Wait};
+use std::thread::Threads;
 use std::time::{Clock, Duration};
 
 // A writing takes long that doesn't end within so many milliseconds.
@@ -15,8 +16,8 @@ const PERIOD: u64 = 100;
 // After so many periods without a writing, nothing is looked at until the next one.
 const IDLE: u32 = 20;
 
-// Waits until a writing takes long, or is of much. False where the peer ended.
-fn wait_for_writing<R: Wait + Clock, I, O>(rt: &R, shared: &Shared<I, O>) -> bool {
+// Waits until a writing takes long: its number. None where the peer ended.
+fn wait_for_stuck<R: Wait + Clock, I, O>(rt: &R, shared: &Shared<I, O>) -> Option<u64> {
     let begun = &shared.begun;
     let mut standing = shared.standing.lock(rt);
     let mut idle = 0u32;
@@ -25,17 +26,15 @@ fn wait_for_writing<R: Wait + Clock, I, O>(rt: &R, shared: &Shared<I, O>) -> boo
         let seen = standing.writings;
         let period = Duration::from_millis(PERIOD);
         standing = begun
-            .wait_timeout_while(rt, standing, period, |s| !s.writes_much && s.end.is_none())
+            .wait_timeout_while(rt, standing, period, |s| s.end.is_none())
             .0;
         if standing.end.is_some() {
-            return false;
-        }
-        if standing.writes_much || (standing.is_writing && standing.writings == seen) {
-            standing.is_stood_in = true;
-            return true;
+            return None;
         }
         if standing.writings != seen {
             idle = 0;
+        } else if standing.is_writing {
+            return Some(seen);
         } else if idle < IDLE {
             idle += 1;
         } else {
@@ -43,44 +42,51 @@ fn wait_for_writing<R: Wait + Clock, I, O>(rt: &R, shared: &Shared<I, O>) -> boo
             standing.is_watched = false;
         }
     }
-    false
+    None
 }
 
-// Whether another thread writes still.
-fn is_needed<R: Wait, I, O>(rt: &R, shared: &Shared<I, O>) -> bool {
-    let mut standing = shared.standing.lock(rt);
-    standing.is_stood_in = standing.is_writing;
-    standing.is_writing
+// Whether the writing of this number goes on.
+fn is_stuck<R: Wait, I, O>(rt: &R, shared: &Shared<I, O>, number: u64) -> bool {
+    let standing = shared.standing.lock(rt);
+    standing.is_writing && standing.writings == number
 }
 
-// Reads once for a thread that writes. A client leaves the socket alone: its server makes no draw
-// before the one in front of it is read.
-fn read_for<R: Wait + AllocGlobal, I: Read + Drop, O: Write>(
+// Reads and writes until the writing of this number ends. The answer is whether to go on.
+fn read_on<
+    R: Threads + Wait + AllocGlobal + Copy + Send + 'static,
+    I: Read + Send + Drop + 'static,
+    O: Write + Send + Drop + 'static,
+>(
     rt: &R,
-    shared: &Shared<I, O>,
+    shared: &Arc<Shared<I, O>, Global>,
+    number: u64,
     buffer: &mut [u8],
 ) -> Result<bool, ClientFault> {
-    if shared.way == Way::Window {
-        pass_on(rt, shared, buffer)
-    } else {
-        pass_input_on(rt, shared, buffer)
+    for _ in rt.forever() {
+        if !pass_on(rt, shared, buffer)? {
+            return Ok(false);
+        }
+        if !is_stuck(rt, shared, number) {
+            return Ok(true);
+        }
     }
+    Ok(false)
 }
 
-/// Reads for another thread while its writing takes long, until the peer ends.
-pub fn stand_in<R: Wait + Clock + AllocGlobal, I: Read + Drop, O: Write>(
-    rt: &R,
-    shared: &Shared<I, O>,
-) -> Result<(), ClientFault> {
+/// Reads and writes for another thread while its writing takes long, until the peer ends.
+pub fn stand_in<
+    R: Threads + Wait + Clock + AllocGlobal + Copy + Send + 'static,
+    I: Read + Send + Drop + 'static,
+    O: Write + Send + Drop + 'static,
+>(rt: &R, shared: &Arc<Shared<I, O>, Global>) -> Result<(), ClientFault> {
     let mut buffer = vec![in rt.alloc(); 0; LONGEST]?;
     for _ in rt.forever() {
-        if !is_needed(rt, shared) && !wait_for_writing(rt, shared) {
+        let Some(number) = wait_for_stuck(rt, shared) else {
             break;
-        }
-        if !read_for(rt, shared, buffer.as_mut_slice())? {
+        };
+        if !read_on(rt, shared, number, buffer.as_mut_slice())? {
             break;
         }
     }
-    shared.standing.lock(rt).is_stood_in = false;
     Ok(())
 }
