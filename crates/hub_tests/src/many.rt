@@ -166,40 +166,116 @@ fn submit_all<L: Roll, R: Wait>(
     None
 }
 
+/// A hub with two seats, and a session that runs what they submit.
+#[derive(Drop)]
+struct Pair<L: Roll> {
+    hub: Hub<L>,
+    first: Seat<L>,
+    second: Seat<L>,
+    rest: Vec<Seat<L>>,
+    twin: Session,
+}
+
+fn begin<L: Roll>(alloc: Global, blank: Blank, owner: UserId) -> Option<Pair<L>>
+    requires { (blank.name ≡ L.name) × (blank.parts ≡ L.parts) × (blank.parts ≡ 2) }
+{
+    let session = Session::new(alloc, owner).ok()?;
+    let (hub, mut rest) = Hub::<L>::new(alloc, blank, Edition::Second, owner, session, 2).ok()?;
+    let second = rest.pop()?;
+    let first = rest.pop()?;
+    let twin = Session::new(alloc, owner).ok()?;
+    Some(Pair {
+        hub,
+        first,
+        second,
+        rest,
+        twin,
+    })
+}
+
+/// Whether both seats take what the session made, and are marked so.
+fn take_same<L: Roll, R: Wait>(rt: &R, pair: &mut Pair<L>, made: &[Effect], marks: bool) -> bool {
+    let (firsts, marked) = pair.hub.take(rt, &mut pair.first);
+    let (seconds, other) = pair.hub.take(rt, &mut pair.second);
+    took(firsts.as_slice(), made, false)
+        && took(seconds.as_slice(), made, true)
+        && marked == marks
+        && other == marks
+}
+
 /// Submits one step by its seat, and lets the session run it; then compares what both seats take.
 /// How many entries it wrote.
 fn step<L: Roll, R: Wait>(
     rt: &R,
-    hub: &Hub<L>,
-    seats: (&mut Seat<L>, &mut Seat<L>),
-    twin: &mut Session,
-    event: Event<'static>,
-    second: bool,
     alloc: Global,
+    pair: &mut Pair<L>,
+    event: Event<'static>,
+    is_second: bool,
 ) -> Option<usize> {
-    let (a, b) = seats;
     let mut made = Vec::new(alloc);
     let mut replies = Vec::new(alloc);
-    let ran = twin.run(&[event], &mut made, &mut replies);
-    if ran.stopped {
+    if pair.twin.run(&[event], &mut made, &mut replies).stopped {
         return None;
     }
     let reply = replies.as_slice().last()?;
-    let wrote = if second {
-        submit_all(rt, hub, b, event, reply)?
+    let seat = if is_second {
+        &mut pair.second
     } else {
-        submit_all(rt, hub, a, event, reply)?
+        &mut pair.first
     };
+    let wrote = submit_all(rt, &pair.hub, seat, event, reply)?;
     let marks = !matches!(event, Event::Draw { .. });
-    let (firsts, marked) = hub.take(rt, a);
-    let (seconds, other) = hub.take(rt, b);
-    let is_same = took(firsts.as_slice(), made.as_slice(), false)
-        && took(seconds.as_slice(), made.as_slice(), true);
-    if is_same && marked == marks && other == marks {
+    if take_same(rt, pair, made.as_slice(), marks) {
         Some(wrote)
     } else {
         None
     }
+}
+
+/// Does all steps: how many entries they wrote.
+fn all_steps<L: Roll, R: Wait>(
+    rt: &R,
+    alloc: Global,
+    pair: &mut Pair<L>,
+    owner: UserId,
+    bob: UserId,
+) -> Option<usize> {
+    let mut entries = 0usize;
+    for line in [b"multiuser on".as_slice(), b"acladd bob".as_slice()] {
+        let command = Event::Command {
+            user: owner,
+            window: None,
+            line,
+        };
+        entries = entries.saturating_add(step(rt, alloc, pair, command, false)?);
+    }
+    for turn in 0..TURNS {
+        for number in 0..STEPS {
+            let event = event_at(turn, number, owner, bob);
+            let is_second = second_submits(turn, number);
+            entries = entries.saturating_add(step(rt, alloc, pair, event, is_second)?);
+        }
+    }
+    Some(entries)
+}
+
+/// How many entries the trail has, if each has its receipt.
+fn close<L: Roll>(pair: Pair<L>) -> Option<usize> {
+    let Pair {
+        hub,
+        first,
+        second,
+        rest,
+        twin: _,
+    } = pair;
+    let mut seats = rest;
+    seats.push(first).ok()?;
+    seats.push(second).ok()?;
+    let (trail, wrong) = hub.close(seats);
+    if wrong.is_some() {
+        return None;
+    }
+    Some(trail.len())
 }
 
 /// Whether the seats take what the session made, over all steps, and the trail has the entries that
@@ -213,33 +289,9 @@ fn thousand<L: Roll, R: Wait>(
 ) -> Option<bool>
     requires { (blank.name ≡ L.name) × (blank.parts ≡ L.parts) × (blank.parts ≡ 2) }
 {
-    let session = Session::new(alloc, owner).ok()?;
-    let mut twin = Session::new(alloc, owner).ok()?;
-    let (hub, mut seats) = Hub::<L>::new(alloc, blank, Edition::Second, owner, session, 2).ok()?;
-    let mut b = seats.pop()?;
-    let mut a = seats.pop()?;
-    let mut entries = 0usize;
-    for line in [b"multiuser on".as_slice(), b"acladd bob".as_slice()] {
-        let command = Event::Command {
-            user: owner,
-            window: None,
-            line,
-        };
-        let wrote = step(rt, &hub, (&mut a, &mut b), &mut twin, command, false, alloc)?;
-        entries = entries.saturating_add(wrote);
-    }
-    for turn in 0..TURNS {
-        for number in 0..STEPS {
-            let event = event_at(turn, number, owner, bob);
-            let second = second_submits(turn, number);
-            let wrote = step(rt, &hub, (&mut a, &mut b), &mut twin, event, second, alloc)?;
-            entries = entries.saturating_add(wrote);
-        }
-    }
-    seats.push(a).ok()?;
-    seats.push(b).ok()?;
-    let (trail, wrong) = hub.close(seats);
-    Some(trail.len() == entries && wrong.is_none())
+    let mut pair = begin::<L>(alloc, blank, owner)?;
+    let entries = all_steps(rt, alloc, &mut pair, owner, bob)?;
+    Some(close(pair)? == entries)
 }
 
 #[test]

@@ -183,6 +183,14 @@ fn are(rects: &[Rect], places: &[Place]) -> bool {
     rects.len() == places.len()
 }
 
+fn is_status(rect: &Rect, rows: u16, columns: u16) -> bool {
+    (rect.line, rect.column, rect.rows, rect.columns) == (rows, 1, 1, columns)
+}
+
+fn shows(layout: &Layout, shown: &[Shown]) -> bool {
+    layout.shown() == shown
+}
+
 /// Whether a layout gives just what a row says, once its steps are played.
 fn gives(alloc: Global, layout: &mut Layout, row: &Row) -> Result<bool, RegionFault> {
     for step in row.steps {
@@ -194,8 +202,8 @@ fn gives(alloc: Global, layout: &mut Layout, row: &Row) -> Result<bool, RegionFa
         are(rects.boxes.as_slice(), row.boxes)
             && are(rects.separators.as_slice(), row.separators)
             && rects.focus == row.focus
-            && are(&[rects.status], &[(rows, 1, 1, columns)])
-            && layout.shown() == row.shown
+            && is_status(&rects.status, rows, columns)
+            && shows(layout, row.shown)
             && layout.focus() == row.focus
             && row.shown.get(row.focus).copied() == Some(layout.focused()),
     )

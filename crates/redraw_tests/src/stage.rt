@@ -239,13 +239,33 @@ impl Stage {
             _ => TEXTS[0],
         };
         let first = lines(alloc, &self.first)?;
-        let second = lines(alloc, &self.second)?;
-        let own = Pane::Readable(contents(0, &self.first, &first));
-        let other = if self.may_read {
-            Pane::Readable(contents(1, &self.second, &second))
+        let own = contents(0, &self.first, &first);
+        if self.may_read {
+            let second = lines(alloc, &self.second)?;
+            let other = contents(1, &self.second, &second);
+            composed(
+                alloc,
+                &rects,
+                Pane::Readable(own),
+                Pane::Readable(other),
+                text,
+            )
         } else {
-            Pane::Hidden { number: 1 }
-        };
-        compose(alloc, &rects, &[own, other, Pane::Empty], text)
+            let other = Pane::Hidden { number: 1 };
+            composed(alloc, &rects, Pane::Readable(own), other, text)
+        }
     }
+}
+
+/// The view of two panes and an empty one.
+fn composed<'a>(
+    alloc: Global,
+    rects: &Rects,
+    first: Pane<'a>,
+    second: Pane<'a>,
+    text: &[u8],
+) -> Result<View, AllocError>
+    ensures { IfOk result (HasSize rects.now.status.line rects.now.status.columns) }
+{
+    compose(alloc, rects, &[first, second, Pane::Empty], text)
 }
