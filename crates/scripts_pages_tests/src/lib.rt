@@ -4,6 +4,8 @@
 #[cfg(test)]
 mod draws;
 #[cfg(test)]
+mod split_cases;
+#[cfg(test)]
 mod splits;
 #[cfg(test)]
 mod views;

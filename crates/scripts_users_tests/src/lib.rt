@@ -12,3 +12,5 @@ mod first_path;
 mod judged;
 #[cfg(test)]
 mod several_users;
+#[cfg(test)]
+mod whole_pages;

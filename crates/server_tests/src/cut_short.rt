@@ -1,6 +1,6 @@
 //! Connections that stop or end at each byte.
 
-use crate::play::{Seen, Step, What, play};
+use crate::play::{Seen, Step, What, play_with};
 use attach_proto::Why;
 use server_stage::{ATTACH, DETACH, Habit, WALL, WINDOW};
 use std::alloc::{AllocError, Global};
@@ -60,20 +60,20 @@ fn cut(alloc: Global, frames: &[&[u8]], count: usize) -> Result<Cut, AllocError>
 
 /// A connection, 2, that sends these bytes and then does this, beside a window of the owner and his
 /// client, which types `k` at last. Noted is how many connections there were before.
-fn sends<R: Wait>(rt: &R, alloc: Global, bytes: &[u8], then: Step<'_>) -> Option<Seen> {
+fn sends<R: Wait>(rt: &R, alloc: Global, bytes: &[u8], then: Step) -> Option<Seen> {
     let steps = [
         Step::Peer(Habit::Whole, WINDOW),
         Step::Turns(2),
         Step::Peer(Habit::Whole, ATTACH),
         Step::Turns(2),
-        Step::Peer(Habit::Whole, bytes),
+        Step::Own(Habit::Whole),
         then,
         Step::Turns(3),
         Step::Note(What::Len),
         Step::Send(1, b"K\0\x01k"),
         Step::Turns(3),
     ];
-    play(rt, alloc, &steps)
+    play_with(rt, alloc, &steps, bytes)
 }
 
 /// Whether so many connections were there, these entries are in the trail, and what was typed in

@@ -16,7 +16,7 @@ const QUIT: &[u8] =
 fn is_over<R: Wait>(
     rt: &R,
     alloc: Global,
-    keys: &[u8],
+    keys: &'static [u8],
     forced: Option<End>,
     wanted: (usize, Why),
 ) -> Option<bool> {

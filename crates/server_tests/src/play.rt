@@ -13,19 +13,21 @@ const TRIES: usize = 2;
 
 /// A step. Peers have numbers, in the order in which they connect.
 #[derive(Clone, Copy)]
-pub enum Step<'a> {
+pub enum Step {
     /// A peer connects, and sends these bytes.
-    Peer(Habit, &'a [u8]),
+    Peer(Habit, &'static [u8]),
+    /// A peer connects, and sends the bytes that are given to the play.
+    Own(Habit),
     /// The same though no more are to stay.
-    Extra(&'a [u8]),
-    Send(usize, &'a [u8]),
+    Extra(&'static [u8]),
+    Send(usize, &'static [u8]),
     /// A frame of this kind, which has so many times this piece.
-    Fill(usize, u8, &'a [u8], usize),
+    Fill(usize, u8, &'static [u8], usize),
     Habit(usize, Habit),
     /// The connection ends behind what it sent.
     End(usize),
     /// The owner gives a command until it is done.
-    Command(&'a str),
+    Command(&'static str),
     /// So many turns, in each of which all connections are ready.
     Turns(usize),
     /// So many turns in which nothing comes, as long as there is something to do.
@@ -42,7 +44,7 @@ pub enum Step<'a> {
     Finish(Option<End>),
     Note(What),
     /// Steps, none of them `Repeat`, so many times.
-    Repeat(usize, &'a [Step<'a>]),
+    Repeat(usize, &'static [Step]),
 }
 
 /// What is noted, as a number.
@@ -155,7 +157,7 @@ fn due_turns<L: Roll, R: Wait>(rt: &R, stage: &mut Stage<L>, count: usize) -> us
 }
 
 /// Steps of the loop.
-fn pass<L: Roll, R: Wait>(rt: &R, stage: &mut Stage<L>, step: Step<'_>) {
+fn pass<L: Roll, R: Wait>(rt: &R, stage: &mut Stage<L>, step: Step) {
     match step {
         Step::Turns(count) => stage.turns(rt, count),
         Step::Rest(count) => for _ in 0..count {
@@ -190,7 +192,7 @@ impl Cast {
     }
 
     /// Steps of a peer.
-    fn behave(&self, step: Step<'_>) -> Result<(), Stop> {
+    fn behave(&self, step: Step) -> Result<(), Stop> {
         match step {
             Step::Send(peer, bytes) => self.peer(peer)?.send(bytes)?,
             Step::Fill(peer, kind, piece, times) => fill(self.peer(peer)?, kind, piece, times)?,
@@ -230,9 +232,11 @@ impl Cast {
         &mut self,
         rt: &R,
         stage: &mut Stage<L>,
-        step: Step<'_>,
+        step: Step,
+        own: &[u8],
     ) -> Result<(), Stop> {
         match step {
+            Step::Own(habit) => self.peers.push(stage.connect(habit, own)?)?,
             Step::Peer(habit, bytes) => self.peers.push(stage.connect(habit, bytes)?)?,
             Step::Extra(bytes) => self.peers.push(stage.connect_extra(bytes)?)?,
             Step::Command(line) => command_at_last(rt, stage, line)?,
@@ -262,7 +266,8 @@ impl Cast {
 pub fn act_all<L: Roll, R: Wait>(
     rt: &R,
     stage: &mut Stage<L>,
-    steps: &[Step<'_>],
+    steps: &[Step],
+    own: &[u8],
 ) -> Result<Seen, Stop> {
     let mut cast = Cast {
         peers: Vec::new(stage.alloc),
@@ -272,33 +277,39 @@ pub fn act_all<L: Roll, R: Wait>(
         if let Step::Repeat(times, steps) = *step {
             for _ in 0..times {
                 for step in steps {
-                    cast.act(rt, stage, *step)?;
+                    cast.act(rt, stage, *step, own)?;
                 }
             }
         } else {
-            cast.act(rt, stage, *step)?;
+            cast.act(rt, stage, *step, own)?;
         }
     }
     cast.seen(stage.alloc)
 }
 
-/// Steps that are played on a stage of their own.
+/// Steps that are played on a stage of their own, and the bytes that are given to them.
 #[derive(Drop)]
-struct Script<'a> {
-    steps: &'a [Step<'a>],
+struct Script<'a, 'b> {
+    steps: &'a [Step],
+    own: &'b [u8],
 }
 
-impl Play for Script<'_> {
+impl Play for Script<'_, '_> {
     type Left = Seen;
 
     fn play<L: Roll, R: Wait>(&mut self, rt: &R, stage: &mut Stage<L>) -> Result<Seen, Stop> {
-        act_all(rt, stage, self.steps)
+        act_all(rt, stage, self.steps, self.own)
     }
 }
 
-/// Plays steps on a new stage: what is seen.
-pub fn play<R: Wait>(rt: &R, alloc: Global, steps: &[Step<'_>]) -> Option<Seen> {
-    let (mut seen, entries) = perform(rt, alloc, &mut Script { steps }).ok()?;
+/// Plays steps on a new stage, to which these bytes are given: what is seen.
+pub fn play_with<R: Wait>(rt: &R, alloc: Global, steps: &[Step], own: &[u8]) -> Option<Seen> {
+    let (mut seen, entries) = perform(rt, alloc, &mut Script { steps, own }).ok()?;
     seen.entries = entries;
     Some(seen)
+}
+
+/// Plays steps on a new stage.
+pub fn play<R: Wait>(rt: &R, alloc: Global, steps: &[Step]) -> Option<Seen> {
+    play_with(rt, alloc, steps, b"")
 }

@@ -62,7 +62,7 @@ fn is_shown(alloc: Global, seen: &Seen, client: usize) -> Result<bool, Stop> {
 
 fn scene<L: Roll, R: Wait>(rt: &R, stage: &mut Stage<L>) -> Result<Left, Stop> {
     let alloc = stage.alloc;
-    let seen = act_all(rt, stage, &SCENE)?;
+    let seen = act_all(rt, stage, &SCENE, b"")?;
     let input = Received::of(alloc, seen.taken(0))?.input(alloc)?;
     let typed = b"xyz\x1b[1;8R".as_slice();
     Ok(Left {
