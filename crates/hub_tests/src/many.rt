@@ -7,7 +7,7 @@ ghost use Rattle.std.specs.Prelude.{◌≡◌, ◌≤◌};
 use crate::compare::{are_same, is_same_reply};
 use crate::side::read_by;
 use acl::{Edition, UserId};
-use hub::{Hub, Seat, Session};
+use hub::{Answer, Hub, Seat, Session};
 use session_model::{Effect, Event, Reply};
 use std::alloc::Global;
 use std::marker::Brand;
@@ -130,42 +130,6 @@ fn took(taken: &[Effect], made: &[Effect], second: bool) -> bool {
     next == taken.len()
 }
 
-/// Submits an event, and keys again until all are read. How many entries it wrote; `None` where the
-/// last answer hasn't this reply.
-fn submit_all<L: Roll, R: Wait>(
-    rt: &R,
-    hub: &Hub<L>,
-    seat: &mut Seat<L>,
-    event: Event<'static>,
-    reply: &Reply,
-) -> Option<usize> {
-    let Event::Keys { client, bytes } = event else {
-        let answer = hub.submit(rt, seat, event).ok()?;
-        if !is_same_reply(answer.reply(), reply) {
-            return None;
-        }
-        return Some(if answer.place().is_some() { 1 } else { 0 });
-    };
-    let mut rest = bytes;
-    for count in 1..100usize {
-        let keys = Event::Keys {
-            client,
-            bytes: rest,
-        };
-        let answer = hub.submit(rt, seat, keys).ok()?;
-        let read = read_by(answer.reply());
-        if read == 0 || rest.len() <= read {
-            return if is_same_reply(answer.reply(), reply) {
-                Some(count)
-            } else {
-                None
-            };
-        }
-        rest = &rest[read..];
-    }
-    None
-}
-
 /// A hub with two seats, and a session that runs what they submit.
 #[derive(Drop)]
 struct Pair<L: Roll> {
@@ -193,6 +157,56 @@ fn begin<L: Roll>(alloc: Global, blank: Blank, owner: UserId) -> Option<Pair<L>>
     })
 }
 
+/// Submits an event by one of the seats.
+fn submit<'a, L: Roll, R: Wait>(
+    rt: &R,
+    pair: &mut Pair<L>,
+    event: Event<'a>,
+    is_second: bool,
+) -> Option<Answer<'a>> {
+    if is_second {
+        pair.hub.submit(rt, &mut pair.second, event).ok()
+    } else {
+        pair.hub.submit(rt, &mut pair.first, event).ok()
+    }
+}
+
+/// Submits an event, and keys again until all are read. How many entries it wrote; `None` where the
+/// last answer hasn't this reply.
+fn submit_all<L: Roll, R: Wait>(
+    rt: &R,
+    pair: &mut Pair<L>,
+    event: Event<'static>,
+    is_second: bool,
+    reply: &Reply,
+) -> Option<usize> {
+    let Event::Keys { client, bytes } = event else {
+        let answer = submit(rt, pair, event, is_second)?;
+        if !is_same_reply(answer.reply(), reply) {
+            return None;
+        }
+        return Some(if answer.place().is_some() { 1 } else { 0 });
+    };
+    let mut rest = bytes;
+    for count in 1..100usize {
+        let keys = Event::Keys {
+            client,
+            bytes: rest,
+        };
+        let answer = submit(rt, pair, keys, is_second)?;
+        let read = read_by(answer.reply());
+        if read == 0 || rest.len() <= read {
+            return if is_same_reply(answer.reply(), reply) {
+                Some(count)
+            } else {
+                None
+            };
+        }
+        rest = &rest[read..];
+    }
+    None
+}
+
 /// Whether both seats take what the session made, and are marked so.
 fn take_same<L: Roll, R: Wait>(rt: &R, pair: &mut Pair<L>, made: &[Effect], marks: bool) -> bool {
     let (firsts, marked) = pair.hub.take(rt, &mut pair.first);
@@ -218,12 +232,7 @@ fn step<L: Roll, R: Wait>(
         return None;
     }
     let reply = replies.as_slice().last()?;
-    let seat = if is_second {
-        &mut pair.second
-    } else {
-        &mut pair.first
-    };
-    let wrote = submit_all(rt, &pair.hub, seat, event, reply)?;
+    let wrote = submit_all(rt, pair, event, is_second, reply)?;
     let marks = !matches!(event, Event::Draw { .. });
     if take_same(rt, pair, made.as_slice(), marks) {
         Some(wrote)

@@ -27,10 +27,15 @@ pub fn begin<L: Roll>(
     requires { (blank.name ≡ L.name) × (blank.parts ≡ L.parts) × (blank.parts ≡ 1) }
 {
     let session = match edition {
-        Edition::First => Session::first_edition(alloc, owner).ok()?,
-        Edition::Second => Session::new(alloc, owner).ok()?,
+        Edition::First => Session::first_edition(alloc, owner),
+        Edition::Second => Session::new(alloc, owner),
     };
-    let (hub, mut rest) = Hub::<L>::new(alloc, blank, edition, owner, session, 1).ok()?;
+    let Ok(session) = session else {
+        return None;
+    };
+    let Ok((hub, mut rest)) = Hub::<L>::new(alloc, blank, edition, owner, session, 1) else {
+        return None;
+    };
     let seat = rest.pop()?;
     Some(Side { hub, seat, rest })
 }

@@ -128,6 +128,16 @@ fn fill(far: &Far, kind: u8, piece: &[u8], times: usize) -> Result<(), Stop> {
     Ok(())
 }
 
+/// The number by which it is noted how a loop is to end.
+fn number_of(end: Option<End>) -> usize {
+    match end {
+        None => 0,
+        Some(End::Quit) => 1,
+        Some(End::TrailFull) => 2,
+        Some(End::Fault) => 3,
+    }
+}
+
 /// How many bytes a window's program has.
 fn input_len(alloc: Global, far: &Far) -> Result<usize, Stop> {
     let taken = far.taken(alloc)?;
@@ -209,17 +219,13 @@ impl Cast {
         stage: &mut Stage<L>,
         what: What,
     ) -> Result<usize, Stop> {
-        let peers = &stage.own.peers;
         Ok(match what {
-            What::Len => peers.len(),
-            What::IsDue => usize::from(peers.is_due()),
-            What::IsWaiting => usize::from(!peers.is_due() && peers.has_waiting()),
-            What::End => match peers.end() {
-                None => 0,
-                Some(End::Quit) => 1,
-                Some(End::TrailFull) => 2,
-                Some(End::Fault) => 3,
-            },
+            What::Len => stage.own.peers.len(),
+            What::IsDue => usize::from(stage.own.peers.is_due()),
+            What::IsWaiting => {
+                usize::from(!stage.own.peers.is_due() && stage.own.peers.has_waiting())
+            }
+            What::End => number_of(stage.own.peers.end()),
             What::Taken(peer) => self.peer(peer)?.taken(stage.alloc)?.len(),
             What::Input(peer) => input_len(stage.alloc, self.peer(peer)?)?,
             What::Calls(peer) => self.peer(peer)?.calls(),
@@ -236,11 +242,23 @@ impl Cast {
         own: &[u8],
     ) -> Result<(), Stop> {
         match step {
-            Step::Own(habit) => self.peers.push(stage.connect(habit, own)?)?,
-            Step::Peer(habit, bytes) => self.peers.push(stage.connect(habit, bytes)?)?,
-            Step::Extra(bytes) => self.peers.push(stage.connect_extra(bytes)?)?,
+            Step::Own(habit) => {
+                let far = stage.connect(habit, own)?;
+                self.peers.push(far)?;
+            }
+            Step::Peer(habit, bytes) => {
+                let far = stage.connect(habit, bytes)?;
+                self.peers.push(far)?;
+            }
+            Step::Extra(bytes) => {
+                let far = stage.connect_extra(bytes)?;
+                self.peers.push(far)?;
+            }
             Step::Command(line) => command_at_last(rt, stage, line)?,
-            Step::Note(what) => self.notes.push(self.noted(rt, stage, what)?)?,
+            Step::Note(what) => {
+                let number = self.noted(rt, stage, what)?;
+                self.notes.push(number)?;
+            }
             Step::Send(..) | Step::Fill(..) | Step::Habit(..) | Step::End(_) => self.behave(step)?,
             _ => pass(rt, stage, step),
         }
