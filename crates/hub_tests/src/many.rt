@@ -143,8 +143,12 @@ struct Pair<L: Roll> {
 fn begin<L: Roll>(alloc: Global, blank: Blank, owner: UserId) -> Option<Pair<L>>
     requires { (blank.name ≡ L.name) × (blank.parts ≡ L.parts) × (blank.parts ≡ 2) }
 {
-    let session = Session::new(alloc, owner).ok()?;
-    let (hub, mut rest) = Hub::<L>::new(alloc, blank, Edition::Second, owner, session, 2).ok()?;
+    let Ok(session) = Session::new(alloc, owner) else {
+        return None;
+    };
+    let Ok((hub, mut rest)) = Hub::<L>::new(alloc, blank, Edition::Second, owner, session, 2) else {
+        return None;
+    };
     let second = rest.pop()?;
     let first = rest.pop()?;
     let twin = Session::new(alloc, owner).ok()?;

@@ -3,7 +3,7 @@
 ghost use Rattle.std.specs.Prelude.{◌≡◌};
 
 use acl::{Edition, UserId};
-use hub::{Hub, Seat, Session, Trail};
+use hub::{Hub, HubFault, Seat, Session, Trail};
 use session_model::{Event, Reply};
 use std::alloc::Global;
 use std::sync::Wait;
@@ -26,14 +26,25 @@ pub fn begin<L: Roll>(
 ) -> Option<Side<L>>
     requires { (blank.name ≡ L.name) × (blank.parts ≡ L.parts) × (blank.parts ≡ 1) }
 {
-    let session = match edition {
-        Edition::First => Session::first_edition(alloc, owner),
-        Edition::Second => Session::new(alloc, owner),
-    };
-    let Ok(session) = session else {
-        return None;
-    };
-    let Ok((hub, mut rest)) = Hub::<L>::new(alloc, blank, edition, owner, session, 1) else {
+    match edition {
+        Edition::First => {
+            let Ok(session) = Session::first_edition(alloc, owner) else {
+                return None;
+            };
+            seated(Hub::<L>::new(alloc, blank, Edition::First, owner, session, 1))
+        }
+        Edition::Second => {
+            let Ok(session) = Session::new(alloc, owner) else {
+                return None;
+            };
+            seated(Hub::<L>::new(alloc, blank, Edition::Second, owner, session, 1))
+        }
+    }
+}
+
+// The hub and its seat.
+fn seated<L: Roll>(made: Result<(Hub<L>, Vec<Seat<L>>), HubFault>) -> Option<Side<L>> {
+    let Ok((hub, mut rest)) = made else {
         return None;
     };
     let seat = rest.pop()?;

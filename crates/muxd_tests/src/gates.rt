@@ -1,47 +1,92 @@
 //! A server whose loops are watched at each call that they submit.
 
-use crate::line::Line;
-use crate::site::{Site, clear, connected, serve};
-use server::Gate;
+use crate::line::{Line, OWN, token, write_private};
+use attach_proto::{Bytes, Message, Text, Why};
+use server::{Gate, Host, serve_through};
 use std::alloc::Global;
+use std::fs::{File, Files};
 use std::net::Net;
+use std::sync::Wait;
 use std::sync::atomic::{AtomicU64, Ordering};
 use std::test::Fail;
+use std::thread::Threads;
 use std::time::{Clock, Duration};
-use std::{io, thread};
+use std::{fs, io, thread};
 
 // So many milliseconds the call that comes first is held at most.
 const WAIT: usize = 30_000;
 
-const HELD: Site = Site {
-    words: &[
-        "muxd",
-        "--socket",
-        "muxd_gates.socket",
-        "--users",
-        "muxd_gates.users",
-        "--loops",
-        "2",
-    ],
-    socket: "muxd_gates.socket",
-    users: "muxd_gates.users",
-    lock: "muxd_gates.socket.lock",
-};
+/// What a server is begun with, and what the gates of its loops share.
+#[derive(Drop)]
+struct Watched<S> {
+    socket: &'static str,
+    users: &'static str,
+    loops: &'static str,
+    seen: S,
+}
 
-const MARKED: Site = Site {
-    words: &[
-        "muxd",
-        "--socket",
-        "muxd_marks.socket",
-        "--users",
-        "muxd_marks.users",
-        "--loops",
-        "3",
-    ],
-    socket: "muxd_marks.socket",
-    users: "muxd_marks.users",
-    lock: "muxd_marks.socket.lock",
-};
+// The words of the server, whose users' file has the owner alone.
+fn begun<R: Files, S>(rt: &R, alloc: Global, watched: &Watched<S>) -> io::Result<Vec<String>> {
+    let mut file = Vec::new(alloc);
+    for text in ["own ", OWN, "\n"] {
+        file.extend_from_slice(text.as_bytes())?;
+    }
+    write_private(rt, watched.users, &file)?;
+    let Watched {
+        socket,
+        users,
+        loops,
+        ..
+    } = watched;
+    let mut words = Vec::new(alloc);
+    for word in [
+        "muxd", "--socket", socket, "--users", users, "--loops", loops,
+    ] {
+        words.push(String::from_str(alloc, word)?)?;
+    }
+    Ok(words)
+}
+
+// Serves until the owner gives `quit`. Nothing that the server would print is looked at.
+fn serve<R, S, G>(rt: &R, runtime: HostRuntime, watched: &Watched<S>, gate: G) -> u8
+where
+    R: Clock + Net + Files<File = File> + AllocGlobal + Threads + Wait + Sync,
+    G: Gate + Copy + Sync + Drop,
+{
+    let Ok(words) = begun(rt, rt.alloc(), watched) else {
+        return 1;
+    };
+    let mut output: Vec<u8> = Vec::new(rt.alloc());
+    let mut errors: Vec<u8> = Vec::new(rt.alloc());
+    let host = Host { runtime, gate };
+    serve_through(rt, host, words.as_slice(), &mut output, &mut errors)
+}
+
+// What the server leaves: its users' file, and the lock beside its socket.
+fn clear<R: Files, S>(rt: &R, watched: &Watched<S>, lock: &str) -> io::Result<()> {
+    fs::remove_file(rt, watched.users)?;
+    fs::remove_file(rt, lock)
+}
+
+// A command of the owner.
+fn given(alloc: Global, line: &str) -> io::Result<Message> {
+    Ok(Message::Command {
+        window: None,
+        token: token(OWN)?,
+        name: Text::new(alloc, "own")?,
+        line: Bytes::new(alloc, line.as_bytes())?,
+    })
+}
+
+// The owner's connection, which gives a command.
+fn giver<R: Net + Clock>(rt: &R, alloc: Global, path: &str, line: &str) -> io::Result<Line> {
+    Line::new(rt, alloc, path, &given(alloc, line)?)
+}
+
+// The server is told to end.
+fn quit<R: Net + Clock>(rt: &R, alloc: Global, path: &str) -> io::Result<bool> {
+    Ok(giver(rt, alloc, path, "quit")?.gone()? == Why::Detached)
+}
 
 /// What the gates of two loops share.
 #[derive(Drop)]
@@ -93,37 +138,25 @@ impl Gate for Latch<'_> {
     }
 }
 
-// Waits until a call is held, as long as one is held at most.
-fn await_held<R: Clock>(rt: &R, held: &Held) {
+// Whether two commands that are given at the same time are done. The second loop's is held when the
+// first loop's comes: were the first one held, nobody would take the second connection in.
+fn two_at_once<R: Net + Clock>(rt: &R, alloc: Global, path: &str, held: &Held) -> io::Result<bool> {
+    let mut first = Line::silent(rt, alloc, path)?;
+    let mut second = giver(rt, alloc, path, "wall b")?;
     for _ in 0..WAIT {
         if held.begun.load(Ordering::SeqCst) != 0 {
-            return;
+            break;
         }
         thread::sleep(rt, Duration::from_millis(1));
     }
+    first.send(&given(alloc, "wall a")?)?;
+    Ok(first.gone()? == Why::Detached && second.gone()? == Why::Detached)
 }
 
-// Two connections give a command at the same time. The second loop's is held when the first loop's
-// comes: were the first one held, nobody would take the second connection in.
-fn two_at_once<R: Clock>(
-    rt: &R,
-    first: &mut Line,
-    second: &mut Line,
-    held: &Held,
-) -> io::Result<bool> {
-    second.asks(None, "wall b")?;
-    await_held(rt, held);
-    first.asks(None, "wall a")?;
-    Ok(first.is_done()? && second.is_done()?)
-}
-
-// Whether both commands are done, and the server ends, which it is told whatever became of them.
-fn run_two<R: Net + Clock>(rt: &R, alloc: Global, held: &Held) -> Option<bool> {
-    let mut lines = connected(rt, alloc, &HELD, 3).ok()?;
-    let (mut last, mut second, mut first) = (lines.pop()?, lines.pop()?, lines.pop()?);
-    let done = two_at_once(rt, &mut first, &mut second, held);
-    let has_ended = last.gives(None, "quit").ok()?;
-    Some(done.ok()? && has_ended)
+// Tells the server to end, whatever became of what was done before. Whether both went well.
+fn end<R: Net + Clock>(rt: &R, alloc: Global, path: &str, done: io::Result<bool>) -> Option<bool> {
+    let has_ended = quit(rt, alloc, path).ok()?;
+    done.ok().map(|is_done| is_done && has_ended)
 }
 
 /// Refused here are a server that hands all connections to one loop, and loops that hold a lock
@@ -131,29 +164,43 @@ fn run_two<R: Net + Clock>(rt: &R, alloc: Global, held: &Held) -> Option<bool> {
 #[test]
 fn no_loop_waits_for_anothers_turn(rt: HostRuntime) -> Result<(), Fail> {
     let alloc = rt.alloc();
-    let held = Held {
-        begun: AtomicU64::new(0),
-        first: AtomicU64::new(0),
-        second: AtomicU64::new(0),
-        missed: AtomicU64::new(0),
+    let watched = Watched {
+        socket: "muxd_gates.socket",
+        users: "muxd_gates.users",
+        loops: "2",
+        seen: Held {
+            begun: AtomicU64::new(0),
+            first: AtomicU64::new(0),
+            second: AtomicU64::new(0),
+            missed: AtomicU64::new(0),
+        },
     };
     let shared = &rt;
-    let seen = &held;
+    let server = &watched;
     let (status, is_right) = thread::join(
         shared,
         || {
             let latch = Latch {
                 runtime: rt,
-                held: seen,
+                held: &server.seen,
                 is_first: false,
             };
-            serve(shared, rt, &HELD, latch)
+            serve(shared, rt, server, latch)
         },
-        || run_two(shared, alloc, seen),
+        || {
+            let done = two_at_once(shared, alloc, server.socket, &server.seen);
+            end(shared, alloc, server.socket, done)
+        },
     );
-    clear(&rt, &HELD)?;
-    let missed = held.missed.load(Ordering::SeqCst);
-    assert_eq!(rt; (status, is_right, missed), (0, Some(true), 0));
+    clear(&rt, &watched, "muxd_gates.socket.lock")?;
+    assert_eq!(rt;
+        is_right,
+        Some(true),
+        "both commands are done, and the server ends"
+    );
+    let missed = watched.seen.missed.load(Ordering::SeqCst);
+    assert_eq!(rt; missed, 0, "the first call is held in vain");
+    assert_eq!(rt; status, 0);
     Ok(())
 }
 
@@ -178,35 +225,49 @@ impl Gate for Mark<'_> {
     }
 }
 
-// Whether all connections but the last give a command one after the other, and the last one `quit`.
-fn run_seven<R: Net + Clock>(rt: &R, alloc: Global) -> Option<bool> {
-    let mut lines = connected(rt, alloc, &MARKED, 7).ok()?;
-    let mut last = lines.pop()?;
-    let mut are_done = true;
-    for line in lines.iter_mut() {
-        are_done = are_done && matches!(line.gives(None, "wall a"), Ok(true));
+// Whether six commands that are given one after the other are done.
+fn six_in_turn<R: Net + Clock>(rt: &R, alloc: Global, path: &str) -> io::Result<bool> {
+    for _ in 0..6 {
+        if giver(rt, alloc, path, "wall a")?.gone()? != Why::Detached {
+            return Ok(false);
+        }
     }
-    let has_ended = last.gives(None, "quit").ok()?;
-    Some(are_done && has_ended)
+    Ok(true)
 }
 
 #[test]
 fn connections_go_to_the_loops_in_turn(rt: HostRuntime) -> Result<(), Fail> {
     let alloc = rt.alloc();
-    let calls = AtomicU64::new(0);
+    let watched = Watched {
+        socket: "muxd_marks.socket",
+        users: "muxd_marks.users",
+        loops: "3",
+        seen: AtomicU64::new(0),
+    };
     let shared = &rt;
-    let seen = &calls;
+    let server = &watched;
     let (status, is_right) = thread::join(
         shared,
         || {
-            let mark = Mark { seen, digit: 9 };
-            serve(shared, rt, &MARKED, mark)
+            let mark = Mark {
+                seen: &server.seen,
+                digit: 9,
+            };
+            serve(shared, rt, server, mark)
         },
-        || run_seven(shared, alloc),
+        || {
+            let done = six_in_turn(shared, alloc, server.socket);
+            end(shared, alloc, server.socket, done)
+        },
     );
-    clear(&rt, &MARKED)?;
-    // (loops 0, 1, 2 and so on, quit the last)
-    let seen = calls.load(Ordering::SeqCst);
-    assert_eq!(rt; (status, is_right, seen), (0, Some(true), 120_120));
+    clear(&rt, &watched, "muxd_marks.socket.lock")?;
+    assert_eq!(rt;
+        is_right,
+        Some(true),
+        "all commands are done, and the server ends"
+    );
+    let seen = watched.seen.load(Ordering::SeqCst);
+    assert_eq!(rt; seen, 120_120, "loops 0, 1, 2 and so on, quit the last");
+    assert_eq!(rt; status, 0);
     Ok(())
 }

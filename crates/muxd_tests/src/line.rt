@@ -5,8 +5,10 @@ use cells::Cell;
 use emulator::Emulator;
 use std::alloc::Global;
 use std::collections::VecDeque;
+use std::fs::{Files, OpenOptions};
 use std::io::{ErrorKind, Read, Write};
 use std::net::Net;
+use std::os::unix::fs::OpenOptionsExt;
 use std::os::unix::net::UnixStream;
 use std::time::{Clock, Duration};
 use std::{io, thread};
@@ -18,10 +20,8 @@ pub const ROWS: u16 = 24;
 
 pub const COLUMNS: u16 = 80;
 
-/// The tokens of the owner and of bob.
+/// The owner's token.
 pub const OWN: &str = "0000000000000000000000000000000000000000000000000000000000000000";
-
-pub const BOB: &str = "000000000000000000000000000000000000000000000000000000000000000b";
 
 // The lines above a client's caption and status line.
 const REGION: usize = 22;
@@ -51,34 +51,36 @@ fn connect<R: Net + Clock>(rt: &R, path: &str) -> io::Result<UnixStream> {
     Err(fault())
 }
 
+/// Makes a file that its owner alone reads and writes.
+pub fn write_private<R: Files>(rt: &R, path: &str, bytes: &[u8]) -> io::Result<()> {
+    let mut file = OpenOptions::new()
+        .write(true)
+        .create(true)
+        .truncate(true)
+        .mode(0o600)
+        .open(rt, path)?;
+    file.write_all(bytes)
+}
+
 pub fn token(digits: &str) -> io::Result<Token> {
-    match Token::read(digits.as_bytes()) {
-        Some(token) => Ok(token),
-        None => Err(fault()),
-    }
+    Token::read(digits.as_bytes()).ok_or(fault())
 }
 
 fn terminal(alloc: Global) -> io::Result<Emulator> {
-    match Emulator::new(alloc, usize::from(ROWS), usize::from(COLUMNS), 0) {
-        Ok(terminal) => Ok(terminal),
-        Err(_) => Err(fault()),
-    }
+    Emulator::new(alloc, usize::from(ROWS), usize::from(COLUMNS), 0).map_err(|_| fault())
 }
 
 // Whether a line has these characters, and blanks behind them.
 fn is_line(line: &[Cell], text: &[u8]) -> bool {
-    for (place, cell) in line.iter().enumerate() {
+    line.iter().enumerate().all(|(place, cell)| {
         let wanted = text.get(place).copied().unwrap_or(b' ');
-        if cell.glyph() != char::from(wanted) {
-            return false;
-        }
-    }
-    true
+        cell.glyph() == char::from(wanted)
+    })
 }
 
 impl Line {
     /// A connection on which nothing was said yet.
-    pub fn new<R: Net + Clock>(rt: &R, alloc: Global, path: &str) -> io::Result<Line> {
+    pub fn silent<R: Net + Clock>(rt: &R, alloc: Global, path: &str) -> io::Result<Line> {
         let stream = connect(rt, path)?;
         stream.set_read_timeout(Some(Duration::from_secs(10)))?;
         Ok(Line {
@@ -88,6 +90,18 @@ impl Line {
             came: VecDeque::new(alloc),
             terminal: terminal(alloc)?,
         })
+    }
+
+    /// A connection that begins with this message.
+    pub fn new<R: Net + Clock>(
+        rt: &R,
+        alloc: Global,
+        path: &str,
+        first: &Message,
+    ) -> io::Result<Line> {
+        let mut line = Line::silent(rt, alloc, path)?;
+        line.send(first)?;
+        Ok(line)
     }
 
     pub fn send(&mut self, message: &Message) -> io::Result<()> {
@@ -118,10 +132,9 @@ impl Line {
 
     fn read_draw(&mut self, bytes: &[u8]) -> io::Result<()> {
         let mut answers = Vec::new(self.alloc);
-        match self.terminal.feed_all(bytes, &mut answers) {
-            Ok(()) => Ok(()),
-            Err(_) => Err(fault()),
-        }
+        self.terminal
+            .feed_all(bytes, &mut answers)
+            .map_err(|_| fault())
     }
 
     // The region shows this line at its top, and nothing below.
@@ -136,35 +149,8 @@ impl Line {
         true
     }
 
-    /// Joins by this message.
-    pub fn joins(&mut self, first: &Message) -> io::Result<()> {
-        self.send(first)?;
-        match self.next()? {
-            Message::Welcome(_) => Ok(()),
-            _ => Err(fault()),
-        }
-    }
-
-    /// Sends a command of the owner, for window 0 or none.
-    pub fn asks(&mut self, window: Option<u8>, line: &str) -> io::Result<()> {
-        let command = Message::Command {
-            window,
-            token: token(OWN)?,
-            name: Text::new(self.alloc, "own")?,
-            line: Bytes::new(self.alloc, line.as_bytes())?,
-        };
-        self.send(&command)
-    }
-
-    /// Whether the command that was sent is done.
-    pub fn is_done(&mut self) -> io::Result<bool> {
-        Ok(self.gone()? == Why::Detached)
-    }
-
-    /// Gives a command: whether it is done.
-    pub fn gives(&mut self, window: Option<u8>, line: &str) -> io::Result<bool> {
-        self.asks(window, line)?;
-        self.is_done()
+    pub fn is_welcome(&mut self) -> io::Result<bool> {
+        Ok(matches!(self.next()?, Message::Welcome(_)))
     }
 
     pub fn types(&mut self, bytes: &[u8]) -> io::Result<()> {
@@ -221,4 +207,23 @@ impl Line {
         }
         Err(fault())
     }
+}
+
+/// A command of the owner, for window 0 or none: whether it was done.
+pub fn command<R: Net + Clock>(
+    rt: &R,
+    alloc: Global,
+    path: &str,
+    digits: &str,
+    window: Option<u8>,
+    line: &str,
+) -> io::Result<bool> {
+    let first = Message::Command {
+        window,
+        token: token(digits)?,
+        name: Text::new(alloc, "own")?,
+        line: Bytes::new(alloc, line.as_bytes())?,
+    };
+    let why = Line::new(rt, alloc, path, &first)?.gone()?;
+    Ok(why == Why::Detached)
 }

@@ -1,10 +1,10 @@
 //! A client whose writes stop inside its first draw, and the same user's next one.
 
-use crate::play::{Seen, Step, play};
 use attach_proto::Message;
-use server_stage::{Habit, Received, WINDOW, are_alike, shows};
-use std::alloc::Global;
+use server_stage::{Habit, Play, Received, Stage, Stop, WINDOW, are_alike, perform, shows};
 use std::sync::Wait;
+use std::sync::ledger::Ledger as Roll;
+use std::test::Fail;
 
 /// The size of the clients' terminals.
 const SIZE: (usize, usize) = (24, 80);
@@ -13,64 +13,54 @@ const SIZE: (usize, usize) = (24, 80);
 const ATTACH: &[u8] =
     b"A\0G\0\x18\0P0000000000000000000000000000000000000000000000000000000000000000own";
 
-/// Two clients of the owner, 1 and 2, of which the first takes so many bytes.
-fn broken<R: Wait>(rt: &R, alloc: Global, most: usize) -> Option<Seen> {
-    let steps = [
-        Step::Peer(Habit::Whole, WINDOW),
-        Step::Send(0, b"O\0\x02hi"),
-        Step::Turns(3),
-        Step::Peer(Habit::Takes(most), ATTACH),
-        Step::Turns(3),
-        Step::Peer(Habit::Whole, ATTACH),
-        Step::Turns(3),
-    ];
-    play(rt, alloc, &steps)
-}
-
-/// The bytes of a draw, if a client was welcome and drawn once.
-fn one_draw(alloc: Global, taken: &[u8]) -> Option<Vec<u8>> {
-    let received = Received::of(alloc, taken).ok()?;
-    match received.messages.as_slice() {
-        [Message::Welcome(0), Message::Draw(_)] => received.drawn(alloc).ok(),
-        _ => None,
-    }
-}
-
-/// Whether the second client is drawn as a first one, and shows the same as a terminal does that had
-/// read what the first one took.
-fn is_drawn_anew<R: Wait>(
-    rt: &R,
-    alloc: Global,
-    whole: &[u8],
-    draw: &[u8],
+/// Of two clients of the owner the first takes so many bytes.
+#[derive(Drop)]
+struct Broken {
     most: usize,
-) -> Option<bool> {
-    let seen = broken(rt, alloc, most)?;
-    // A WELCOME takes four bytes, and what stands before a draw's bytes three.
-    let read = draw.get(..most.saturating_sub(7)).unwrap_or(draw);
-    Some(
-        Some(seen.taken(1)) == whole.get(..most)
-            && seen.taken(2) == whole
-            && are_alike(alloc, SIZE, &[draw], &[read, draw]) == Ok(true),
-    )
 }
 
-fn all_are_drawn_anew<R: Wait>(rt: &R, alloc: Global) -> Option<bool> {
-    let seen = broken(rt, alloc, usize::MAX)?;
-    let whole = seen.taken(1);
-    let draw = one_draw(alloc, whole)?;
-    if shows(alloc, SIZE, &draw, "hi", "") != Ok(true) {
-        return Some(false);
+impl Play for Broken {
+    /// What both were sent.
+    type Left = (Vec<u8>, Vec<u8>);
+
+    fn play<L: Roll, R: Wait>(
+        &mut self,
+        rt: &R,
+        stage: &mut Stage<L>,
+    ) -> Result<(Vec<u8>, Vec<u8>), Stop> {
+        let window = stage.connect(Habit::Whole, WINDOW)?;
+        window.send(b"O\0\x02hi")?;
+        stage.turns(rt, 3);
+        let first = stage.connect(Habit::Takes(self.most), ATTACH)?;
+        stage.turns(rt, 3);
+        let second = stage.connect(Habit::Whole, ATTACH)?;
+        stage.turns(rt, 3);
+        Ok((first.taken(stage.alloc)?, second.taken(stage.alloc)?))
     }
-    for most in 0..whole.len() {
-        if is_drawn_anew(rt, alloc, whole, &draw, most) != Some(true) {
-            return Some(false);
-        }
-    }
-    Some(true)
 }
 
 #[test]
-fn a_second_attachment_is_drawn_anew(rt: HostRuntime) {
-    assert_eq!(rt; all_are_drawn_anew(&rt, rt.alloc()), Some(true));
+fn a_second_attachment_is_drawn_anew(rt: HostRuntime) -> Result<(), Fail> {
+    let alloc = rt.alloc();
+    let ((whole, _), _) = perform(&rt, alloc, &mut Broken { most: usize::MAX })?;
+    let received = Received::of(alloc, &whole)?;
+    let is_one_draw = matches!(
+        received.messages.as_slice(),
+        [Message::Welcome(0), Message::Draw(_)]
+    );
+    assert!(rt; is_one_draw, "it is welcome, and drawn once");
+    let draw = received.drawn(alloc)?;
+    assert!(rt; shows(alloc, SIZE, &draw, "hi", "")?, "the page");
+    for most in 0..whole.len() {
+        let ((first, second), _) = perform(&rt, alloc, &mut Broken { most })?;
+        assert_eq!(rt; first.as_slice(), &whole[..most], "at {most}");
+        assert_eq!(rt; second.as_slice(), whole.as_slice(), "at {most}");
+        // A WELCOME takes four bytes, and what stands before a draw's bytes three.
+        let read = draw.get(..most.saturating_sub(7)).unwrap_or(&draw);
+        assert!(rt;
+            are_alike(alloc, SIZE, &[&draw], &[read, &draw])?,
+            "at {most}"
+        );
+    }
+    Ok(())
 }

@@ -1,12 +1,13 @@
 //! What stops a file.
 
-use crate::trail_disk::Disk;
-use crate::trail_entries::{entry, long_entry};
+use crate::disk::Disk;
+use crate::entries::{entry, long_entry};
 use acl::UserId;
 use server_trail::{Recorder, Stopped};
 use std::alloc::Global;
 use std::ops::Range;
 use std::sync::Wait;
+use std::test::*;
 use std::time::Clock;
 use trail_audit::Cause;
 

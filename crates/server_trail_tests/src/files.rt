@@ -1,11 +1,12 @@
 //! Lines of several loops, a slow file and one that refuses, read back.
 
-use crate::trail_disk::Disk;
-use crate::trail_entries::{entry, trail};
+use crate::disk::Disk;
+use crate::entries::{entry, trail};
 use acl::UserId;
 use server_trail::{Recorder, begin, header_of, is_trail};
 use std::alloc::Global;
 use std::sync::Wait;
+use std::test::*;
 use std::thread;
 use std::thread::Threads;
 use std::time::Clock;
@@ -91,37 +92,36 @@ fn is_of_two(alloc: Global, file: &[u8]) -> Option<bool> {
     is_trail(alloc, &mut &*file, &entries).ok()
 }
 
-/// Files, and whether they are that trail.
-static FILES: [(&[u8], bool); 6] = [
-    (
-        b"mux-trail 1 2 own 0.1.0 7\n0 5 keys 0 ok:1:0:0\n1 6 keys 1 ok:1:0:0\nend 2 9 quit\n",
-        true,
-    ),
-    (
-        b"mux-trail 1 2 own 0.1.0 7\n0 5 keys 0 ok:1:0:0\n1 6 keys 2 ok:1:0:0\nend 2 9 quit\n",
-        false,
-    ),
-    (
-        b"mux-trail 1 2 own 0.1.0 7\n0 5 keys 0 ok:1:0:0\n1 6 keys 1 ok:1:0:0\nend 3 9 quit\n",
-        false,
-    ),
-    (
-        b"mux-trail 1 2 own 0.1.0 7\n0 5 keys 0 ok:1:0:0\n1 6 keys 1 ok:1:0:0\n",
-        false,
-    ),
-    (
-        b"mux-trail 1 2 own 0.1.0 7\n0 5 keys 0 ok:1:0:0\n1 6 keys 1 ok:1:0:0\nend 2 9 quit",
-        false,
-    ),
-    (
-        b"0 5 keys 0 ok:1:0:0\n1 6 keys 1 ok:1:0:0\nend 2 9 quit\n",
-        false,
-    ),
-];
-
 #[test]
 fn other_files_are_refused(rt: HostRuntime) {
-    for (file, want) in FILES {
-        assert_eq!(rt; is_of_two(rt.alloc(), file), Some(want));
+    let alloc = rt.alloc();
+    let files: [(&[u8], bool); 6] = [
+        (
+            b"mux-trail 1 2 own 0.1.0 7\n0 5 keys 0 ok:1:0:0\n1 6 keys 1 ok:1:0:0\nend 2 9 quit\n",
+            true,
+        ),
+        (
+            b"mux-trail 1 2 own 0.1.0 7\n0 5 keys 0 ok:1:0:0\n1 6 keys 2 ok:1:0:0\nend 2 9 quit\n",
+            false,
+        ),
+        (
+            b"mux-trail 1 2 own 0.1.0 7\n0 5 keys 0 ok:1:0:0\n1 6 keys 1 ok:1:0:0\nend 3 9 quit\n",
+            false,
+        ),
+        (
+            b"mux-trail 1 2 own 0.1.0 7\n0 5 keys 0 ok:1:0:0\n1 6 keys 1 ok:1:0:0\n",
+            false,
+        ),
+        (
+            b"mux-trail 1 2 own 0.1.0 7\n0 5 keys 0 ok:1:0:0\n1 6 keys 1 ok:1:0:0\nend 2 9 quit",
+            false,
+        ),
+        (
+            b"0 5 keys 0 ok:1:0:0\n1 6 keys 1 ok:1:0:0\nend 2 9 quit\n",
+            false,
+        ),
+    ];
+    for (file, want) in files {
+        assert_eq!(rt; is_of_two(alloc, file), Some(want));
     }
 }

@@ -5,6 +5,7 @@ use server_stage::{ATTACH, Habit, Play, Received, Stage, Stop, WINDOW, perform};
 use std::alloc::{AllocError, Global};
 use std::sync::Wait;
 use std::sync::ledger::Ledger as Roll;
+use std::test::Fail;
 
 const LISTS: usize = 10_000;
 
@@ -190,19 +191,26 @@ impl Play for Lists {
     }
 }
 
-/// Whether each list is answered as it is due, and what the client types then is typed into its
-/// window.
-fn stop_nothing<R: Wait>(rt: &R, alloc: Global) -> Result<bool, Stop> {
+#[test]
+fn made_up_lists_stop_nothing(rt: HostRuntime) -> Result<(), Fail> {
+    let alloc = rt.alloc();
     let mut lists = Lists {
         numbers: Numbers { state: 1 },
     };
-    let (left, _) = perform(rt, alloc, &mut lists)?;
-    let window = Received::of(alloc, &left.window)?.input(alloc)?;
-    let client = Received::of(alloc, &left.client)?.gone();
-    Ok(left.wrong.is_none() && window.ends_with(b"still") && client.is_none())
-}
-
-#[test]
-fn made_up_lists_stop_nothing(rt: HostRuntime) {
-    assert_eq!(rt; stop_nothing(&rt, rt.alloc()), Ok(true));
+    let (left, _) = perform(&rt, alloc, &mut lists)?;
+    assert_eq!(rt;
+        left.wrong.as_deref(),
+        None,
+        "each is answered as it is due"
+    );
+    let window = Received::of(alloc, &left.window)?;
+    assert!(rt;
+        window.input(alloc)?.ends_with(b"still"),
+        "it is typed into its window"
+    );
+    assert!(rt;
+        Received::of(alloc, &left.client)?.gone().is_none(),
+        "the client stays"
+    );
+    Ok(())
 }
