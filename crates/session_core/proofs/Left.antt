@@ -1,5 +1,5 @@
 -- What is left of shared frames behind a step.
-use Rattle.std.proofs.Common.{◌≡◌, ℕ, List, [], Option, Some, None, Ok, Err, refl, ap, sym, ◌∙◌, subst}
+use Rattle.std.proofs.Common.{◌≡◌, ℕ, List, [], Option, Some, None, Ok, Err, refl, ap, sym, ◌∙◌, subst, inl, inr}
 use Rattle.std.specs.Prelude.{is_ok}
 use Rattle.terminal_model.specs.Shows.{View}
 use Rattle.session_model.specs.declared.refusal.Refusal.TheVariants.{NoWindow}
@@ -37,7 +37,15 @@ module _ (t u : Tables) (same : u.clients ≡ t.clients) where
   know_still : (known : Option View) (ns : List ℕ) → AllKnow t known ns → AllKnow u known ns
   know_still known ns all = all_weaken (Knows t known) (Knows u known) ns (λ n knows d at. knows d (ap (λ cs. row_of serial_of cs n) (sym same) ∙ at)) all
 
-  -- the followers were drawn the same
+  -- some clients were drawn this last, and there is no frame
+  left_alike : (new : Sharing) (known : Option View) (ns : List ℕ) → new.lead ≡ None → AllKnow t known ns → new.alike.items ≡ ns → IsShared u new
+  left_alike new known ns none all are = record {
+    known = known;
+    alike = subst (AllKnow u known) (sym are) (know_still known ns all);
+    lead = subst (IsLeadIfAny u known new.followers.items) (sym none) tt;
+  }
+
+  -- the followers were drawn the same, or the others
   passed_on : (old new : Sharing) (o : Option Lead) → old.lead ≡ o → IsShared t old → PassesOn o old new → IsShared u new
   passed_on old new None at is passes = subst (IsShared u) (sym passes) (record {
     known = is.known;
@@ -45,11 +53,10 @@ module _ (t u : Tables) (same : u.clients ≡ t.clients) where
     lead = subst (IsLeadIfAny u is.known old.followers.items) (sym at) tt;
   })
   passed_on old new (Some l) at is passes =
-      let lead : IsLead t is.known old.followers.items l = subst (IsLeadIfAny t is.known old.followers.items) at is.lead in record {
-        known = Some l.frame.view;
-        alike = subst (AllKnow u (Some l.frame.view)) (sym passes.1) (know_still (Some l.frame.view) old.followers.items lead.follow);
-        lead = subst (IsLeadIfAny u (Some l.frame.view) new.followers.items) (sym passes.0) tt;
-      }
+      let lead : IsLead t is.known old.followers.items l = subst (IsLeadIfAny t is.known old.followers.items) at is.lead in elim passes.1 [
+        | inl followed ↦ left_alike new (Some l.frame.view) old.followers.items passes.0 lead.follow followed
+        | inr stayed ↦ left_alike new is.known old.alike.items passes.0 is.alike stayed
+      ]
 
 module _ (t : Tables) (e : Entry) (step : IsStep t e) (old mid new : Sharing) (is : IsShared t old) where
   pub stay_shared : StayShared e.event old mid (after t e) → AreLeft e.reply e.event mid new → IsShared (after t e) new

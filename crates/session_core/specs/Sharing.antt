@@ -69,11 +69,13 @@ abbrev pub SharesOrForgets : ℕ → Made → Sharing → Sharing → Type 0
 SharesOrForgets client f old new =
     Begins (record { client = client; frame = f }) old new ⊎ Forgets client old new
 
--- behind an output the followers are those that were drawn the same
+-- behind an output the followers are those that were drawn the same, or those who were before the
+-- frame still are
 abbrev pub PassesOn : Option Lead → Sharing → Sharing → Type 0
 PassesOn None old new = new ≡ old
 PassesOn (Some l) old new =
-    (new.lead ≡ None) × (new.alike.items ≡ old.followers.items)
+    (new.lead ≡ None)
+    × ((new.alike.items ≡ old.followers.items) ⊎ (new.alike.items ≡ old.alike.items))
 
 -- what is left of them behind a step: all where it was refused or a Draw, which has changed them
 -- itself, and none where it was another event than an output

@@ -103,13 +103,16 @@ impl Sharing {
         mem::replace(&mut self.lead, Some(lead))
     }
 
-    /// The followers are those that were drawn the same last now. The frame that there was.
+    /// Nobody follows the frame any more: the followers are those that were drawn the same last
+    /// now, unless more clients are left of those that were. The frame that there was.
     fn pass_on(&mut self) -> Option<Lead>
         ensures lead { result ≡ self.old.lead }
         ensures passes { PassesOn self.old.lead self.old self.new }
     {
         let lead = self.lead.take()?;
-        mem::swap(&mut self.alike, &mut self.followers);
+        if self.alike.len() <= self.followers.len() {
+            mem::swap(&mut self.alike, &mut self.followers);
+        }
         self.followers.clear();
         Some(lead)
     }
