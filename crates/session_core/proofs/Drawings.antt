@@ -1,6 +1,5 @@
 -- Draws by frames that are shared or not.
-use Rattle.std.proofs.Common.{◌≡◌, ℕ, ◌++◌, Bool, true, false, List, Option, Some, None, Err, refl, ap, sym, ◌∙◌, subst}
-use Rattle.std.specs.Prelude.{◌⊎◌}
+use Rattle.std.proofs.Common.{◌≡◌, ℕ, ◌++◌, Bool, List, Some, None, Err, ap, sym, ◌∙◌, subst}
 use Rattle.redraw.specs.Frames.{Made}
 use Rattle.session_model.specs.declared.event.Effect.{Effect}
 use Rattle.session_model.specs.declared.refusal.Refusal.{Refusal}
@@ -15,7 +14,7 @@ use Rattle.session_state.specs.declared.state.State.{State}
 use Rattle.session_state.specs.Stands.{Stands}
 use Rattle.session_state.specs.Doing.{IsAsBefore}
 use Rattle.session_view.specs.declared.following.Lead.{Lead}
-use Rattle.session_view.specs.Drawn.{HasDrawn, HasDrawnSo, IsSomething, IsNothing, IsDrawnBy, DrawsBy, IsRefusedFor}
+use Rattle.session_view.specs.Drawn.{HasDrawnSo, IsSomething, IsNothing, IsDrawnBy, DrawsBy, IsRefusedFor}
 use Rattle.session_view.specs.Following.{DrawsLike, Knows}
 use Rattle.session_core.specs.declared.sharing.Sharing.{Sharing}
 use Rattle.session_core.specs.Sharing.{IsLead, IsLeadIfAny, IsShared, is_one_of, Joins, SharesOrForgets}

@@ -2,11 +2,9 @@
 use Rattle.std.proofs.Common.{◌≡◌, ℕ, List, [], Option, Some, None, Ok, Err, refl, ap, sym, ◌∙◌, subst, inl, inr}
 use Rattle.std.specs.Prelude.{is_ok}
 use Rattle.terminal_model.specs.Shows.{View}
-use Rattle.session_model.specs.declared.refusal.Refusal.TheVariants.{NoWindow}
-use Rattle.session_model.specs.Trace.{EventValue, Draw, Output, Entry, Reply}
-use Rattle.session_model.specs.Tables.{Tables, Window, Client, row_of, window_at}
-use Rattle.session_model.specs.Comings.{outputs}
-use Rattle.session_model.specs.Outcomes.{Outcome, finished, refused, done}
+use Rattle.session_model.specs.Trace.{EventValue, Keys, Command, Draw, Output, Entry, Reply}
+use Rattle.session_model.specs.Tables.{Tables}
+use Rattle.session_model.specs.Sound.{Rises, AreSound, client_serials}
 use Rattle.session_model.specs.Events.{outcome}
 use Rattle.session_model.specs.Run.{IsStep, drawn, after}
 use Rattle.session_laws.proofs.Lists.{all_weaken}
@@ -16,7 +14,7 @@ use Rattle.session_view.specs.Following.{Knows}
 use Rattle.session_core.specs.declared.sharing.Sharing.{Sharing}
 use Rattle.session_core.specs.Sharing.{AllKnow, IsLead, IsLeadIfAny, IsShared, PassesOn, AreLeft}
 use Rattle.session_core.specs.Taking.{StayShared}
-use Rattle.session_core.proofs.Needless.{serial_of}
+use Rattle.session_core.proofs.Staying.{StayDrawn, keys_drawn, line_drawn, output_drawn, was_drawn}
 
 -- nothing is known
 pub none_shared : (t : Tables) (s : Sharing) → s.lead ≡ None → s.alike.items ≡ [] → IsShared t s
@@ -26,16 +24,9 @@ none_shared t s lead alike = record {
   lead = subst (IsLeadIfAny t None s.followers.items) (sym lead) tt;
 }
 
--- an output leaves all clients as they are
-output_keeps : (t : Tables) (window : ℕ) (bytes : List ℕ) → (outcome t (Output window bytes)).tables.clients ≡ t.clients
-output_keeps t window bytes = on (window_at t window) where
-  on : (o : Option Window) → let x : Outcome = elim o as (λ _. Outcome) [ None ↦ refused t [] NoWindow | Some w ↦ finished t [] done (outputs t w bytes) ] in x.tables.clients ≡ t.clients
-  on None = refl
-  on (Some w) = refl
-
-module _ (t u : Tables) (same : u.clients ≡ t.clients) where
+module _ (t u : Tables) (rise : Rises (client_serials t.clients) t.next_client) (stay : StayDrawn t.clients u.clients) where
   know_still : (known : Option View) (ns : List ℕ) → AllKnow t known ns → AllKnow u known ns
-  know_still known ns all = all_weaken (Knows t known) (Knows u known) ns (λ n knows d at. knows d (ap (λ cs. row_of serial_of cs n) (sym same) ∙ at)) all
+  know_still known ns all = all_weaken (Knows t known) (Knows u known) ns (λ n knows d at. let was = was_drawn t.clients u.clients t.next_client n d rise stay at in sym was.2 ∙ knows was.0 was.1) all
 
   -- some clients were drawn this last, and there is no frame
   left_alike : (new : Sharing) (known : Option View) (ns : List ℕ) → new.lead ≡ None → AllKnow t known ns → new.alike.items ≡ ns → IsShared u new
@@ -58,14 +49,19 @@ module _ (t u : Tables) (same : u.clients ≡ t.clients) where
         | inr stayed ↦ left_alike new is.known old.alike.items passes.0 is.alike stayed
       ]
 
-module _ (t : Tables) (e : Entry) (step : IsStep t e) (old mid new : Sharing) (is : IsShared t old) where
+module _ (t : Tables) (e : Entry) (sound : AreSound t) (step : IsStep t e) (old mid new : Sharing) (is : IsShared t old) where
+  -- behind a step that leaves what was drawn
+  passed_by : (event : EventValue) → e.event ≡ event → StayDrawn t.clients (drawn event e.effects (outcome t event).tables).clients → mid ≡ old → PassesOn mid.lead mid new → IsShared (after t e) new
+  passed_by event at stay stays left =
+      passed_on t (after t e) sound.clients_rise (subst (λ ev. StayDrawn t.clients (drawn ev e.effects (outcome t ev).tables).clients) (sym at) stay) old new old.lead refl is (subst (λ (s : Sharing). PassesOn s.lead s new) stays left)
+
   pub stay_shared : StayShared e.event old mid (after t e) → AreLeft e.reply e.event mid new → IsShared (after t e) new
   stay_shared stays left = by e.reply e.event refl refl stays left where
     by : (reply : Reply) (event : EventValue) → e.event ≡ event → e.reply ≡ reply → StayShared event old mid (after t e) → AreLeft reply event mid new → IsShared (after t e) new
     by (Err r) (Draw client) at replied stays left = subst (IsShared (after t e)) (sym left) stays
     by (Err r) event at replied stays left = subst (λ u. IsShared u new) (sym (refusals t e step (ap is_ok replied)).0) (subst (IsShared t) (sym (left ∙ stays)) is)
     by (Ok said) (Draw client) at replied stays left = subst (IsShared (after t e)) (sym left) stays
-    by (Ok said) (Output window bytes) at replied stays left =
-        let same : (after t e).clients ≡ t.clients = ap (λ ev. (drawn ev e.effects (outcome t ev).tables).clients) at ∙ output_keeps t window bytes in
-        passed_on t (after t e) same old new old.lead refl is (subst (λ (s : Sharing). PassesOn s.lead s new) stays left)
+    by (Ok said) (Keys client bytes) at replied stays left = passed_by (Keys client bytes) at (keys_drawn t client bytes) stays left
+    by (Ok said) (Command user number bytes) at replied stays left = passed_by (Command user number bytes) at (line_drawn t user number bytes) stays left
+    by (Ok said) (Output window bytes) at replied stays left = passed_by (Output window bytes) at (output_drawn t window bytes) stays left
     by (Ok said) event at replied stays left = none_shared (after t e) new left.0 left.1

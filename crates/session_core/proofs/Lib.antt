@@ -20,5 +20,6 @@ pub mod RunReading
 pub mod Runs
 pub mod Seeing
 pub mod Shared
+pub mod Staying
 pub mod Still
 pub mod Telling

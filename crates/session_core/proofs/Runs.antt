@@ -9,7 +9,7 @@ use Rattle.session_model.specs.declared.event.Event.TheVariants as told
 use Rattle.session_model.specs.declared.verdict.Verdict.{Verdict}
 use Rattle.session_model.specs.Trace.{EventValue, Keys, Draw}
 use Rattle.session_model.specs.Trace.{happening, Reply, Entry, Trace, with_step}
-use Rattle.session_model.specs.Tables.{Tables}
+use Rattle.session_model.specs.Tables.{Tables, fresh}
 use Rattle.session_model.specs.Events.{outcome}
 use Rattle.session_model.specs.Outcomes.{done}
 use Rattle.session_model.specs.Run as run
@@ -21,6 +21,7 @@ use Rattle.session_state.specs.Stands.{Stands}
 use Rattle.session_core.specs.declared.sharing.Sharing.{Sharing}
 use Rattle.session_core.specs.Sharing.{IsShared, AreLeft}
 use Rattle.session_core.specs.Taking.{TakenAs, StayShared}
+use Rattle.session_laws.proofs.Sounding.{run_sound, fresh_sound}
 use Rattle.session_core.proofs.Left.{stay_shared}
 use Rattle.session_state.specs.Noted.{Noted, nothing}
 use Rattle.session_core.specs.Drawn.{AreDrawn, AreNoted, draws_one_of}
@@ -108,7 +109,7 @@ step_taken h old new shared event reply noted before after past verdicts noted_i
       run = (st.run, made.2);
       stands = made.3;
       drawn = stay_drawn (tables_of h) e made.2 old.drawn.items new.drawn.items st.drawn drawn;
-      shared = stay_shared (tables_of h) e made.2 old.sharing shared new.sharing st.shared made.4 left;
+      shared = stay_shared (tables_of h) e (run_sound (fresh h.edition h.owner) h.entries (fresh_sound h.edition h.owner)) made.2 old.sharing shared new.sharing st.shared made.4 left;
     } in (made.0, made.1, subst (λ n. StandsFor (with_step h (entry_of event reply n made.0)) new) (sym noted_is) stands)
 
 -- a draw that is needless

@@ -4,7 +4,7 @@ use Rattle.std.specs.Prelude.{Option, Some, None, Ok, Err, filter, nat_eq}
 use Rattle.std.specs.List.{AllByRecursion, list_any}
 use Rattle.terminal_model.specs.Shows.{View}
 use Rattle.redraw.specs.Frames.{Made}
-use Rattle.session_model.specs.Trace.{EventValue, Draw, Output, Reply}
+use Rattle.session_model.specs.Trace.{EventValue, Keys, Command, Output, Draw, Reply}
 use Rattle.session_model.specs.Tables.{Tables}
 use Rattle.session_view.specs.declared.following.Lead.{Lead}
 use Rattle.session_view.specs.Following.{IsLed, Knows}
@@ -69,8 +69,8 @@ abbrev pub SharesOrForgets : ℕ → Made → Sharing → Sharing → Type 0
 SharesOrForgets client f old new =
     Begins (record { client = client; frame = f }) old new ⊎ Forgets client old new
 
--- behind an output the followers are those that were drawn the same, or those who were before the
--- frame still are
+-- where what is to be shown may have changed, the followers are those that were drawn the same last,
+-- or those that were before the frame still are
 abbrev pub PassesOn : Option Lead → Sharing → Sharing → Type 0
 PassesOn None old new = new ≡ old
 PassesOn (Some l) old new =
@@ -78,9 +78,11 @@ PassesOn (Some l) old new =
     × ((new.alike.items ≡ old.followers.items) ⊎ (new.alike.items ≡ old.alike.items))
 
 -- what is left of them behind a step: all where it was refused or a Draw, which has changed them
--- itself, and none where it was another event than an output
+-- itself; no frame behind keys, a command or output; and nothing behind another event
 abbrev pub AreLeft : Reply → EventValue → Sharing → Sharing → Type 0
 AreLeft (Err r) event old new = new ≡ old
 AreLeft (Ok done) (Draw client) old new = new ≡ old
+AreLeft (Ok done) (Keys client bytes) old new = PassesOn old.lead old new
+AreLeft (Ok done) (Command user number bytes) old new = PassesOn old.lead old new
 AreLeft (Ok done) (Output window bytes) old new = PassesOn old.lead old new
 AreLeft (Ok done) event old new = (new.lead ≡ None) × (new.alike.items ≡ [])

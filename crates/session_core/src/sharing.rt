@@ -137,8 +137,9 @@ pub(crate) fn keep_memory(state: &mut State, lead: Option<Lead>)
     }
 }
 
-/// Notes a step: an output leaves all terminals as they are, and any other event but a Draw may
-/// have changed them. The memory of a frame that isn't needed any more is kept.
+/// Notes a step. Keys, a command and output leave all terminals as they are, but not what they are
+/// to show; another event but a Draw, which has noted it itself, may be of a terminal that is new or
+/// has another size. The memory of a frame that isn't needed any more is kept.
 pub(crate) fn note_step(state: &mut State, sharing: &mut Sharing, event: Event, reply: &Reply)
     ensures state { state.new ≡ state.old }
     ensures left { AreLeft reply.now (happening event.entry) sharing.old sharing.new }
@@ -146,7 +147,9 @@ pub(crate) fn note_step(state: &mut State, sharing: &mut Sharing, event: Event, 
     let ended = match (reply, event) {
         (Err(_refusal), _) => None,
         (Ok(_done), Event::Draw { .. }) => None,
-        (Ok(_done), Event::Output { .. }) => sharing.pass_on(),
+        (Ok(_done), Event::Keys { .. } | Event::Command { .. } | Event::Output { .. }) => {
+            sharing.pass_on()
+        }
         (Ok(_done), _) => sharing.clear(),
     };
     keep_memory(state, ended);

@@ -1,4 +1,4 @@
-use Rattle.std.proofs.Common.{Option, Some, None, sym, subst, refl}
+use Rattle.std.proofs.Common.{Option, sym, subst, refl}
 use Rattle.redraw.specs.Frames.{Made}
 use Rattle.session_state.specs.declared.state.State.{State}
 use Rattle.session_view.specs.Drawn.{DrawsBy}

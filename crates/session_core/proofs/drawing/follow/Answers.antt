@@ -1,4 +1,4 @@
-use Rattle.std.proofs.Common.{◌∙◌, sym, ap}
+use Rattle.std.proofs.Common.{sym}
 use Rattle.session_core.proofs.Drawings.{followed}
 use Rattle.session_core.proofs.drawing.follow.Goals as goal
 
