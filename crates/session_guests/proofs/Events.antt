@@ -8,18 +8,17 @@ use Rattle.acl.specs.declared.act.Act.TheVariants as act
 use Rattle.acl.specs.History.{followed_by}
 use Rattle.session_model.specs.declared.event.Effect.{Effect}
 use Rattle.session_model.specs.declared.event.Reason.TheVariants as reason
-use Rattle.session_model.specs.declared.check.Check.TheVariants.{Must as must}
-use Rattle.session_model.specs.declared.refusal.Refusal.TheVariants.{BadSize}
 use Rattle.session_model.specs.Tables.{Tables, Window, Client, window_at, client_at, with_client, focused, is_in_focus}
 use Rattle.session_model.specs.Checks.{first_fault, verdicts}
 use Rattle.session_model.specs.Deeds.{Deed, changing, parts, closes, entering}
 use Rattle.session_model.specs.Events.{outcome}
 use Rattle.session_model.specs.Outcomes.{Outcome, left_acts_of, left_acts, reply_of, finished, done, where_passed}
-use Rattle.session_model.specs.Comings.{attach_checks, attaches, new_client, open_checks, opens, new_window, is_client_size, resized, outputs}
+use Rattle.session_model.specs.Comings.{attach_checks, attaches, new_client, open_checks, opens, new_window, outputs}
 use Rattle.session_model.specs.Run.{IsStep, after, drawn, drawn_on}
-use Rattle.session_model.specs.Trace.{EventValue, Attach, Detach, Keys, Command, Resize, Open, Output, Closed, Draw, Entry}
+use Rattle.session_model.specs.Trace.{EventValue, Attach, Detach, Keys, Command, Open, Output, Closed, Draw, Entry}
 use Rattle.session_laws.proofs.Lists.{equal, all_of, all_map, all_passed, all_append}
 use Rattle.session_laws.proofs.Outcomes as outcomes
+use Rattle.session_guests.proofs.OwnRows.{ChangesRow, change_of}
 
 -- whether an event gives commands
 abbrev pub gives_commands : EventValue → Bool
@@ -87,6 +86,13 @@ enters_in : (t : Tables) (user : UserId) (rows columns : ℕ) (o : Option ℕ) �
 enters_in t user rows columns None = tt
 enters_in t user rows columns (Some w) = (refl, tt)
 
+changed : (t : Tables) (event : EventValue) → ChangesRow event → PlainTo t event (outcome t event)
+changed t event r =
+    subst (PlainTo t event) (sym (r.outcome_is t))
+    (outcomes.found (PlainTo t event) t (λ c. where_passed t r.checks done (changing (with_client t (r.change c)))) (client_at t r.client) (still t event)
+    (λ c is. outcomes.passed (PlainTo t event) t (verdicts t r.checks) (first_fault t r.checks) done (changing (with_client t (r.change c)))
+    (λ x at. still t event) (λ at. made t event (changing (with_client t (r.change c))) tt refl refl refl (le_same t.next_window))))
+
 plain : (t : Tables) (event : EventValue) → gives_commands event ≡ false → PlainTo t event (outcome t event)
 plain t (Attach user rows columns) not =
     let c : Client = new_client t user rows columns in
@@ -101,12 +107,6 @@ plain t (Detach client) not =
     refl refl refl (le_same t.next_window))
 plain t (Keys client bytes) not = absurd (cc (not))
 plain t (Command user number bytes) not = absurd (cc (not))
-plain t (Resize client rows columns) not =
-    outcomes.found (PlainTo t (Resize client rows columns)) t (λ c. where_passed t (must (is_client_size rows columns) BadSize ∷ []) done (changing (with_client t (resized rows columns c)))) (client_at t client)
-    (still t (Resize client rows columns))
-    (λ c is. outcomes.passed (PlainTo t (Resize client rows columns)) t (verdicts t (must (is_client_size rows columns) BadSize ∷ [])) (first_fault t (must (is_client_size rows columns) BadSize ∷ [])) done
-    (changing (with_client t (resized rows columns c))) (λ r at. still t (Resize client rows columns))
-    (λ at. made t (Resize client rows columns) (changing (with_client t (resized rows columns c))) tt refl refl refl (le_same t.next_window)))
 plain t (Open user rows columns keep title) not =
     let v : Window = new_window t rows columns keep title in
     outcomes.passed (PlainTo t (Open user rows columns keep title)) t (verdicts t (open_checks t user rows columns keep title)) (first_fault t (open_checks t user rows columns keep title)) (reply_of 0 v.serial v.number None) (opens t user v)
@@ -124,6 +124,7 @@ plain t (Closed window) not =
 plain t (Draw client) not =
     outcomes.found (PlainTo t (Draw client)) t (λ c. finished t [] done (changing t)) (client_at t client) (still t (Draw client))
     (λ c is. made t (Draw client) (changing t) tt refl refl refl (le_same t.next_window))
+plain t event not = changed t event (change_of event refl)
 
 -- what is drawn changes clients alone
 drawn_plain : (t : Tables) (event : EventValue) (acts : List Act) (o : Option Client) (effects : List Effect) (u : Tables) → Plain t event acts u → Plain t event acts (drawn_on o effects u)

@@ -14,4 +14,5 @@ pub mod Focusing
 pub mod Staying
 pub mod Labels
 pub mod Named
+pub mod OwnRows
 pub mod Pages
