@@ -21,7 +21,7 @@ use Rattle.session_model.specs.declared.event.Reason.TheVariants as reason
 use Rattle.session_model.specs.declared.message.Message.{Message}
 use Rattle.session_model.specs.declared.refusal.Refusal.{Refusal}
 use Rattle.session_model.specs.declared.verdict.Verdict.{Verdict}
-use Rattle.session_model.specs.Trace.{EventValue, Attach, Detach, Keys, Command, Resize, Open, Output, Closed, Draw, Reply}
+use Rattle.session_model.specs.Trace.{EventValue, Reply}
 use Rattle.session_model.specs.Trace as trace
 use Rattle.session_model.specs.Sound.{Rises, AreFit, client_serials}
 use Rattle.session_model.specs.Tables.{Tables, Window, Client, fresh, client_at, with_client, focused, is_in_focus}
