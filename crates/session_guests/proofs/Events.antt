@@ -1,7 +1,8 @@
 -- Which acts an event has that gives no command, and what it leaves.
-use Rattle.std.proofs.Common.{◌≡◌, ◌≤◌, ℕ, ◌+◌, Bool, true, false, List, [], ◌∷◌, ◌++◌, Option, Some, None, refl, sym, subst, arith}
+use Rattle.std.proofs.Common.{◌≡◌, ◌≤◌, ℕ, ◌+◌, Bool, true, false, List, [], ◌∷◌, ◌++◌, Option, Some, None, refl, ap, sym, subst, arith}
 use Rattle.std.specs.Prelude.{if◌then◌else◌, ◌==◌, ◌||◌}
 use Rattle.std.specs.List.{AllByRecursion}
+use Rattle.std.specs.Option.{option_and_then}
 use Rattle.acl.specs.declared.user_id.UserId.{UserId}
 use Rattle.acl.specs.declared.act.Act.{Act}
 use Rattle.acl.specs.declared.act.Act.TheVariants as act
@@ -18,7 +19,8 @@ use Rattle.session_model.specs.Run.{IsStep, after, drawn, drawn_on}
 use Rattle.session_model.specs.Trace.{EventValue, Attach, Detach, Keys, Command, Open, Output, Closed, Draw, Entry}
 use Rattle.session_laws.proofs.Lists.{equal, all_of, all_map, all_passed, all_append}
 use Rattle.session_laws.proofs.Outcomes as outcomes
-use Rattle.session_guests.proofs.OwnRows.{ChangesRow, change_of}
+use Rattle.session_laws.proofs.Outcomes.{Change, change_of, Changes, changes}
+use Rattle.session_guests.specs.Locking.{client_user, user_of}
 
 -- whether an event gives commands
 abbrev pub gives_commands : EventValue → Bool
@@ -86,12 +88,22 @@ enters_in : (t : Tables) (user : UserId) (rows columns : ℕ) (o : Option ℕ) �
 enters_in t user rows columns None = tt
 enters_in t user rows columns (Some w) = (refl, tt)
 
-changed : (t : Tables) (event : EventValue) → ChangesRow event → PlainTo t event (outcome t event)
-changed t event r =
-    subst (PlainTo t event) (sym (r.outcome_is t))
-    (outcomes.found (PlainTo t event) t (λ c. where_passed t r.checks done (changing (with_client t (r.change c)))) (client_at t r.client) (still t event)
-    (λ c is. outcomes.passed (PlainTo t event) t (verdicts t r.checks) (first_fault t r.checks) done (changing (with_client t (r.change c)))
-    (λ x at. still t event) (λ at. made t event (changing (with_client t (r.change c))) tt refl refl refl (le_same t.next_window))))
+-- what changes a client's row is a step of that client's user
+pub changed_by : (t : Tables) (event : EventValue) (x : Change) → change_of event ≡ Some x → user_of t event ≡ client_user t x.client
+changed_by t (Attach user rows columns) x is = absurd (cc (is))
+changed_by t (Detach client) x is = absurd (cc (is))
+changed_by t (Keys client bytes) x is = absurd (cc (is))
+changed_by t (Command user number bytes) x is = absurd (cc (is))
+changed_by t (Open user rows columns keep title) x is = absurd (cc (is))
+changed_by t (Draw client) x is = absurd (cc (is))
+changed_by t event x is = ap (option_and_then (λ (y : Change). client_user t y.client)) is
+
+changed : (t : Tables) (event : EventValue) (x : Change) → Changes event x → PlainTo t event (outcome t event)
+changed t event x f =
+    subst (PlainTo t event) (sym (f.happens t))
+    (outcomes.found (PlainTo t event) t (λ c. where_passed t x.checks done (changing (with_client t (x.row c)))) (client_at t x.client) (still t event)
+    (λ c is. outcomes.passed (PlainTo t event) t (verdicts t x.checks) (first_fault t x.checks) done (changing (with_client t (x.row c)))
+    (λ r at. still t event) (λ at. made t event (changing (with_client t (x.row c))) tt refl refl refl (le_same t.next_window))))
 
 plain : (t : Tables) (event : EventValue) → gives_commands event ≡ false → PlainTo t event (outcome t event)
 plain t (Attach user rows columns) not =
@@ -124,7 +136,7 @@ plain t (Closed window) not =
 plain t (Draw client) not =
     outcomes.found (PlainTo t (Draw client)) t (λ c. finished t [] done (changing t)) (client_at t client) (still t (Draw client))
     (λ c is. made t (Draw client) (changing t) tt refl refl refl (le_same t.next_window))
-plain t event not = changed t event (change_of event refl)
+plain t event not = changed t event _ (changes event _ refl)
 
 -- what is drawn changes clients alone
 drawn_plain : (t : Tables) (event : EventValue) (acts : List Act) (o : Option Client) (effects : List Effect) (u : Tables) → Plain t event acts u → Plain t event acts (drawn_on o effects u)

@@ -14,5 +14,4 @@ pub mod Focusing
 pub mod Staying
 pub mod Labels
 pub mod Named
-pub mod OwnRows
 pub mod Pages

@@ -42,14 +42,14 @@ use Rattle.session_model.specs.Trace.{EventValue, Attach, Detach, Keys, Command,
 use Rattle.session_laws.proofs.Lists.{contradicts, equal, all_weaken, all_append, all_map, all_of, all_passed}
 use Rattle.session_laws.proofs.Doing.{Either}
 use Rattle.session_laws.proofs.Outcomes as outcomes
+use Rattle.session_laws.proofs.Outcomes.{Change, change_of, Changes, changes}
 use Rattle.session_laws.proofs.Unread.{SameClients, row_at}
 use Rattle.session_guests.specs.Changing.{changes_rights}
 use Rattle.session_guests.specs.Contained.{stood}
-use Rattle.session_guests.specs.Locking.{user_of, user_by, client_user, HoldersMayWrite, may_free, MayFree, IsPowerless, HoldersStayIn}
+use Rattle.session_guests.specs.Locking.{user_of, client_user, HoldersMayWrite, may_free, MayFree, IsPowerless, HoldersStayIn}
 use Rattle.session_guests.proofs.Rows.{IsActOf}
 use Rattle.session_guests.proofs.Steps.{Did, Rests, Obeys, with_clients}
-use Rattle.session_guests.proofs.Events.{gives_commands}
-use Rattle.session_guests.proofs.OwnRows.{ChangesRow, change_of}
+use Rattle.session_guests.proofs.Events.{gives_commands, changed_by}
 use Rattle.session_guests.proofs.Gating.{Below, obeys_of, row_did, first_passed, then_passed, had_x}
 use Rattle.session_guests.proofs.Harmless.{NoneOf, IsHarmless, stays_held}
 use Rattle.session_guests.proofs.Focusing.{IsMine, focus_stays, NotHis, nobody_else}
@@ -267,19 +267,19 @@ module _ (t : Tables) (fit : AreFit t) (able : HoldersMayWrite t) (w : ℕ) (use
       (λ d here. (refl, subst (λ n. NoneOf x n (clients_of t.acts)) (sym (equal d.serial client here)) (none_of client c.user (her_row client c hers at) (own_of client c at)))))))
       (lefts false (filter (λ (d : Client). not (d.serial == client)) t.clients) (without client c (her_row client c hers at) at)))
 
-  change_harmless : (event : EventValue) → ChangesRow event → user_of t event ≡ Some user → Harmless false (outcome t event)
-  change_harmless event r is =
-      subst (Harmless false) (sym (r.outcome_is t))
-      (outcomes.found (Harmless false) t (λ c. where_passed t r.checks done (changing (with_client t (r.change c)))) (client_at t r.client) tt
-      (λ c at. outcomes.passed (Harmless false) t (verdicts t r.checks) (first_fault t r.checks) done (changing (with_client t (r.change c)))
-      (λ f is. tt) (λ is. lefts false (with_client t (r.change c)).clients (λ v.
-      Rattle.session_guests.proofs.Focusing.any_with_row (shows x v) (λ (d : Client). d.serial) t.clients (r.change c).serial (r.change c)
-      (λ d here. hidden (r.change c) v (r.user c ∙ hers c at) ∙ sym (hidden d v (ap (λ (y : Client). y.user) (same_row c d at here) ∙ hers c at))))))) where
-        hers : (c : Client) → client_at t r.client ≡ Some c → c.user ≡ user
-        hers c at = her_row r.client c (ap (user_by t) (sym r.giver) ∙ is) at
+  change_harmless : (event : EventValue) (y : Change) → change_of event ≡ Some y → Changes event y → user_of t event ≡ Some user → Harmless false (outcome t event)
+  change_harmless event y changes_it f is =
+      subst (Harmless false) (sym (f.happens t))
+      (outcomes.found (Harmless false) t (λ c. where_passed t y.checks done (changing (with_client t (y.row c)))) (client_at t y.client) tt
+      (λ c at. outcomes.passed (Harmless false) t (verdicts t y.checks) (first_fault t y.checks) done (changing (with_client t (y.row c)))
+      (λ r fails. tt) (λ passes. lefts false (with_client t (y.row c)).clients (λ v.
+      Rattle.session_guests.proofs.Focusing.any_with_row (shows x v) (λ (d : Client). d.serial) t.clients (y.row c).serial (y.row c)
+      (λ d here. hidden (y.row c) v (f.user c ∙ hers c at) ∙ sym (hidden d v (ap (λ (e : Client). e.user) (same_row c d at here) ∙ hers c at))))))) where
+        hers : (c : Client) → client_at t y.client ≡ Some c → c.user ≡ user
+        hers c at = her_row y.client c (sym (changed_by t event y changes_it) ∙ is) at
 
-        same_row : (c d : Client) → client_at t r.client ≡ Some c → client_at t (r.change c).serial ≡ Some d → d ≡ c
-        same_row c d at here = let same : Some d ≡ Some c = sym here ∙ ap (client_at t) (r.serial c) ∙ row_at t r.client c at in cc (same)
+        same_row : (c d : Client) → client_at t y.client ≡ Some c → client_at t (y.row c).serial ≡ Some d → d ≡ c
+        same_row c d at here = let same : Some d ≡ Some c = sym here ∙ ap (client_at t) (f.serial c) ∙ row_at t y.client c at in cc (same)
 
   draw_harmless : (client : ℕ) → Harmless false (outcome t (Draw client))
   draw_harmless client = outcomes.found (Harmless false) t (λ c. finished t [] done (changing t)) (client_at t client) tt (λ c at. lefts false t.clients (λ v. refl))
@@ -296,7 +296,7 @@ module _ (t : Tables) (fit : AreFit t) (able : HoldersMayWrite t) (w : ℕ) (use
   plain_harmless (Command u number bytes) not is = absurd (cc (not))
   plain_harmless (Output window bytes) not is = absurd (cc (is))
   plain_harmless (Closed window) not is = absurd (cc (is))
-  plain_harmless event not is = inr (change_harmless event (change_of event refl) is)
+  plain_harmless event not is = inr (change_harmless event _ refl (changes event _ refl) is)
 
   -- ---- the law
 

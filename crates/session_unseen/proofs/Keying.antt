@@ -1,6 +1,6 @@
 -- Keys do to cut tables what they do to these; and so does each event, but for output that is cut.
 use Rattle.std.proofs.Common.{◌≡◌, ℕ, Bool, true, false, not, List, [], ◌∷◌, ◌++◌, Option, Some, None, Ok, Err, Result, refl, ap, sym, ◌∙◌, length, take}
-use Rattle.std.specs.Prelude.{◌==◌}
+use Rattle.std.specs.Prelude.{if◌then◌else◌, ◌==◌}
 use Rattle.std.specs.Option.{option_map}
 use Rattle.acl.specs.declared.user_id.UserId.{UserId}
 use Rattle.command_lang.specs.command.Command.{Command as Order}
@@ -30,7 +30,7 @@ use Rattle.session_model.specs.Comings.{open_checks, new_window, opens, outputs}
 use Rattle.session_model.specs.Answering.{told, says, says_why, input_in, types, typing_verdicts, message_of, with_listed, keyed, Ordered, by_ruling, by_line, ordered, unsaid, reading, keys_outcome}
 use Rattle.session_model.specs.Events.{outcome}
 use Rattle.session_laws.proofs.Lists.{row_serial}
-use Rattle.session_guests.proofs.OwnRows.{undrawn, ChangesRow, change_of}
+use Rattle.session_laws.proofs.Outcomes.{Change, Changes, changes}
 use Rattle.session_unseen.specs.Hidden.{is_hidden}
 use Rattle.session_unseen.proofs.Cutting.{cut_window, cut_client, cut, cut_deed, cut_caller, cut_writing, client_cut, with_client_cut, with_window_cut}
 use Rattle.session_unseen.proofs.Finding.{focus_cut}
@@ -141,14 +141,21 @@ module _ (shown : ℕ → Bool) (seeing : UserId → Bool) where
 
   -- ---- a change of a client's own row
 
-  changed_cut : (event : EventValue) (r : ChangesRow event) (c : Client) → r.change (g c) ≡ g (r.change c)
-  changed_cut event r c = r.drawn (seeing c.user) c ∙ ap (λ v. undrawn (seeing v) (r.change c)) (sym (r.user c))
+  module _ (event : EventValue) (x : Change) (f : Changes event x) where
+    shown_after : (c : Client) (b : Bool) → x.drawn (if b then c.drawn else None) ≡ (if b then (x.row c).drawn else None)
+    shown_after c true = sym (f.draws c)
+    shown_after c false = f.undrawn
 
-  change_cut : (t : Tables) (event : EventValue) → ChangesRow event → outcome (less t) event ≡ cut_outcome shown seeing (outcome t event)
-  change_cut t event r =
-      r.outcome_is (less t)
-      ∙ by_client shown seeing t r.client _ _ (λ c is. passed_cut shown seeing t r.checks _ done _ _ refl (ap changing (ap (with_client (less t)) (changed_cut event r c) ∙ with_client_cut shown seeing t (r.change c))))
-      ∙ sym (ap (cut_outcome shown seeing) (r.outcome_is t))
+    changed_cut : (c : Client) → x.row (g c) ≡ g (x.row c)
+    changed_cut c =
+        f.unread c (if seeing c.user then c.drawn else None) ∙ ap (λ v. record (x.row c) { delivered = []; drawn = v }) (shown_after c (seeing c.user))
+        ∙ ap (λ v. record (x.row c) { delivered = []; drawn = if seeing v then (x.row c).drawn else None }) (sym (f.user c))
+
+    change_cut : (t : Tables) → outcome (less t) event ≡ cut_outcome shown seeing (outcome t event)
+    change_cut t =
+        f.happens (less t)
+        ∙ by_client shown seeing t x.client _ _ (λ c is. passed_cut shown seeing t x.checks _ done _ _ refl (ap changing (ap (with_client (less t)) (changed_cut c) ∙ with_client_cut shown seeing t (x.row c))))
+        ∙ sym (ap (cut_outcome shown seeing) (f.happens t))
 
   -- ---- output of a window that isn't cut
 
@@ -185,4 +192,4 @@ module _ (shown : ℕ → Bool) (seeing : UserId → Bool) where
   outcome_cut t (Output window bytes) stands = by_window shown seeing t window _ _ (λ w is. done_cut shown seeing t [] done _ _ (outputs_cut t w bytes (ap shown (row_serial (λ (v : Window). v.serial) t.windows window w is) ∙ not_hidden (shown window) stands)))
   outcome_cut t (Closed window) stands = by_window shown seeing t window _ _ (λ w is. done_cut shown seeing t [] done _ _ (closes_cut shown seeing (λ (v : Window). v.serial == window) reason.Detached t (λ v. refl)))
   outcome_cut t (Draw client) stands = by_client shown seeing t client _ _ (λ c is. done_cut shown seeing t [] done (changing (less t)) (changing t) refl)
-  outcome_cut t event stands = change_cut t event (change_of event refl)
+  outcome_cut t event stands = change_cut event _ (changes event _ refl) t

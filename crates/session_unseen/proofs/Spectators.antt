@@ -49,14 +49,15 @@ use Rattle.session_model.specs.Sound.{AreFit}
 use Rattle.session_model.specs.Run.{IsStep, HasEffects, IsDraw, DrawsWhereNeeded, after, drawn, drawn_on, with_drawn}
 use Rattle.session_laws.proofs.Lists.{row_serial, equal, itself, and_first, contradicts}
 use Rattle.session_laws.proofs.Leaving.{none_left}
+use Rattle.session_laws.proofs.Outcomes.{Change, change_of, Changes, changes}
 use Rattle.session_unseen.proofs.Drawing.{draw_after}
 use Rattle.session_guests.specs.Changing.{opens_window, opened_by, SameRights, changes_rights}
 use Rattle.session_guests.specs.Contained.{stood}
-use Rattle.session_guests.specs.Locking.{user_of, user_by, HoldersMayWrite, HoldersStay, LocksAreTaken, TakesIt, MayFree, may_free}
+use Rattle.session_guests.specs.Locking.{user_of, HoldersMayWrite, HoldersStay, LocksAreTaken, TakesIt, MayFree, may_free}
 use Rattle.session_guests.proofs.Listing.{is_listing}
 use Rattle.session_guests.proofs.Histories.{NoListing, same_rights}
 use Rattle.session_guests.proofs.Holding.{givers}
-use Rattle.session_guests.proofs.OwnRows.{ChangesRow, change_of}
+use Rattle.session_guests.proofs.Events.{changed_by}
 use Rattle.session_unseen.specs.Observed.{is_client_of}
 use Rattle.session_unseen.specs.Watching.{is_watching, others_clients, is_for_his, IsSpectator, LeavesOthers}
 use Rattle.session_unseen.proofs.Watching.{is_presence, Presence, is_it, is_to, AllTo, IfDone, AllHis, Still, as_before, put, parted_by, Leaves}
@@ -241,9 +242,9 @@ module _ (t : Tables) (user : UserId) (fit : AreFit t) (watches : IsSpectator t 
   opening : (v : UserId) (rows columns keep : ℕ) (title : List ℕ) → v ≡ user → By (outcome t (Open v rows columns keep title))
   opening v rows columns keep title is = subst (λ w. By (outcome t (Open w rows columns keep title))) (sym is) (not_opened (verdicts t (open_checks t user rows columns keep title)) rows columns keep title _ (opens t user (new_window t rows columns keep title)))
 
-  changes : (event : EventValue) → ChangesRow event → user_of t event ≡ Some user → By (outcome t event)
-  changes event r is =
-      subst By (sym (r.outcome_is t)) (with_client_by r.client _ (ap (user_by t) (sym r.giver) ∙ is) (λ c at mine. changed r.client c at mine r.checks (r.change c) (r.serial c) (r.user c)))
+  change_by : (event : EventValue) (x : Change) → change_of event ≡ Some x → Changes event x → user_of t event ≡ Some user → By (outcome t event)
+  change_by event x changes_it f is =
+      subst By (sym (f.happens t)) (with_client_by x.client _ (sym (changed_by t event x changes_it) ∙ is) (λ c at mine. changed x.client c at mine x.checks (x.row c) (f.serial c) (f.user c)))
 
   pub left_acts_of : (event : EventValue) (effects : List Effect) → HasEffects t event effects → user_of t event ≡ Some user → Left t user (outcome t event).acts effects (drawn event effects (outcome t event).tables)
   left_acts_of (Attach v rows columns) effects has is = same_effects (outcome t (Attach v rows columns)) effects has (come v rows columns (let e : v ≡ user = cc (is) in e))
@@ -259,7 +260,7 @@ module _ (t : Tables) (user : UserId) (fit : AreFit t) (watches : IsSpectator t 
     on (Some c) at draws =
         drawn_left client c at (user_is c (client_at t client) is at) effects draws (outcome t (Draw client)).acts (draw_acts client) (drawn (Draw client) effects (outcome t (Draw client)).tables)
         (draw_after t client effects ∙ ap (λ o. drawn_on o effects t) at)
-  left_acts_of event effects has is = same_effects (outcome t event) effects has (changes event (change_of event refl) is)
+  left_acts_of event effects has is = same_effects (outcome t event) effects has (change_by event _ refl (changes event _ refl) is)
 
 -- ---- what stays by those acts
 
