@@ -10,7 +10,6 @@ use Rattle.keys.specs.Grammar.{Item}
 use Rattle.regions.specs.declared.shown.Shown.{Shown}
 use Rattle.regions.specs.Layouts.{Arrangement, empty, kept_alone}
 use Rattle.regions.specs.Pages.{has_room}
-use Rattle.terminal_model.specs.Shows.{View}
 use Rattle.session_model.specs.declared.refusal.Refusal.{Refusal}
 use Rattle.session_model.specs.declared.refusal.Refusal.TheVariants.{NoWindow, UnknownUser, Line, BadSize}
 use Rattle.session_model.specs.declared.verdict.Verdict.{Verdict}
@@ -96,20 +95,23 @@ where_musts P t cs reply d all fails passes =
 
 -- ---- events that change one client's row
 
--- whose, what is checked first, what becomes of the row, and what the client's terminal shows then
+-- whose row, what is checked first, and what becomes of the row
 pub record Change : Type 0 where
   pub client : ℕ
   pub checks : List Check
   pub row : Client → Client
-  pub drawn : Option View → Option View
 
 abbrev resizing : ℕ → ℕ → ℕ → Change
-resizing client rows columns = record { client = client; checks = must (is_client_size rows columns) BadSize ∷ []; row = resized rows columns; drawn = λ v. None }
+resizing client rows columns = record { client = client; checks = must (is_client_size rows columns) BadSize ∷ []; row = resized rows columns }
 
 -- one row an event
 abbrev pub change_of : EventValue → Option Change
 change_of (Resize client rows columns) = Some (resizing client rows columns)
 change_of event = None
+
+-- a client of whose draws nothing stands but, perhaps, the last view
+abbrev pub undrawn : Bool → Client → Client
+undrawn keeps c = record c { delivered = []; drawn = if keeps then c.drawn else None }
 
 -- the facts that laws ask for
 pub record Changes (event : EventValue) (x : Change) : Type 0 where
@@ -124,10 +126,8 @@ pub record Changes (event : EventValue) (x : Change) : Type 0 where
   -- what was delivered is forgotten where the terminal has another size
   pub delivered : (c : Client) → c.serial ≡ x.client → (x.row c).delivered ≡ (if is_resize event done c.serial then [] else c.delivered)
   pub others : (n : ℕ) → (x.client == n) ≡ false → is_resize event done n ≡ false
-  -- nothing else of the row is by what the terminal shows
-  pub unread : (c : Client) (v : Option View) → x.row (record c { delivered = []; drawn = v }) ≡ record (x.row c) { delivered = []; drawn = x.drawn v }
-  pub draws : (c : Client) → (x.row c).drawn ≡ x.drawn c.drawn
-  pub undrawn : x.drawn None ≡ None
+  -- and what was drawn makes no difference to the rest
+  pub drawn : (keeps : Bool) (c : Client) → x.row (undrawn keeps c) ≡ undrawn keeps (x.row c)
 
 -- a page that has too little room keeps what is in focus
 focus_alone : (o : Option Shown) → option_and_then (λ (s : Shown). s.window) (Some (unwrap_or o empty)) ≡ option_and_then (λ (s : Shown). s.window) o
@@ -157,10 +157,11 @@ resizes client rows columns = record {
   shows = λ has c all. shows_fewer c has (has_room c.layout.shape rows columns) all;
   delivered = λ c is. sym (ap (λ (b : Bool). if b then [] else c.delivered) (ap (λ n. client == n) is ∙ itself client));
   others = λ n off. off;
-  unread = λ c v. refl;
-  draws = λ c. refl;
-  undrawn = refl;
-}
+  drawn = forgets;
+} where
+  forgets : (keeps : Bool) (c : Client) → resized rows columns (undrawn keeps c) ≡ undrawn keeps (resized rows columns c)
+  forgets true c = refl
+  forgets false c = refl
 
 pub changes : (event : EventValue) (x : Change) → change_of event ≡ Some x → Changes event x
 changes (Resize client rows columns) x is = subst (Changes (Resize client rows columns)) (cc (is)) (resizes client rows columns)

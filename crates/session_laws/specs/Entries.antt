@@ -1,18 +1,10 @@
 -- What the entries of a trace say of a client, apart from the tables.
-use Rattle.std.specs.Prelude.{◌≡◌, ℕ, Bool, false, ◌==◌, List, [], ◌∷◌, ◌++◌, Ok}
-use Rattle.std.specs.Prelude.{Option, Some, None, if◌then◌else◌, take}
+use Rattle.std.specs.Prelude.{◌≡◌, ℕ, Bool, false, ◌==◌, List, [], ◌∷◌, ◌++◌, Ok, Some}
+use Rattle.std.specs.Prelude.{if◌then◌else◌, take}
 use Rattle.session_model.specs.declared.event.Effect.{Effect}
-use Rattle.session_model.specs.Trace.{EventValue, Detach, Keys, Resize, Draw, Reply, Entry, Trace}
+use Rattle.session_model.specs.Trace.{EventValue, Keys, Resize, Reply, Entry, Trace}
 use Rattle.session_model.specs.Tables.{Client, client_at}
 use Rattle.session_model.specs.Run.{IsRun, deliveries, tables_of}
-
--- the client whose step it is, if it is one's
-abbrev pub client_of : EventValue → Option ℕ
-client_of (Detach client) = Some client
-client_of (Keys client bytes) = Some client
-client_of (Resize client rows columns) = Some client
-client_of (Draw client) = Some client
-client_of event = None
 
 -- the keys of a client that a step read
 abbrev pub keys_read : EventValue → Reply → ℕ → List ℕ
