@@ -2,7 +2,7 @@
 use Rattle.std.proofs.Common.{◌≡◌, ◌≤◌, ℕ, ◌+◌, Bool, true, false, List, [], ◌∷◌, ◌++◌, Option, Some, None, refl, ap, sym, subst, arith}
 use Rattle.std.specs.Prelude.{if◌then◌else◌, ◌==◌, ◌||◌}
 use Rattle.std.specs.List.{AllByRecursion}
-use Rattle.std.specs.Option.{option_and_then}
+use Rattle.std.specs.Option.{option_map_or}
 use Rattle.acl.specs.declared.user_id.UserId.{UserId}
 use Rattle.acl.specs.declared.act.Act.{Act}
 use Rattle.acl.specs.declared.act.Act.TheVariants as act
@@ -20,7 +20,7 @@ use Rattle.session_model.specs.Trace.{EventValue, Attach, Detach, Keys, Command,
 use Rattle.session_laws.proofs.Lists.{equal, all_of, all_map, all_passed, all_append}
 use Rattle.session_laws.proofs.Outcomes as outcomes
 use Rattle.session_laws.proofs.Outcomes.{Change, change_of, Changes, changes}
-use Rattle.session_guests.specs.Locking.{client_user, user_of}
+use Rattle.session_guests.specs.Locking.{OfClient, OfNobody, giver_of, client_user, user_by, user_of}
 
 -- whether an event gives commands
 abbrev pub gives_commands : EventValue → Bool
@@ -88,15 +88,18 @@ enters_in : (t : Tables) (user : UserId) (rows columns : ℕ) (o : Option ℕ) �
 enters_in t user rows columns None = tt
 enters_in t user rows columns (Some w) = (refl, tt)
 
--- what changes a client's row is a step of that client's user
+-- what changes a client's row is given by that client
+given_by : (event : EventValue) (x : Change) → change_of event ≡ Some x → giver_of event ≡ OfClient x.client
+given_by (Attach user rows columns) x is = absurd (cc (is))
+given_by (Detach client) x is = absurd (cc (is))
+given_by (Keys client bytes) x is = absurd (cc (is))
+given_by (Command user number bytes) x is = absurd (cc (is))
+given_by (Open user rows columns keep title) x is = absurd (cc (is))
+given_by (Draw client) x is = absurd (cc (is))
+given_by event x is = ap (λ o. option_map_or (λ (y : Change). OfClient y.client) o OfNobody) is
+
 pub changed_by : (t : Tables) (event : EventValue) (x : Change) → change_of event ≡ Some x → user_of t event ≡ client_user t x.client
-changed_by t (Attach user rows columns) x is = absurd (cc (is))
-changed_by t (Detach client) x is = absurd (cc (is))
-changed_by t (Keys client bytes) x is = absurd (cc (is))
-changed_by t (Command user number bytes) x is = absurd (cc (is))
-changed_by t (Open user rows columns keep title) x is = absurd (cc (is))
-changed_by t (Draw client) x is = absurd (cc (is))
-changed_by t event x is = ap (option_and_then (λ (y : Change). client_user t y.client)) is
+changed_by t event x is = ap (user_by t) (given_by event x is)
 
 changed : (t : Tables) (event : EventValue) (x : Change) → Changes event x → PlainTo t event (outcome t event)
 changed t event x f =

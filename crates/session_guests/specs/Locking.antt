@@ -1,32 +1,51 @@
 -- Who gets the write lock of a window.
-use Rattle.std.specs.Prelude.{◌≡◌, ◌⊎◌, ℕ, Bool, true, false, Option, Some}
-use Rattle.std.specs.Option.{option_map, option_and_then}
+use Rattle.std.specs.Prelude.{◌≡◌, ◌⊎◌, ℕ, Bool, true, false, Option, Some, None}
+use Rattle.std.specs.Option.{option_map}
 use Rattle.acl.specs.declared.user_id.UserId.{UserId}
 use Rattle.acl.specs.declared.bits.Bit.TheVariants.{Write, Execute}
 use Rattle.acl.specs.declared.command_name.CommandName.{CommandName}
 use Rattle.acl.specs.declared.act.Object.TheVariants as object
 use Rattle.command_lang.specs.command.Command.{Command as Order}
 use Rattle.command_lang.specs.command.Command.TheVariants as command
-use Rattle.session_model.specs.Trace.{EventValue, Attach, Command, Open, Entry, Trace}
+use Rattle.session_model.specs.Trace.{EventValue, Attach, Detach, Keys, Command, Resize, Open}
+use Rattle.session_model.specs.Trace.{Output, Closed, Draw, Entry, Trace}
 use Rattle.session_model.specs.Tables.{Tables, Client, client_at}
 use Rattle.session_model.specs.Rights.{may_in, holder_in}
 use Rattle.session_model.specs.Given.{Given, commands_of, has_x}
 use Rattle.session_model.specs.Promises.{SomeOf}
 use Rattle.session_model.specs.Sound.{AreFit}
 use Rattle.session_model.specs.Run.{IsStep, IsRun, after, tables_of}
-use Rattle.session_laws.specs.Entries.{client_of}
 use Rattle.session_guests.specs.Changing.{changes_rights, opened_by}
 use Rattle.session_guests.specs.Contained.{stood}
 
--- whose step it is: nobody's where a window's program writes or ends
+-- who gives an event: a user, or a client; nobody where a window's program writes or ends
+pub data Giver : Type 0 where
+  OfUser : (user : UserId) → Giver
+  OfClient : (client : ℕ) → Giver
+  OfNobody : Giver
+
+abbrev pub giver_of : EventValue → Giver
+giver_of (Attach user rows columns) = OfUser user
+giver_of (Detach client) = OfClient client
+giver_of (Keys client bytes) = OfClient client
+giver_of (Command user number line) = OfUser user
+giver_of (Resize client rows columns) = OfClient client
+giver_of (Open user rows columns keep title) = OfUser user
+giver_of (Output window bytes) = OfNobody
+giver_of (Closed window) = OfNobody
+giver_of (Draw client) = OfClient client
+
 abbrev pub client_user : Tables → ℕ → Option UserId
 client_user t client = option_map (λ (c : Client). c.user) (client_at t client)
 
+abbrev pub user_by : Tables → Giver → Option UserId
+user_by t (OfUser user) = Some user
+user_by t (OfClient client) = client_user t client
+user_by t OfNobody = None
+
+-- whose step it is
 abbrev pub user_of : Tables → EventValue → Option UserId
-user_of t (Attach user rows columns) = Some user
-user_of t (Command user number line) = Some user
-user_of t (Open user rows columns keep title) = Some user
-user_of t event = option_and_then (client_user t) (client_of event)
+user_of t event = user_by t (giver_of event)
 
 -- who holds a lock may write there
 abbrev pub HoldersMayWrite : Tables → Type 0

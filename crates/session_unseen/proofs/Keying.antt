@@ -1,6 +1,6 @@
 -- Keys do to cut tables what they do to these; and so does each event, but for output that is cut.
 use Rattle.std.proofs.Common.{◌≡◌, ℕ, Bool, true, false, not, List, [], ◌∷◌, ◌++◌, Option, Some, None, Ok, Err, Result, refl, ap, sym, ◌∙◌, length, take}
-use Rattle.std.specs.Prelude.{if◌then◌else◌, ◌==◌}
+use Rattle.std.specs.Prelude.{◌==◌}
 use Rattle.std.specs.Option.{option_map}
 use Rattle.acl.specs.declared.user_id.UserId.{UserId}
 use Rattle.command_lang.specs.command.Command.{Command as Order}
@@ -30,7 +30,7 @@ use Rattle.session_model.specs.Comings.{open_checks, new_window, opens, outputs}
 use Rattle.session_model.specs.Answering.{told, says, says_why, input_in, types, typing_verdicts, message_of, with_listed, keyed, Ordered, by_ruling, by_line, ordered, unsaid, reading, keys_outcome}
 use Rattle.session_model.specs.Events.{outcome}
 use Rattle.session_laws.proofs.Lists.{row_serial}
-use Rattle.session_laws.proofs.Outcomes.{Change, Changes, changes}
+use Rattle.session_laws.proofs.Outcomes.{undrawn, Change, Changes, changes}
 use Rattle.session_unseen.specs.Hidden.{is_hidden}
 use Rattle.session_unseen.proofs.Cutting.{cut_window, cut_client, cut, cut_deed, cut_caller, cut_writing, client_cut, with_client_cut, with_window_cut}
 use Rattle.session_unseen.proofs.Finding.{focus_cut}
@@ -142,14 +142,8 @@ module _ (shown : ℕ → Bool) (seeing : UserId → Bool) where
   -- ---- a change of a client's own row
 
   module _ (event : EventValue) (x : Change) (f : Changes event x) where
-    shown_after : (c : Client) (b : Bool) → x.drawn (if b then c.drawn else None) ≡ (if b then (x.row c).drawn else None)
-    shown_after c true = sym (f.draws c)
-    shown_after c false = f.undrawn
-
     changed_cut : (c : Client) → x.row (g c) ≡ g (x.row c)
-    changed_cut c =
-        f.unread c (if seeing c.user then c.drawn else None) ∙ ap (λ v. record (x.row c) { delivered = []; drawn = v }) (shown_after c (seeing c.user))
-        ∙ ap (λ v. record (x.row c) { delivered = []; drawn = if seeing v then (x.row c).drawn else None }) (sym (f.user c))
+    changed_cut c = f.drawn (seeing c.user) c ∙ ap (λ v. undrawn (seeing v) (x.row c)) (sym (f.user c))
 
     change_cut : (t : Tables) → outcome (less t) event ≡ cut_outcome shown seeing (outcome t event)
     change_cut t =

@@ -1,14 +1,14 @@
 -- A step of two runs whose tables are alike: they stay so, and a user observes the same of it.
 use Rattle.std.proofs.Common.{◌≡◌, ℕ, Bool, true, false, List, [], ◌∷◌, ◌++◌, Option, Some, None, refl, ap, sym, ◌∙◌, map, filter, length}
 use Rattle.std.specs.Prelude.{if◌then◌else◌, ◌==◌, MatchOption}
-use Rattle.std.specs.Option.{option_map, option_map_or, option_and_then}
+use Rattle.std.specs.Option.{option_map, option_map_or}
 use Rattle.acl.specs.declared.user_id.UserId.{UserId}
 use Rattle.acl.specs.Same.{same_user}
 use Rattle.terminal_model.specs.Reading.{reads}
 use Rattle.session_model.specs.declared.event.Effect.{Effect}
 use Rattle.session_model.specs.declared.event.Effect.TheVariants.{Input, Deliver, Say, Size, GoneWindow, GoneClient}
 use Rattle.session_model.specs.declared.refusal.Refusal.TheVariants.{NoWindow}
-use Rattle.session_model.specs.Trace.{EventValue, Attach, Command, Open, Output, Draw, Reply}
+use Rattle.session_model.specs.Trace.{EventValue, Output, Draw, Reply}
 use Rattle.session_model.specs.Tables.{Tables, Window, Client, client_at, window_at}
 use Rattle.session_model.specs.Terminals.{terminal_of}
 use Rattle.session_model.specs.Deeds.{input_of}
@@ -17,8 +17,7 @@ use Rattle.session_model.specs.Events.{outcome}
 use Rattle.session_model.specs.Comings.{outputs}
 use Rattle.session_model.specs.Granted.{granted_view}
 use Rattle.session_model.specs.Run.{drawn, drawn_on, HasEffects, IsDraw, DrawsWhereNeeded}
-use Rattle.session_guests.specs.Locking.{user_of, client_user}
-use Rattle.session_laws.specs.Entries.{client_of}
+use Rattle.session_guests.specs.Locking.{Giver, OfUser, OfClient, OfNobody, giver_of, user_by, user_of, client_user}
 use Rattle.session_laws.proofs.Lists.{row_serial}
 use Rattle.session_unseen.specs.Hidden.{is_hidden}
 use Rattle.session_unseen.specs.Observed.{Observation, Replied, Told, Drawn, is_users, is_client_of, is_for, is_any, drawn_for, drawn_to}
@@ -105,15 +104,10 @@ module _ (shown : ℕ → Bool) (seeing : UserId → Bool) (t u : Tables) (same 
   same_client_user : (client : ℕ) → client_user t client ≡ client_user u client
   same_client_user client = user_read (client_at t client) (client_at u client) (same_client shown seeing t u client same)
 
-  same_client_users : (client : Option ℕ) → option_and_then (client_user t) client ≡ option_and_then (client_user u) client
-  same_client_users None = refl
-  same_client_users (Some client) = same_client_user client
-
-  same_user_of : (event : EventValue) → user_of t event ≡ user_of u event
-  same_user_of (Attach user rows columns) = refl
-  same_user_of (Command user number bytes) = refl
-  same_user_of (Open user rows columns keep title) = refl
-  same_user_of event = same_client_users (client_of event)
+  same_giver : (giver : Giver) → user_by t giver ≡ user_by u giver
+  same_giver (OfUser user) = refl
+  same_giver (OfClient client) = same_client_user client
+  same_giver OfNobody = refl
 
   -- ---- whom effects are for
 
@@ -181,6 +175,6 @@ module _ (shown : ℕ → Bool) (seeing : UserId → Bool) (t u : Tables) (same 
       pub seen_step : (event : EventValue) (r s : Reply) (ds es : List Effect) → is_hidden shown event ≡ false → r ≡ (outcome t event).reply → s ≡ (outcome u event).reply
           → HasEffects t event ds → HasEffects u event es → StandsAt t event → StandsAt u event → seen_of t event r ds ≡ seen_of u event s es
       seen_step event r s ds es stands is was draws drawn p q =
-          ap (λ o. (if is_users user o then Replied r ∷ [] else []) ++ (told_to t ds ++ drawn_to t user event ds)) (same_user_of event)
+          ap (λ o. (if is_users user o then Replied r ∷ [] else []) ++ (told_to t ds ++ drawn_to t user event ds)) (same_giver (giver_of event))
           ∙ ap (λ x. (if is_users user (user_of u event) then Replied x ∷ [] else []) ++ (told_to t ds ++ drawn_to t user event ds)) (is ∙ same_reply event stands ∙ sym was)
           ∙ ap (λ rest. (if is_users user (user_of u event) then Replied s ∷ [] else []) ++ rest) (rest_same event ds es stands draws drawn p q)
