@@ -17,26 +17,24 @@ use Rattle.command_lang.specs.fault.ParseFault.{ParseFault}
 use Rattle.command_lang.specs.Relation.{read_line}
 use Rattle.keys.specs.Grammar.{Item, typed, bound, line}
 use Rattle.session_model.specs.declared.check.Check.{Check}
-use Rattle.session_model.specs.declared.check.Check.TheVariants.{Must as must}
 use Rattle.session_model.specs.declared.event.Reason.TheVariants as reason
 use Rattle.session_model.specs.declared.message.Message.{Message}
 use Rattle.session_model.specs.declared.refusal.Refusal.{Refusal}
-use Rattle.session_model.specs.declared.refusal.Refusal.TheVariants.{UnknownUser, NoWindow, BadSize}
 use Rattle.session_model.specs.declared.verdict.Verdict.{Verdict}
-use Rattle.session_model.specs.Trace.{EventValue, Attach, Detach, Keys, Command, Resize, Open, Output, Closed, Draw, Reply}
+use Rattle.session_model.specs.Trace.{EventValue, Reply}
 use Rattle.session_model.specs.Trace as trace
 use Rattle.session_model.specs.Sound.{Rises, AreFit, client_serials}
-use Rattle.session_model.specs.Tables.{Tables, Window, Client, fresh, window_at, client_at, with_client, focused, is_in_focus, is_known}
+use Rattle.session_model.specs.Tables.{Tables, Window, Client, fresh, client_at, with_client, focused, is_in_focus}
 use Rattle.session_model.specs.Naming.{lowest, free_number}
 use Rattle.session_model.specs.Lines.{caller_of, line_caller}
 use Rattle.session_model.specs.Checks.{passes, checks, first_fault, verdicts}
 use Rattle.session_model.specs.Deeds.{Deed, Answer, changing, parts, closes}
 use Rattle.session_model.specs.Commands.{does}
 use Rattle.session_model.specs.Keying.{items_behind, typed_bytes, command_item, taken}
-use Rattle.session_model.specs.Outcomes.{Outcome, finished, refused, where_passed, done, reply_of, left_acts_of, left_acts}
+use Rattle.session_model.specs.Outcomes.{Outcome, finished, refused, done, reply_of, left_acts_of, left_acts}
 use Rattle.session_model.specs.Events.{outcome}
-use Rattle.session_model.specs.Comings.{attach_checks, attaches, new_client, open_checks, opens, new_window, has_place, is_client_size, resized, outputs}
-use Rattle.session_model.specs.Answering.{typing_verdicts, keyed, with_listed, message_of, by_line, ordered, Ordered, reading, types, unsaid, keys_outcome, commanded, line_ruling, answered}
+use Rattle.session_model.specs.Comings.{attaches, new_client, open_checks, opens, new_window, has_place, outputs}
+use Rattle.session_model.specs.Answering.{typing_verdicts, keyed, with_listed, message_of, by_line, ordered, Ordered, reading, types, unsaid, keys_outcome}
 use Rattle.session_model.specs.Run.{IsStep, IsRun, IsRunFrom, tables_from}
 use Rattle.session_laws.proofs.Agreeing.{has, has_row}
 use Rattle.session_laws.proofs.Doing.{Either}
@@ -86,41 +84,15 @@ finished_judged t vs reply d see follow =
       follow = follow_append t.edition t.owner t.acts d.acts left follow (free_follow t.edition t.owner (followed_by t.acts d.acts) left (left_free t.clients d.tables.clients));
     }
 
-passed_judged : (t : Tables) (cs : List Check) (reply : Reply) (d : Deed) → SeeThere t (verdicts t cs) → (first_fault t cs ≡ None → Follows t d.acts)
-    → CanJudge t (where_passed t cs reply d)
-passed_judged t cs reply d see follow =
-    outcomes.passed (CanJudge t) t (verdicts t cs) (first_fault t cs) reply d
-    (λ r is. refused_judged t (verdicts t cs) r see) (λ is. finished_judged t (verdicts t cs) reply d see (follow is))
-
 -- ---- commands
 
-module _ (t : Tables) (agree : OpenIs t) (h : Holds t) where
-  -- a command of a line
-  module _ (user : UserId) (number : Option ℕ) (c : Order) where
-    abbrev asked : List Check
-    asked = checks t (line_caller t user number) c
+-- a command of a line
+module _ (t : Tables) (agree : OpenIs t) (user : UserId) (number : Option ℕ) (c : Order) where
+  asked_see : SeeThere t (verdicts t (checks t (line_caller t user number) c))
+  asked_see = verdicts_see t (checks t (line_caller t user number) c) (checks_see t agree (line_caller t user number) c (number_there t.windows number))
 
-    asked_see : SeeThere t (verdicts t asked)
-    asked_see = verdicts_see t asked (checks_see t agree (line_caller t user number) c (number_there t.windows number))
-
-    answer_judged : (a : Answer) → Either (λ d. Follows t d.acts) a → CanJudge t (answered t (verdicts t asked) a)
-    answer_judged (Ok d) follow = finished_judged t (verdicts t asked) (reply_of 0 0 0 d.lists) d asked_see follow
-    answer_judged (Err r) plain = refused_judged t (verdicts t asked) r asked_see
-
-    order_judged : (f : Option Refusal) → first_fault t asked ≡ f
-        → CanJudge t (answered t (verdicts t asked) (elim f as (λ _. Answer) [ Some r ↦ Err r | None ↦ does t (line_caller t user number) c ]))
-    order_judged (Some r) is = refused_judged t (verdicts t asked) r asked_see
-    order_judged None is = answer_judged (does t (line_caller t user number) c) (follows t agree (line_caller t user number) h (number_there t.windows number) c is)
-
-  line_judged : (user : UserId) (number : Option ℕ) (bytes : List ℕ) → CanJudge t (outcome t (Command user number bytes))
-  line_judged user number bytes = on (is_known t user) where
-    read : (r : Result Order ParseFault) → CanJudge t (commanded t (line_ruling t (line_caller t user number) r))
-    read (Ok c) = order_judged user number c (first_fault t (checks t (line_caller t user number) c)) refl
-    read (Err f) = refused_judged t [] _ tt
-
-    on : (b : Bool) → CanJudge t (if b then commanded t (line_ruling t (line_caller t user number) (read_line bytes)) else refused t [] UnknownUser)
-    on true = read (read_line bytes)
-    on false = refused_judged t [] UnknownUser tt
+  deed_follows : (d : Deed) → Holds t → first_fault t (checks t (line_caller t user number) c) ≡ None → does t (line_caller t user number) c ≡ Ok d → Follows t d.acts
+  deed_follows d h passes is = subst (Either (λ e. Follows t e.acts)) is (follows t agree (line_caller t user number) h (number_there t.windows number) c passes)
 
 -- ---- keys
 
@@ -194,56 +166,56 @@ no_client (c ∷ cs) next rises =
     ap (list_any is) (reverse-append ((c.serial, c.user) ∷ []) ps) ∙ list_any-append is (reverse ps) ((c.serial, c.user) ∷ [])
     ∙ ap (λ b. b || (c.serial == next || false)) (no_client cs next rises.2) ∙ ap (λ b. b || false) (next_apart c.serial next rises.0)
 
-attach_judged : (t : Tables) (user : UserId) (rows columns : ℕ) → AreFit t → CanJudge t (outcome t (Attach user rows columns))
-attach_judged t user rows columns f =
-    let cs : List Check = attach_checks t user rows columns in
-    passed_judged t cs (reply_of 0 t.next_client 0 None) (attaches t (new_client t user rows columns)) (verdicts_see t cs (tt, (tt, (tt, (tt, tt)))))
-    (λ none. (ap not new, entering_follows t.edition t.owner (act.Attached t.next_client user ∷ t.acts) user (option_map (λ (w : Window). w.serial) (lowest t.windows)) (shown (lowest t.windows) refl))) where
-      agree : OpenIs t
-      agree = f.agree.open_is
-
+attach_follows : (t : Tables) (user : UserId) (rows columns : ℕ) → AreFit t → Follows t (attaches t (new_client t user rows columns)).acts
+attach_follows t user rows columns f =
+    (ap not new, entering_follows t.edition t.owner (act.Attached t.next_client user ∷ t.acts) user (option_map (λ (w : Window). w.serial) (lowest t.windows)) (shown (lowest t.windows) refl)) where
       new : is_client t.acts t.next_client ≡ false
       new = ap (list_any (λ (p : ℕ × UserId). p.0 == t.next_client)) f.agree.clients_are ∙ no_client t.clients t.next_client f.sound.clients_rise
 
       shown : (o : Option Window) → lowest t.windows ≡ o → MatchOption (option_map (λ (w : Window). w.serial) o) (Unit {0}) (λ n. is_open t.acts n ≡ true)
       shown None is = tt
-      shown (Some w) is = there_open t agree w (lowest_there t.windows w is)
+      shown (Some w) is = there_open t f.agree.open_is w (lowest_there t.windows w is)
 
-open_judged : (t : Tables) (user : UserId) (rows columns keep : ℕ) (title : List ℕ) → AreFit t → CanJudge t (outcome t (Open user rows columns keep title))
-open_judged t user rows columns keep title f =
+open_follows : (t : Tables) (user : UserId) (rows columns keep : ℕ) (title : List ℕ) → AreFit t → first_fault t (open_checks t user rows columns keep title) ≡ None
+    → Follows t (opens t user (new_window t rows columns keep title)).acts
+open_follows t user rows columns keep title f none =
     let cs : List Check = open_checks t user rows columns keep title in
-    let w : Window = new_window t rows columns keep title in
-    passed_judged t cs (reply_of 0 w.serial w.number None) (opens t user w) (verdicts_see t cs (tt, ((refl, tt), (tt, (tt, (tt, (tt, tt)))))))
-    (λ none. let each : AllByRecursion (λ c. passes t c ≡ true) cs = each_passes t cs none in
-    (and_from _ _ each.0 (and_from _ _ shut (room each.1.1.1.1.0)), tt)) where
+    let each : AllByRecursion (λ c. passes t c ≡ true) cs = each_passes t cs none in
+    (and_from _ _ each.0 (and_from _ _ shut (room each.1.1.1.1.0)), tt) where
       shut : not (is_open t.acts t.next_window) ≡ true
       shut = ap not (f.agree.open_is t.next_window ∙ has_row t.windows t.next_window ∙ new_serial (serials t) t.next_window f.sound.windows_rise)
 
       room : (has_place t.windows && nat_lt t.next_window (2 ^ 32)) ≡ true → nat_lt (open_count t.acts) 40 ≡ true
       room place = ap (λ n. nat_lt n 40) f.agree.count_is ∙ and_first (nat_lt (length t.windows) 40) (is_some (free_number t.windows)) (and_first (has_place t.windows) (nat_lt t.next_window (2 ^ 32)) place)
 
+open_see : (t : Tables) (user : UserId) (rows columns keep : ℕ) (title : List ℕ) → SeeThere t (verdicts t (open_checks t user rows columns keep title))
+open_see t user rows columns keep title = verdicts_see t (open_checks t user rows columns keep title) (tt, ((refl, tt), (tt, (tt, (tt, (tt, tt))))))
+
 -- ---- steps
 
+refused_see : (t : Tables) (event : EventValue) (vs : List Verdict) (r : Refusal) → outcomes.Refuses t event vs r → OpenIs t → SeeThere t vs
+refused_see t _ _ _ (outcomes.plainly event r plain) agree = tt
+refused_see t _ _ _ (outcomes.unopened user rows columns keep title r is) agree = open_see t user rows columns keep title
+refused_see t _ _ _ (outcomes.unchecked user number bytes c r known read is) agree = asked_see t agree user number c
+refused_see t _ _ _ (outcomes.undone user number bytes c r read plain) agree = asked_see t agree user number c
+
+happened : (t : Tables) (event : EventValue) (o : Outcome) → outcomes.Happens t event o → AreFit t → CanJudge t o
+happened t _ _ (outcomes.failed event vs r why) f = refused_judged t vs r (refused_see t event vs r why f.agree.open_is)
+happened t _ _ (outcomes.changed event x c is facts at) f = finished_judged t [] done (changing (with_client t (x.row c))) tt tt
+happened t _ _ (outcomes.attached user rows columns passes) f = finished_judged t [] (reply_of 0 t.next_client 0 None) (attaches t (new_client t user rows columns)) tt (attach_follows t user rows columns f)
+happened t _ _ (outcomes.detached client c at) f = finished_judged t [] done (parts (λ d. d.serial == client) reason.Detached t) tt (parted_follow t _)
+happened t _ _ (outcomes.keyed client bytes c at) f = keys_judged t client c (take (taken c.keys bytes) bytes) f.agree.open_is (fit_holds t f) at
+happened t _ _ (outcomes.obeyed user number bytes c d known read passes is) f =
+    finished_judged t (verdicts t (checks t (line_caller t user number) c)) (reply_of 0 0 0 d.lists) d (asked_see t f.agree.open_is user number c) (deed_follows t f.agree.open_is user number c d (fit_holds t f) passes is)
+happened t _ _ (outcomes.opened user rows columns keep title passes) f =
+    let w : Window = new_window t rows columns keep title in
+    finished_judged t (verdicts t (open_checks t user rows columns keep title)) (outcomes.made_by w) (opens t user w) (open_see t user rows columns keep title) (open_follows t user rows columns keep title f passes)
+happened t _ _ (outcomes.wrote window bytes w at) f = finished_judged t [] done (outputs t w bytes) tt tt
+happened t _ _ (outcomes.closed window w at) f = finished_judged t [] done (closes (λ v. v.serial == window) reason.Detached t) tt (closed_follow t _)
+happened t _ _ (outcomes.drew client c at) f = finished_judged t [] done (changing t) tt tt
+
 pub judged_step : (t : Tables) (event : EventValue) → AreFit t → CanJudge t (outcome t event)
-judged_step t (Attach user rows columns) f = attach_judged t user rows columns f
-judged_step t (Detach client) f =
-    outcomes.found (CanJudge t) t (λ c. finished t [] done (parts (λ d. d.serial == client) reason.Detached t)) (client_at t client) (refused_judged t [] NoWindow tt)
-    (λ c is. finished_judged t [] done (parts (λ d. d.serial == client) reason.Detached t) tt (parted_follow t _))
-judged_step t (Keys client bytes) f =
-    outcomes.found (CanJudge t) t (λ c. keys_outcome t c (take (taken c.keys bytes) bytes)) (client_at t client) (refused_judged t [] NoWindow tt)
-    (λ c is. keys_judged t client c (take (taken c.keys bytes) bytes) f.agree.open_is (fit_holds t f) is)
-judged_step t (Command user number bytes) f = line_judged t f.agree.open_is (fit_holds t f) user number bytes
-judged_step t (Resize client rows columns) f =
-    outcomes.found (CanJudge t) t (λ c. where_passed t (must (is_client_size rows columns) BadSize ∷ []) done (changing (with_client t (resized rows columns c)))) (client_at t client) (refused_judged t [] NoWindow tt)
-    (λ c is. passed_judged t (must (is_client_size rows columns) BadSize ∷ []) done (changing (with_client t (resized rows columns c))) (verdicts_see t (must (is_client_size rows columns) BadSize ∷ []) (tt, tt)) (λ none. tt))
-judged_step t (Open user rows columns keep title) f = open_judged t user rows columns keep title f
-judged_step t (Output window bytes) f =
-    outcomes.found (CanJudge t) t (λ w. finished t [] done (outputs t w bytes)) (window_at t window) (refused_judged t [] NoWindow tt) (λ w is. finished_judged t [] done (outputs t w bytes) tt tt)
-judged_step t (Closed window) f =
-    outcomes.found (CanJudge t) t (λ w. finished t [] done (closes (λ v. v.serial == window) reason.Detached t)) (window_at t window) (refused_judged t [] NoWindow tt)
-    (λ w is. finished_judged t [] done (closes (λ v. v.serial == window) reason.Detached t) tt (closed_follow t _))
-judged_step t (Draw client) f =
-    outcomes.found (CanJudge t) t (λ c. finished t [] done (changing t)) (client_at t client) (refused_judged t [] NoWindow tt) (λ c is. finished_judged t [] done (changing t) tt tt)
+judged_step t event f = happened t event (outcome t event) (outcomes.happens t event) f
 
 -- ---- entries
 

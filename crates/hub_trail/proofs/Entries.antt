@@ -16,16 +16,15 @@ use Rattle.command_lang.specs.Relation.{read_line}
 use Rattle.command_lang.proofs.OneReading.{relates-reads}
 use Rattle.keys.specs.Grammar.{Item, typed, bound, line}
 use Rattle.session_model.specs.declared.check.Check.{Check}
-use Rattle.session_model.specs.declared.check.Check.TheVariants.{Must as must}
 use Rattle.session_model.specs.declared.event.Done.{Done}
 use Rattle.session_model.specs.declared.event.Reason.TheVariants as reason
 use Rattle.session_model.specs.declared.message.Message.{Message}
 use Rattle.session_model.specs.declared.message.Message.TheVariants as message
 use Rattle.session_model.specs.declared.refusal.Refusal.{Refusal}
-use Rattle.session_model.specs.declared.refusal.Refusal.TheVariants.{UnknownUser, NoWindow, BadSize, Line}
+use Rattle.session_model.specs.declared.refusal.Refusal.TheVariants.{UnknownUser, NoWindow, Line}
 use Rattle.session_model.specs.declared.verdict.Verdict.{Verdict}
 use Rattle.session_model.specs.declared.verdict.Verdict.TheVariants as verdict
-use Rattle.session_model.specs.Trace.{EventValue, Attach, Detach, Keys, Command, Resize, Open, Output, Closed, Draw}
+use Rattle.session_model.specs.Trace.{EventValue, Attach, Detach, Keys, Command, Open, Closed}
 use Rattle.session_model.specs.Sound.{ActsAgree}
 use Rattle.session_model.specs.Tables.{Window, Client, Tables, window_at, client_at, with_client, focused_window, is_known}
 use Rattle.session_model.specs.Rights.{may_in, holder_in}
@@ -37,7 +36,7 @@ use Rattle.session_model.specs.Commands.{does}
 use Rattle.session_model.specs.Keying.{items_behind, typed_bytes, command_item, taken}
 use Rattle.session_model.specs.Outcomes.{Outcome, finished, refused, where_passed, left_acts, reply_of, done}
 use Rattle.session_model.specs.Events.{outcome}
-use Rattle.session_model.specs.Comings.{attaches, opens, outputs, attach_checks, open_checks, new_client, new_window, is_client_size, resized}
+use Rattle.session_model.specs.Comings.{attaches, opens, attach_checks, open_checks, new_client, new_window}
 use Rattle.session_model.specs.Answering.{line_ruling, answered, commanded, told, typing_verdicts, message_of, keyed, by_line, ordered, Ordered, reading, types, keys_outcome}
 use Rattle.session_model.specs.Promises.{OnlyRead}
 use Rattle.session_laws.proofs.Doing.{Either}
@@ -52,7 +51,7 @@ use Rattle.hub_trail.specs.Trails.{Entry}
 use Rattle.hub_trail.specs.Legal.{IsLegalEntry, AreOfUser, AsksForCommand, AsksFirst, HasItsActs, is_let, is_granted, from_command, failed, first_names, is_client_of, is_of_user, user_of}
 use Rattle.hub_trail.specs.Filing.{kept_of, ending_of}
 use Rattle.hub_trail.proofs.Verdicts.{AreTrue, true_verdicts, AreOf, own_verdicts, all_pass, Tells, IsPlain, IsCheckOf, tells, plain_refusal, plain_tells, denial_carries, refusal_denies, none_denied, plain_checks, own_checks, own_typing}
-use Rattle.hub_trail.proofs.Sights.{stays_alike, left_none, with_stays, sight_resized, parted_found, closed_found, attached}
+use Rattle.hub_trail.proofs.Sights.{stays_alike, left_none, with_stays, parted_found, closed_found, attached}
 use Rattle.hub_trail.proofs.Names.{HasFirst, HasEach, has_first, each_then}
 use Rattle.hub_trail.proofs.Rules.{rules, Still, stills, listed_rules, read_rules}
 
@@ -323,6 +322,14 @@ abbrev pub IsLegalStep : Tables → Option Kept → Outcome → Type 0
 IsLegalStep t None o = o.acts ≡ []
 IsLegalStep t (Some k) o = Legal t k o
 
+unkept : (t : Tables) (event : EventValue) (o : Outcome) → outcomes.Happens t event o → kept_of event ≡ None → o.acts ≡ []
+unkept t _ _ (outcomes.failed event vs r why) none = refl
+unkept t _ _ (outcomes.changed event x c is f at) none =
+    left_none t.clients _ (stays_alike t.clients _ (with_stays t.clients x.client c (x.row c) at (f.serial c) (λ i. (f.user c i, f.focus c i))))
+unkept t _ _ (outcomes.wrote window bytes w at) none = nobody_left t.clients t.clients refl
+unkept t _ _ (outcomes.drew client c at) none = nobody_left t.clients t.clients refl
+unkept t _ _ h none = absurd (cc (none))
+
 pub legal_step : (t : Tables) (event : EventValue) → ActsAgree t → IsLegalStep t (kept_of event) (outcome t event)
 legal_step t (Attach user rows columns) agree = attach_legal t user rows columns
 legal_step t (Detach client) agree = detach_legal t client
@@ -330,12 +337,6 @@ legal_step t (Keys client bytes) agree =
     outcomes.found (Legal t (kept.Keys client)) t (λ c. keys_outcome t c (take (taken c.keys bytes) bytes)) (client_at t client) (refused_legal t (kept.Keys client) [] NoWindow tt tt refl)
     (λ c is. keys_legal t client c (take (taken c.keys bytes) bytes) agree is)
 legal_step t (Command user number bytes) agree = command_legal t user number bytes
-legal_step t (Resize client rows columns) agree =
-    let cs : List Check = must (is_client_size rows columns) BadSize ∷ [] in
-    outcomes.found (λ o. o.acts ≡ []) t (λ c. where_passed t cs done (changing (with_client t (resized rows columns c)))) (client_at t client) refl
-    (λ c is. outcomes.passed (λ o. o.acts ≡ []) t (verdicts t cs) (first_fault t cs) done (changing (with_client t (resized rows columns c))) (λ r at. refl)
-    (λ at. left_none t.clients _ (stays_alike t.clients _ (with_stays t.clients client c (resized rows columns c) is refl (sight_resized rows columns c)))))
 legal_step t (Open user rows columns keep title) agree = open_legal t user rows columns keep title
-legal_step t (Output window bytes) agree = outcomes.found (λ o. o.acts ≡ []) t (λ w. finished t [] done (outputs t w bytes)) (window_at t window) refl (λ w is. nobody_left t.clients t.clients refl)
 legal_step t (Closed window) agree = closed_legal t window
-legal_step t (Draw client) agree = outcomes.found (λ o. o.acts ≡ []) t (λ c. finished t [] done (changing t)) (client_at t client) refl (λ c is. nobody_left t.clients t.clients refl)
+legal_step t event agree = unkept t event (outcome t event) (outcomes.happens t event) refl

@@ -1,8 +1,7 @@
 -- What clients show in focus, and that nobody leaves a window where it stays; what goes, and who is attached.
 use Rattle.std.proofs.Common.{◌≡◌, ◌∙◌, ℕ, Bool, true, false, ◌&&◌, ◌||◌, List, [], ◌∷◌, ◌++◌, Option, Some, None, map, filter, reverse, refl, ap, sym}
-use Rattle.std.specs.Prelude.{◌==◌, if◌then◌else◌, slice_get, unwrap_or}
+use Rattle.std.specs.Prelude.{◌==◌, if◌then◌else◌}
 use Rattle.std.specs.List.{list_any}
-use Rattle.std.specs.Option.{option_and_then}
 use Rattle.std.proofs.lemmas.Bool.{and_from, or_left, or_right, eq-eqb}
 use Rattle.std.proofs.lemmas.List.{reverse-append}
 use Rattle.acl.specs.declared.user_id.UserId.{UserId}
@@ -10,13 +9,9 @@ use Rattle.acl.specs.declared.act.Act.{Act}
 use Rattle.acl.specs.declared.act.Act.TheVariants as act
 use Rattle.acl.specs.Same.{same_user}
 use Rattle.acl.proofs.StandsForLemmas.{same_user-refl}
-use Rattle.regions.specs.declared.shown.Shown.{Shown}
-use Rattle.regions.specs.Layouts.{empty, kept_alone}
-use Rattle.regions.specs.Pages.{has_room}
 use Rattle.session_model.specs.Sound.{ActsAgree}
 use Rattle.session_model.specs.Tables.{Tables, Client, Window, row_of, with_row, client_at, focused, is_window, is_in_focus}
 use Rattle.session_model.specs.Outcomes.{left_acts_of, left_acts}
-use Rattle.session_model.specs.Comings.{resized}
 use Rattle.session_laws.proofs.Lists.{row_serial}
 use Rattle.hub_trail.specs.Legal.{is_client_of, is_parted, is_closed}
 
@@ -76,7 +71,7 @@ left_none (c ∷ before) after stays = on (left_none before after (λ u w e. sta
       ap (λ b. (if b then [] else act.Left c.user w ∷ []) ++ left_acts before after) (or_right (is_in_focus before c.user w) _ (stays c.user w (own_focus c before w e)))
       ∙ rest
 
--- ---- another size
+-- ---- another row of a client
 
 with_alike : (cs : List Client) (s : ℕ) (c new : Client) → row_of (λ (x : Client). x.serial) cs s ≡ Some c → sight new ≡ sight c → map sight (with_row (λ (x : Client). x.serial) cs s new) ≡ map sight cs
 with_alike [] s c new found same = refl
@@ -91,17 +86,6 @@ pub with_stays : (cs : List Client) (s : ℕ) (c new : Client) → row_of (λ (x
     → map sight (with_row (λ (x : Client). x.serial) cs new.serial new) ≡ map sight cs
 with_stays cs s c new found serial same =
     ap (λ (n : ℕ). map sight (with_row (λ (x : Client). x.serial) cs n new)) (serial ∙ row_serial (λ (x : Client). x.serial) cs s c found) ∙ with_alike cs s c new found same
-
--- a page that has too little room keeps what is in focus
-focus_alone : (o : Option Shown) → option_and_then (λ (s : Shown). s.window) (Some (unwrap_or o empty)) ≡ option_and_then (λ (s : Shown). s.window) o
-focus_alone None = refl
-focus_alone (Some s) = refl
-
-pub sight_resized : (rows columns : ℕ) (c : Client) → sight (resized rows columns c) ≡ sight c
-sight_resized rows columns c = on (has_room c.layout.shape rows columns) where
-  on : (b : Bool) → sight (record c { rows = rows; columns = columns; delivered = []; drawn = None; layout = if b then c.layout else kept_alone c.layout }) ≡ sight c
-  on true = refl
-  on false = ap (λ (o : Option ℕ). (c.user, o)) (focus_alone (slice_get c.layout.shown c.layout.focus))
 
 -- ---- what goes has its act
 

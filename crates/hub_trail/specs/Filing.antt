@@ -2,8 +2,8 @@
 -- Where memory was refused there was no step.
 use Rattle.std.specs.Prelude.{Bool, true, false, List, [], ◌∷◌, ◌++◌, Option, Some, None, Ok, Err}
 use Rattle.session_model.specs.declared.event.Done.{Done}
-use Rattle.session_model.specs.Trace.{EventValue, Attach, Detach, Keys, Command, Resize}
-use Rattle.session_model.specs.Trace.{Open, Output, Closed, Draw, Reply, Trace}
+use Rattle.session_model.specs.Trace.{EventValue, Attach, Detach, Keys, Command, Open, Closed}
+use Rattle.session_model.specs.Trace.{Reply, Trace}
 use Rattle.session_model.specs.Trace as trace
 use Rattle.hub_trail.specs.declared.kept.Kept.{Kept}
 use Rattle.hub_trail.specs.declared.kept.Kept.TheVariants as kept
@@ -16,11 +16,9 @@ kept_of (Attach user rows columns) = Some (kept.Attach user rows columns)
 kept_of (Detach client) = Some (kept.Detach client)
 kept_of (Keys client bytes) = Some (kept.Keys client)
 kept_of (Command user window line) = Some (kept.Command user window line)
-kept_of (Resize client rows columns) = None
 kept_of (Open user rows columns keep title) = Some (kept.Open user rows columns keep title)
-kept_of (Output window bytes) = None
 kept_of (Closed window) = Some (kept.Closed window)
-kept_of (Draw client) = None
+kept_of event = None
 
 -- whether bytes of it are kept, which takes memory
 abbrev pub copies : EventValue → Bool

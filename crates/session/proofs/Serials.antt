@@ -6,7 +6,7 @@ use Rattle.acl.specs.declared.user_id.UserId.{UserId}
 use Rattle.session_model.specs.declared.check.Check.TheVariants.{Must as must}
 use Rattle.session_model.specs.declared.event.Effect.{Effect}
 use Rattle.session_model.specs.declared.refusal.Refusal.TheVariants.{NotMultiuser, UnknownUser, TooManyClients, BadSize}
-use Rattle.session_model.specs.Trace.{EventValue, Attach, Detach, Keys, Command, Resize, Open, Output, Closed, Draw, Entry, Trace}
+use Rattle.session_model.specs.Trace.{EventValue, Attach, Open, Draw, Entry, Trace}
 use Rattle.session_model.specs.Tables.{Tables, Window, Client, client_at, is_known, fresh}
 use Rattle.session_model.specs.Checks.{first_fault, verdicts}
 use Rattle.session_model.specs.Events.{outcome}
@@ -40,13 +40,7 @@ stays t (Attach user rows columns) s le =
 stays t (Open user rows columns keep title) s le =
     let w : Window = new_window t rows columns keep title in
     outcomes.passed (λ o. IsInRange o.tables) t (verdicts t (open_checks t user rows columns keep title)) (first_fault t (open_checks t user rows columns keep title)) (reply_of 0 w.serial w.number None) (opens t user w) (λ r is. le) (λ is. le)
-stays t (Detach client) s le = same _ _ (moving t (Detach client) s refl).next_client le
-stays t (Keys client bytes) s le = same _ _ (moving t (Keys client bytes) s refl).next_client le
-stays t (Command user number bytes) s le = same _ _ (moving t (Command user number bytes) s refl).next_client le
-stays t (Resize client rows columns) s le = same _ _ (moving t (Resize client rows columns) s refl).next_client le
-stays t (Output window bytes) s le = same _ _ (moving t (Output window bytes) s refl).next_client le
-stays t (Closed window) s le = same _ _ (moving t (Closed window) s refl).next_client le
-stays t (Draw client) s le = same _ _ (moving t (Draw client) s refl).next_client le
+stays t event s le = same _ _ (moving t event s refl).next_client le
 
 drawn_next : (o : Option Client) (effects : List Effect) (t : Tables) → (drawn_on o effects t).next_client ≡ t.next_client
 drawn_next None effects t = refl
@@ -56,14 +50,7 @@ after_stays : (t : Tables) (event : EventValue) (effects : List Effect) → AreS
 after_stays t (Draw client) effects s le =
     let u : Tables = (outcome t (Draw client)).tables in
     same _ _ (drawn_next (client_at u client) effects u) (stays t (Draw client) s le)
-after_stays t (Attach user rows columns) effects s le = stays t (Attach user rows columns) s le
-after_stays t (Detach client) effects s le = stays t (Detach client) s le
-after_stays t (Keys client bytes) effects s le = stays t (Keys client bytes) s le
-after_stays t (Command user number bytes) effects s le = stays t (Command user number bytes) s le
-after_stays t (Resize client rows columns) effects s le = stays t (Resize client rows columns) s le
-after_stays t (Open user rows columns keep title) effects s le = stays t (Open user rows columns keep title) s le
-after_stays t (Output window bytes) effects s le = stays t (Output window bytes) s le
-after_stays t (Closed window) effects s le = stays t (Closed window) s le
+after_stays t event effects s le = stays t event s le
 
 run_stays : (start : Tables) (past : List Entry) → AreSound start → IsInRange start → IsInRange (tables_from start past)
 run_stays start [] s le = le

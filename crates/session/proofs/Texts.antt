@@ -4,7 +4,7 @@ use Rattle.std.specs.Prelude.{nat_lt, if◌then◌else◌}
 use Rattle.std.specs.List.{flat_map}
 use Rattle.std.proofs.lemmas.Grind.{flat_map-append}
 use Rattle.std.proofs.lemmas.List.{append-nil}
-use Rattle.session_model.specs.Trace.{EventValue, Attach, Detach, Keys, Command, Resize, Open, Output, Closed, Draw, Reply, Entry}
+use Rattle.session_model.specs.Trace.{EventValue, Keys, Reply, Entry}
 use Rattle.session_core.specs.Headline.{Serves, untaken_keys, last_reply, replies_of, effects_of}
 use Rattle.session_lines.specs.Printed.{effect_line, reply_line}
 use Rattle.session.specs.Played.{printed}
@@ -25,14 +25,7 @@ keys_left client taken bytes false = none
 is_left : (event : EventValue) (reply : Reply) → IsLeft event (untaken_keys event reply)
 is_left (Keys client bytes) (Ok done) = keys_left client done.taken bytes (nat_lt done.taken (length bytes))
 is_left (Keys client bytes) (Err refusal) = none
-is_left (Attach user rows columns) reply = none
-is_left (Detach client) reply = none
-is_left (Command user window line) reply = none
-is_left (Resize client rows columns) reply = none
-is_left (Open user rows columns keep title) reply = none
-is_left (Output window bytes) reply = none
-is_left (Closed window) reply = none
-is_left (Draw client) reply = none
+is_left event reply = none
 
 same_replies : (more event : EventValue) (replies : List Reply) → ((reply : Reply) → reply_line more reply ≡ reply_line event reply) → flat_map (reply_line more) replies ≡ flat_map (reply_line event) replies
 same_replies more event [] same = refl

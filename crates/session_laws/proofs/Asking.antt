@@ -1,6 +1,6 @@
 -- What an event asks for, and why it is refused.
 use Rattle.std.proofs.Common.{◌≡◌, ℕ, Bool, true, false, List, [], ◌∷◌, Option, Some, None, Ok, Err, Result, refl, ap, sym, ◌∙◌, subst, inl, inr}
-use Rattle.std.specs.Prelude.{if◌then◌else◌, ◌==◌, take}
+use Rattle.std.specs.Prelude.{if◌then◌else◌, ◌==◌}
 use Rattle.std.specs.Option.{option_map, option_map_or, option_and_then}
 use Rattle.acl.specs.declared.user_id.UserId.{UserId}
 use Rattle.acl.specs.declared.bits.Bit.{Bit}
@@ -11,31 +11,24 @@ use Rattle.acl.specs.declared.command_name.CommandName.TheVariants.{Screen}
 use Rattle.command_lang.specs.command.Command.{Command as Order}
 use Rattle.command_lang.specs.Names.{name_of}
 use Rattle.command_lang.specs.fault.ParseFault.{ParseFault}
-use Rattle.session_model.specs.declared.event.Reason.TheVariants as reason
 use Rattle.session_model.specs.declared.refusal.Refusal.{Refusal}
-use Rattle.session_model.specs.declared.refusal.Refusal.TheVariants.{NoWindow, UnknownUser, BadSize}
-use Rattle.session_model.specs.declared.check.Check.TheVariants.{Must as must}
 use Rattle.session_model.specs.declared.verdict.Verdict.{Verdict}
-use Rattle.session_model.specs.Trace.{EventValue, Attach, Detach, Keys, Command, Resize, Open, Output, Closed, Draw, Reply}
-use Rattle.session_model.specs.Tables.{Tables, Window, Client, row_of, window_at, client_at, with_client, focused, focused_window, is_known}
+use Rattle.session_model.specs.Trace.{EventValue, Keys, Command, Open, Reply}
+use Rattle.session_model.specs.Tables.{Tables, Window, Client, row_of, window_at, client_at, focused, focused_window, is_known}
 use Rattle.session_model.specs.Naming.{with_number}
 use Rattle.session_model.specs.Lines.{Caller, caller_of, line_caller, read_line}
-use Rattle.session_model.specs.Checks.{checks, first_fault, verdicts, typing_checks}
-use Rattle.session_model.specs.Deeds.{Answer, Deed, changing, parts, closes}
-use Rattle.session_model.specs.Commands.{does, ruling}
-use Rattle.session_model.specs.Keying.{taken, step_items, command_item}
-use Rattle.session_model.specs.Answering.{line_ruling, answered, commanded, keys_outcome}
+use Rattle.session_model.specs.Checks.{checks, first_fault, typing_checks}
+use Rattle.session_model.specs.Keying.{step_items, command_item}
 use Rattle.session_model.specs.Events.{outcome}
-use Rattle.session_model.specs.Outcomes.{refused, finished, done, where_passed, Outcome}
-use Rattle.session_model.specs.Comings.{attach_checks, open_checks, is_client_size, resized, attaches, new_client, opens, new_window, outputs}
-use Rattle.session_model.specs.Outcomes.{reply_of}
+use Rattle.session_model.specs.Outcomes.{Outcome}
+use Rattle.session_model.specs.Comings.{open_checks}
 use Rattle.session_model.specs.Given.{commands_of, keys_typed, typed_by_client, with_order, order_in, ok_of}
 use Rattle.session_model.specs.Promises.{SomeOf}
 use Rattle.session_model.specs.Denying.{NamesTruly, Asks, AsksFor, TypesOn, IsWindow}
 use Rattle.session_laws.proofs.Lists.{row_serial, itself}
 use Rattle.session_laws.proofs.Doing.{giving}
-use Rattle.session_laws.proofs.Shapes.{own}
-use Rattle.session_laws.proofs.Denying.{OnFault, MatchAnswer, on_fault, ruled_answer, missing, checks_each, typing_each, plain_names, IsAsked, IsAskedOfRow, IsListed}
+use Rattle.session_laws.proofs.Outcomes as outcomes
+use Rattle.session_laws.proofs.Denying.{OnFault, on_fault, missing, checks_each, typing_each, plain_names, IsAsked, IsAskedOfRow, IsListed}
 
 -- ---- windows that are there
 
@@ -128,51 +121,21 @@ abbrev pub ReplyIs : (Refusal → Type 0) → Reply → Type 0
 ReplyIs P (Err r) = P r
 ReplyIs P (Ok d) = Unit {0}
 
-passed_reply : (P : Refusal → Type 0) (t : Tables) (vs : List Verdict) (o : Option Refusal) (d : Deed) (taken made number : ℕ) → OnFault P o
-    → ReplyIs P (elim o as (λ _. Outcome) [ Some r ↦ refused t vs r | None ↦ finished t vs (reply_of taken made number None) d ]).reply
-passed_reply P t vs (Some r) d taken made number fails = fails
-passed_reply P t vs None d taken made number fails = tt
-
-answered_reply : (P : Refusal → Type 0) (t : Tables) (vs : List Verdict) (a : Answer) → MatchAnswer P (λ d. Unit {0}) a → ReplyIs P (answered t vs a).reply
-answered_reply P t vs (Ok d) is = tt
-answered_reply P t vs (Err r) is = is
-
-command_reply : (t : Tables) (user : UserId) (number : Option ℕ) (bytes : List ℕ) (b : Bool) (r : Result Order ParseFault) → is_known t user ≡ b → read_line bytes ≡ r
-    → ReplyIs (NamesTruly t (Asks t (Command user number bytes))) (if b then commanded t (line_ruling t (line_caller t user number) r) else refused t [] UnknownUser).reply
-command_reply t user number bytes false r known read = tt
-command_reply t user number bytes true (Err f) known read = tt
-command_reply t user number bytes true (Ok c) known read =
-    let k : Caller = line_caller t user number in
-    let P : Refusal → Type 0 = NamesTruly t (Asks t (Command user number bytes)) in
-    answered_reply P t (verdicts t (checks t k c)) (ruling t k c).answer (ruled_answer P (λ d. Unit {0}) (first_fault t (checks t k c)) (does t k c)
-    (line_names t user number bytes c (line_given t user number bytes true (Ok c) known read)) (plain_names t (Asks t (Command user number bytes))) (λ none. own t k c))
-
-abbrev row_reply : {X : Type 0} → Tables → EventValue → (X → Outcome) → Option X → Type 0
-row_reply t event f o = ReplyIs (NamesTruly t (Asks t event)) (elim o as (λ _. Outcome) [ None ↦ refused t [] NoWindow | Some x ↦ f x ]).reply
-
-found_reply : {X : Type 0} (t : Tables) (event : EventValue) (f : X → Outcome) (o : Option X) → ((x : X) → ReplyIs (NamesTruly t (Asks t event)) (f x).reply) → row_reply t event f o
-found_reply t event f None on = tt
-found_reply t event f (Some x) on = on x
-
-pub replies : (t : Tables) (event : EventValue) → ReplyIs (NamesTruly t (Asks t event)) (outcome t event).reply
-replies t (Attach user rows columns) =
-    let P : Refusal → Type 0 = NamesTruly t (Asks t (Attach user rows columns)) in
-    passed_reply P t (verdicts t (attach_checks t user rows columns)) (first_fault t (attach_checks t user rows columns)) (attaches t (new_client t user rows columns)) 0 t.next_client 0
-    (on_fault t P (attach_checks t user rows columns) ((λ is. tt), ((λ is. tt), ((λ is. tt), ((λ is. tt), tt)))))
-replies t (Detach client) = found_reply t (Detach client) (λ c. finished t [] done (parts (λ d. d.serial == client) reason.Detached t)) (client_at t client) (λ c. tt)
-replies t (Keys client bytes) = found_reply t (Keys client bytes) (λ c. keys_outcome t c (take (taken c.keys bytes) bytes)) (client_at t client) (λ c. tt)
-replies t (Command user number bytes) = command_reply t user number bytes (is_known t user) (read_line bytes) refl refl
-replies t (Resize client rows columns) =
-    let P : Refusal → Type 0 = NamesTruly t (Asks t (Resize client rows columns)) in
-    found_reply t (Resize client rows columns) (λ c. where_passed t (must (is_client_size rows columns) BadSize ∷ []) done (changing (with_client t (resized rows columns c)))) (client_at t client)
-    (λ c. passed_reply P t (verdicts t (must (is_client_size rows columns) BadSize ∷ [])) (first_fault t (must (is_client_size rows columns) BadSize ∷ [])) (changing (with_client t (resized rows columns c))) 0 0 0
-    (on_fault t P (must (is_client_size rows columns) BadSize ∷ []) ((λ is. tt), tt)))
-replies t (Open user rows columns keep title) =
-    let v : Window = new_window t rows columns keep title in
+-- a refusal names what stands against it
+why : (t : Tables) (event : EventValue) (vs : List Verdict) (r : Refusal) → outcomes.Refuses t event vs r → NamesTruly t (Asks t event) r
+why t _ _ _ (outcomes.plainly event r is) = plain_names t (Asks t event) r is
+why t _ _ _ (outcomes.unopened user rows columns keep title r is) =
     let asks : UserId → Bit → Object → Type 0 = Asks t (Open user rows columns keep title) in
-    passed_reply (NamesTruly t asks) t (verdicts t (open_checks t user rows columns keep title)) (first_fault t (open_checks t user rows columns keep title)) (opens t user v) 0 v.serial v.number
+    subst (OnFault (NamesTruly t asks)) is
     (on_fault t (NamesTruly t asks) (open_checks t user rows columns keep title)
     ((λ is. tt), (missing t asks user Execute (object.Command Screen) (refl, refl, refl) refl, ((λ is. tt), ((λ is. tt), ((λ is. tt), ((λ is. tt), tt)))))))
-replies t (Output window bytes) = found_reply t (Output window bytes) (λ v. finished t [] done (outputs t v bytes)) (window_at t window) (λ v. tt)
-replies t (Closed window) = found_reply t (Closed window) (λ v. finished t [] done (closes (λ x. x.serial == window) reason.Detached t)) (window_at t window) (λ v. tt)
-replies t (Draw client) = found_reply t (Draw client) (λ c. finished t [] done (changing t)) (client_at t client) (λ c. tt)
+why t _ _ _ (outcomes.unchecked user number bytes c r known read is) =
+    subst (OnFault (NamesTruly t (Asks t (Command user number bytes)))) is (line_names t user number bytes c (line_given t user number bytes true (Ok c) known read))
+why t _ _ _ (outcomes.undone user number bytes c r read is) = plain_names t (Asks t (Command user number bytes)) r is
+
+replied : (t : Tables) (event : EventValue) (o : Outcome) → outcomes.Happens t event o → ReplyIs (NamesTruly t (Asks t event)) o.reply
+replied t _ _ (outcomes.failed event vs r is) = why t event vs r is
+replied t _ _ h = tt
+
+pub replies : (t : Tables) (event : EventValue) → ReplyIs (NamesTruly t (Asks t event)) (outcome t event).reply
+replies t event = replied t event (outcome t event) (outcomes.happens t event)

@@ -1,5 +1,5 @@
 -- The focus of a client shows what its own steps entered last.
-use Rattle.std.proofs.Common.{◌≡◌, ℕ, ◌+◌, ◌<◌, Bool, true, false, not, List, [], ◌∷◌, ◌++◌, Option, Some, None, Ok, Err, Result, refl, ap, sym, ◌∙◌, subst, take, inl, inr, ⊎_elim, arith}
+use Rattle.std.proofs.Common.{◌≡◌, ℕ, ◌<◌, Bool, true, false, not, List, [], ◌∷◌, ◌++◌, Option, Some, None, Ok, Err, Result, refl, ap, sym, ◌∙◌, subst, take, filter, inl, inr, ⊎_elim, arith}
 use Rattle.std.specs.Prelude.{◌⊎◌, if◌then◌else◌, ◌==◌, ◌||◌}
 use Rattle.std.specs.List.{AllByRecursion}
 use Rattle.std.specs.Option.{option_or}
@@ -11,33 +11,29 @@ use Rattle.acl.specs.declared.act.Act.TheVariants as act
 use Rattle.command_lang.specs.command.Command.{Command as Order}
 use Rattle.command_lang.specs.fault.ParseFault.{ParseFault}
 use Rattle.keys.specs.Grammar.{Item, typed, bound, line}
-use Rattle.regions.specs.Layouts.{Arrangement, kept_alone}
-use Rattle.regions.specs.Pages.{has_room}
 use Rattle.terminal_model.specs.Shows.{View}
 use Rattle.session_model.specs.declared.event.Effect.{Effect}
-use Rattle.session_model.specs.declared.event.Reason.TheVariants as reason
-use Rattle.session_model.specs.declared.check.Check.TheVariants.{Must as must}
 use Rattle.session_model.specs.declared.message.Message.{Message}
 use Rattle.session_model.specs.declared.message.Message.TheVariants.{Text}
 use Rattle.session_model.specs.declared.refusal.Refusal.{Refusal}
-use Rattle.session_model.specs.declared.refusal.Refusal.TheVariants.{BadSize, Line}
-use Rattle.session_model.specs.Trace.{EventValue, Attach, Detach, Keys, Command, Resize, Open, Output, Closed, Draw, Reply, Entry, Trace}
-use Rattle.session_model.specs.Tables.{Tables, Window, Client, fresh, row_of, with_row, window_at, client_at, with_client, focused, is_in_focus, is_known}
+use Rattle.session_model.specs.declared.refusal.Refusal.TheVariants.{Line}
+use Rattle.session_model.specs.Trace.{EventValue, Attach, Keys, Draw, Reply, Entry, Trace}
+use Rattle.session_model.specs.Tables.{Tables, Window, Client, fresh, row_of, with_row, client_at, with_client, focused, is_in_focus}
 use Rattle.session_model.specs.Texts.{text_of}
 use Rattle.session_model.specs.Lines.{Caller, caller_of, line_caller, read_line}
-use Rattle.session_model.specs.Checks.{checks, first_fault, verdicts}
-use Rattle.session_model.specs.Deeds.{Deed, Answer, changing, parts, closes, entering, hearing}
+use Rattle.session_model.specs.Checks.{checks, first_fault}
+use Rattle.session_model.specs.Deeds.{Deed, Answer, changing, entering, hearing}
 use Rattle.session_model.specs.Commands.{does}
 use Rattle.session_model.specs.Keying.{taken, step_items, typed_bytes, command_item}
 use Rattle.session_model.specs.Events.{outcome}
-use Rattle.session_model.specs.Outcomes.{Outcome, finished, done, where_passed, left_acts_of, left_acts, reply_of}
-use Rattle.session_model.specs.Comings.{attach_checks, attaches, new_client, open_checks, opens, new_window, is_client_size, resized, outputs}
+use Rattle.session_model.specs.Outcomes.{Outcome, finished, done, left_acts_of, left_acts}
+use Rattle.session_model.specs.Comings.{new_client}
 use Rattle.session_model.specs.Answering.{reading, types, told, ordered, keyed, with_listed, message_of, keys_outcome, by_line}
 use Rattle.session_model.specs.Granted.{granted_view}
 use Rattle.session_model.specs.Promises.{SomeOf, unread}
 use Rattle.session_model.specs.Run.{drawn, drawn_on, with_drawn, after, IsStep, IsRun, IsRunFrom, tables_from, tables_of}
 use Rattle.session_model.specs.Sound.{Rises, AreSound, client_serials}
-use Rattle.session_laws.specs.Focus.{entered_by, entered_in, last_entered}
+use Rattle.session_laws.specs.Focus.{entered_by, is_own_step, entered_in, last_entered}
 use Rattle.session_laws.proofs.Lists.{all_weaken, all_append, some_map, some_mapped, some_row, row_serial, itself}
 use Rattle.session_laws.proofs.Doing.{Either}
 use Rattle.session_laws.proofs.Unread.{SameClients, typing_clients, row_at}
@@ -45,7 +41,7 @@ use Rattle.session_laws.proofs.Settling.{told_same, ids_same}
 use Rattle.session_laws.proofs.Lasting.{client_firsts, firsts}
 use Rattle.session_laws.proofs.Sounding.{run_sound, fresh_sound}
 use Rattle.session_laws.proofs.Remembering.{some_elim}
-use Rattle.session_laws.proofs.Showing.{some_has, all_row, alone_place}
+use Rattle.session_laws.proofs.Showing.{some_has, all_row}
 use Rattle.session_laws.proofs.Focusing.{GoesOn, AllGoOn, alike, Same, Kept, kept_same, kept_fewer, kept_go, without_kept, row_goes, entered_of, HasGone, none_if, gone}
 use Rattle.session_laws.proofs.Outcomes as outcomes
 
@@ -182,41 +178,36 @@ deed_gone : (t : Tables) (k : Caller) (a : Answer) (d : Deed) → a ≡ Ok d →
 deed_gone t k (Ok e) d is h = let same : e ≡ d = cc (is) in subst (HasGone t k) same h
 deed_gone t k (Err r) d is h = absurd (cc (is))
 
-resized_row : (t : Tables) (rows columns : ℕ) (c : Client) → client_at t c.serial ≡ Some c → AreSound t → Rows t (λ n. None) (with_client t (resized rows columns c)).clients
-resized_row t rows columns c at s = old_rows t (λ n. None) (with_row (λ (r : Client). r.serial) t.clients c.serial (resized rows columns c))
-    (row_goes (λ n. None) c (resized rows columns c) (refl, refl, λ w is. inr (refl, on (has_room c.layout.shape rows columns) w is)) (λ n off. refl) t.clients t.next_client s.clients_rise at) where
-      on : (b : Bool) (w : ℕ) → (let l : Arrangement = if b then c.layout else kept_alone c.layout in Rattle.std.specs.Option.option_and_then (λ (x : Rattle.regions.specs.declared.shown.Shown.Shown). x.window) (Rattle.std.specs.Prelude.slice_get l.shown l.focus)) ≡ Some w → focused c ≡ Some w
-      on true w is = is
-      on false w is = alone_place (Rattle.std.specs.Prelude.slice_get c.layout.shown c.layout.focus) w is
+-- one client's row in place of its own
+row_changed : (t : Tables) (c d : Client) → client_at t c.serial ≡ Some c → Same c d → AreSound t → Rows t (λ n. None) (with_client t d).clients
+row_changed t c d at same s =
+    subst (λ n. Rows t (λ n. None) (with_row (λ (r : Client). r.serial) t.clients n d)) (sym same.0)
+    (old_rows t (λ n. None) (with_row (λ (r : Client). r.serial) t.clients c.serial d)
+    (row_goes (λ n. None) c d (same.0, same.1, λ w is. inr (refl, same.2 w is)) (λ n off. refl) t.clients t.next_client s.clients_rise at))
+
+-- a step by which no client's own acts enter
+not_own : (t : Tables) (event : EventValue) (x : outcomes.Change) → outcomes.change_of event ≡ Some x → (acts : List Act) (ds : List Client) → Rows t (λ n. None) ds → Rows t (entered_in event done acts) ds
+not_own t (Attach user rows columns) x is acts ds all = absurd (cc (is))
+not_own t (Keys client bytes) x is acts ds all = absurd (cc (is))
+not_own t event x is acts ds all = all
+
+happened : (t : Tables) (event : EventValue) (o : Outcome) → AreSound t → outcomes.Happens t event o → InOutcome t event o
+happened t _ _ s (outcomes.failed event vs r why) = old_rows t _ t.clients (kept_go t.clients t.clients _ (λ n. none_if (is_own_step event (Err r) n)) (kept_same t.clients))
+happened t _ _ s (outcomes.changed event x c is f at) =
+    let u : Tables = with_client t (x.row c) in
+    not_own t event x is (left_acts t.clients u.clients) u.clients (row_changed t c (x.row c) (row_at t x.client c at) (f.serial c, f.user c, λ w shown. sym (f.focus c) ∙ shown) s)
+happened t _ _ s (outcomes.attached user rows columns passes) = attached t user rows columns s
+happened t _ _ s (outcomes.detached client c at) = kept_rows t _ (kept_fewer (λ d. not (d.serial == client)) t.clients t.clients (kept_same t.clients))
+happened t _ _ s (outcomes.keyed client bytes c at) = old_rows t _ _ (keys_gone t client bytes c at s)
+happened t _ _ s (outcomes.obeyed user number bytes c d known read passes is) =
+    old_rows t (λ n. None) d.tables.clients (deed_gone t (line_caller t user number) (does t (line_caller t user number) c) d is (gone t (line_caller t user number) s.clients_rise c)).all
+happened t _ _ s (outcomes.opened user rows columns keep title passes) = still t
+happened t _ _ s (outcomes.wrote window bytes w at) = still t
+happened t _ _ s (outcomes.closed window w at) = kept_rows t _ (without_kept t.clients (filter (λ (v : Window). v.serial == window) t.windows) t.clients (kept_same t.clients))
+happened t _ _ s (outcomes.drew client c at) = still t
 
 outcome_gone : (t : Tables) (event : EventValue) → AreSound t → InOutcome t event (outcome t event)
-outcome_gone t (Attach user rows columns) s =
-    outcomes.passed (InOutcome t (Attach user rows columns)) t (verdicts t (attach_checks t user rows columns)) (first_fault t (attach_checks t user rows columns)) (reply_of 0 t.next_client 0 None) (attaches t (new_client t user rows columns))
-    (λ r is. still t) (λ is. attached t user rows columns s)
-outcome_gone t (Detach client) s =
-    outcomes.found (InOutcome t (Detach client)) t (λ c. finished t [] done (parts (λ d. d.serial == client) reason.Detached t)) (client_at t client) (still t)
-    (λ c is. kept_rows t _ (kept_fewer (λ d. not (d.serial == client)) t.clients t.clients (kept_same t.clients)))
-outcome_gone t (Keys client bytes) s =
-    outcomes.found (InOutcome t (Keys client bytes)) t (λ c. keys_outcome t c (take (taken c.keys bytes) bytes)) (client_at t client)
-    (old_rows t _ t.clients (kept_go t.clients t.clients _ (λ n. none_if (client == n)) (kept_same t.clients)))
-    (λ c is. old_rows t _ _ (keys_gone t client bytes c is s))
-outcome_gone t (Command user number bytes) s =
-    outcomes.by_line (InOutcome t (Command user number bytes)) t (line_caller t user number) (is_known t user) (read_line bytes) (λ vs f. still t)
-    (λ c d known read passes is. old_rows t (λ n. None) d.tables.clients (deed_gone t (line_caller t user number) (does t (line_caller t user number) c) d is (gone t (line_caller t user number) s.clients_rise c)).all)
-outcome_gone t (Resize client rows columns) s =
-    outcomes.found (InOutcome t (Resize client rows columns)) t (λ c. where_passed t (must (is_client_size rows columns) BadSize ∷ []) done (changing (with_client t (resized rows columns c)))) (client_at t client) (still t)
-    (λ c is. outcomes.passed (InOutcome t (Resize client rows columns)) t (verdicts t (must (is_client_size rows columns) BadSize ∷ [])) (first_fault t (must (is_client_size rows columns) BadSize ∷ [])) done (changing (with_client t (resized rows columns c)))
-    (λ r at. still t) (λ at. resized_row t rows columns c (row_at t client c is) s))
-outcome_gone t (Open user rows columns keep title) s =
-    let v : Window = new_window t rows columns keep title in
-    outcomes.passed (InOutcome t (Open user rows columns keep title)) t (verdicts t (open_checks t user rows columns keep title)) (first_fault t (open_checks t user rows columns keep title)) (reply_of 0 v.serial v.number None) (opens t user v) (λ r is. still t) (λ is. still t)
-outcome_gone t (Output window bytes) s =
-    outcomes.found (InOutcome t (Output window bytes)) t (λ v. finished t [] done (outputs t v bytes)) (window_at t window) (still t) (λ v is. still t)
-outcome_gone t (Closed window) s =
-    outcomes.found (InOutcome t (Closed window)) t (λ v. finished t [] done (closes (λ x. x.serial == window) reason.Detached t)) (window_at t window) (still t)
-    (λ v is. kept_rows t _ (without_kept t.clients (Rattle.std.proofs.Common.filter (λ (x : Window). x.serial == window) t.windows) t.clients (kept_same t.clients)))
-outcome_gone t (Draw client) s =
-    outcomes.found (InOutcome t (Draw client)) t (λ c. finished t [] done (changing t)) (client_at t client) (still t) (λ c is. still t)
+outcome_gone t event s = happened t event (outcome t event) s (outcomes.happens t event)
 
 -- ---- steps
 
@@ -224,24 +215,15 @@ drawn_row : (effects : List Effect) (v : View) (c : Client) → Same c (with_dra
 drawn_row [] v c = (refl, refl, λ w is. is)
 drawn_row (f ∷ effects) v c = (refl, refl, λ w is. is)
 
-drawn_serial : (effects : List Effect) (v : View) (c : Client) → (with_drawn effects v c).serial ≡ c.serial
-drawn_serial [] v c = refl
-drawn_serial (f ∷ effects) v c = refl
-
 quiet_draw : (t : Tables) (client : ℕ) → (outcome t (Draw client)).tables.clients ≡ t.clients
 quiet_draw t client = outcomes.found (λ o. o.tables.clients ≡ t.clients) t (λ c. finished t [] done (changing t)) (client_at t client) refl (λ c is. refl)
 
 drawn_rows : (t u : Tables) (client : ℕ) (effects : List Effect) (o : Option Client) → u.clients ≡ t.clients → client_at u client ≡ o → AreSound t → Rows t (λ n. None) (drawn_on o effects u).clients
 drawn_rows t u client effects None same at s = subst (Rows t (λ n. None)) (sym same) (still t)
 drawn_rows t u client effects (Some c) same at s =
-    let v : View = granted_view u c in
-    let x : Client = with_drawn effects v c in
+    let x : Client = with_drawn effects (granted_view u c) c in
     let there : client_at t client ≡ Some c = ap (λ cs. row_of (λ (r : Client). r.serial) cs client) (sym same) ∙ at in
-    let row : Same c x = drawn_row effects v c in
-    subst (λ cs. Rows t (λ n. None) (with_row (λ (r : Client). r.serial) cs x.serial x)) (sym same)
-    (subst (λ n. Rows t (λ n. None) (with_row (λ (r : Client). r.serial) t.clients n x)) (sym (drawn_serial effects v c))
-    (old_rows t (λ n. None) (with_row (λ (r : Client). r.serial) t.clients c.serial x)
-    (row_goes (λ n. None) c x (row.0, row.1, λ w is. inr (refl, row.2 w is)) (λ n off. refl) t.clients t.next_client s.clients_rise (row_at t client c there))))
+    subst (λ cs. Rows t (λ n. None) (with_row (λ (r : Client). r.serial) cs x.serial x)) (sym same) (row_changed t c x (row_at t client c there) (drawn_row effects (granted_view u c) c) s)
 
 step_gone : (t : Tables) (event : EventValue) (reply : Reply) (acts : List Act) (effects : List Effect) → AreSound t → reply ≡ (outcome t event).reply → acts ≡ (outcome t event).acts
     → Rows t (entered_in event reply acts) (drawn event effects (outcome t event).tables).clients

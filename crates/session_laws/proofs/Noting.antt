@@ -12,7 +12,7 @@ use Rattle.session_model.specs.Tables.{Tables, Window, Client, client_at, focuse
 use Rattle.session_model.specs.Checks.{first_fault, verdicts}
 use Rattle.session_model.specs.Deeds.{entering}
 use Rattle.session_model.specs.Events.{outcome}
-use Rattle.session_model.specs.Outcomes.{Outcome, left_acts, reply_of, done}
+use Rattle.session_model.specs.Outcomes.{Outcome, left_acts, reply_of}
 use Rattle.session_model.specs.Comings.{attach_checks, attaches, new_client, open_checks, opens, new_window}
 use Rattle.session_model.specs.Run.{after, drawn, drawn_on, tables_from}
 use Rattle.session_model.specs.Sound.{AreSound, ActsAgree}
@@ -65,7 +65,7 @@ Noted t o = o.tables.acts ≡ followed_by t.acts o.acts
 
 noted_end : (t : Tables) (o : Outcome) → outcomes.Ends t o → Noted t o
 noted_end t o (outcomes.refuses vs r) = refl
-noted_end t o (outcomes.does_it vs done d) = refl
+noted_end t o (outcomes.does_it vs y d) = refl
 
 pub noted : (t : Tables) (event : EventValue) → Noted t (outcome t event)
 noted t event = noted_end t (outcome t event) (outcomes.ends t event)

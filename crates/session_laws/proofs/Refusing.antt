@@ -22,7 +22,7 @@ Still t o = is_ok o.reply ≡ false → (o.tables ≡ t) × (o.acts ≡ []) × (
 
 unchanged_end : (t : Tables) (o : Outcome) → outcomes.Ends t o → Still t o
 unchanged_end t o (outcomes.refuses vs r) err = (refl, refl, refl)
-unchanged_end t o (outcomes.does_it vs done d) err = absurd (cc (err))
+unchanged_end t o (outcomes.does_it vs y d) err = absurd (cc (err))
 
 unchanged : (t : Tables) (event : EventValue) → Still t (outcome t event)
 unchanged t event = unchanged_end t (outcome t event) (outcomes.ends t event)

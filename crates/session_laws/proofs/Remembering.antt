@@ -1,5 +1,5 @@
 -- The tables of a run have just the keys and the deliveries of its entries.
-use Rattle.std.proofs.Common.{◌≡◌, ℕ, ◌<◌, ◌≤◌, Bool, true, false, List, [], ◌∷◌, ◌++◌, Option, Some, None, Ok, Err, refl, ap, sym, ◌∙◌, subst, filter, take, length, inl, inr, ⊎_elim, arith, suc, zero}
+use Rattle.std.proofs.Common.{◌≡◌, ℕ, ◌<◌, ◌≤◌, Bool, true, false, not, List, [], ◌∷◌, ◌++◌, Option, Some, None, Ok, Err, refl, ap, sym, ◌∙◌, subst, filter, take, length, inl, inr, ⊎_elim, arith, suc, zero}
 use Rattle.std.specs.Prelude.{◌⊎◌, if◌then◌else◌, ◌==◌, MatchOption}
 use Rattle.std.specs.List.{AllByRecursion}
 use Rattle.std.proofs.lemmas.Bool.Decides.{nat_tests}
@@ -7,20 +7,18 @@ use Rattle.acl.specs.declared.user_id.UserId.{UserId}
 use Rattle.keys.specs.Grammar.{Item}
 use Rattle.session_model.specs.declared.event.Effect.{Effect}
 use Rattle.session_model.specs.declared.event.Effect.TheVariants.{Deliver}
-use Rattle.session_model.specs.declared.event.Reason.TheVariants as reason
-use Rattle.session_model.specs.declared.check.Check.TheVariants.{Must as must}
-use Rattle.session_model.specs.declared.refusal.Refusal.TheVariants.{NoWindow, BadSize}
-use Rattle.session_model.specs.Trace.{EventValue, Attach, Detach, Keys, Command, Resize, Open, Output, Closed, Draw, Reply, Entry, Trace}
-use Rattle.session_model.specs.Tables.{Tables, Window, Client, row_of, with_row, window_at, client_at, with_client, is_known, fresh}
-use Rattle.session_model.specs.Lines.{line_caller, read_line}
+use Rattle.session_model.specs.declared.refusal.Refusal.{Refusal}
+use Rattle.session_model.specs.Trace.{EventValue, Attach, Detach, Keys, Command, Open, Output, Closed, Draw, Reply, Entry, Trace}
+use Rattle.session_model.specs.Tables.{Tables, Window, Client, row_of, with_row, client_at, with_client, fresh}
+use Rattle.session_model.specs.Lines.{line_caller}
 use Rattle.session_model.specs.Checks.{first_fault, verdicts}
-use Rattle.session_model.specs.Deeds.{Deed, Answer, changing, parts, closes}
+use Rattle.session_model.specs.Deeds.{Deed, Answer, changing}
 use Rattle.session_model.specs.Commands.{does}
 use Rattle.session_model.specs.Keying.{taken, step_items, typed_bytes, command_item}
 use Rattle.session_model.specs.Events.{outcome}
-use Rattle.session_model.specs.Outcomes.{Outcome, finished, done, where_passed, reply_of}
+use Rattle.session_model.specs.Outcomes.{Outcome, finished, done, reply_of}
 use Rattle.session_model.specs.Answering.{keys_outcome, reading}
-use Rattle.session_model.specs.Comings.{attach_checks, attaches, new_client, open_checks, opens, new_window, is_client_size, resized, outputs}
+use Rattle.session_model.specs.Comings.{attach_checks, attaches, new_client, open_checks, opens, new_window}
 use Rattle.session_model.specs.Granted.{granted_view}
 use Rattle.session_model.specs.Run.{HasEffects, IsDraw, DrawsWhereNeeded, deliveries, drawn, drawn_on, with_drawn, after, IsStep, IsRun, IsRunFrom, tables_from, tables_of}
 use Rattle.session_model.specs.Promises.{SomeOf, IsEffectOf}
@@ -89,27 +87,31 @@ keys_rows t client bytes c effects is s none =
     t.clients t.next_client s.clients_rise (row_at t client c is) d some)
     (keys_keep u x (typed_bytes given) (command_item given)))
 
--- ---- another size
+-- ---- a change of one row
 
-resize_rows : (t : Tables) (client rows columns : ℕ) (c : Client) (effects : List Effect) → client_at t client ≡ Some c → AreSound t → ((n : ℕ) → deliveries effects n ≡ [])
-    → Rows t (Resize client rows columns) done effects (with_client t (resized rows columns c)).clients
-resize_rows t client rows columns c effects is s none =
-    let x : Client = resized rows columns c in
-    let u : Tables = with_client t x in
-    let serial : c.serial ≡ client = row_serial (λ (r : Client). r.serial) t.clients client c is in
-    let F : Client → Client → Type 0 = λ q d. GoesOn (Resize client rows columns) done effects q d in
-    let here : (client == c.serial) ≡ true = ap (λ n. n == c.serial) (sym serial) ∙ itself c.serial in
-    old_rows t (Resize client rows columns) done effects u.clients
-    (all_weaken (λ d. SomeOf (λ q. core q ≡ core d) u.clients) (λ d. SomeOf (λ q. F q d) t.clients) u.clients
-    (λ d some. changed_row F c x
-    (λ d same. (
-      sym (ap (λ (q : Client). q.serial) same),
-      sym (ap (λ (q : Client). q.keys) same) ∙ sym (append_nil c.keys),
-      sym (ap (λ (q : Client). q.delivered) same) ∙ sym (ap (λ (b : Bool). (if b then [] else c.delivered) ++ deliveries effects c.serial) here ∙ none c.serial),
+unread : (event : EventValue) (x : outcomes.Change) → outcomes.change_of event ≡ Some x → (n : ℕ) → keys_read event done n ≡ []
+unread (Keys client bytes) x is n = absurd (cc (is))
+unread event x is n = refl
+
+change_rows : (t : Tables) (event : EventValue) (x : outcomes.Change) (c : Client) (effects : List Effect) → outcomes.change_of event ≡ Some x → outcomes.Changes event x → client_at t x.client ≡ Some c → AreSound t
+    → ((n : ℕ) → deliveries effects n ≡ []) → Rows t event done effects (with_client t (x.row c)).clients
+change_rows t event x c effects one f is s none =
+    let d : Client = x.row c in
+    let serial : c.serial ≡ x.client = row_serial (λ (r : Client). r.serial) t.clients x.client c is in
+    let F : Client → Client → Type 0 = λ q d. GoesOn event done effects q d in
+    let kept : List ℕ = if is_resize event done c.serial then [] else c.delivered in
+    subst (λ n. Rows t event done effects (with_row (λ (r : Client). r.serial) t.clients n d)) (sym (f.serial c))
+    (old_rows t event done effects (with_row (λ (r : Client). r.serial) t.clients c.serial d)
+    (all_weaken (λ e. SomeOf (λ q. core q ≡ core e) (with_row (λ (r : Client). r.serial) t.clients c.serial d)) (λ e. SomeOf (λ q. F q e) t.clients) (with_row (λ (r : Client). r.serial) t.clients c.serial d)
+    (λ e some. changed_row F c d
+    (λ e same. (
+      sym (ap (λ (q : Client). q.serial) same) ∙ f.serial c,
+      sym (ap (λ (q : Client). q.keys) same) ∙ f.keys c ∙ sym (append_nil c.keys) ∙ ap (λ ks. c.keys ++ ks) (sym (unread event x one c.serial)),
+      sym (ap (λ (q : Client). q.delivered) same) ∙ f.delivered c serial ∙ sym (append_nil kept) ∙ ap (λ bs. kept ++ bs) (sym (none c.serial)),
     ))
-    (λ r off d same. goes_on (Resize client rows columns) done effects r d refl (other_serial client c.serial r.serial serial off) (none r.serial) same)
-    t.clients t.next_client s.clients_rise (row_at t client c is) d some)
-    (keeps_same u.clients))
+    (λ r off e same. goes_on event done effects r e (unread event x one r.serial) (f.others r.serial (other_serial x.client c.serial r.serial serial off)) (none r.serial) same)
+    t.clients t.next_client s.clients_rise (row_at t x.client c is) e some)
+    (keeps_same (with_row (λ (r : Client). r.serial) t.clients c.serial d))))
 
 -- ---- a draw
 
@@ -153,41 +155,35 @@ deed_keeps : (t : Tables) (a : Answer) (d : Deed) → a ≡ Ok d → Either (λ 
 deed_keeps t (Ok e) d is all = let same : e ≡ d = cc (is) in subst (λ (x : Deed). Keeps t.clients x.tables.clients) same all
 deed_keeps t (Err r) d is all = absurd (cc (is))
 
-abbrev Kept : Tables → Outcome → Type 0
-Kept t o = Keeps t.clients o.tables.clients
+-- of an event that is refused nothing is read
+none_read : (event : EventValue) (r : Refusal) (n : ℕ) → (keys_read event (Err r) n ≡ []) × (is_resize event (Err r) n ≡ false)
+none_read (Keys client bytes) r n = (refl, refl)
+none_read event r n = (refl, refl)
 
-module _ (t : Tables) (effects : List Effect) (s : AreSound t) where
-  rows_of : (event : EventValue) → is_draw event ≡ false → ((n : ℕ) → deliveries effects n ≡ []) → Rows t event (outcome t event).reply effects (outcome t event).tables.clients
-  rows_of (Attach user rows columns) other none =
+module _ (t : Tables) (effects : List Effect) (s : AreSound t) (none : (n : ℕ) → deliveries effects n ≡ []) where
+  abbrev RowsOf : EventValue → Outcome → Type 0
+  RowsOf event o = Rows t event o.reply effects o.tables.clients
+
+  happened : (event : EventValue) (o : Outcome) → outcomes.Happens t event o → RowsOf event o
+  happened _ _ (outcomes.failed event vs r why) = kept_rows t event (Err r) effects t.clients (λ n. (none_read event r n).0) (λ n. (none_read event r n).1) none (keeps_same t.clients)
+  happened _ _ (outcomes.changed event x c is f at) = change_rows t event x c effects is f at s none
+  happened _ _ (outcomes.attached user rows columns passes) =
       let c : Client = new_client t user rows columns in
-      outcomes.passed (λ o. Rows t (Attach user rows columns) o.reply effects o.tables.clients) t (verdicts t (attach_checks t user rows columns)) (first_fault t (attach_checks t user rows columns)) (reply_of 0 t.next_client 0 None) (attaches t c)
-      (λ r is. kept_rows t (Attach user rows columns) (Err r) effects t.clients (λ n. refl) (λ n. refl) none (keeps_same t.clients))
-      (λ is. all_append (Row t (Attach user rows columns) (reply_of 0 t.next_client 0 None) effects) t.clients (c ∷ [])
-      (kept_rows t (Attach user rows columns) (reply_of 0 t.next_client 0 None) effects t.clients (λ n. refl) (λ n. refl) none (keeps_same t.clients)) (inr (refl, refl, refl), tt))
-  rows_of (Detach client) other none = kept_rows t (Detach client) (outcome t (Detach client)).reply effects (outcome t (Detach client)).tables.clients (λ n. refl) (λ n. refl) none
-      (outcomes.found (Kept t) t (λ c. finished t [] done (parts (λ d. d.serial == client) reason.Detached t)) (client_at t client) (keeps_same t.clients) (λ c is. keeps_filter _ t.clients t.clients (keeps_same t.clients)))
-  rows_of (Keys client bytes) other none =
-      outcomes.found (λ o. Rows t (Keys client bytes) o.reply effects o.tables.clients) t (λ c. keys_outcome t c (take (taken c.keys bytes) bytes)) (client_at t client)
-      (kept_rows t (Keys client bytes) (Err NoWindow) effects t.clients (λ n. refl) (λ n. refl) none (keeps_same t.clients)) (λ c is. keys_rows t client bytes c effects is s none)
-  rows_of (Command user number bytes) other none = kept_rows t (Command user number bytes) (outcome t (Command user number bytes)).reply effects (outcome t (Command user number bytes)).tables.clients (λ n. refl) (λ n. refl) none
-      (outcomes.by_line (Kept t) t (line_caller t user number) (is_known t user) (read_line bytes) (λ vs f. keeps_same t.clients)
-      (λ c d known read passes is. deed_keeps t (does t (line_caller t user number) c) d is (keeps t (line_caller t user number) c)))
-  rows_of (Resize client rows columns) other none =
-      outcomes.found (λ o. Rows t (Resize client rows columns) o.reply effects o.tables.clients) t (λ c. where_passed t (must (is_client_size rows columns) BadSize ∷ []) done (changing (with_client t (resized rows columns c)))) (client_at t client)
-      (kept_rows t (Resize client rows columns) (Err NoWindow) effects t.clients (λ n. refl) (λ n. refl) none (keeps_same t.clients))
-      (λ c is. outcomes.passed (λ o. Rows t (Resize client rows columns) o.reply effects o.tables.clients) t (verdicts t (must (is_client_size rows columns) BadSize ∷ [])) (first_fault t (must (is_client_size rows columns) BadSize ∷ [])) done (changing (with_client t (resized rows columns c)))
-      (λ r at. kept_rows t (Resize client rows columns) (Err r) effects t.clients (λ n. refl) (λ n. refl) none (keeps_same t.clients))
-      (λ at. resize_rows t client rows columns c effects is s none))
-  rows_of (Open user rows columns keep title) other none =
-      let v : Window = new_window t rows columns keep title in
-      kept_rows t (Open user rows columns keep title) (outcome t (Open user rows columns keep title)).reply effects (outcome t (Open user rows columns keep title)).tables.clients (λ n. refl) (λ n. refl) none
-      (outcomes.passed (Kept t) t (verdicts t (open_checks t user rows columns keep title)) (first_fault t (open_checks t user rows columns keep title)) (reply_of 0 v.serial v.number None) (opens t user v) (λ r is. keeps_same t.clients) (λ is. keeps_same t.clients))
-  rows_of (Output window bytes) other none = kept_rows t (Output window bytes) (outcome t (Output window bytes)).reply effects (outcome t (Output window bytes)).tables.clients (λ n. refl) (λ n. refl) none
-      (outcomes.found (Kept t) t (λ v. finished t [] done (outputs t v bytes)) (window_at t window) (keeps_same t.clients) (λ v is. keeps_same t.clients))
-  rows_of (Closed window) other none = kept_rows t (Closed window) (outcome t (Closed window)).reply effects (outcome t (Closed window)).tables.clients (λ n. refl) (λ n. refl) none
-      (outcomes.found (Kept t) t (λ v. finished t [] done (closes (λ x. x.serial == window) reason.Detached t)) (window_at t window) (keeps_same t.clients)
-      (λ v is. without_keeps t.clients (filter (λ (x : Window). x.serial == window) t.windows) t.clients (keeps_same t.clients)))
-  rows_of (Draw client) other none = absurd (cc (other))
+      all_append (Row t (Attach user rows columns) (reply_of 0 t.next_client 0 None) effects) t.clients (c ∷ [])
+      (kept_rows t (Attach user rows columns) (reply_of 0 t.next_client 0 None) effects t.clients (λ n. refl) (λ n. refl) none (keeps_same t.clients)) (inr (refl, refl, refl), tt)
+  happened _ _ (outcomes.detached client c at) = kept_rows t (Detach client) done effects _ (λ n. refl) (λ n. refl) none (keeps_filter (λ (d : Client). not (d.serial == client)) t.clients t.clients (keeps_same t.clients))
+  happened _ _ (outcomes.keyed client bytes c at) = keys_rows t client bytes c effects at s none
+  happened _ _ (outcomes.obeyed user number bytes c d known read passes is) =
+      kept_rows t (Command user number bytes) (reply_of 0 0 0 d.lists) effects d.tables.clients (λ n. refl) (λ n. refl) none (deed_keeps t (does t (line_caller t user number) c) d is (keeps t (line_caller t user number) c))
+  happened _ _ (outcomes.opened user rows columns keep title passes) =
+      kept_rows t (Open user rows columns keep title) (outcomes.made_by (new_window t rows columns keep title)) effects t.clients (λ n. refl) (λ n. refl) none (keeps_same t.clients)
+  happened _ _ (outcomes.wrote window bytes w at) = kept_rows t (Output window bytes) done effects t.clients (λ n. refl) (λ n. refl) none (keeps_same t.clients)
+  happened _ _ (outcomes.closed window w at) =
+      kept_rows t (Closed window) done effects _ (λ n. refl) (λ n. refl) none (without_keeps t.clients (filter (λ (v : Window). v.serial == window) t.windows) t.clients (keeps_same t.clients))
+  happened _ _ (outcomes.drew client c at) = kept_rows t (Draw client) done effects t.clients (λ n. refl) (λ n. refl) none (keeps_same t.clients)
+
+  rows_of : (event : EventValue) → RowsOf event (outcome t event)
+  rows_of event = happened event (outcome t event) (outcomes.happens t event)
 
 -- ---- steps
 
@@ -199,7 +195,7 @@ step_rows t (Draw client) effects s is =
     let w : Tables = (outcome t (Draw client)).tables in
     subst (λ (o : Option Client). Rows t (Draw client) (outcome t (Draw client)).reply effects (drawn_on o effects w).clients) (sym (ap (λ cs. row_of (λ (c : Client). c.serial) cs client) (quiet_draw t client)))
     (drawn_rows t w client effects (outcome t (Draw client)).reply (client_at t client) (quiet_draw t client) refl s is)
-step_rows t event effects s is = rows_of t effects s event refl (none_of t event effects refl is)
+step_rows t event effects s is = rows_of t effects s (none_of t event effects refl is) event
 
 -- ---- serials that weren't given
 

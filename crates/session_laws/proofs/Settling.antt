@@ -9,13 +9,11 @@ use Rattle.command_lang.specs.fault.ParseFault.{ParseFault}
 use Rattle.keys.specs.Grammar.{Item, typed, bound, line}
 use Rattle.terminal_model.specs.Writing as written
 use Rattle.session_model.specs.declared.event.Reason.TheVariants as reason
-use Rattle.session_model.specs.declared.check.Check.TheVariants.{Must as must}
 use Rattle.session_model.specs.declared.message.Message.{Message}
 use Rattle.session_model.specs.declared.message.Message.TheVariants.{Text}
 use Rattle.session_model.specs.declared.refusal.Refusal.{Refusal}
-use Rattle.session_model.specs.declared.refusal.Refusal.TheVariants.{BadSize}
 use Rattle.session_model.specs.declared.verdict.Verdict.{Verdict}
-use Rattle.session_model.specs.Tables.{Tables, Window, Client, row_of, window_at, client_at, with_client, focused, is_in_focus, is_known}
+use Rattle.session_model.specs.Tables.{Tables, Window, Client, row_of, window_at, client_at, with_client, focused, is_in_focus}
 use Rattle.session_model.specs.Naming.{with_number}
 use Rattle.session_model.specs.Texts.{text_of}
 use Rattle.session_model.specs.Lines.{Caller, caller_of, line_caller, read_line}
@@ -23,15 +21,15 @@ use Rattle.session_model.specs.Checks.{checks, first_fault, verdicts}
 use Rattle.session_model.specs.Deeds.{Deed, Answer, changing, parts, closes, hearing}
 use Rattle.session_model.specs.Commands.{does}
 use Rattle.session_model.specs.Keying.{typed_bytes, command_item, taken, step_items}
-use Rattle.session_model.specs.Outcomes.{left_acts_of, left_acts, refused, finished, done, where_passed, Outcome, reply_of}
-use Rattle.session_model.specs.Answering.{told, types, ordered, keyed, with_listed, message_of, reading, unsaid, keys_outcome}
-use Rattle.session_model.specs.Comings.{is_client_size, resized, outputs}
+use Rattle.session_model.specs.Outcomes.{left_acts_of, left_acts, finished, done, Outcome, reply_of}
+use Rattle.session_model.specs.Answering.{told, ordered, keyed, with_listed, message_of, reading, keys_outcome}
+use Rattle.session_model.specs.Comings.{outputs}
 use Rattle.session_model.specs.Trace.{Reply}
 use Rattle.session_model.specs.Answering as answering
 use Rattle.session_model.specs.Promises.{unread}
 use Rattle.terminal_model.specs.Reading.{reads}
 use Rattle.session_model.specs.declared.event.Effect.{Effect}
-use Rattle.session_model.specs.Trace.{EventValue, Attach, Detach, Keys, Command, Resize, Open, Output, Closed, Draw}
+use Rattle.session_model.specs.Trace.{EventValue, Attach, Open}
 use Rattle.session_model.specs.Terminals.{terminal_of}
 use Rattle.session_model.specs.Deeds.{input_of}
 use Rattle.session_model.specs.Events.{outcome}
@@ -200,9 +198,6 @@ pub deed_moves : (t : Tables) (a : Answer) (d : Deed) → a ≡ Ok d → Either 
 deed_moves t (Ok e) d is m = let same : e ≡ d = cc (is) in subst (DeedMoves t) same m
 deed_moves t (Err r) d is m = absurd (cc (is))
 
-refused_moves : (t : Tables) (vs : List Verdict) (r : Refusal) → MovesTo t (refused t vs r)
-refused_moves t vs r = still_moves t
-
 -- ---- all events but those that bring something new
 
 abbrev pub is_new : EventValue → Bool
@@ -210,32 +205,28 @@ is_new (Attach user rows columns) = true
 is_new (Open user rows columns keep title) = true
 is_new event = false
 
-pub moving : (t : Tables) (event : EventValue) → AreSound t → is_new event ≡ false → MovesTo t (outcome t event)
-moving t (Attach user rows columns) s other = absurd (cc (other))
-moving t (Detach client) s other =
-    outcomes.found (MovesTo t) t (λ c. finished t [] done (parts (λ d. d.serial == client) reason.Detached t)) (client_at t client) (still_moves t)
-    (λ c is. finished_moves t (parts (λ d. d.serial == client) reason.Detached t) _ [] done (only_parts t (λ p. p.0 == client) reason.Detached))
-moving t (Keys client bytes) s other =
-    outcomes.found (MovesTo t) t (λ c. keys_outcome t c (take (taken c.keys bytes) bytes)) (client_at t client) (still_moves t) (λ c is. keys_moves t client bytes c is)
-moving t (Command user number bytes) s other =
-    outcomes.by_line (MovesTo t) t (line_caller t user number) (is_known t user) (read_line bytes) (λ vs f. still_moves t)
-    (λ c d known read passes is. finished_moves t d _ (verdicts t (checks t (line_caller t user number) c)) (reply_of 0 0 0 d.lists)
-    (deed_moves t (does t (line_caller t user number) c) d is (moves t (line_caller t user number) (λ w at. line_row t number w (differ t.windows t.next_window s.windows_rise) at) c)))
-moving t (Resize client rows columns) s other =
-    outcomes.found (MovesTo t) t (λ c. where_passed t (must (is_client_size rows columns) BadSize ∷ []) done (changing (with_client t (resized rows columns c)))) (client_at t client) (still_moves t)
-    (λ c is. outcomes.passed (MovesTo t) t (verdicts t (must (is_client_size rows columns) BadSize ∷ [])) (first_fault t (must (is_client_size rows columns) BadSize ∷ [])) done (changing (with_client t (resized rows columns c)))
-    (λ r at. still_moves t)
-    (λ at. finished_moves t (changing (with_client t (resized rows columns c))) 0 [] done
-    (stays t (with_client t (resized rows columns c)) [] 0 tt refl (client_ids t c (resized rows columns c) (row_at t client c is) refl) refl refl (omega arith) (λ differ numbers. numbers))))
-moving t (Open user rows columns keep title) s other = absurd (cc (other))
-moving t (Output window bytes) s other =
-    outcomes.found (MovesTo t) t (λ v. finished t [] done (outputs t v bytes)) (window_at t window) (still_moves t)
-    (λ v is. let effects : List Effect = input_of v.serial (reads (terminal_of v) bytes).reports in
+moved : (t : Tables) (event : EventValue) (o : Outcome) → outcomes.Happens t event o → AreSound t → is_new event ≡ false → MovesTo t o
+moved t _ _ (outcomes.failed event vs r why) s other = still_moves t
+moved t _ _ (outcomes.changed event x c is f at) s other =
+    let u : Tables = with_client t (x.row c) in
+    finished_moves t (changing u) 0 [] done
+    (stays t u [] 0 tt refl (client_ids t c (x.row c) (row_at t x.client c at) (λ i. (f.serial c i, f.user c i))) refl refl (omega arith) (λ differ numbers. numbers))
+moved t _ _ (outcomes.detached client c at) s other =
+    finished_moves t (parts (λ d. d.serial == client) reason.Detached t) _ [] done (only_parts t (λ p. p.0 == client) reason.Detached)
+moved t _ _ (outcomes.keyed client bytes c at) s other = keys_moves t client bytes c at
+moved t _ _ (outcomes.obeyed user number bytes c d known read passes is) s other =
+    let k : Caller = line_caller t user number in
+    finished_moves t d _ (verdicts t (checks t k c)) (reply_of 0 0 0 d.lists)
+    (deed_moves t (does t k c) d is (moves t k (λ w at. line_row t number w (differ t.windows t.next_window s.windows_rise) at) c))
+moved t _ _ (outcomes.wrote window bytes v is) s other =
+    let effects : List Effect = input_of v.serial (reads (terminal_of v) bytes).reports in
     finished_moves t (outputs t v bytes) (length effects) [] done
     (same_window t v (record v { writing = v.writing ++ written.Output bytes ∷ [] }) effects (input_few v.serial (reads (terminal_of v) bytes).reports (length (reads (terminal_of v) bytes).reports == 0))
-    (ap (window_at t) (row_serial serial_of t.windows window v is) ∙ is) refl refl))
-moving t (Closed window) s other =
-    outcomes.found (MovesTo t) t (λ v. finished t [] done (closes (λ x. x.serial == window) reason.Detached t)) (window_at t window) (still_moves t)
-    (λ v is. finished_moves t (closes (λ x. x.serial == window) reason.Detached t) _ [] done (closes_moves t (λ n. n == window) reason.Detached))
-moving t (Draw client) s other =
-    outcomes.found (MovesTo t) t (λ c. finished t [] done (changing t)) (client_at t client) (still_moves t) (λ c is. finished_moves t (changing t) 0 [] done (still_moves t))
+    (ap (window_at t) (row_serial serial_of t.windows window v is) ∙ is) refl refl)
+moved t _ _ (outcomes.closed window w at) s other =
+    finished_moves t (closes (λ v. v.serial == window) reason.Detached t) _ [] done (closes_moves t (λ n. n == window) reason.Detached)
+moved t _ _ (outcomes.drew client c at) s other = finished_moves t (changing t) 0 [] done (still_moves t)
+moved t _ _ h s other = absurd (cc (other))
+
+pub moving : (t : Tables) (event : EventValue) → AreSound t → is_new event ≡ false → MovesTo t (outcome t event)
+moving t event s other = moved t event (outcome t event) (outcomes.happens t event) s other

@@ -9,32 +9,29 @@ use Rattle.command_lang.specs.command.Command.{Command as Order}
 use Rattle.command_lang.specs.fault.ParseFault.{ParseFault}
 use Rattle.keys.specs.Grammar.{Item, typed, bound, line}
 use Rattle.regions.specs.declared.shown.Shown.{Shown}
-use Rattle.regions.specs.Layouts.{empty, kept_alone, Arrangement}
 use Rattle.terminal_model.specs.Shows.{View}
 use Rattle.session_model.specs.declared.event.Effect.{Effect}
 use Rattle.session_model.specs.declared.event.Reason.TheVariants as reason
-use Rattle.session_model.specs.declared.check.Check.TheVariants.{Must as must}
 use Rattle.session_model.specs.declared.message.Message.{Message}
 use Rattle.session_model.specs.declared.refusal.Refusal.{Refusal}
-use Rattle.session_model.specs.declared.refusal.Refusal.TheVariants.{BadSize}
-use Rattle.session_model.specs.Trace.{EventValue, Attach, Detach, Keys, Command, Resize, Open, Output, Closed, Draw, Entry}
-use Rattle.session_model.specs.Tables.{Tables, Window, Client, fresh, window_at, client_at, with_client, focused, is_known}
+use Rattle.session_model.specs.Trace.{EventValue, Draw, Entry}
+use Rattle.session_model.specs.Tables.{Tables, Window, Client, fresh, client_at, with_client, focused}
 use Rattle.session_model.specs.Naming.{lowest, free_number, has_number}
-use Rattle.session_model.specs.Lines.{caller_of, line_caller, read_line}
+use Rattle.session_model.specs.Lines.{Caller, caller_of, line_caller, read_line}
 use Rattle.session_model.specs.Checks.{checks, first_fault, verdicts}
-use Rattle.session_model.specs.Deeds.{Deed, Answer, changing, parts, closes, hearing}
+use Rattle.session_model.specs.Deeds.{Deed, Answer, changing, closes, hearing}
 use Rattle.session_model.specs.Commands.{does}
 use Rattle.session_model.specs.Keying.{taken, step_items, typed_bytes, command_item}
 use Rattle.session_model.specs.Events.{outcome}
-use Rattle.session_model.specs.Outcomes.{Outcome, finished, done, where_passed, reply_of}
-use Rattle.session_model.specs.Comings.{attach_checks, attaches, new_client, open_checks, opens, new_window, is_client_size, resized, outputs}
-use Rattle.session_model.specs.Answering.{reading, keys_outcome, told, ordered, keyed, with_listed, message_of}
+use Rattle.session_model.specs.Outcomes.{Outcome, finished, done, reply_of}
+use Rattle.session_model.specs.Comings.{new_client, opens, new_window, outputs}
+use Rattle.session_model.specs.Answering.{reading, told, ordered, keyed, with_listed, message_of}
 use Rattle.session_model.specs.Answering as answering
 use Rattle.session_model.specs.Granted.{granted_view}
 use Rattle.session_model.specs.Run.{drawn, drawn_on, with_drawn, after, tables_from}
 use Rattle.session_model.specs.Promises.{unread}
 use Rattle.session_model.specs.Sound.{IsOpen, ShowsOpen, AreFit}
-use Rattle.session_laws.proofs.Lists.{all_weaken, all_append, all_map}
+use Rattle.session_laws.proofs.Lists.{all_weaken, all_append, all_map, all_filter}
 use Rattle.session_laws.proofs.Numbers.{serial_of}
 use Rattle.session_laws.proofs.Doing.{Either}
 use Rattle.session_laws.proofs.Moving.{serials}
@@ -44,7 +41,7 @@ use Rattle.session_laws.proofs.Agreeing.{has, has_row, has_append}
 use Rattle.session_laws.proofs.Sounding.{lasting, map_append, fresh_sound}
 use Rattle.session_laws.proofs.Noting.{acts_agree, fresh_agrees}
 use Rattle.session_laws.proofs.Small.{is_small, is_small_order, read_small, keys_small}
-use Rattle.session_laws.proofs.Showing.{get_all, lowest_there, number_there, at_there, some_has}
+use Rattle.session_laws.proofs.Showing.{lowest_there, number_there, at_there, some_has}
 use Rattle.session_laws.proofs.Fitting.{ShowsIn, PageIn, IsBelow, Holds, holds_client, holds_window, holds_closed, holds, page_of, has_there}
 use Rattle.session_laws.proofs.Outcomes as outcomes
 
@@ -141,48 +138,34 @@ deed_holds : (a : Answer) (d : Deed) → a ≡ Ok d → Either (λ (e : Deed). H
 deed_holds (Ok e) d is h = let same : e ≡ d = cc (is) in subst (λ (x : Deed). Holds x.tables) same h
 deed_holds (Err r) d is h = absurd (cc (is))
 
-resized_page : (ns : List ℕ) (rows columns : ℕ) (c : Client) → PageIn ns c → PageIn ns (resized rows columns c)
-resized_page ns rows columns c page = on (Rattle.regions.specs.Pages.has_room c.layout.shape rows columns) where
-  on : (b : Bool) → AllByRecursion (ShowsIn ns) (let l : Arrangement = if b then c.layout else kept_alone c.layout in l).shown
-  on true = page
-  on false = (get_all (ShowsIn ns) c.layout.shown c.layout.focus empty tt page, tt)
-
-pub held : (t : Tables) (event : EventValue) → Holds t → HoldsIn (outcome t event)
-held t (Attach user rows columns) h =
+happened : (t : Tables) (event : EventValue) (o : Outcome) → outcomes.Happens t event o → Holds t → HoldsIn o
+happened t _ _ (outcomes.failed event vs r why) h = h
+happened t _ _ (outcomes.changed event x c is f at) h =
+    ended t (changing (with_client t (x.row c))) [] done (holds_client t (x.row c) (f.shows (has (serials t)) c (page_of t x.client c at h)) h)
+happened t _ _ (outcomes.attached user rows columns passes) h =
     let c : Client = new_client t user rows columns in
-    outcomes.passed HoldsIn t (verdicts t (attach_checks t user rows columns)) (first_fault t (attach_checks t user rows columns)) (reply_of 0 t.next_client 0 None) (attaches t c) (λ r is. h)
-    (λ is. record { numbers = h.numbers; pages = all_append (PageIn (serials t)) t.clients (c ∷ []) h.pages ((first_shown t.windows (lowest t.windows) refl, tt), tt) })
-held t (Detach client) h =
-    outcomes.found HoldsIn t (λ c. finished t [] done (parts (λ d. d.serial == client) reason.Detached t)) (client_at t client) h
-    (λ c is. record { numbers = h.numbers; pages = Rattle.session_laws.proofs.Lists.all_filter (PageIn (serials t)) _ t.clients h.pages })
-held t (Keys client bytes) h =
-    outcomes.found HoldsIn t (λ c. keys_outcome t c (take (taken c.keys bytes) bytes)) (client_at t client) h
-    (λ c is. let read : List ℕ = take (taken c.keys bytes) bytes in
+    record { numbers = h.numbers; pages = all_append (PageIn (serials t)) t.clients (c ∷ []) h.pages ((first_shown t.windows (lowest t.windows) refl, tt), tt) }
+happened t _ _ (outcomes.detached client c at) h =
+    record { numbers = h.numbers; pages = all_filter (PageIn (serials t)) (λ (d : Client). not (d.serial == client)) t.clients h.pages }
+happened t _ _ (outcomes.keyed client bytes c is) h =
+    let read : List ℕ = take (taken c.keys bytes) bytes in
     let items : List Item = step_items c bytes in
     typing_clients (λ v. HoldsIn (finished t [] done (record (ordered v (reading read c) (command_item items)).deed { effects = [] }))) t client c (reading read c) (typed_bytes items) is refl refl
     (λ cs same. ended t (record (ordered (record t { clients = cs }) (reading read c) (command_item items)).deed { effects = [] }) [] done
-    (item_holds (record t { clients = cs }) (reading read c) (command_item items) (keys_small c bytes) (same_holds t cs same h))))
-held t (Command user number bytes) h =
-    outcomes.by_line HoldsIn t (line_caller t user number) (is_known t user) (read_line bytes) (λ vs f. h)
-    (λ c d known read passes is. ended t d (verdicts t (checks t (line_caller t user number) c)) (reply_of 0 0 0 d.lists)
-    (deed_holds (does t (line_caller t user number) c) d is (holds t (line_caller t user number) h (λ w at. number_there t.windows number w at) c (read_small bytes c read))))
-held t (Resize client rows columns) h =
-    outcomes.found HoldsIn t (λ c. where_passed t (must (is_client_size rows columns) BadSize ∷ []) done (changing (with_client t (resized rows columns c)))) (client_at t client) h
-    (λ c is. outcomes.passed HoldsIn t (verdicts t (must (is_client_size rows columns) BadSize ∷ [])) (first_fault t (must (is_client_size rows columns) BadSize ∷ [])) done (changing (with_client t (resized rows columns c)))
-    (λ r at. h)
-    (λ at. ended t (changing (with_client t (resized rows columns c))) [] done (holds_client t (resized rows columns c) (resized_page (serials t) rows columns c (page_of t client c is h)) h)))
-held t (Open user rows columns keep title) h =
-    let v : Window = new_window t rows columns keep title in
-    outcomes.passed HoldsIn t (verdicts t (open_checks t user rows columns keep title)) (first_fault t (open_checks t user rows columns keep title)) (reply_of 0 v.serial v.number None) (opens t user v) (λ r is. h)
-    (λ is. ended t (opens t user v) [] done (opened t user v (free_below t.windows) h))
-held t (Output window bytes) h =
-    outcomes.found HoldsIn t (λ v. finished t [] done (outputs t v bytes)) (window_at t window) h
-    (λ v is. ended t (outputs t v bytes) [] done (holds_window t _ (some_has IsBelow v t.windows (at_there t (Some window) v is) h.numbers) h))
-held t (Closed window) h =
-    outcomes.found HoldsIn t (λ v. finished t [] done (closes (λ x. x.serial == window) reason.Detached t)) (window_at t window) h
-    (λ v is. ended t (closes (λ x. x.serial == window) reason.Detached t) [] done (holds_closed t (λ x. x.serial == window) reason.Detached h))
-held t (Draw client) h =
-    outcomes.found HoldsIn t (λ c. finished t [] done (changing t)) (client_at t client) h (λ c is. ended t (changing t) [] done h)
+    (item_holds (record t { clients = cs }) (reading read c) (command_item items) (keys_small c bytes) (same_holds t cs same h)))
+happened t _ _ (outcomes.obeyed user number bytes c d known read passes is) h =
+    let k : Caller = line_caller t user number in
+    ended t d (verdicts t (checks t k c)) (reply_of 0 0 0 d.lists) (deed_holds (does t k c) d is (holds t k h (λ w at. number_there t.windows number w at) c (read_small bytes c read)))
+happened t _ _ (outcomes.opened user rows columns keep title passes) h =
+    let v : Window = new_window t rows columns keep title in ended t (opens t user v) [] done (opened t user v (free_below t.windows) h)
+happened t _ _ (outcomes.wrote window bytes v is) h =
+    ended t (outputs t v bytes) [] done (holds_window t _ (some_has IsBelow v t.windows (at_there t (Some window) v is) h.numbers) h)
+happened t _ _ (outcomes.closed window w at) h =
+    ended t (closes (λ v. v.serial == window) reason.Detached t) [] done (holds_closed t (λ v. v.serial == window) reason.Detached h)
+happened t _ _ (outcomes.drew client c at) h = ended t (changing t) [] done h
+
+pub held : (t : Tables) (event : EventValue) → Holds t → HoldsIn (outcome t event)
+held t event h = happened t event (outcome t event) (outcomes.happens t event) h
 
 -- ---- draws
 

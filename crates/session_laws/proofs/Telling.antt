@@ -29,7 +29,6 @@ use Rattle.session_model.specs.Deeds.{Answer, Deed, changing}
 use Rattle.session_model.specs.Commands.{does}
 use Rattle.session_model.specs.Keying.{typed_bytes, command_item, taken, step_items}
 use Rattle.session_model.specs.Answering.{types, says_why, input_in, ordered, message_of, keyed, reading, keys_outcome, unsaid, says_same, answered, commanded, line_ruling}
-use Rattle.session_model.specs.Events.{outcome}
 use Rattle.session_model.specs.Outcomes.{refused, Outcome}
 use Rattle.session_model.specs.Answering as answering
 use Rattle.session_model.specs.Run.{IsStep}
