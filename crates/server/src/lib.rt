@@ -2,15 +2,10 @@
 #![tactic(auto)]
 
 mod acceptor;
-mod fault;
 mod loop_handle;
 mod serving;
-mod setup_file;
-mod socket;
 mod turns;
-mod users_file;
 mod winding;
-mod wired;
 
 pub use server_loop::{Gate, Loop, Open};
 pub use server_turn::Turn;

@@ -1,11 +1,11 @@
 //! How connections and news come to a loop.
 
 use crate::acceptor::Acceptor;
-use crate::users_file::Watched;
 use mio::net::UnixStream;
 use mio::{Poll, Registry, Waker};
 use server_log::Log;
 use server_loop::End;
+use server_system::Watched;
 use std::collections::VecDeque;
 use std::io;
 use std::sync::atomic::{AtomicBool, AtomicU64, Ordering};

@@ -1,18 +1,15 @@
 //! `muxd`: the session, its listener and its loops.
 
 use crate::acceptor::Acceptor;
-use crate::fault::{ServeFault, outcome};
 use crate::loop_handle::{LoopHandle, LoopStart, Shared};
-use crate::setup_file::Setup;
-use crate::socket::Place;
 use crate::turns::{LISTEN, Server, WAKE};
-use crate::users_file::{Stamp, UsersFile, UsersSource, Watched};
 use acl::UserId;
 use mio::net::UnixListener;
 use mio::{Interest, Poll, Waker};
 use program_words::{of_server, tell};
 use server_log::Log;
-use server_loop::{Gate, LoopsFault, Open, Start, keep};
+use server_loop::{End, Gate, LoopsFault, Open, Start, keep};
+use server_system::{Place, ServeFault, Setup, Stamp, UsersFile, UsersSource, Watched};
 use server_trail::Journal;
 use server_users::Users;
 use std::alloc::Global;
@@ -88,6 +85,18 @@ fn trail_fault(rt: &impl Wait, alloc: Global, journal: Option<&Journal>) -> Opti
     let journal = journal?;
     let fault = journal.fault(rt)?;
     Some(ServeFault::of_trail(alloc, journal.path(), fault))
+}
+
+// What a server's end says of how it went, whether each answer stands in the trail, and what is
+// wrong with the trail's file.
+fn outcome(end: Option<End>, agrees: bool, file: Option<ServeFault>) -> Result<(), ServeFault> {
+    match (end, file) {
+        (Some(End::Fault) | None, _) => Err(ServeFault::Loop),
+        (Some(End::Quit), _) if !agrees => Err(ServeFault::Trail),
+        (_, Some(fault)) => Err(fault),
+        (Some(End::TrailFull), None) => Err(ServeFault::TrailFull),
+        (Some(End::Quit), None) => Ok(()),
+    }
 }
 
 // Serves a new session on a listener, until it ends.

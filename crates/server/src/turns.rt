@@ -2,14 +2,12 @@
 
 use crate::acceptor::Acceptor;
 use crate::loop_handle::{LoopHandle, LoopStart, Shared};
-use crate::setup_file::Setup;
-use crate::users_file::UsersSource;
 use crate::winding::wind_up;
-use crate::wired::Wired;
 use mio::{Events, Poll, Registry, Token};
 use server_loop::{
     End, Gate, LULL, Loop, LoopBody, NewsLine, Pace, Recorder, Seat, SharedSession, Trail,
 };
+use server_system::{Setup, UsersSource, Wired};
 use server_trail::{Cause, Journal};
 use std::alloc::Global;
 use std::io;

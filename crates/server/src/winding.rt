@@ -1,8 +1,8 @@
 //! How a loop ends.
 
 use crate::turns::Watch;
-use crate::wired::Wired;
 use server_loop::{End, Gate, Loop, SharedSession};
+use server_system::Wired;
 use std::io;
 use std::sync::Wait;
 use std::sync::ledger::Ledger as Roll;

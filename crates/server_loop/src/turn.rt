@@ -125,6 +125,13 @@ impl<S: Read + Write + Drop, G: Gate + Drop, L: Roll> Loop<S, G, L> {
         matches!(self.peers.role_of(key), Role::Window(_))
     }
 
+    // Whether a window, or another connection, has something to do.
+    fn is_due(&mut self, key: usize, as_window: bool) -> bool {
+        self.peers.is_awake(key)
+            && self.is_window(key) == as_window
+            && self.peers.is_due_at(key)
+    }
+
     // Does some of what a connection asked for. Whether all of it is done.
     fn obey_some(&mut self, rt: &impl Wait, shared: &SharedSession<L>, key: usize) -> bool {
         for _ in 0..STEPS {
@@ -175,13 +182,13 @@ impl<S: Read + Write + Drop, G: Gate + Drop, L: Roll> Loop<S, G, L> {
     // Windows have their turn one after the other, as far as output may be done in this turn.
     fn serve_windows(&mut self, rt: &impl Wait, shared: &SharedSession<L>) {
         self.output_left = PIECE;
-        let count = self.peers.capacity();
+        let count = self.peers.keys_end();
         let first = self.next;
         for key in (first..count).chain(0..first.min(count)) {
             if self.output_left == 0 {
                 return;
             }
-            if self.is_window(key) && self.peers.is_due_at(key) {
+            if self.is_due(key, true) {
                 self.next = key.saturating_add(1);
                 self.serve(rt, shared, key);
             }
@@ -196,8 +203,8 @@ impl<S: Read + Write + Drop, G: Gate + Drop, L: Roll> Loop<S, G, L> {
     /// Reads what is there to be read and does it, at most so much of each connection that others
     /// have their turn, and keys before output.
     pub fn read_all(&mut self, rt: &impl Wait, shared: &SharedSession<L>) {
-        for key in 0..self.peers.capacity() {
-            if !self.is_window(key) && self.peers.is_due_at(key) {
+        for key in 0..self.peers.keys_end() {
+            if self.is_due(key, false) {
                 self.serve(rt, shared, key);
             }
         }

@@ -33,7 +33,7 @@ impl<S: Read + Write + Drop, G: Gate + Drop, L: Roll> Peers<S, G, L> {
             }
             Ok(_) | Err(Unanswered::Over) => {}
         }
-        if let Some(peer) = self.peers.get_mut(key) {
+        if let Some(peer) = self.peers.touch(key) {
             peer.leaves = Role::Stranger;
         }
         Ok(())
@@ -47,7 +47,7 @@ impl<S: Read + Write + Drop, G: Gate + Drop, L: Roll> Peers<S, G, L> {
         key: usize,
         why: Why,
     ) {
-        if let Some(peer) = self.peers.get_mut(key) {
+        if let Some(peer) = self.peers.touch(key) {
             peer.end(why);
             peer.leave();
         }
@@ -56,7 +56,7 @@ impl<S: Read + Write + Drop, G: Gate + Drop, L: Roll> Peers<S, G, L> {
 
     /// A connection that is nobody's is told to go, unless it was.
     pub fn dismiss(&mut self, key: usize, why: Why) {
-        if let Some(peer) = self.peers.get_mut(key) {
+        if let Some(peer) = self.peers.touch(key) {
             if peer.listens() {
                 peer.end(why);
             }
@@ -77,7 +77,7 @@ impl<S: Read + Write + Drop, G: Gate + Drop, L: Roll> Peers<S, G, L> {
 
     /// The connection asked to go: its GONE comes from the session.
     pub fn detach(&mut self, rt: &impl Wait, shared: &SharedSession<L>, key: usize) {
-        if let Some(peer) = self.peers.get_mut(key) {
+        if let Some(peer) = self.peers.touch(key) {
             peer.stage = Stage::Leaving;
             peer.leaves = peer.role;
         }
@@ -88,7 +88,7 @@ impl<S: Read + Write + Drop, G: Gate + Drop, L: Roll> Peers<S, G, L> {
 
     /// The connection ended or failed: what it wasn't sent is given up.
     pub fn lose(&mut self, rt: &impl Wait, shared: &SharedSession<L>, key: usize) {
-        if let Some(peer) = self.peers.get_mut(key) {
+        if let Some(peer) = self.peers.touch(key) {
             peer.close();
         }
         let _ = self.tell_leaving(rt, shared, key);
@@ -99,7 +99,10 @@ impl<S: Read + Write + Drop, G: Gate + Drop, L: Roll> Peers<S, G, L> {
     pub fn let_oldest_go(&mut self, most: usize) {
         let mut count = 0usize;
         let mut oldest: Option<(u64, usize)> = None;
-        for (key, peer) in self.peers.iter() {
+        for key in 0..self.peers.end() {
+            let Some(peer) = self.peers.get_awake_mut(key) else {
+                continue;
+            };
             if peer.is_new() {
                 count = count.saturating_add(1);
                 if oldest.is_none_or(|(number, _)| peer.number < number) {
@@ -117,7 +120,7 @@ impl<S: Read + Write + Drop, G: Gate + Drop, L: Roll> Peers<S, G, L> {
 
     // Writes what the connection takes, and closes it.
     fn close_at_once(&mut self, key: usize) {
-        if let Some(peer) = self.peers.get_mut(key) {
+        if let Some(peer) = self.peers.touch(key) {
             peer.write();
             peer.close();
         }
@@ -127,8 +130,8 @@ impl<S: Read + Write + Drop, G: Gate + Drop, L: Roll> Peers<S, G, L> {
     /// Those whose first message didn't come in time are told to go, and those that were told so
     /// and didn't read it are closed.
     pub fn expire(&mut self, now: Duration) {
-        for key in 0..self.peers.capacity() {
-            let Some(peer) = self.peers.get_mut(key) else {
+        for key in 0..self.peers.end() {
+            let Some(peer) = self.peers.get_awake_mut(key) else {
                 continue;
             };
             if peer.is_overdue(now) {
@@ -141,12 +144,14 @@ impl<S: Read + Write + Drop, G: Gate + Drop, L: Roll> Peers<S, G, L> {
     }
 
     pub(crate) fn sweep(&mut self) {
-        for key in 0..self.peers.capacity() {
-            if let Some(news) = self.peers.get_mut(key).and_then(|peer| peer.farewell()) {
+        for key in 0..self.peers.end() {
+            let Some(peer) = self.peers.get_awake_mut(key) else {
+                continue;
+            };
+            let news = peer.farewell();
+            self.peers.settle(key);
+            if let Some(news) = news {
                 self.tell(news);
-            }
-            if self.peers.get(key).is_some_and(|peer| peer.is_done()) {
-                let _ = self.peers.try_remove(key);
             }
         }
     }
@@ -154,8 +159,8 @@ impl<S: Read + Write + Drop, G: Gate + Drop, L: Roll> Peers<S, G, L> {
     /// The server ends: all peers are told so, and those that were nobody's are closed.
     pub fn finish(&mut self, rt: &impl Wait, shared: &SharedSession<L>, end: End) {
         self.hand_out(rt, shared);
-        for key in 0..self.peers.capacity() {
-            if let Some(peer) = self.peers.get_mut(key) {
+        for key in 0..self.peers.end() {
+            if let Some(peer) = self.peers.touch(key) {
                 match peer.role {
                     Role::Client(_) | Role::Window(_) => peer.end(end.why()),
                     Role::Stranger if peer.stage == Stage::Open => peer.close(),

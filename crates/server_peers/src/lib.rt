@@ -2,6 +2,7 @@
 //! when they are drawn, and how they leave.
 #![tactic(auto)]
 
+mod connections;
 mod end;
 mod frames;
 mod gate;

@@ -178,6 +178,13 @@ impl<S: Drop> Peer<S> {
         }
     }
 
+    /// Whether nothing is to be done with it until something comes from it or is put into it.
+    pub fn is_at_rest(&self) -> bool {
+        let has_work = self.has_more || self.is_held || !self.inbox.is_empty();
+        let is_guest = self.role != Role::Stranger && self.leaves == Role::Stranger;
+        is_guest && self.stage == Stage::Open && !has_work && self.turn.unsent() == 0
+    }
+
     /// Whether nothing is left to do with it.
     pub fn is_done(&self) -> bool {
         self.stage == Stage::Closed && self.leaves == Role::Stranger

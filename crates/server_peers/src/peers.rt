@@ -1,16 +1,16 @@
 //! One loop's connections, and its seat in the session.
 
+use crate::connections::Connections;
 use crate::end::End;
 use crate::gate::Gate;
 use crate::inbox::Asked;
 use crate::news::{Guest, News};
-use crate::peer::{Peer, Role, Stage};
+use crate::peer::{Role, Stage};
 use crate::stream::Came;
 use acl::UserId;
 use hub::{Answer, FULL, HubFault, Seat};
 use server_session::SharedSession;
 use session_model::Event;
-use slab::Slab;
 use std::alloc::{AllocError, Global};
 use std::io::{Read, Write};
 use std::sync::Wait;
@@ -37,14 +37,14 @@ pub struct Peers<S, G, L: Roll> {
     pub(crate) alloc: Global,
     pub(crate) seat: Seat<L>,
     gate: G,
-    pub(crate) peers: Slab<Peer<S>>,
-    // How many connections were taken in.
-    number: u64,
+    pub(crate) peers: Connections<S>,
     has_submitted: bool,
     // Of what was submitted something may have an effect beside a draw.
     has_acted: bool,
     // A step was made since what waits was last taken.
     pub(crate) is_behind: bool,
+    // A step other than a draw was made since draws were last asked for.
+    pub(crate) is_told: bool,
     // Something was refused for want of memory, and is tried again in the next turn.
     pub(crate) has_waiting: bool,
     // The first connection that wasn't looked at yet, while draws are asked for.
@@ -61,11 +61,11 @@ impl<S: Read + Write + Drop, G: Gate + Drop, L: Roll> Peers<S, G, L> {
             alloc,
             seat,
             gate,
-            peers: Slab::new(alloc),
-            number: 0,
+            peers: Connections::new(alloc),
             has_submitted: false,
             has_acted: false,
             is_behind: false,
+            is_told: false,
             has_waiting: false,
             draws_from: None,
             end: None,
@@ -76,17 +76,13 @@ impl<S: Read + Write + Drop, G: Gate + Drop, L: Roll> Peers<S, G, L> {
 
     /// The key that the next connection gets.
     pub fn next_key(&self) -> usize {
-        self.peers.vacant_key()
+        self.peers.next_key()
     }
 
     /// Takes a connection in, under `next_key`. Without memory it is closed. One that is taken in
     /// though no more are to stay is extra.
     pub fn admit(&mut self, stream: S, is_extra: bool) -> Result<(), AllocError> {
-        let number = self.number;
-        self.peers
-            .insert(Peer::new(self.alloc, stream, number, is_extra)?)?;
-        self.number = number.saturating_add(1);
-        Ok(())
+        self.peers.admit(self.alloc, stream, is_extra)
     }
 
     /// How many connections there are.
@@ -95,36 +91,51 @@ impl<S: Read + Write + Drop, G: Gate + Drop, L: Roll> Peers<S, G, L> {
     }
 
     pub fn is_empty(&self) -> bool {
-        self.peers.is_empty()
+        self.peers.len() == 0
     }
 
     /// All keys are below it.
-    pub fn capacity(&self) -> usize {
-        self.peers.capacity()
+    pub fn keys_end(&self) -> usize {
+        self.peers.end()
+    }
+
+    /// Whether something may be to be done with a connection.
+    pub fn is_awake(&self, key: usize) -> bool {
+        self.peers.is_awake(key)
+    }
+
+    fn has_due(&self) -> bool {
+        (0..self.peers.end())
+            .any(|key| self.peers.get_awake(key).is_some_and(|peer| peer.is_due()))
+    }
+
+    fn has_held(&self) -> bool {
+        (0..self.peers.end()).any(|key| self.peers.get_awake(key).is_some_and(|peer| peer.is_held))
     }
 
     /// Whether something is to be done at once, though no event will tell of it.
     pub fn is_due(&self) -> bool {
-        self.is_behind
-            || self.draws_from.is_some()
-            || self.peers.iter().any(|(_, peer)| peer.is_due())
+        self.is_behind || self.draws_from.is_some() || self.has_due()
     }
 
     /// Whether something is to be tried again soon, though no event will tell of it.
     pub fn has_waiting(&self) -> bool {
-        self.has_waiting || self.peers.iter().any(|(_, peer)| peer.is_held)
+        self.has_waiting || self.has_held()
     }
 
     /// Whether a first message may be there.
     pub fn has_newcomer(&self) -> bool {
-        self.peers
-            .iter()
-            .any(|(_, peer)| peer.is_new() && peer.is_due())
+        (0..self.peers.end()).any(|key| {
+            self.peers
+                .get_awake(key)
+                .is_some_and(|peer| peer.is_new() && peer.is_due())
+        })
     }
 
     /// Whether a connection is waited for, which has a time for it.
     pub fn is_awaiting(&self) -> bool {
-        self.peers.iter().any(|(_, peer)| peer.is_awaited())
+        (0..self.peers.end())
+            .any(|key| self.peers.get_awake(key).is_some_and(|peer| peer.is_awaited()))
     }
 
     /// Whether a step other than a draw was submitted since the last call.
@@ -214,7 +225,7 @@ impl<S: Read + Write + Drop, G: Gate + Drop, L: Roll> Peers<S, G, L> {
 
     /// A connection has something to read, and perhaps its other end was closed.
     pub fn mark_ready(&mut self, key: usize, has_hung_up: bool) {
-        if let Some(peer) = self.peers.get_mut(key) {
+        if let Some(peer) = self.peers.touch(key) {
             peer.has_more = true;
             peer.has_hung_up |= has_hung_up;
         }
@@ -222,7 +233,7 @@ impl<S: Read + Write + Drop, G: Gate + Drop, L: Roll> Peers<S, G, L> {
 
     /// Whether a connection has something to do, which is tried again where it was held.
     pub fn is_due_at(&mut self, key: usize) -> bool {
-        match self.peers.get_mut(key) {
+        match self.peers.get_awake_mut(key) {
             Some(peer) => {
                 peer.is_held = false;
                 peer.is_due()
@@ -233,7 +244,7 @@ impl<S: Read + Write + Drop, G: Gate + Drop, L: Roll> Peers<S, G, L> {
 
     /// Reads once from a connection that is open, and all of whose messages are done.
     pub fn read(&mut self, key: usize, buffer: &mut [u8]) -> Came {
-        match self.peers.get_mut(key) {
+        match self.peers.touch(key) {
             Some(peer) if peer.stage == Stage::Open && peer.has_more => peer.read(buffer),
             _ => Came::Nothing,
         }
@@ -248,7 +259,7 @@ impl<S: Read + Write + Drop, G: Gate + Drop, L: Roll> Peers<S, G, L> {
 
     /// Takes out what a connection asks for next, if it is open.
     pub fn next_asked(&mut self, key: usize) -> Option<Asked> {
-        match self.peers.get_mut(key) {
+        match self.peers.touch(key) {
             Some(peer) if peer.stage == Stage::Open => peer.inbox.next(),
             _ => None,
         }
@@ -263,7 +274,7 @@ impl<S: Read + Write + Drop, G: Gate + Drop, L: Roll> Peers<S, G, L> {
 
     /// Puts back what was taken out, to be done later; perhaps until its user may.
     pub fn put_back(&mut self, key: usize, asked: Asked, is_held: bool) {
-        if let Some(peer) = self.peers.get_mut(key) {
+        if let Some(peer) = self.peers.touch(key) {
             peer.inbox.put_back(asked);
             peer.is_held = is_held;
         }
@@ -277,7 +288,7 @@ impl<S: Read + Write + Drop, G: Gate + Drop, L: Roll> Peers<S, G, L> {
     }
 
     pub fn set_user(&mut self, key: usize, user: UserId) {
-        if let Some(peer) = self.peers.get_mut(key) {
+        if let Some(peer) = self.peers.touch(key) {
             peer.user = Some(user);
         }
     }
@@ -296,7 +307,7 @@ impl<S: Read + Write + Drop, G: Gate + Drop, L: Roll> Peers<S, G, L> {
 
     /// A connection brings a guest, who is this to the session.
     pub fn let_in(&mut self, key: usize, role: Role, guest: Guest) {
-        if let Some(peer) = self.peers.get_mut(key) {
+        if let Some(peer) = self.peers.touch(key) {
             peer.role = role;
             peer.guest = Some(guest);
         }

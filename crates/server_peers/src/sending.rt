@@ -15,16 +15,9 @@ use std::sync::ledger::Ledger as Roll;
 const MOST_UNSENT: usize = 1_048_576;
 
 // So many draws are asked for in a turn; the others in the next ones, between which keys are read.
-const DRAWS: usize = 4;
+const DRAWS: usize = 16;
 
 impl<S: Read + Write + Drop, G: Gate + Drop, L: Roll> Peers<S, G, L> {
-    fn key_of(&self, role: Role) -> Option<usize> {
-        self.peers
-            .iter()
-            .find(|(_, peer)| peer.role == role && peer.listens())
-            .map(|(key, _)| key)
-    }
-
     /// Puts something behind what waits for a connection. Where it can't be had, the connection
     /// goes.
     pub fn send(
@@ -35,7 +28,7 @@ impl<S: Read + Write + Drop, G: Gate + Drop, L: Roll> Peers<S, G, L> {
         sending: Sending,
     ) {
         let alloc = self.alloc;
-        let Some(peer) = self.peers.get_mut(key) else {
+        let Some(peer) = self.peers.touch(key) else {
             return;
         };
         if peer.listens() && put(alloc, &mut peer.turn, sending).is_err() {
@@ -48,17 +41,17 @@ impl<S: Read + Write + Drop, G: Gate + Drop, L: Roll> Peers<S, G, L> {
         if reason == Reason::Quit {
             self.end = Some(End::Quit);
         }
-        let Some(key) = self.key_of(role) else {
+        let Some(key) = self.peers.key_of(role) else {
             return;
         };
-        if let Some(peer) = self.peers.get_mut(key) {
+        if let Some(peer) = self.peers.touch(key) {
             peer.end(why_of(reason));
             peer.role = Role::Stranger;
         }
     }
 
     fn hand(&mut self, rt: &impl Wait, shared: &SharedSession<L>, role: Role, sending: Sending) {
-        if let Some(key) = self.key_of(role) {
+        if let Some(key) = self.peers.key_of(role) {
             self.send(rt, shared, key, sending);
         }
     }
@@ -97,18 +90,12 @@ impl<S: Read + Write + Drop, G: Gate + Drop, L: Roll> Peers<S, G, L> {
                 Effect::GoneClient(client, reason) => self.let_go(Role::Client(*client), *reason),
             }
         }
-        if is_told {
-            for key in 0..self.peers.capacity() {
-                if let Some(peer) = self.peers.get_mut(key) {
-                    peer.turn.told();
-                }
-            }
-        }
+        self.is_told |= is_told;
     }
 
     /// Writes what waits for a connection, until it takes no more for now.
     pub fn write_to(&mut self, rt: &impl Wait, shared: &SharedSession<L>, key: usize) {
-        if let Some(peer) = self.peers.get_mut(key) {
+        if let Some(peer) = self.peers.touch(key) {
             peer.write();
             if peer.stage == Stage::Closed {
                 let _ = self.tell_leaving(rt, shared, key);
@@ -117,8 +104,10 @@ impl<S: Read + Write + Drop, G: Gate + Drop, L: Roll> Peers<S, G, L> {
     }
 
     fn write_all(&mut self, rt: &impl Wait, shared: &SharedSession<L>) {
-        for key in 0..self.peers.capacity() {
-            self.write_to(rt, shared, key);
+        for key in 0..self.peers.end() {
+            if self.peers.is_awake(key) {
+                self.write_to(rt, shared, key);
+            }
         }
     }
 
@@ -137,7 +126,7 @@ impl<S: Read + Write + Drop, G: Gate + Drop, L: Roll> Peers<S, G, L> {
     fn draw(&mut self, rt: &impl Wait, shared: &SharedSession<L>, key: usize, client: u32) {
         match self.submit(rt, shared, Event::Draw { client }) {
             Ok(_) => {
-                if let Some(peer) = self.peers.get_mut(key) {
+                if let Some(peer) = self.peers.touch(key) {
                     peer.turn.drawn();
                 }
             }
@@ -155,7 +144,7 @@ impl<S: Read + Write + Drop, G: Gate + Drop, L: Roll> Peers<S, G, L> {
         from: usize,
     ) -> Option<usize> {
         let mut left = DRAWS;
-        for key in from..self.peers.capacity() {
+        for key in from..self.peers.end() {
             let Some(client) = self.wants_draw(key) else {
                 continue;
             };
@@ -175,6 +164,10 @@ impl<S: Read + Write + Drop, G: Gate + Drop, L: Roll> Peers<S, G, L> {
             None if holds_draws => return,
             None => 0,
         };
+        if self.is_told {
+            self.is_told = false;
+            self.peers.tell();
+        }
         self.draws_from = match self.draw_some(rt, shared, from) {
             Some(next) => Some(next),
             // Clients before that key may wait again.
@@ -189,13 +182,13 @@ impl<S: Read + Write + Drop, G: Gate + Drop, L: Roll> Peers<S, G, L> {
 
     // Those for whom too much waits are told so, and closed once they take no more.
     fn drop_laggards(&mut self, rt: &impl Wait, shared: &SharedSession<L>) {
-        for key in 0..self.peers.capacity() {
-            let Some(peer) = self.peers.get_mut(key) else {
+        for key in 0..self.peers.end() {
+            let Some(peer) = self.peers.get_awake_mut(key) else {
                 continue;
             };
             if peer.listens() && peer.turn.unsent() > MOST_UNSENT {
                 self.expel(rt, shared, key, Why::TooFarBehind);
-                if let Some(peer) = self.peers.get_mut(key) {
+                if let Some(peer) = self.peers.touch(key) {
                     peer.stage = Stage::Cut;
                 }
                 self.write_to(rt, shared, key);
@@ -207,8 +200,10 @@ impl<S: Read + Write + Drop, G: Gate + Drop, L: Roll> Peers<S, G, L> {
     /// lets go what is closed. Where draws of a crowd were begun, it goes on with them.
     pub fn end_turn(&mut self, rt: &impl Wait, shared: &SharedSession<L>, holds_draws: bool) {
         self.has_waiting = false;
-        for key in 0..self.peers.capacity() {
-            let _ = self.tell_leaving(rt, shared, key);
+        for key in 0..self.peers.end() {
+            if self.peers.is_awake(key) {
+                let _ = self.tell_leaving(rt, shared, key);
+            }
         }
         self.hand_out(rt, shared);
         self.write_all(rt, shared);

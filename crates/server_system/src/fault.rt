@@ -1,6 +1,5 @@
 //! What can be wrong, and what to do then.
 
-use server_loop::End;
 use server_trail::JournalFault;
 use server_users::UsersFault;
 use std::alloc::{AllocError, AllocFailed, Global};
@@ -70,17 +69,5 @@ impl From<AllocError> for ServeFault {
 impl<T: Drop> From<AllocFailed<T>> for ServeFault {
     fn from(_error: AllocFailed<T>) -> ServeFault {
         ServeFault::NoMemory
-    }
-}
-
-/// What a server's end says of how it went, whether each answer stands in the trail, and what is
-/// wrong with the trail's file.
-pub fn outcome(end: Option<End>, agrees: bool, file: Option<ServeFault>) -> Result<(), ServeFault> {
-    match (end, file) {
-        (Some(End::Fault) | None, _) => Err(ServeFault::Loop),
-        (Some(End::Quit), _) if !agrees => Err(ServeFault::Trail),
-        (_, Some(fault)) => Err(fault),
-        (Some(End::TrailFull), None) => Err(ServeFault::TrailFull),
-        (Some(End::Quit), None) => Ok(()),
     }
 }
