@@ -1,25 +1,26 @@
 -- Which acts an event has that gives no command, and what it leaves.
-use Rattle.std.proofs.Common.{◌≡◌, ◌≤◌, ℕ, ◌+◌, Bool, true, false, List, [], ◌∷◌, ◌++◌, Option, Some, None, refl, sym, subst, arith}
+use Rattle.std.proofs.Common.{◌≡◌, ◌≤◌, ℕ, ◌+◌, Bool, true, false, List, [], ◌∷◌, ◌++◌, Option, Some, None, refl, ap, sym, subst, arith}
 use Rattle.std.specs.Prelude.{if◌then◌else◌, ◌==◌, ◌||◌}
 use Rattle.std.specs.List.{AllByRecursion}
+use Rattle.std.specs.Option.{option_map_or}
 use Rattle.acl.specs.declared.user_id.UserId.{UserId}
 use Rattle.acl.specs.declared.act.Act.{Act}
 use Rattle.acl.specs.declared.act.Act.TheVariants as act
 use Rattle.acl.specs.History.{followed_by}
 use Rattle.session_model.specs.declared.event.Effect.{Effect}
 use Rattle.session_model.specs.declared.event.Reason.TheVariants as reason
-use Rattle.session_model.specs.declared.check.Check.TheVariants.{Must as must}
-use Rattle.session_model.specs.declared.refusal.Refusal.TheVariants.{BadSize}
 use Rattle.session_model.specs.Tables.{Tables, Window, Client, window_at, client_at, with_client, focused, is_in_focus}
 use Rattle.session_model.specs.Checks.{first_fault, verdicts}
 use Rattle.session_model.specs.Deeds.{Deed, changing, parts, closes, entering}
 use Rattle.session_model.specs.Events.{outcome}
 use Rattle.session_model.specs.Outcomes.{Outcome, left_acts_of, left_acts, reply_of, finished, done, where_passed}
-use Rattle.session_model.specs.Comings.{attach_checks, attaches, new_client, open_checks, opens, new_window, is_client_size, resized, outputs}
+use Rattle.session_model.specs.Comings.{attach_checks, attaches, new_client, open_checks, opens, new_window, outputs}
 use Rattle.session_model.specs.Run.{IsStep, after, drawn, drawn_on}
-use Rattle.session_model.specs.Trace.{EventValue, Attach, Detach, Keys, Command, Resize, Open, Output, Closed, Draw, Entry}
+use Rattle.session_model.specs.Trace.{EventValue, Attach, Detach, Keys, Command, Open, Output, Closed, Draw, Entry}
 use Rattle.session_laws.proofs.Lists.{equal, all_of, all_map, all_passed, all_append}
 use Rattle.session_laws.proofs.Outcomes as outcomes
+use Rattle.session_laws.proofs.Outcomes.{Change, change_of, Changes, changes}
+use Rattle.session_guests.specs.Locking.{OfClient, OfNobody, giver_of, client_user, user_by, user_of}
 
 -- whether an event gives commands
 abbrev pub gives_commands : EventValue → Bool
@@ -87,6 +88,26 @@ enters_in : (t : Tables) (user : UserId) (rows columns : ℕ) (o : Option ℕ) �
 enters_in t user rows columns None = tt
 enters_in t user rows columns (Some w) = (refl, tt)
 
+-- what changes a client's row is given by that client
+given_by : (event : EventValue) (x : Change) → change_of event ≡ Some x → giver_of event ≡ OfClient x.client
+given_by (Attach user rows columns) x is = absurd (cc (is))
+given_by (Detach client) x is = absurd (cc (is))
+given_by (Keys client bytes) x is = absurd (cc (is))
+given_by (Command user number bytes) x is = absurd (cc (is))
+given_by (Open user rows columns keep title) x is = absurd (cc (is))
+given_by (Draw client) x is = absurd (cc (is))
+given_by event x is = ap (λ o. option_map_or (λ (y : Change). OfClient y.client) o OfNobody) is
+
+pub changed_by : (t : Tables) (event : EventValue) (x : Change) → change_of event ≡ Some x → user_of t event ≡ client_user t x.client
+changed_by t event x is = ap (user_by t) (given_by event x is)
+
+changed : (t : Tables) (event : EventValue) (x : Change) → Changes event x → PlainTo t event (outcome t event)
+changed t event x f =
+    subst (PlainTo t event) (sym (f.happens t))
+    (outcomes.found (PlainTo t event) t (λ c. where_passed t x.checks done (changing (with_client t (x.row c)))) (client_at t x.client) (still t event)
+    (λ c is. outcomes.passed (PlainTo t event) t (verdicts t x.checks) (first_fault t x.checks) done (changing (with_client t (x.row c)))
+    (λ r at. still t event) (λ at. made t event (changing (with_client t (x.row c))) tt refl refl refl (le_same t.next_window))))
+
 plain : (t : Tables) (event : EventValue) → gives_commands event ≡ false → PlainTo t event (outcome t event)
 plain t (Attach user rows columns) not =
     let c : Client = new_client t user rows columns in
@@ -101,12 +122,6 @@ plain t (Detach client) not =
     refl refl refl (le_same t.next_window))
 plain t (Keys client bytes) not = absurd (cc (not))
 plain t (Command user number bytes) not = absurd (cc (not))
-plain t (Resize client rows columns) not =
-    outcomes.found (PlainTo t (Resize client rows columns)) t (λ c. where_passed t (must (is_client_size rows columns) BadSize ∷ []) done (changing (with_client t (resized rows columns c)))) (client_at t client)
-    (still t (Resize client rows columns))
-    (λ c is. outcomes.passed (PlainTo t (Resize client rows columns)) t (verdicts t (must (is_client_size rows columns) BadSize ∷ [])) (first_fault t (must (is_client_size rows columns) BadSize ∷ [])) done
-    (changing (with_client t (resized rows columns c))) (λ r at. still t (Resize client rows columns))
-    (λ at. made t (Resize client rows columns) (changing (with_client t (resized rows columns c))) tt refl refl refl (le_same t.next_window)))
 plain t (Open user rows columns keep title) not =
     let v : Window = new_window t rows columns keep title in
     outcomes.passed (PlainTo t (Open user rows columns keep title)) t (verdicts t (open_checks t user rows columns keep title)) (first_fault t (open_checks t user rows columns keep title)) (reply_of 0 v.serial v.number None) (opens t user v)
@@ -124,6 +139,7 @@ plain t (Closed window) not =
 plain t (Draw client) not =
     outcomes.found (PlainTo t (Draw client)) t (λ c. finished t [] done (changing t)) (client_at t client) (still t (Draw client))
     (λ c is. made t (Draw client) (changing t) tt refl refl refl (le_same t.next_window))
+plain t event not = changed t event _ (changes event _ refl)
 
 -- what is drawn changes clients alone
 drawn_plain : (t : Tables) (event : EventValue) (acts : List Act) (o : Option Client) (effects : List Effect) (u : Tables) → Plain t event acts u → Plain t event acts (drawn_on o effects u)

@@ -20,15 +20,14 @@ use Rattle.writelock.specs.LockTable.{stops_nobody_but}
 use Rattle.command_lang.specs.command.Command.{Command as Order}
 use Rattle.command_lang.specs.command.Command.TheVariants as command
 use Rattle.command_lang.specs.Names.{name_of}
-use Rattle.session_model.specs.declared.check.Check.TheVariants.{Unlocked as unlocked, Must as must}
+use Rattle.session_model.specs.declared.check.Check.TheVariants.{Unlocked as unlocked}
 use Rattle.session_model.specs.declared.event.Reason.TheVariants as reason
-use Rattle.session_model.specs.declared.refusal.Refusal.TheVariants.{BadSize}
 use Rattle.session_model.specs.Checks.{first_fault, checks_by, window_checks, verdicts}
 use Rattle.session_model.specs.Commands.{does}
 use Rattle.session_model.specs.Deeds.{Deed, Answer, changing, parts, entering}
 use Rattle.session_model.specs.Events.{outcome}
 use Rattle.session_model.specs.Outcomes.{Outcome, left_acts, finished, done, reply_of, where_passed}
-use Rattle.session_model.specs.Comings.{attach_checks, attaches, new_client, open_checks, opens, new_window, is_client_size, resized}
+use Rattle.session_model.specs.Comings.{attach_checks, attaches, new_client, open_checks, opens, new_window}
 use Rattle.session_model.specs.Given.{Given, commands_of, with_order, order_in, ok_of}
 use Rattle.session_model.specs.Keying.{step_items, command_item}
 use Rattle.session_model.specs.Lines.{Caller, caller_of, line_caller, read_line}
@@ -39,17 +38,18 @@ use Rattle.session_model.specs.Rights.{may_in, holder_in}
 use Rattle.session_model.specs.Run.{IsStep, after}
 use Rattle.session_model.specs.Sound.{Rises, AreFit}
 use Rattle.session_model.specs.Tables.{Tables, Window, Client, row_of, client_at, with_client, focused, shows, is_in_focus, is_known}
-use Rattle.session_model.specs.Trace.{EventValue, Attach, Detach, Keys, Command, Resize, Open, Output, Closed, Draw, Entry}
+use Rattle.session_model.specs.Trace.{EventValue, Attach, Detach, Keys, Command, Open, Output, Closed, Draw, Entry}
 use Rattle.session_laws.proofs.Lists.{contradicts, equal, all_weaken, all_append, all_map, all_of, all_passed}
 use Rattle.session_laws.proofs.Doing.{Either}
 use Rattle.session_laws.proofs.Outcomes as outcomes
+use Rattle.session_laws.proofs.Outcomes.{Change, change_of, Changes, changes}
 use Rattle.session_laws.proofs.Unread.{SameClients, row_at}
 use Rattle.session_guests.specs.Changing.{changes_rights}
 use Rattle.session_guests.specs.Contained.{stood}
 use Rattle.session_guests.specs.Locking.{user_of, client_user, HoldersMayWrite, may_free, MayFree, IsPowerless, HoldersStayIn}
 use Rattle.session_guests.proofs.Rows.{IsActOf}
 use Rattle.session_guests.proofs.Steps.{Did, Rests, Obeys, with_clients}
-use Rattle.session_guests.proofs.Events.{gives_commands}
+use Rattle.session_guests.proofs.Events.{gives_commands, changed_by}
 use Rattle.session_guests.proofs.Gating.{Below, obeys_of, row_did, first_passed, then_passed, had_x}
 use Rattle.session_guests.proofs.Harmless.{NoneOf, IsHarmless, stays_held}
 use Rattle.session_guests.proofs.Focusing.{IsMine, focus_stays, NotHis, nobody_else}
@@ -267,14 +267,19 @@ module _ (t : Tables) (fit : AreFit t) (able : HoldersMayWrite t) (w : ℕ) (use
       (λ d here. (refl, subst (λ n. NoneOf x n (clients_of t.acts)) (sym (equal d.serial client here)) (none_of client c.user (her_row client c hers at) (own_of client c at)))))))
       (lefts false (filter (λ (d : Client). not (d.serial == client)) t.clients) (without client c (her_row client c hers at) at)))
 
-  resize_harmless : (client rows columns : ℕ) → IsHers client → Harmless false (outcome t (Resize client rows columns))
-  resize_harmless client rows columns hers =
-      outcomes.found (Harmless false) t (λ c. where_passed t (must (is_client_size rows columns) BadSize ∷ []) done (changing (with_client t (resized rows columns c)))) (client_at t client) tt
-      (λ c at. outcomes.passed (Harmless false) t (verdicts t (must (is_client_size rows columns) BadSize ∷ [])) (first_fault t (must (is_client_size rows columns) BadSize ∷ [])) done (changing (with_client t (resized rows columns c)))
-      (λ r is. tt) (λ is. lefts false (with_client t (resized rows columns c)).clients (λ v.
-      Rattle.session_guests.proofs.Focusing.any_with_row (shows x v) (λ (d : Client). d.serial) t.clients c.serial (resized rows columns c)
-      (λ r here. hidden (resized rows columns c) v (her_row client c hers at)
-      ∙ sym (hidden r v (let same : Some r ≡ Some c = sym here ∙ row_at t client c at in (let e : r ≡ c = cc (same) in ap (λ (d : Client). d.user) e) ∙ her_row client c hers at))))))
+  change_harmless : (event : EventValue) (y : Change) → change_of event ≡ Some y → Changes event y → user_of t event ≡ Some user → Harmless false (outcome t event)
+  change_harmless event y changes_it f is =
+      subst (Harmless false) (sym (f.happens t))
+      (outcomes.found (Harmless false) t (λ c. where_passed t y.checks done (changing (with_client t (y.row c)))) (client_at t y.client) tt
+      (λ c at. outcomes.passed (Harmless false) t (verdicts t y.checks) (first_fault t y.checks) done (changing (with_client t (y.row c)))
+      (λ r fails. tt) (λ passes. lefts false (with_client t (y.row c)).clients (λ v.
+      Rattle.session_guests.proofs.Focusing.any_with_row (shows x v) (λ (d : Client). d.serial) t.clients (y.row c).serial (y.row c)
+      (λ d here. hidden (y.row c) v (f.user c ∙ hers c at) ∙ sym (hidden d v (ap (λ (e : Client). e.user) (same_row c d at here) ∙ hers c at))))))) where
+        hers : (c : Client) → client_at t y.client ≡ Some c → c.user ≡ user
+        hers c at = her_row y.client c (sym (changed_by t event y changes_it) ∙ is) at
+
+        same_row : (c d : Client) → client_at t y.client ≡ Some c → client_at t (y.row c).serial ≡ Some d → d ≡ c
+        same_row c d at here = let same : Some d ≡ Some c = sym here ∙ ap (client_at t) (f.serial c) ∙ row_at t y.client c at in cc (same)
 
   draw_harmless : (client : ℕ) → Harmless false (outcome t (Draw client))
   draw_harmless client = outcomes.found (Harmless false) t (λ c. finished t [] done (changing t)) (client_at t client) tt (λ c at. lefts false t.clients (λ v. refl))
@@ -286,12 +291,12 @@ module _ (t : Tables) (fit : AreFit t) (able : HoldersMayWrite t) (w : ℕ) (use
   plain_harmless (Attach u rows columns) not is = inl (subst (λ v. Harmless true (outcome t (Attach v rows columns))) (let same : u ≡ user = cc (is) in sym same) (attach_harmless rows columns))
   plain_harmless (Open u rows columns keep title) not is = inl (subst (λ v. Harmless true (outcome t (Open v rows columns keep title))) (let same : u ≡ user = cc (is) in sym same) (open_harmless rows columns keep title))
   plain_harmless (Detach client) not is = inr (detach_harmless client is)
-  plain_harmless (Resize client rows columns) not is = inr (resize_harmless client rows columns is)
   plain_harmless (Draw client) not is = inr (draw_harmless client)
   plain_harmless (Keys client bytes) not is = absurd (cc (not))
   plain_harmless (Command u number bytes) not is = absurd (cc (not))
   plain_harmless (Output window bytes) not is = absurd (cc (is))
   plain_harmless (Closed window) not is = absurd (cc (is))
+  plain_harmless event not is = inr (change_harmless event _ refl (changes event _ refl) is)
 
   -- ---- the law
 

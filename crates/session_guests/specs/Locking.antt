@@ -18,20 +18,34 @@ use Rattle.session_model.specs.Run.{IsStep, IsRun, after, tables_of}
 use Rattle.session_guests.specs.Changing.{changes_rights, opened_by}
 use Rattle.session_guests.specs.Contained.{stood}
 
--- whose step it is: nobody's where a window's program writes or ends
+-- who gives an event: a user, or a client; nobody where a window's program writes or ends
+pub data Giver : Type 0 where
+  OfUser : (user : UserId) → Giver
+  OfClient : (client : ℕ) → Giver
+  OfNobody : Giver
+
+abbrev pub giver_of : EventValue → Giver
+giver_of (Attach user rows columns) = OfUser user
+giver_of (Detach client) = OfClient client
+giver_of (Keys client bytes) = OfClient client
+giver_of (Command user number line) = OfUser user
+giver_of (Resize client rows columns) = OfClient client
+giver_of (Open user rows columns keep title) = OfUser user
+giver_of (Output window bytes) = OfNobody
+giver_of (Closed window) = OfNobody
+giver_of (Draw client) = OfClient client
+
 abbrev pub client_user : Tables → ℕ → Option UserId
 client_user t client = option_map (λ (c : Client). c.user) (client_at t client)
 
+abbrev pub user_by : Tables → Giver → Option UserId
+user_by t (OfUser user) = Some user
+user_by t (OfClient client) = client_user t client
+user_by t OfNobody = None
+
+-- whose step it is
 abbrev pub user_of : Tables → EventValue → Option UserId
-user_of t (Attach user rows columns) = Some user
-user_of t (Detach client) = client_user t client
-user_of t (Keys client bytes) = client_user t client
-user_of t (Command user number line) = Some user
-user_of t (Resize client rows columns) = client_user t client
-user_of t (Open user rows columns keep title) = Some user
-user_of t (Output window bytes) = None
-user_of t (Closed window) = None
-user_of t (Draw client) = client_user t client
+user_of t event = user_by t (giver_of event)
 
 -- who holds a lock may write there
 abbrev pub HoldersMayWrite : Tables → Type 0

@@ -5,7 +5,7 @@ use Rattle.std.specs.Option.{option_zip}
 use Rattle.session_model.specs.declared.event.Event.{Event}
 use Rattle.session_model.specs.Trace.{EventValue, happening}
 use Rattle.session_lines.specs.Fields.{fields}
-use Rattle.session_lines.specs.Script.{kind_of, with_three, with_five, event_by, event_of}
+use Rattle.session_lines.specs.Script.{kind_of, event_by, event_of}
 use Rattle.session_lines.specs.Script.{event_of_kind}
 use Rattle.session_lines.proofs.Cutting.{two}
 
@@ -14,40 +14,53 @@ pub unread : (event : Option Event) (of_line : Option EventValue) → event ≡ 
     → option_map happening event ≡ of_line
 unread event of_line e f = ap (option_map happening) e ∙ sym f
 
+-- ---- lines of three and of five fields
+
+abbrev pub with_three : {A B C : Type 0} → (A × (B × C) → EventValue) → Option A → Option B → Option C → Option EventValue
+with_three event a b c = option_map event (option_zip a (option_zip b c))
+
+abbrev pub with_five : {A B C D E : Type 0} → (A × (B × (C × (D × E))) → EventValue)
+    → Option A → Option B → Option C → Option D → Option E → Option EventValue
+with_five event a b c d e = option_map event (option_zip a (option_zip b (option_zip c (option_zip d e))))
+
+-- where the last is left
+pub three-last : {A B C : Type 0} (event : A × (B × C) → EventValue) (a : A) (b : B) (c : Option C)
+    → with_three event (Some a) (Some b) c ≡ option_map (λ c. event (a, (b, c))) c
+three-last event a b None = refl
+three-last event a b (Some c) = refl
+
+pub five-last : {A B C D E : Type 0} (event : A × (B × (C × (D × E))) → EventValue) (a : A) (b : B) (c : C) (d : D) (e : Option E)
+    → with_five event (Some a) (Some b) (Some c) (Some d) e ≡ option_map (λ e. event (a, (b, (c, (d, e))))) e
+five-last event a b c d None = refl
+five-last event a b c d (Some e) = refl
+
 -- ---- a field that isn't understood, behind others
 
-pub three-no_second : {A B C : Type 0} (event : A → B → C → EventValue) (a : Option A) (c : Option C)
-    → with_three event a None c ≡ None
-three-no_second event None c = refl
-three-no_second event (Some a) c = refl
-
-pub three-no_third : {A B C : Type 0} (event : A → B → C → EventValue) (a : Option A) (b : Option B)
-    → with_three event a b None ≡ None
-three-no_third event None b = refl
-three-no_third event (Some a) None = refl
-three-no_third event (Some a) (Some b) = refl
-
-pub five-no_second : {A B C D E : Type 0} (event : A → B → C → D → E → EventValue)
-    (a : Option A) (c : Option C) (d : Option D) (e : Option E) → with_five event a None c d e ≡ None
-five-no_second event None c d e = refl
-five-no_second event (Some a) c d e = refl
-
-pub five-no_third : {A B C D E : Type 0} (event : A → B → C → D → E → EventValue)
-    (a : Option A) (b : Option B) (d : Option D) (e : Option E) → with_five event a b None d e ≡ None
-five-no_third event None b d e = refl
-five-no_third event (Some a) None d e = refl
-five-no_third event (Some a) (Some b) d e = refl
-
-pub five-no_fourth : {A B C D E : Type 0} (event : A → B → C → D → E → EventValue)
-    (a : Option A) (b : Option B) (c : Option C) (e : Option E) → with_five event a b c None e ≡ None
-five-no_fourth event None b c e = refl
-five-no_fourth event (Some a) None c e = refl
-five-no_fourth event (Some a) (Some b) None e = refl
-five-no_fourth event (Some a) (Some b) (Some c) e = refl
-
-pub zip-none : (serial : Option ℕ) → option_zip {U = List ℕ} serial None ≡ None
+pub zip-none : {A B : Type 0} (first : Option A) → option_zip {U = B} first None ≡ None
 zip-none None = refl
-zip-none (Some serial) = refl
+zip-none (Some a) = refl
+
+pub three-no_second : {A B C : Type 0} (event : A × (B × C) → EventValue) (a : Option A) (c : Option C)
+    → with_three event a None c ≡ None
+three-no_second event a c = ap (option_map event) (zip-none a)
+
+pub three-no_third : {A B C : Type 0} (event : A × (B × C) → EventValue) (a : Option A) (b : Option B)
+    → with_three event a b None ≡ None
+three-no_third event a b = ap (λ o. option_map event (option_zip a o)) (zip-none b) ∙ ap (option_map event) (zip-none a)
+
+pub five-no_second : {A B C D E : Type 0} (event : A × (B × (C × (D × E))) → EventValue)
+    (a : Option A) (c : Option C) (d : Option D) (e : Option E) → with_five event a None c d e ≡ None
+five-no_second event a c d e = ap (option_map event) (zip-none a)
+
+pub five-no_third : {A B C D E : Type 0} (event : A × (B × (C × (D × E))) → EventValue)
+    (a : Option A) (b : Option B) (d : Option D) (e : Option E) → with_five event a b None d e ≡ None
+five-no_third event a b d e = ap (λ o. option_map event (option_zip a o)) (zip-none b) ∙ ap (option_map event) (zip-none a)
+
+pub five-no_fourth : {A B C D E : Type 0} (event : A × (B × (C × (D × E))) → EventValue)
+    (a : Option A) (b : Option B) (c : Option C) (e : Option E) → with_five event a b c None e ≡ None
+five-no_fourth event a b c e =
+    ap (λ o. option_map event (option_zip a (option_zip b o))) (zip-none c)
+    ∙ ap (λ o. option_map event (option_zip a o)) (zip-none b) ∙ ap (option_map event) (zip-none a)
 
 -- ---- the word
 

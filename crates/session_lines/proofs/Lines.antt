@@ -1,26 +1,29 @@
 -- The line of an event is read as this event.
-use Rattle.std.proofs.Common.{◌≡◌, ℕ, ◌<◌, ◌≤◌, ◌^◌, List, [], ◌∷◌, ◌++◌, length, ap, refl, ◌∙◌, arith, append-nil}
-use Rattle.std.specs.Prelude.{Bool, true, false, cond, nat_le, min, Option, Some, None, option_map, codes}
+use Rattle.std.proofs.Common.{◌≡◌, ℕ, suc, ◌<◌, ◌≤◌, ◌^◌, List, [], ◌∷◌, ◌++◌, length, ap, refl, ◌∙◌, arith, append-nil}
+use Rattle.std.specs.Prelude.{Bool, true, false, ◌&&◌, cond, nat_le, min, Option, Some, None, option_map, codes}
 use Rattle.std.specs.List.{list_all}
 use Rattle.std.specs.Option.{option_zip}
 use Rattle.std.specs.Char.{is_ascii_digit}
 use Rattle.std.specs.Fmt.{decimal}
 use Rattle.std.specs.Str.{is_utf8, bytes_eq}
+use Rattle.std.proofs.lemmas.Bool.{and_parts}
 use Rattle.std.proofs.lemmas.Bool.Decides.{nat_tests}
 use Rattle.std.proofs.lemmas.Fmt.{length-decimal-le}
 use Rattle.acl.specs.declared.user_id.UserId.{UserId}
 use Rattle.acl.specs.Names.{is_name_byte, is_name, name_of}
-use Rattle.session_model.specs.Trace.{EventValue, Attach, Detach, Keys, Command, Resize, Open, Output, Closed, Draw}
+use Rattle.session_model.specs.Texts.{behind, separated}
+use Rattle.session_model.specs.Trace.{EventValue, Draw}
 use Rattle.session_lines.specs.declared.kind.Kind.{Kind}
 use Rattle.session_lines.specs.declared.kind.Kind.TheVariants as kind
 use Rattle.line_fields.specs.Cutting.{is_byte}
 use Rattle.line_fields.specs.Numbers.{number_below}
 use Rattle.line_fields.proofs.Digits as numbers
 use Rattle.line_fields.proofs.Words.{passing}
+use Rattle.session_lines.specs.Fields.{Field, User, Number, Window, Text, Title, Value, value_of, Values, values_of, values_in}
 use Rattle.session_lines.specs.Fields.{fields, number_of, window_of, if_utf8, title_of}
-use Rattle.session_lines.specs.Script.{word_of, kind_of, with_three, with_five, attach_in, bytes_in, command_in, resize_in, open_in, event_in, event_of_kind, event_by, event_of}
+use Rattle.session_lines.specs.Script.{Row, row, row_of, word_of, fields_in, made_by, made_in, event_from, event_in, kind_of, parts_of, event_of_kind, event_by, event_of}
 use Rattle.session_lines.specs.Printed.{escaped}
-use Rattle.session_lines.specs.ReadBack.{IsText, IsNamed, IsNumber, IsWindow, window_field, ReadsEvents}
+use Rattle.session_lines.specs.ReadBack.{IsText, IsNamed, IsNumber, IsWindow, window_field, printed, all_printed, CanSay, CanSayAll, line_of, ReadsEvents}
 use Rattle.session_lines.proofs.ReadBack.{reads_texts}
 use Rattle.session_lines.proofs.Words.{IsWord, first_field, last_field}
 
@@ -91,30 +94,72 @@ name_word user named = passing 0x20 is_name_byte name_apart (name_of user) (byte
 title_again : (title : List ℕ) → IsText title → is_utf8 title ≡ true → title_of (escaped title) ≡ Some title
 title_again title text is = ap if_utf8 (reads_texts title text) ∙ ap (λ b. cond b (Some title) None) is
 
+-- ---- fields
+
+-- fields of one word
+abbrev is_word : Field → Bool
+is_word Text = false
+is_word Title = false
+is_word f = true
+
+-- there is a field, and each but the last is one word
+abbrev is_row : List Field → Bool
+is_row [] = false
+is_row (f ∷ []) = true
+is_row (f ∷ g ∷ fs) = is_word f && is_row (g ∷ fs)
+
+one_word : (f : Field) (v : Value f) → is_word f ≡ true → CanSay f v → IsWord (printed f v)
+one_word User user is can = name_word user can
+one_word Number n is can = number_word n can
+one_word Window window is can = window_word window can
+one_word Text bytes is can = absurd (cc (is))
+one_word Title title is can = absurd (cc (is))
+
+value_again : (f : Field) (v : Value f) → CanSay f v → value_of f (printed f v) ≡ Some v
+value_again User user can = can
+value_again Number n can = number_again n can
+value_again Window window can = window_again window can
+value_again Text bytes can = reads_texts bytes can
+value_again Title title can = title_again title can.0 can.1
+
+values_again : (fs : List Field) (v : Values fs) → is_row fs ≡ true → CanSayAll fs v → values_of fs (all_printed fs v) ≡ Some v
+values_again [] v is can = absurd (cc (is))
+values_again (f ∷ []) v is can = value_again f v can
+values_again (f ∷ g ∷ fs) v is can =
+    (λ i. option_zip (value_again f v.0 can.0 i) (values_again (g ∷ fs) v.1 (and_parts (is_word f) (is_row (g ∷ fs)) is).1 can.1 i))
+
+fields_again : (f : Field) (fs : List Field) (v : Values (f ∷ fs)) → is_row (f ∷ fs) ≡ true → CanSayAll (f ∷ fs) v
+    → fields (length fs) (separated (codes " ") (all_printed (f ∷ fs) v)) ≡ all_printed (f ∷ fs) v
+fields_again f [] v is can = last_field (printed f v)
+fields_again f (g ∷ []) v is can = first_field 0 (printed f v.0) _ _ (one_word f v.0 (and_parts (is_word f) (true) is).0 can.0) (fields_again g [] v.1 refl can.1)
+fields_again f (g ∷ h ∷ fs) v is can =
+    first_field (suc (length fs)) (printed f v.0) _ _ (one_word f v.0 (and_parts (is_word f) (is_row (g ∷ h ∷ fs)) is).0 can.0)
+    (fields_again g (h ∷ fs) v.1 (and_parts (is_word f) (is_row (g ∷ h ∷ fs)) is).1 can.1)
+
+read_again : (fs : List Field) (v : Values fs) → is_row fs ≡ true → CanSayAll fs v → values_in fs (separated (codes " ") (all_printed fs v)) ≡ Some v
+read_again [] v is can = absurd (cc (is))
+read_again (f ∷ []) v is can = ap (value_of f) (append-nil (printed f v)) ∙ value_again f v can
+read_again (f ∷ g ∷ fs) v is can = ap (values_of (f ∷ g ∷ fs)) (fields_again f (g ∷ fs) v is can) ∙ values_again (f ∷ g ∷ fs) v is can
+
+behind_again : (fs : List Field) (v : Values fs) → is_row fs ≡ true → behind (codes " ") (all_printed fs v) ≡ 0x20 ∷ separated (codes " ") (all_printed fs v)
+behind_again [] v is = absurd (cc (is))
+behind_again (f ∷ []) v is = refl
+behind_again (f ∷ g ∷ fs) v is = refl
+
 -- ---- kinds
 
 kind_again : (k : Kind) → kind_of (word_of k) ≡ Some k
 unfolding kind_of
-kind_again kind.Attach = refl
-kind_again kind.Detach = refl
-kind_again kind.Keys = refl
-kind_again kind.Command = refl
-kind_again kind.Resize = refl
-kind_again kind.Open = refl
-kind_again kind.Output = refl
-kind_again kind.Closed = refl
 kind_again kind.Draw = refl
+kind_again k = refl
 
 kind_word : (k : Kind) → IsWord (word_of k)
-kind_word kind.Attach = record { free = refl }
-kind_word kind.Detach = record { free = refl }
-kind_word kind.Keys = record { free = refl }
-kind_word kind.Command = record { free = refl }
-kind_word kind.Resize = record { free = refl }
-kind_word kind.Open = record { free = refl }
-kind_word kind.Output = record { free = refl }
-kind_word kind.Closed = record { free = refl }
 kind_word kind.Draw = record { free = refl }
+kind_word k = record { free = refl }
+
+are_rows : (k : Kind) → is_row (fields_in (row_of k)) ≡ true
+are_rows kind.Draw = refl
+are_rows k = refl
 
 of_kind : (k : Kind) (rest : List ℕ) → event_of (word_of k ++ 0x20 ∷ rest) ≡ event_in k rest
 unfolding fields
@@ -124,40 +169,20 @@ of_kind k rest =
 
 -- ---- events
 
-serial_line : (k : Kind) (make : ℕ → EventValue) (n : ℕ) → IsNumber n → ((rest : List ℕ) → event_in k rest ≡ option_map make (number_of rest))
-    → event_of (word_of k ++ 0x20 ∷ (decimal n ++ [])) ≡ Some (make n)
-serial_line k make n small row =
-    of_kind k (decimal n ++ []) ∙ row (decimal n ++ [])
-    ∙ ap (λ word. option_map make (number_of word)) (append-nil (decimal n)) ∙ ap (option_map make) (number_again n small)
+by_row : (r : Row) (v : Values (fields_in r)) → is_row (fields_in r) ≡ true → CanSayAll (fields_in r) v
+    → event_from r (separated (codes " ") (all_printed (fields_in r) v)) ≡ Some (made_in r v)
+by_row (row word fs make) v is can = ap (option_map (made_by fs make)) (read_again fs v is can)
 
-bytes_line : (k : Kind) (make : ℕ → List ℕ → EventValue) (n : ℕ) (bytes : List ℕ) → IsNumber n → IsText bytes
-    → ((rest : List ℕ) → event_in k rest ≡ option_map (λ p. make p.0 p.1) (bytes_in (fields 1 rest)))
-    → event_of (word_of k ++ 0x20 ∷ (decimal n ++ 0x20 ∷ (escaped bytes ++ []))) ≡ Some (make n bytes)
-bytes_line k make n bytes small text row =
-    of_kind k _ ∙ row (decimal n ++ 0x20 ∷ (escaped bytes ++ []))
-    ∙ ap (λ parts. option_map (λ p. make p.0 p.1) (bytes_in parts)) (first_field 0 (decimal n) _ _ (number_word n small) (last_field (escaped bytes)))
-    ∙ (λ i. option_map (λ p. make p.0 p.1) (option_zip (number_again n small i) (reads_texts bytes text i)))
+line_again : (k : Kind) (v : Values (fields_in (row_of k))) → CanSayAll (fields_in (row_of k)) v
+    → event_of (line_of (row_of k) v) ≡ Some (made_in (row_of k) v)
+line_again k v can =
+    ap (λ rest. event_of (word_of k ++ rest)) (behind_again (fields_in (row_of k)) v (are_rows k))
+    ∙ of_kind k (separated (codes " ") (all_printed (fields_in (row_of k)) v))
+    ∙ by_row (row_of k) v (are_rows k) can
+
+made_again : (event : EventValue) → made_in (row_of (parts_of event).0) (parts_of event).1 ≡ event
+made_again (Draw client) = refl
+made_again event = refl
 
 pub reads_events : ReadsEvents
-reads_events (Attach user rows columns) is =
-    of_kind kind.Attach _
-    ∙ ap attach_in (first_field 1 (name_of user) _ _ (name_word user is.0) (first_field 0 (decimal rows) _ _ (number_word rows is.1) (last_field (decimal columns))))
-    ∙ (λ i. with_three Attach (is.0 i) (number_again rows is.1 i) (number_again columns is.2 i))
-reads_events (Detach client) is = serial_line kind.Detach Detach client is (λ rest. refl)
-reads_events (Keys client bytes) is = bytes_line kind.Keys Keys client bytes is.0 is.1 (λ rest. refl)
-reads_events (Command user window line) is =
-    of_kind kind.Command _
-    ∙ ap command_in (first_field 1 (name_of user) _ _ (name_word user is.0) (first_field 0 (window_field window) _ _ (window_word window is.1) (last_field (escaped line))))
-    ∙ (λ i. with_three Command (is.0 i) (window_again window is.1 i) (reads_texts line is.2 i))
-reads_events (Resize client rows columns) is =
-    of_kind kind.Resize _
-    ∙ ap resize_in (first_field 1 (decimal client) _ _ (number_word client is.0) (first_field 0 (decimal rows) _ _ (number_word rows is.1) (last_field (decimal columns))))
-    ∙ (λ i. with_three Resize (number_again client is.0 i) (number_again rows is.1 i) (number_again columns is.2 i))
-reads_events (Open user rows columns keep title) is =
-    of_kind kind.Open _
-    ∙ ap open_in (first_field 3 (name_of user) _ _ (name_word user is.0) (first_field 2 (decimal rows) _ _ (number_word rows is.1)
-    (first_field 1 (decimal columns) _ _ (number_word columns is.2) (first_field 0 (decimal keep) _ _ (number_word keep is.3) (last_field (escaped title))))))
-    ∙ (λ i. with_five Open (is.0 i) (number_again rows is.1 i) (number_again columns is.2 i) (number_again keep is.3 i) (title_again title is.4 is.5 i))
-reads_events (Output window bytes) is = bytes_line kind.Output Output window bytes is.0 is.1 (λ rest. refl)
-reads_events (Closed window) is = serial_line kind.Closed Closed window is (λ rest. refl)
-reads_events (Draw client) is = serial_line kind.Draw Draw client is (λ rest. refl)
+reads_events event is = line_again (parts_of event).0 (parts_of event).1 is ∙ ap Some (made_again event)

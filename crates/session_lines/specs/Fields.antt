@@ -1,7 +1,10 @@
 -- What the fields of a line say, which are separated by one blank.
 use Rattle.std.specs.Prelude.{ℕ, zero, suc, ◌^◌, if◌then◌else◌, nat_le, min}
 use Rattle.std.specs.Prelude.{List, [], ◌∷◌, length, Option, Some, None, option_map, codes}
+use Rattle.std.specs.Option.{option_zip}
 use Rattle.std.specs.Str.{is_utf8, bytes_eq}
+use Rattle.acl.specs.declared.user_id.UserId.{UserId}
+use Rattle.acl.specs.Names.{named_by}
 use Rattle.line_fields.specs.Cutting.{cut}
 use Rattle.line_fields.specs.Numbers.{number_below}
 use Rattle.line_fields.specs.Texts.{spelled}
@@ -45,3 +48,45 @@ if_utf8 None = None
 
 abbrev pub title_of : List ℕ → Option (List ℕ)
 title_of escaped = if_utf8 (text_of escaped)
+
+-- ---- the fields of a line, which is understood where all its fields are
+
+-- a user's name, a number, the window of a command, a text or a title; the last two may have
+-- blanks, so they stand last
+pub data Field : Type 0 where
+  User : Field
+  Number : Field
+  Window : Field
+  Text : Field
+  Title : Field
+
+-- what a field says
+abbrev pub Value : Field → Type 0
+Value User = UserId
+Value Number = ℕ
+Value Window = Option ℕ
+Value Text = List ℕ
+Value Title = List ℕ
+
+abbrev pub value_of : (f : Field) → List ℕ → Option (Value f)
+value_of User word = named_by word
+value_of Number word = number_of word
+value_of Window word = window_of word
+value_of Text word = text_of word
+value_of Title word = title_of word
+
+-- what several say
+abbrev pub Values : List Field → Type 0
+Values [] = Unit {0}
+Values (f ∷ []) = Value f
+Values (f ∷ g ∷ fs) = Value f × Values (g ∷ fs)
+
+abbrev pub values_of : (fs : List Field) → List (List ℕ) → Option (Values fs)
+values_of (f ∷ []) (word ∷ []) = value_of f word
+values_of (f ∷ g ∷ fs) (word ∷ words) = option_zip (value_of f word) (values_of (g ∷ fs) words)
+values_of _ _ = None
+
+abbrev pub values_in : (fs : List Field) → List ℕ → Option (Values fs)
+values_in [] line = None
+values_in (f ∷ []) line = value_of f line
+values_in (f ∷ g ∷ fs) line = values_of (f ∷ g ∷ fs) (fields (suc (length fs)) line)

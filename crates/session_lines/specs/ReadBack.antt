@@ -7,12 +7,11 @@ use Rattle.std.specs.Str.{is_utf8}
 use Rattle.acl.specs.declared.user_id.UserId.{UserId}
 use Rattle.acl.specs.Names.{name_of, named_by}
 use Rattle.session_model.specs.Texts.{separated}
-use Rattle.session_model.specs.Trace.{EventValue, Attach, Detach, Keys, Command, Resize}
-use Rattle.session_model.specs.Trace.{Open, Output, Closed, Draw}
-use Rattle.session_lines.specs.declared.kind.Kind.TheVariants as kind
+use Rattle.session_model.specs.Trace.{EventValue}
 use Rattle.session_lines.specs.Printed.{escaped}
-use Rattle.session_lines.specs.Fields.{text_of}
-use Rattle.session_lines.specs.Script.{word_of, event_of}
+use Rattle.session_lines.specs.Fields.{Field, User, Number, Window, Text, Title}
+use Rattle.session_lines.specs.Fields.{Value, Values, text_of}
+use Rattle.session_lines.specs.Script.{Row, row_of, word_in, fields_in, parts_of, event_of}
 
 -- ---- texts
 
@@ -30,25 +29,25 @@ abbrev pub window_field : Option ℕ → List ℕ
 window_field None = codes "-"
 window_field (Some number) = decimal number
 
-abbrev pub fields_of : EventValue → List (List ℕ)
-fields_of (Attach user rows columns) =
-    word_of kind.Attach ∷ name_of user ∷ decimal rows ∷ decimal columns ∷ []
-fields_of (Detach client) = word_of kind.Detach ∷ decimal client ∷ []
-fields_of (Keys client bytes) = word_of kind.Keys ∷ decimal client ∷ escaped bytes ∷ []
-fields_of (Command user window line) =
-    word_of kind.Command ∷ name_of user ∷ window_field window ∷ escaped line ∷ []
-fields_of (Resize client rows columns) =
-    word_of kind.Resize ∷ decimal client ∷ decimal rows ∷ decimal columns ∷ []
-fields_of (Open user rows columns keep title) =
-    word_of kind.Open ∷ name_of user ∷ decimal rows ∷ decimal columns ∷ decimal keep
-    ∷ escaped title ∷ []
-fields_of (Output window bytes) = word_of kind.Output ∷ decimal window ∷ escaped bytes ∷ []
-fields_of (Closed window) = word_of kind.Closed ∷ decimal window ∷ []
-fields_of (Draw client) = word_of kind.Draw ∷ decimal client ∷ []
+-- what is printed of a field
+abbrev pub printed : (f : Field) → Value f → List ℕ
+printed User user = name_of user
+printed Number number = decimal number
+printed Window window = window_field window
+printed Text bytes = escaped bytes
+printed Title title = escaped title
+
+abbrev pub all_printed : (fs : List Field) → Values fs → List (List ℕ)
+all_printed [] v = []
+all_printed (f ∷ []) v = printed f v ∷ []
+all_printed (f ∷ g ∷ fs) v = printed f v.0 ∷ all_printed (g ∷ fs) v.1
 
 -- the line of an event
+abbrev pub line_of : (r : Row) → Values (fields_in r) → List ℕ
+line_of r v = separated (codes " ") (word_in r ∷ all_printed (fields_in r) v)
+
 abbrev pub event_line : EventValue → List ℕ
-event_line event = separated (codes " ") (fields_of event)
+event_line event = let p = parts_of event in line_of (row_of p.0) p.1
 
 -- a user whom his name names
 abbrev pub IsNamed : UserId → Type 0
@@ -62,19 +61,22 @@ abbrev pub IsWindow : Option ℕ → Type 0
 IsWindow None = Unit {0}
 IsWindow (Some number) = number < 256
 
+-- what a field can say
+abbrev pub CanSay : (f : Field) → Value f → Type 0
+CanSay User user = IsNamed user
+CanSay Number number = IsNumber number
+CanSay Window window = IsWindow window
+CanSay Text bytes = IsText bytes
+CanSay Title title = IsText title × (is_utf8 title ≡ true)
+
+abbrev pub CanSayAll : (fs : List Field) → Values fs → Type 0
+CanSayAll [] v = Unit {0}
+CanSayAll (f ∷ []) v = CanSay f v
+CanSayAll (f ∷ g ∷ fs) v = CanSay f v.0 × CanSayAll (g ∷ fs) v.1
+
 -- an event that a line can say
 abbrev pub IsSayable : EventValue → Type 0
-IsSayable (Attach user rows columns) = IsNamed user × IsNumber rows × IsNumber columns
-IsSayable (Detach client) = IsNumber client
-IsSayable (Keys client bytes) = IsNumber client × IsText bytes
-IsSayable (Command user window line) = IsNamed user × IsWindow window × IsText line
-IsSayable (Resize client rows columns) = IsNumber client × IsNumber rows × IsNumber columns
-IsSayable (Open user rows columns keep title) =
-    IsNamed user × IsNumber rows × IsNumber columns × IsNumber keep × IsText title
-    × (is_utf8 title ≡ true)
-IsSayable (Output window bytes) = IsNumber window × IsText bytes
-IsSayable (Closed window) = IsNumber window
-IsSayable (Draw client) = IsNumber client
+IsSayable event = let p = parts_of event in CanSayAll (fields_in (row_of p.0)) p.1
 
 -- the line of an event is read as this event
 abbrev pub ReadsEvents : Type 0

@@ -12,87 +12,84 @@
 --     draw C
 use Rattle.std.specs.Prelude.{ℕ, Bool, List, [], ◌∷◌, Option, Some, None, option_map}
 use Rattle.std.specs.Prelude.{find, codes}
-use Rattle.std.specs.Option.{option_zip}
 use Rattle.std.specs.Str.{bytes_eq}
-use Rattle.acl.specs.Names.{named_by}
 use Rattle.session_model.specs.Trace.{EventValue, Attach, Detach, Keys, Command, Resize}
 use Rattle.session_model.specs.Trace.{Open, Output, Closed, Draw}
 use Rattle.session_lines.specs.declared.kind.Kind.{Kind}
 use Rattle.session_lines.specs.declared.kind.Kind.TheVariants as kind
-use Rattle.session_lines.specs.Fields.{fields, number_of, window_of, text_of, title_of}
+use Rattle.session_lines.specs.Fields.{Field, User, Number, Window, Text, Title}
+use Rattle.session_lines.specs.Fields.{fields, Value, Values, values_in}
 
--- ---- the word that a line begins with
+-- ---- the table of events
 
-abbrev pub word_of : Kind → List ℕ
-word_of kind.Attach = codes "attach"
-word_of kind.Detach = codes "detach"
-word_of kind.Keys = codes "keys"
-word_of kind.Command = codes "command"
-word_of kind.Resize = codes "resize"
-word_of kind.Open = codes "open"
-word_of kind.Output = codes "output"
-word_of kind.Closed = codes "closed"
-word_of kind.Draw = codes "draw"
+-- what makes an event of what so many fields say
+abbrev pub Maker : List Field → Type 0
+Maker [] = EventValue
+Maker (f ∷ fs) = Value f → Maker fs
+
+abbrev pub made_by : (fs : List Field) → Maker fs → Values fs → EventValue
+made_by [] event v = event
+made_by (f ∷ []) make v = make v
+made_by (f ∷ g ∷ fs) make v = made_by (g ∷ fs) (make v.0) v.1
+
+-- the word that a line begins with, the fields behind it, and the event that they make
+pub data Row : Type 0 where
+  row : (word : List ℕ) (fields : List Field) (make : Maker fields) → Row
+
+abbrev pub row_of : Kind → Row
+row_of kind.Attach = row (codes "attach") (User ∷ Number ∷ Number ∷ []) Attach
+row_of kind.Detach = row (codes "detach") (Number ∷ []) Detach
+row_of kind.Keys = row (codes "keys") (Number ∷ Text ∷ []) Keys
+row_of kind.Command = row (codes "command") (User ∷ Window ∷ Text ∷ []) Command
+row_of kind.Resize = row (codes "resize") (Number ∷ Number ∷ Number ∷ []) Resize
+row_of kind.Open = row (codes "open") (User ∷ Number ∷ Number ∷ Number ∷ Title ∷ []) Open
+row_of kind.Output = row (codes "output") (Number ∷ Text ∷ []) Output
+row_of kind.Closed = row (codes "closed") (Number ∷ []) Closed
+row_of kind.Draw = row (codes "draw") (Number ∷ []) Draw
 
 abbrev pub all_kinds : List Kind
 all_kinds =
     kind.Attach ∷ kind.Detach ∷ kind.Keys ∷ kind.Command ∷ kind.Resize ∷ kind.Open ∷ kind.Output
     ∷ kind.Closed ∷ kind.Draw ∷ []
 
+abbrev pub word_in : Row → List ℕ
+word_in (row word fields make) = word
+
+abbrev pub fields_in : Row → List Field
+fields_in (row word fields make) = fields
+
+abbrev pub made_in : (r : Row) → Values (fields_in r) → EventValue
+made_in (row word fields make) v = made_by fields make v
+
+abbrev pub event_from : Row → List ℕ → Option EventValue
+event_from (row word fields make) rest = option_map (made_by fields make) (values_in fields rest)
+
+abbrev pub word_of : Kind → List ℕ
+word_of k = word_in (row_of k)
+
+abbrev pub event_in : Kind → List ℕ → Option EventValue
+event_in k rest = event_from (row_of k) rest
+
+-- an event's row, and what its fields say
+abbrev pub parts_of : EventValue → (k : Kind) × Values (fields_in (row_of k))
+parts_of (Attach user rows columns) = (kind.Attach, (user, (rows, columns)))
+parts_of (Detach client) = (kind.Detach, client)
+parts_of (Keys client bytes) = (kind.Keys, (client, bytes))
+parts_of (Command user window line) = (kind.Command, (user, (window, line)))
+parts_of (Resize client rows columns) = (kind.Resize, (client, (rows, columns)))
+parts_of (Open user rows columns keep title) =
+    (kind.Open, (user, (rows, (columns, (keep, title)))))
+parts_of (Output window bytes) = (kind.Output, (window, bytes))
+parts_of (Closed window) = (kind.Closed, window)
+parts_of (Draw client) = (kind.Draw, client)
+
+-- ---- the word
+
 abbrev pub is_word_of : List ℕ → Kind → Bool
 is_word_of word k = bytes_eq (word_of k) word
 
 unfoldable pub kind_of : List ℕ → Option Kind
 kind_of word = find (is_word_of word) all_kinds
-
--- ---- the fields behind it, each line being understood where all its fields are
-
-abbrev pub with_three : {A B C : Type 0} → (A → B → C → EventValue)
-    → Option A → Option B → Option C → Option EventValue
-with_three event (Some a) (Some b) c = option_map (event a b) c
-with_three event _ _ _ = None
-
-abbrev pub with_five : {A B C D E : Type 0} → (A → B → C → D → E → EventValue)
-    → Option A → Option B → Option C → Option D → Option E → Option EventValue
-with_five event (Some a) (Some b) (Some c) (Some d) e = option_map (event a b c d) e
-with_five event _ _ _ _ _ = None
-
-abbrev pub attach_in : List (List ℕ) → Option EventValue
-attach_in (user ∷ rows ∷ columns ∷ []) =
-    with_three Attach (named_by user) (number_of rows) (number_of columns)
-attach_in _ = None
-
--- a serial and bytes
-abbrev pub bytes_in : List (List ℕ) → Option (ℕ × List ℕ)
-bytes_in (serial ∷ text ∷ []) = option_zip (number_of serial) (text_of text)
-bytes_in _ = None
-
-abbrev pub command_in : List (List ℕ) → Option EventValue
-command_in (user ∷ window ∷ line ∷ []) =
-    with_three Command (named_by user) (window_of window) (text_of line)
-command_in _ = None
-
-abbrev pub resize_in : List (List ℕ) → Option EventValue
-resize_in (client ∷ rows ∷ columns ∷ []) =
-    with_three Resize (number_of client) (number_of rows) (number_of columns)
-resize_in _ = None
-
-abbrev pub open_in : List (List ℕ) → Option EventValue
-open_in (user ∷ rows ∷ columns ∷ keep ∷ title ∷ []) =
-    with_five Open (named_by user) (number_of rows) (number_of columns) (number_of keep)
-    (title_of title)
-open_in _ = None
-
-abbrev pub event_in : Kind → List ℕ → Option EventValue
-event_in kind.Attach rest = attach_in (fields 2 rest)
-event_in kind.Detach rest = option_map Detach (number_of rest)
-event_in kind.Keys rest = option_map (λ p. Keys p.0 p.1) (bytes_in (fields 1 rest))
-event_in kind.Command rest = command_in (fields 2 rest)
-event_in kind.Resize rest = resize_in (fields 2 rest)
-event_in kind.Open rest = open_in (fields 4 rest)
-event_in kind.Output rest = option_map (λ p. Output p.0 p.1) (bytes_in (fields 1 rest))
-event_in kind.Closed rest = option_map Closed (number_of rest)
-event_in kind.Draw rest = option_map Draw (number_of rest)
 
 -- ---- the line
 

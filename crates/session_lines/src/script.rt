@@ -1,10 +1,9 @@
 //! Scripts of events, one a line.
 
-ghost use Rattle.std.specs.Prelude.{◌≡◌, None, IfOk, IfSome, option_map};
-ghost use Rattle.session_model.specs.Trace.{happening, Detach, Keys, Command, Open, Output};
-ghost use Rattle.session_model.specs.Trace.{Closed, Draw};
-ghost use Rattle.session_lines.specs.Fields.{fields, number_of, text_of, title_of};
-ghost use Rattle.session_lines.specs.Script.{attach_in, bytes_in, command_in, resize_in, open_in};
+ghost use Rattle.std.specs.Prelude.{◌≡◌, ◌∷◌, [], None, IfOk, IfSome, option_map};
+ghost use Rattle.session_model.specs.Trace.{happening, Command, Open};
+ghost use Rattle.session_lines.specs.declared.kind.Kind.TheVariants as kinds;
+ghost use Rattle.session_lines.specs.Fields.{Number, Text, values_in, text_of, title_of};
 ghost use Rattle.session_lines.specs.Script.{event_in, event_of};
 ghost use Rattle.session_lines.specs.ReadBack.{ReadsTexts, ReadsEvents};
 
@@ -51,7 +50,7 @@ fn read_fields<'a>(
 
 /// `USER ROWS COLS`
 fn read_attach(rest: &[u8]) -> Option<Event<'static>>
-    ensures { option_map happening result ≡ attach_in (fields 2 rest.now) }
+    ensures { option_map happening result ≡ event_in kinds.Attach rest.now }
 {
     let (user, rest) = cut(rest)?;
     let (rows, columns) = cut(rest)?;
@@ -64,7 +63,7 @@ fn read_attach(rest: &[u8]) -> Option<Event<'static>>
 
 /// `C`
 fn read_detach(rest: &[u8]) -> Option<Event<'static>>
-    ensures { option_map happening result ≡ option_map Detach (number_of rest.now) }
+    ensures { option_map happening result ≡ event_in kinds.Detach rest.now }
 {
     Some(Event::Detach {
         client: read_serial(rest)?,
@@ -74,7 +73,8 @@ fn read_detach(rest: &[u8]) -> Option<Event<'static>>
 /// `C TEXT` or `W TEXT`
 fn read_bytes<'a>(rest: &[u8], text: &'a mut Vec<u8>) -> Result<Option<(u32, &'a [u8])>, AllocError>
     ensures { IfOk result
-        (λ read. option_map (λ parts. (parts.0, parts.1.now)) read ≡ bytes_in (fields 1 rest.now)) }
+        (λ read. option_map (λ parts. (parts.0, parts.1.now)) read
+        ≡ values_in (Number ∷ Text ∷ []) rest.now) }
 {
     let Some((serial, escaped)) = cut(rest) else {
         return Ok(None);
@@ -90,8 +90,7 @@ fn read_bytes<'a>(rest: &[u8], text: &'a mut Vec<u8>) -> Result<Option<(u32, &'a
 
 /// `C TEXT`
 fn read_keys<'a>(rest: &[u8], text: &'a mut Vec<u8>) -> Result<Option<Event<'a>>, AllocError>
-    ensures { IfOk result (λ event. option_map happening event
-        ≡ option_map (λ p. Keys p.0 p.1) (bytes_in (fields 1 rest.now))) }
+    ensures { IfOk result (λ event. option_map happening event ≡ event_in kinds.Keys rest.now) }
 {
     let Some((client, bytes)) = read_bytes(rest, text)? else {
         return Ok(None);
@@ -109,8 +108,8 @@ struct Request<'a> {
 
 impl<'a> Request<'a> {
     fn read(rest: &'a [u8]) -> Option<Request<'a>>
-        ensures none { result ≡ None → command_in (fields 2 rest.now) ≡ None }
-        ensures some { IfSome result (λ r. command_in (fields 2 rest.now)
+        ensures none { result ≡ None → event_in kinds.Command rest.now ≡ None }
+        ensures some { IfSome result (λ r. event_in kinds.Command rest.now
             ≡ option_map (Command r.user r.window) (text_of r.line.now)) }
     {
         let (user, rest) = cut(rest)?;
@@ -125,7 +124,7 @@ impl<'a> Request<'a> {
 
 /// `USER W TEXT`
 fn read_command<'a>(rest: &[u8], text: &'a mut Vec<u8>) -> Result<Option<Event<'a>>, AllocError>
-    ensures { IfOk result (λ event. option_map happening event ≡ command_in (fields 2 rest.now)) }
+    ensures { IfOk result (λ event. option_map happening event ≡ event_in kinds.Command rest.now) }
 {
     let Some(request) = Request::read(rest) else {
         return Ok(None);
@@ -140,16 +139,29 @@ fn read_command<'a>(rest: &[u8], text: &'a mut Vec<u8>) -> Result<Option<Event<'
     }))
 }
 
+/// A serial and two numbers, as of `C ROWS COLS`.
+fn read_numbers(rest: &[u8]) -> Option<(u32, u16, u16)>
+    ensures { option_map (λ n. (n.0, (n.1, n.2))) result
+        ≡ values_in (Number ∷ Number ∷ Number ∷ []) rest.now }
+{
+    let (serial, rest) = cut(rest)?;
+    let (first, second) = cut(rest)?;
+    Some((
+        read_serial(serial)?,
+        read_number(first)?,
+        read_number(second)?,
+    ))
+}
+
 /// `C ROWS COLS`
 fn read_resize(rest: &[u8]) -> Option<Event<'static>>
-    ensures { option_map happening result ≡ resize_in (fields 2 rest.now) }
+    ensures { option_map happening result ≡ event_in kinds.Resize rest.now }
 {
-    let (client, rest) = cut(rest)?;
-    let (rows, columns) = cut(rest)?;
+    let (client, rows, columns) = read_numbers(rest)?;
     Some(Event::Resize {
-        client: read_serial(client)?,
-        rows: read_number(rows)?,
-        columns: read_number(columns)?,
+        client,
+        rows,
+        columns,
     })
 }
 
@@ -165,8 +177,8 @@ struct Opening<'a> {
 
 impl<'a> Opening<'a> {
     fn read(rest: &'a [u8]) -> Option<Opening<'a>>
-        ensures none { result ≡ None → open_in (fields 4 rest.now) ≡ None }
-        ensures some { IfSome result (λ o. open_in (fields 4 rest.now)
+        ensures none { result ≡ None → event_in kinds.Open rest.now ≡ None }
+        ensures some { IfSome result (λ o. event_in kinds.Open rest.now
             ≡ option_map (Open o.user o.rows o.columns o.keep) (title_of o.title.now)) }
     {
         let (user, rest) = cut(rest)?;
@@ -185,7 +197,7 @@ impl<'a> Opening<'a> {
 
 /// `USER ROWS COLS KEEP TEXT`
 fn read_open<'a>(rest: &[u8], text: &'a mut Vec<u8>) -> Result<Option<Event<'a>>, AllocError>
-    ensures { IfOk result (λ event. option_map happening event ≡ open_in (fields 4 rest.now)) }
+    ensures { IfOk result (λ event. option_map happening event ≡ event_in kinds.Open rest.now) }
 {
     let Some(opening) = Opening::read(rest) else {
         return Ok(None);
@@ -204,8 +216,7 @@ fn read_open<'a>(rest: &[u8], text: &'a mut Vec<u8>) -> Result<Option<Event<'a>>
 
 /// `W TEXT`
 fn read_output<'a>(rest: &[u8], text: &'a mut Vec<u8>) -> Result<Option<Event<'a>>, AllocError>
-    ensures { IfOk result (λ event. option_map happening event
-        ≡ option_map (λ p. Output p.0 p.1) (bytes_in (fields 1 rest.now))) }
+    ensures { IfOk result (λ event. option_map happening event ≡ event_in kinds.Output rest.now) }
 {
     let Some((window, bytes)) = read_bytes(rest, text)? else {
         return Ok(None);
@@ -215,7 +226,7 @@ fn read_output<'a>(rest: &[u8], text: &'a mut Vec<u8>) -> Result<Option<Event<'a
 
 /// `W`
 fn read_closed(rest: &[u8]) -> Option<Event<'static>>
-    ensures { option_map happening result ≡ option_map Closed (number_of rest.now) }
+    ensures { option_map happening result ≡ event_in kinds.Closed rest.now }
 {
     Some(Event::Closed {
         window: read_serial(rest)?,
@@ -224,7 +235,7 @@ fn read_closed(rest: &[u8]) -> Option<Event<'static>>
 
 /// `C`
 fn read_draw(rest: &[u8]) -> Option<Event<'static>>
-    ensures { option_map happening result ≡ option_map Draw (number_of rest.now) }
+    ensures { option_map happening result ≡ event_in kinds.Draw rest.now }
 {
     Some(Event::Draw {
         client: read_serial(rest)?,

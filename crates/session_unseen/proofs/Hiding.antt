@@ -6,7 +6,7 @@ use Rattle.acl.specs.History.{followed_by}
 use Rattle.terminal_model.specs.Writing.{Writing}
 use Rattle.terminal_model.specs.Writing as written
 use Rattle.session_model.specs.declared.refusal.Refusal.TheVariants.{NoWindow}
-use Rattle.session_model.specs.Trace.{EventValue, Attach, Detach, Keys, Command, Resize, Open, Output, Closed, Draw, Entry}
+use Rattle.session_model.specs.Trace.{EventValue, Output, Entry}
 use Rattle.session_model.specs.Tables.{Tables, Window, Client, window_at, with_window}
 use Rattle.session_model.specs.Outcomes.{Outcome, refused, finished, done}
 use Rattle.session_model.specs.Events.{outcome}
@@ -48,14 +48,7 @@ module _ (shown : ℕ → Bool) (seeing : UserId → Bool) where
       on : (o : Option Window) → window_at t window ≡ o → cut shown seeing (elim o as (λ _. Outcome) [ None ↦ refused t [] NoWindow | Some w ↦ finished t [] done (outputs t w bytes) ]).tables ≡ cut shown seeing t
       on None at = refl
       on (Some w) at = written_out t window w bytes at (is_false (shown window) is)
-    by (Attach user rows columns) is = absurd (cc (is))
-    by (Detach client) is = absurd (cc (is))
-    by (Keys client bytes) is = absurd (cc (is))
-    by (Command user number bytes) is = absurd (cc (is))
-    by (Resize client rows columns) is = absurd (cc (is))
-    by (Open user rows columns keep title) is = absurd (cc (is))
-    by (Closed window) is = absurd (cc (is))
-    by (Draw client) is = absurd (cc (is))
+    by event is = absurd (cc (is))
 
 -- ---- more that is cut
 

@@ -1,6 +1,6 @@
 -- Keys do to cut tables what they do to these; and so does each event, but for output that is cut.
 use Rattle.std.proofs.Common.{◌≡◌, ℕ, Bool, true, false, not, List, [], ◌∷◌, ◌++◌, Option, Some, None, Ok, Err, Result, refl, ap, sym, ◌∙◌, length, take}
-use Rattle.std.specs.Prelude.{if◌then◌else◌, ◌==◌}
+use Rattle.std.specs.Prelude.{◌==◌}
 use Rattle.std.specs.Option.{option_map}
 use Rattle.acl.specs.declared.user_id.UserId.{UserId}
 use Rattle.command_lang.specs.command.Command.{Command as Order}
@@ -9,15 +9,14 @@ use Rattle.keys.specs.Grammar.{Item, typed, bound, line}
 use Rattle.terminal_model.specs.Reading.{reads}
 use Rattle.terminal_model.specs.Writing.{Writing}
 use Rattle.terminal_model.specs.Writing as written
-use Rattle.session_model.specs.declared.check.Check.TheVariants.{Must as must}
 use Rattle.session_model.specs.declared.event.Effect.TheVariants.{Say}
 use Rattle.session_model.specs.declared.event.Reason.TheVariants as reason
 use Rattle.session_model.specs.declared.message.Message.{Message}
 use Rattle.session_model.specs.declared.message.Message.TheVariants as message
 use Rattle.session_model.specs.declared.refusal.Refusal.{Refusal}
-use Rattle.session_model.specs.declared.refusal.Refusal.TheVariants.{Line, BadSize}
+use Rattle.session_model.specs.declared.refusal.Refusal.TheVariants.{Line}
 use Rattle.session_model.specs.declared.verdict.Verdict.{Verdict}
-use Rattle.session_model.specs.Trace.{EventValue, Attach, Detach, Keys, Command, Resize, Open, Output, Closed, Draw}
+use Rattle.session_model.specs.Trace.{EventValue, Attach, Detach, Keys, Command, Open, Output, Closed, Draw}
 use Rattle.session_model.specs.Tables.{Tables, Window, Client, client_at, with_client, with_window, focused_window}
 use Rattle.session_model.specs.Terminals.{terminal_of}
 use Rattle.session_model.specs.Texts.{text_of}
@@ -27,10 +26,11 @@ use Rattle.session_model.specs.Deeds.{Deed, Answer, changing, hearing, input_of}
 use Rattle.session_model.specs.Commands.{ruling}
 use Rattle.session_model.specs.Keying.{items_behind, taken, typed_bytes, command_item}
 use Rattle.session_model.specs.Outcomes.{Outcome, reply_of, done, finished, where_passed}
-use Rattle.session_model.specs.Comings.{open_checks, new_window, opens, is_client_size, resized, outputs}
+use Rattle.session_model.specs.Comings.{open_checks, new_window, opens, outputs}
 use Rattle.session_model.specs.Answering.{told, says, says_why, input_in, types, typing_verdicts, message_of, with_listed, keyed, Ordered, by_ruling, by_line, ordered, unsaid, reading, keys_outcome}
 use Rattle.session_model.specs.Events.{outcome}
 use Rattle.session_laws.proofs.Lists.{row_serial}
+use Rattle.session_laws.proofs.Outcomes.{undrawn, Change, Changes, changes}
 use Rattle.session_unseen.specs.Hidden.{is_hidden}
 use Rattle.session_unseen.proofs.Cutting.{cut_window, cut_client, cut, cut_deed, cut_caller, cut_writing, client_cut, with_client_cut, with_window_cut}
 use Rattle.session_unseen.proofs.Finding.{focus_cut}
@@ -139,15 +139,17 @@ module _ (shown : ℕ → Bool) (seeing : UserId → Bool) where
         effects = (types u d (typed_bytes given)).effects ++ unsaid (types u d (typed_bytes given)).effects (ordered (types u d (typed_bytes given)).tables d (command_item given)).deed.effects;
       })
 
-  -- ---- a change of size
+  -- ---- a change of a client's own row
 
-  undrawn : {X : Type 0} (b : Bool) → (if b then (let none : Option X = None in none) else None) ≡ None
-  undrawn true = refl
-  undrawn false = refl
+  module _ (event : EventValue) (x : Change) (f : Changes event x) where
+    changed_cut : (c : Client) → x.row (g c) ≡ g (x.row c)
+    changed_cut c = f.drawn (seeing c.user) c ∙ ap (λ v. undrawn (seeing v) (x.row c)) (sym (f.user c))
 
-  resized_cut : (t : Tables) (rows columns : ℕ) (c : Client) → with_client (less t) (resized rows columns (g c)) ≡ less (with_client t (resized rows columns c))
-  resized_cut t rows columns c =
-      ap (λ v. with_client (less t) (record (resized rows columns c) { drawn = v })) (sym (undrawn (seeing c.user))) ∙ with_client_cut shown seeing t (resized rows columns c)
+    change_cut : (t : Tables) → outcome (less t) event ≡ cut_outcome shown seeing (outcome t event)
+    change_cut t =
+        f.happens (less t)
+        ∙ by_client shown seeing t x.client _ _ (λ c is. passed_cut shown seeing t x.checks _ done _ _ refl (ap changing (ap (with_client (less t)) (changed_cut c) ∙ with_client_cut shown seeing t (x.row c))))
+        ∙ sym (ap (cut_outcome shown seeing) (f.happens t))
 
   -- ---- output of a window that isn't cut
 
@@ -177,8 +179,6 @@ module _ (shown : ℕ → Bool) (seeing : UserId → Bool) where
   outcome_cut t (Detach client) stands = by_client shown seeing t client _ _ (λ c is. done_cut shown seeing t [] done _ _ (parts_cut shown seeing (λ (d : Client). d.serial == client) reason.Detached t (λ d. refl)))
   outcome_cut t (Keys client bytes) stands = by_client shown seeing t client _ _ (λ c is. keys_cut t c (take (taken c.keys bytes) bytes))
   outcome_cut t (Command user number bytes) stands = command_cut shown seeing t user number bytes
-  outcome_cut t (Resize client rows columns) stands =
-      by_client shown seeing t client _ _ (λ c is. passed_cut shown seeing t (must (is_client_size rows columns) BadSize ∷ []) _ done _ _ refl (ap changing (resized_cut t rows columns c)))
   outcome_cut t (Open user rows columns keep title) stands =
       let w : Window = new_window t rows columns keep title in
       ap (λ v. where_passed (less t) (open_checks (less t) user rows columns keep title) (reply_of 0 v.serial v.number None) (opens (less t) user v)) (opened_cut shown seeing t rows columns keep title)
@@ -186,3 +186,4 @@ module _ (shown : ℕ → Bool) (seeing : UserId → Bool) where
   outcome_cut t (Output window bytes) stands = by_window shown seeing t window _ _ (λ w is. done_cut shown seeing t [] done _ _ (outputs_cut t w bytes (ap shown (row_serial (λ (v : Window). v.serial) t.windows window w is) ∙ not_hidden (shown window) stands)))
   outcome_cut t (Closed window) stands = by_window shown seeing t window _ _ (λ w is. done_cut shown seeing t [] done _ _ (closes_cut shown seeing (λ (v : Window). v.serial == window) reason.Detached t (λ v. refl)))
   outcome_cut t (Draw client) stands = by_client shown seeing t client _ _ (λ c is. done_cut shown seeing t [] done (changing (less t)) (changing t) refl)
+  outcome_cut t event stands = change_cut event _ (changes event _ refl) t

@@ -29,7 +29,7 @@ use Rattle.session_model.specs.declared.event.Reason.TheVariants as reason
 use Rattle.session_model.specs.declared.refusal.Refusal.{Refusal}
 use Rattle.session_model.specs.declared.refusal.Refusal.TheVariants.{Line, BadSize, NoWindow, UnknownUser, NotMultiuser, Windows}
 use Rattle.session_model.specs.declared.verdict.Verdict.{Verdict}
-use Rattle.session_model.specs.Trace.{EventValue, Attach, Detach, Keys, Command, Resize, Open, Output, Closed, Draw, Reply, Entry}
+use Rattle.session_model.specs.Trace.{EventValue, Attach, Detach, Keys, Command, Open, Output, Closed, Draw, Reply, Entry}
 use Rattle.session_model.specs.Tables.{Tables, Client, client_at, with_client, focused, is_known}
 use Rattle.session_model.specs.Rights.{may_in, holder_in}
 use Rattle.session_model.specs.Lines.{Caller, line_caller, read_line}
@@ -38,9 +38,9 @@ use Rattle.session_model.specs.Denials.{entry_denial}
 use Rattle.session_model.specs.Deeds.{Deed, Answer, changing, parts, entering}
 use Rattle.session_model.specs.Commands.{ruling}
 use Rattle.session_model.specs.Keying.{taken}
-use Rattle.session_model.specs.Outcomes.{Outcome, left_acts, finished, refused, done, reply_of}
+use Rattle.session_model.specs.Outcomes.{Outcome, left_acts, finished, refused, done, reply_of, where_passed}
 use Rattle.session_model.specs.Events.{outcome}
-use Rattle.session_model.specs.Comings.{attach_checks, attaches, new_client, open_checks, opens, new_window, is_client_size, is_window_size, is_let_in, has_place, resized}
+use Rattle.session_model.specs.Comings.{attach_checks, attaches, new_client, open_checks, opens, new_window, is_window_size, is_let_in, has_place}
 use Rattle.session_model.specs.Answering.{line_ruling, answered, commanded, keys_outcome}
 use Rattle.session_model.specs.Granted.{granted_view}
 use Rattle.session_model.specs.Given.{Given, commands_of}
@@ -49,6 +49,7 @@ use Rattle.session_model.specs.Sound.{AreFit}
 use Rattle.session_model.specs.Run.{IsStep, HasEffects, IsDraw, DrawsWhereNeeded, after, drawn, drawn_on, with_drawn}
 use Rattle.session_laws.proofs.Lists.{row_serial, equal, itself, and_first, contradicts}
 use Rattle.session_laws.proofs.Leaving.{none_left}
+use Rattle.session_laws.proofs.Outcomes.{Change, change_of, Changes, changes}
 use Rattle.session_unseen.proofs.Drawing.{draw_after}
 use Rattle.session_guests.specs.Changing.{opens_window, opened_by, SameRights, changes_rights}
 use Rattle.session_guests.specs.Contained.{stood}
@@ -56,6 +57,7 @@ use Rattle.session_guests.specs.Locking.{user_of, HoldersMayWrite, HoldersStay, 
 use Rattle.session_guests.proofs.Listing.{is_listing}
 use Rattle.session_guests.proofs.Histories.{NoListing, same_rights}
 use Rattle.session_guests.proofs.Holding.{givers}
+use Rattle.session_guests.proofs.Events.{changed_by}
 use Rattle.session_unseen.specs.Observed.{is_client_of}
 use Rattle.session_unseen.specs.Watching.{is_watching, others_clients, is_for_his, IsSpectator, LeavesOthers}
 use Rattle.session_unseen.proofs.Watching.{is_presence, Presence, is_it, is_to, AllTo, IfDone, AllHis, Still, as_before, put, parted_by, Leaves}
@@ -176,14 +178,11 @@ module _ (t : Tables) (user : UserId) (fit : AreFit t) (watches : IsSpectator t 
     pub keyed : (bytes : List ℕ) → By (keys_outcome t c bytes)
     keyed bytes = made (Some client) _ (own_is t user client c at his) (keys_leave user (Some client) t watches c bytes is_own mine his all)
 
-    pub sized : (rows columns : ℕ) → By (elim (first_fault t (must (is_client_size rows columns) BadSize ∷ [])) as (λ _. Outcome) [
-      | Some r ↦ refused t (verdicts t (must (is_client_size rows columns) BadSize ∷ [])) r
-      | None ↦ finished t (verdicts t (must (is_client_size rows columns) BadSize ∷ [])) done (changing (with_client t (resized rows columns c)))
-    ])
-    sized rows columns =
-        checked _ (first_fault t (must (is_client_size rows columns) BadSize ∷ [])) done (changing (with_client t (resized rows columns c)))
-        (made (Some client) (changing (with_client t (resized rows columns c))) (own_is t user client c at his)
-        (record { tables = put user (Some client) t t (resized rows columns c) before is_own his; acts = tt; effects = tt }))
+    pub changed : (checks : List Check) (d : Client) → d.serial ≡ c.serial → d.user ≡ c.user → By (where_passed t checks done (changing (with_client t d)))
+    changed checks d same of =
+        checked _ (first_fault t checks) done (changing (with_client t d))
+        (made (Some client) (changing (with_client t d)) (own_is t user client c at his)
+        (record { tables = put user (Some client) t t d before (ap (is_it (Some client)) same ∙ is_own) (ap (λ v. same_user v user) of ∙ his); acts = tt; effects = tt }))
 
     drew : (effects : List Effect) → DrawsWhereNeeded t c effects → AllTo (Some client) effects
     drew [] draws = tt
@@ -243,12 +242,15 @@ module _ (t : Tables) (user : UserId) (fit : AreFit t) (watches : IsSpectator t 
   opening : (v : UserId) (rows columns keep : ℕ) (title : List ℕ) → v ≡ user → By (outcome t (Open v rows columns keep title))
   opening v rows columns keep title is = subst (λ w. By (outcome t (Open w rows columns keep title))) (sym is) (not_opened (verdicts t (open_checks t user rows columns keep title)) rows columns keep title _ (opens t user (new_window t rows columns keep title)))
 
+  change_by : (event : EventValue) (x : Change) → change_of event ≡ Some x → Changes event x → user_of t event ≡ Some user → By (outcome t event)
+  change_by event x changes_it f is =
+      subst By (sym (f.happens t)) (with_client_by x.client _ (sym (changed_by t event x changes_it) ∙ is) (λ c at mine. changed x.client c at mine x.checks (x.row c) (f.serial c) (f.user c)))
+
   pub left_acts_of : (event : EventValue) (effects : List Effect) → HasEffects t event effects → user_of t event ≡ Some user → Left t user (outcome t event).acts effects (drawn event effects (outcome t event).tables)
   left_acts_of (Attach v rows columns) effects has is = same_effects (outcome t (Attach v rows columns)) effects has (come v rows columns (let e : v ≡ user = cc (is) in e))
   left_acts_of (Detach client) effects has is = same_effects (outcome t (Detach client)) effects has (with_client_by client _ is (λ c at mine. detached client c at mine))
   left_acts_of (Keys client bytes) effects has is = same_effects (outcome t (Keys client bytes)) effects has (with_client_by client _ is (λ c at mine. keyed client c at mine (take (taken c.keys bytes) bytes)))
   left_acts_of (Command v number bytes) effects has is = same_effects (outcome t (Command v number bytes)) effects has (commands v number bytes (let e : v ≡ user = cc (is) in e))
-  left_acts_of (Resize client rows columns) effects has is = same_effects (outcome t (Resize client rows columns)) effects has (with_client_by client _ is (λ c at mine. sized client c at mine rows columns))
   left_acts_of (Open v rows columns keep title) effects has is = same_effects (outcome t (Open v rows columns keep title)) effects has (opening v rows columns keep title (let e : v ≡ user = cc (is) in e))
   left_acts_of (Output window bytes) effects has is = absurd (cc (is))
   left_acts_of (Closed window) effects has is = absurd (cc (is))
@@ -258,6 +260,7 @@ module _ (t : Tables) (user : UserId) (fit : AreFit t) (watches : IsSpectator t 
     on (Some c) at draws =
         drawn_left client c at (user_is c (client_at t client) is at) effects draws (outcome t (Draw client)).acts (draw_acts client) (drawn (Draw client) effects (outcome t (Draw client)).tables)
         (draw_after t client effects ∙ ap (λ o. drawn_on o effects t) at)
+  left_acts_of event effects has is = same_effects (outcome t event) effects has (change_by event _ refl (changes event _ refl) is)
 
 -- ---- what stays by those acts
 

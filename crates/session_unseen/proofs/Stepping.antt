@@ -8,7 +8,7 @@ use Rattle.terminal_model.specs.Reading.{reads}
 use Rattle.session_model.specs.declared.event.Effect.{Effect}
 use Rattle.session_model.specs.declared.event.Effect.TheVariants.{Input, Deliver, Say, Size, GoneWindow, GoneClient}
 use Rattle.session_model.specs.declared.refusal.Refusal.TheVariants.{NoWindow}
-use Rattle.session_model.specs.Trace.{EventValue, Attach, Detach, Keys, Command, Resize, Open, Output, Closed, Draw, Reply}
+use Rattle.session_model.specs.Trace.{EventValue, Output, Draw, Reply}
 use Rattle.session_model.specs.Tables.{Tables, Window, Client, client_at, window_at}
 use Rattle.session_model.specs.Terminals.{terminal_of}
 use Rattle.session_model.specs.Deeds.{input_of}
@@ -17,7 +17,7 @@ use Rattle.session_model.specs.Events.{outcome}
 use Rattle.session_model.specs.Comings.{outputs}
 use Rattle.session_model.specs.Granted.{granted_view}
 use Rattle.session_model.specs.Run.{drawn, drawn_on, HasEffects, IsDraw, DrawsWhereNeeded}
-use Rattle.session_guests.specs.Locking.{user_of, client_user}
+use Rattle.session_guests.specs.Locking.{Giver, OfUser, OfClient, OfNobody, giver_of, user_by, user_of, client_user}
 use Rattle.session_laws.proofs.Lists.{row_serial}
 use Rattle.session_unseen.specs.Hidden.{is_hidden}
 use Rattle.session_unseen.specs.Observed.{Observation, Replied, Told, Drawn, is_users, is_client_of, is_for, is_any, drawn_for, drawn_to}
@@ -91,14 +91,7 @@ module _ (shown : ℕ → Bool) (seeing : UserId → Bool) (t u : Tables) (same 
       ap less (draw_after t client ds)
       ∙ draws_alike client ds es (client_at t client) (client_at u client) refl refl (same_client shown seeing t u client same) draws drawn p q
       ∙ sym (ap less (draw_after u client es))
-  tables_step (Attach user rows columns) ds es stands draws drawn p q = ap (λ (o : Outcome). o.tables) (same_outcome (Attach user rows columns) stands)
-  tables_step (Detach client) ds es stands draws drawn p q = ap (λ (o : Outcome). o.tables) (same_outcome (Detach client) stands)
-  tables_step (Keys client bytes) ds es stands draws drawn p q = ap (λ (o : Outcome). o.tables) (same_outcome (Keys client bytes) stands)
-  tables_step (Command user number bytes) ds es stands draws drawn p q = ap (λ (o : Outcome). o.tables) (same_outcome (Command user number bytes) stands)
-  tables_step (Resize client rows columns) ds es stands draws drawn p q = ap (λ (o : Outcome). o.tables) (same_outcome (Resize client rows columns) stands)
-  tables_step (Open user rows columns keep title) ds es stands draws drawn p q = ap (λ (o : Outcome). o.tables) (same_outcome (Open user rows columns keep title) stands)
-  tables_step (Output window bytes) ds es stands draws drawn p q = ap (λ (o : Outcome). o.tables) (same_outcome (Output window bytes) stands)
-  tables_step (Closed window) ds es stands draws drawn p q = ap (λ (o : Outcome). o.tables) (same_outcome (Closed window) stands)
+  tables_step event ds es stands draws drawn p q = ap (λ (o : Outcome). o.tables) (same_outcome event stands)
 
   -- ---- whose step it is
 
@@ -111,16 +104,10 @@ module _ (shown : ℕ → Bool) (seeing : UserId → Bool) (t u : Tables) (same 
   same_client_user : (client : ℕ) → client_user t client ≡ client_user u client
   same_client_user client = user_read (client_at t client) (client_at u client) (same_client shown seeing t u client same)
 
-  same_user_of : (event : EventValue) → user_of t event ≡ user_of u event
-  same_user_of (Attach user rows columns) = refl
-  same_user_of (Detach client) = same_client_user client
-  same_user_of (Keys client bytes) = same_client_user client
-  same_user_of (Command user number bytes) = refl
-  same_user_of (Resize client rows columns) = same_client_user client
-  same_user_of (Open user rows columns keep title) = refl
-  same_user_of (Output window bytes) = refl
-  same_user_of (Closed window) = refl
-  same_user_of (Draw client) = same_client_user client
+  same_giver : (giver : Giver) → user_by t giver ≡ user_by u giver
+  same_giver (OfUser user) = refl
+  same_giver (OfClient client) = same_client_user client
+  same_giver OfNobody = refl
 
   -- ---- whom effects are for
 
@@ -183,18 +170,11 @@ module _ (shown : ℕ → Bool) (seeing : UserId → Bool) (t u : Tables) (same 
           ap (λ fs. map (λ f. Told f) fs ++ drawn_to t user (Draw client) ds) (draw_tells opened t user (client_at t client) ds draws)
           ∙ drawn_same client ds es (client_at t client) (client_at u client) refl refl (same_client shown seeing t u client same) draws drawn p q
           ∙ sym (ap (λ fs. map (λ f. Told f) fs ++ drawn_to u user (Draw client) es) (draw_tells opened u user (client_at u client) es drawn))
-      rest_same (Attach v rows columns) ds es stands draws drawn p q = ap (λ fs. fs ++ []) (plain (Attach v rows columns) ds es stands draws drawn)
-      rest_same (Detach client) ds es stands draws drawn p q = ap (λ fs. fs ++ []) (plain (Detach client) ds es stands draws drawn)
-      rest_same (Keys client bytes) ds es stands draws drawn p q = ap (λ fs. fs ++ []) (plain (Keys client bytes) ds es stands draws drawn)
-      rest_same (Command v number bytes) ds es stands draws drawn p q = ap (λ fs. fs ++ []) (plain (Command v number bytes) ds es stands draws drawn)
-      rest_same (Resize client rows columns) ds es stands draws drawn p q = ap (λ fs. fs ++ []) (plain (Resize client rows columns) ds es stands draws drawn)
-      rest_same (Open v rows columns keep title) ds es stands draws drawn p q = ap (λ fs. fs ++ []) (plain (Open v rows columns keep title) ds es stands draws drawn)
-      rest_same (Output window bytes) ds es stands draws drawn p q = ap (λ fs. fs ++ []) (plain (Output window bytes) ds es stands draws drawn)
-      rest_same (Closed window) ds es stands draws drawn p q = ap (λ fs. fs ++ []) (plain (Closed window) ds es stands draws drawn)
+      rest_same event ds es stands draws drawn p q = ap (λ fs. fs ++ []) (plain event ds es stands draws drawn)
 
       pub seen_step : (event : EventValue) (r s : Reply) (ds es : List Effect) → is_hidden shown event ≡ false → r ≡ (outcome t event).reply → s ≡ (outcome u event).reply
           → HasEffects t event ds → HasEffects u event es → StandsAt t event → StandsAt u event → seen_of t event r ds ≡ seen_of u event s es
       seen_step event r s ds es stands is was draws drawn p q =
-          ap (λ o. (if is_users user o then Replied r ∷ [] else []) ++ (told_to t ds ++ drawn_to t user event ds)) (same_user_of event)
+          ap (λ o. (if is_users user o then Replied r ∷ [] else []) ++ (told_to t ds ++ drawn_to t user event ds)) (same_giver (giver_of event))
           ∙ ap (λ x. (if is_users user (user_of u event) then Replied x ∷ [] else []) ++ (told_to t ds ++ drawn_to t user event ds)) (is ∙ same_reply event stands ∙ sym was)
           ∙ ap (λ rest. (if is_users user (user_of u event) then Replied s ∷ [] else []) ++ rest) (rest_same event ds es stands draws drawn p q)

@@ -4,7 +4,7 @@ use Rattle.std.specs.Prelude.{if◌then◌else◌, ◌||◌, ◌&&◌}
 use Rattle.std.specs.Option.{option_map}
 use Rattle.acl.specs.declared.user_id.UserId.{UserId}
 use Rattle.acl.specs.Same.{same_user}
-use Rattle.session_model.specs.Trace.{EventValue, Attach, Detach, Keys, Command, Resize, Open, Output, Closed, Draw, Entry}
+use Rattle.session_model.specs.Trace.{EventValue, Output, Draw, Entry}
 use Rattle.session_model.specs.Tables.{Tables, Client, client_at}
 use Rattle.session_model.specs.Run.{IsStep, IsRunFrom, HasEffects, after, tables_from}
 use Rattle.session_unseen.specs.Hidden.{is_hidden, is_shown, shown_to, with_shown, has_opened, events_from, unhidden}
@@ -26,14 +26,7 @@ shown_cut t user client = ap (shown_to (cut none nobody t) user) (client_cut non
 same_shown : (t u : Tables) (user : UserId) (event : EventValue) (V : ℕ → Bool) → cut none nobody t ≡ cut none nobody u → with_shown t user event V ≡ with_shown u user event V
 same_shown t u user (Draw client) V same =
     ap (λ shows. λ window. V window || shows window) (sym (shown_cut t user client) ∙ ap (λ x. shown_to x user (client_at x client)) same ∙ shown_cut u user client)
-same_shown t u user (Attach v rows columns) V same = refl
-same_shown t u user (Detach client) V same = refl
-same_shown t u user (Keys client bytes) V same = refl
-same_shown t u user (Command v number bytes) V same = refl
-same_shown t u user (Resize client rows columns) V same = refl
-same_shown t u user (Open v rows columns keep title) V same = refl
-same_shown t u user (Output window bytes) V same = refl
-same_shown t u user (Closed window) V same = refl
+same_shown t u user event V same = refl
 
 -- more are shown
 or_first : (a b : Bool) → a ≡ true → (a || b) ≡ true
@@ -46,37 +39,16 @@ or_second false b is = is
 
 more_shown : (t : Tables) (user : UserId) (event : EventValue) (V : ℕ → Bool) (window : ℕ) → V window ≡ true → with_shown t user event V window ≡ true
 more_shown t user (Draw client) V window is = or_first (V window) (shown_to t user (client_at t client) window) is
-more_shown t user (Attach v rows columns) V window is = is
-more_shown t user (Detach client) V window is = is
-more_shown t user (Keys client bytes) V window is = is
-more_shown t user (Command v number bytes) V window is = is
-more_shown t user (Resize client rows columns) V window is = is
-more_shown t user (Open v rows columns keep title) V window is = is
-more_shown t user (Output at bytes) V window is = is
-more_shown t user (Closed at) V window is = is
+more_shown t user event V window is = is
 
 still_open : (t : Tables) (user : UserId) (event : EventValue) (V : ℕ → Bool) → is_hidden V event ≡ false → is_hidden (with_shown t user event V) event ≡ false
 still_open t user (Draw client) V is = refl
-still_open t user (Attach v rows columns) V is = is
-still_open t user (Detach client) V is = is
-still_open t user (Keys client bytes) V is = is
-still_open t user (Command v number bytes) V is = is
-still_open t user (Resize client rows columns) V is = is
-still_open t user (Open v rows columns keep title) V is = is
-still_open t user (Output at bytes) V is = is
-still_open t user (Closed at) V is = is
+still_open t user event V is = is
 
 -- behind hidden output no more are shown
 same_behind : (t : Tables) (user : UserId) (event : EventValue) (V : ℕ → Bool) → is_hidden V event ≡ true → with_shown t user event V ≡ V
 same_behind t user (Output at bytes) V is = refl
-same_behind t user (Draw client) V is = absurd (cc (is))
-same_behind t user (Attach v rows columns) V is = refl
-same_behind t user (Detach client) V is = refl
-same_behind t user (Keys client bytes) V is = refl
-same_behind t user (Command v number bytes) V is = refl
-same_behind t user (Resize client rows columns) V is = refl
-same_behind t user (Open v rows columns keep title) V is = refl
-same_behind t user (Closed at) V is = refl
+same_behind t user event V is = absurd (cc (is))
 
 module _ (user : UserId) (start : Tables) (opened : ℕ → Bool) where
   abbrev his : UserId → Bool
@@ -93,14 +65,7 @@ module _ (user : UserId) (start : Tables) (opened : ℕ → Bool) where
       sym (ap (λ (p : ℕ → Bool). p window) is)
       ∙ or_second (V window) (shown_to x user (client_at x client) window)
       (ap (λ o. shown_to x user o window) there ∙ ap (λ b. b && is_shown x c window) mine ∙ shows)
-  stands_at W V t u x same (Attach v rows columns) is = tt
-  stands_at W V t u x same (Detach client) is = tt
-  stands_at W V t u x same (Keys client bytes) is = tt
-  stands_at W V t u x same (Command v number bytes) is = tt
-  stands_at W V t u x same (Resize client rows columns) is = tt
-  stands_at W V t u x same (Open v rows columns keep title) is = tt
-  stands_at W V t u x same (Output window bytes) is = tt
-  stands_at W V t u x same (Closed window) is = tt
+  stands_at W V t u x same event is = tt
 
   -- hidden output is not observed
   unopened : (V : ℕ → Bool) → Within V → (window : ℕ) → V window ≡ false → opened window ≡ false
@@ -119,14 +84,7 @@ module _ (user : UserId) (start : Tables) (opened : ℕ → Bool) where
     by (Output window bytes) is has =
         ap (λ fs. map (λ f. Told f) (filter (is_for opened t user) fs) ++ []) has
         ∙ ap (λ fs. map (λ f. Told f) fs ++ []) (output_unheard opened t user window bytes (unopened V within window (is_false (V window) is)))
-    by (Draw client) is has = absurd (cc (is))
-    by (Attach v rows columns) is has = absurd (cc (is))
-    by (Detach client) is has = absurd (cc (is))
-    by (Keys client bytes) is has = absurd (cc (is))
-    by (Command v number bytes) is has = absurd (cc (is))
-    by (Resize client rows columns) is has = absurd (cc (is))
-    by (Open v rows columns keep title) is has = absurd (cc (is))
-    by (Closed window) is has = absurd (cc (is))
+    by event is has = absurd (cc (is))
 
   -- ---- two runs
 

@@ -3,7 +3,7 @@ use Rattle.std.proofs.Common.{◌≡◌, ℕ, Bool, true, false, not, List, [], 
 use Rattle.std.specs.Prelude.{if◌then◌else◌}
 use Rattle.acl.specs.declared.user_id.UserId.{UserId}
 use Rattle.acl.specs.Same.{same_user}
-use Rattle.session_model.specs.Trace.{EventValue, Attach, Detach, Keys, Command, Resize, Open, Output, Closed, Draw, Entry}
+use Rattle.session_model.specs.Trace.{EventValue, Output, Draw, Entry}
 use Rattle.session_model.specs.Tables.{Tables}
 use Rattle.session_model.specs.Events.{outcome}
 use Rattle.session_model.specs.Run.{IsStep, IsRunFrom, HasEffects, after, drawn, tables_from}
@@ -29,14 +29,7 @@ events run = map (λ (e : Entry). e.event) run
 
 is_output : (V : ℕ → Bool) (event : EventValue) → is_hidden V event ≡ true → is_hidden none event ≡ true
 is_output V (Output window bytes) is = refl
-is_output V (Attach user rows columns) is = is
-is_output V (Detach client) is = is
-is_output V (Keys client bytes) is = is
-is_output V (Command user number bytes) is = is
-is_output V (Resize client rows columns) is = is
-is_output V (Open user rows columns keep title) is = is
-is_output V (Closed window) is = is
-is_output V (Draw client) is = is
+is_output V event is = is
 
 pub skeleton_of : (user : UserId) (V : ℕ → Bool) (start : Tables) (run : List Entry) → skeleton (events_from user V start run) ≡ skeleton (events run)
 skeleton_of user V start [] = refl
@@ -63,14 +56,7 @@ module _ (shown : ℕ → Bool) (seeing : UserId → Bool) (t u : Tables) (same 
 
 trivial : (t u x : Tables) (same : cut none nobody t ≡ cut none nobody u) (event : EventValue) → StandsAt none nobody t u same x event
 trivial t u x same (Draw client) = λ c at his. absurd (cc (his))
-trivial t u x same (Attach user rows columns) = tt
-trivial t u x same (Detach client) = tt
-trivial t u x same (Keys client bytes) = tt
-trivial t u x same (Command user number bytes) = tt
-trivial t u x same (Resize client rows columns) = tt
-trivial t u x same (Open user rows columns keep title) = tt
-trivial t u x same (Output window bytes) = tt
-trivial t u x same (Closed window) = tt
+trivial t u x same event = tt
 
 module _ (start : Tables) where
   abbrev at : List Entry → Tables

@@ -1,15 +1,14 @@
-use Rattle.std.proofs.Common.{◌≡◌, sym, ◌∙◌, ap}
+use Rattle.std.proofs.Common.{◌≡◌, ◌∷◌, [], sym, ◌∙◌, ap}
 use Rattle.std.specs.Prelude.{option_copied}
 use Rattle.std.specs.Option.{option_zip}
-use Rattle.session_lines.specs.Fields.{fields, number_of, text_of}
-use Rattle.session_lines.specs.Script.{bytes_in}
+use Rattle.session_lines.specs.Fields.{Number, Text, values_of, values_in, number_of, text_of}
 use Rattle.session_lines.proofs.Events.{zip-none}
 use Rattle.session_lines.proofs.Cutting.{two}
 use Rattle.session_lines.proofs.script.read_bytes.Goals as goal
 use Rattle.session_lines.proofs.script.read_bytes.Goals.{In-Some}
 
-in_fields : (c : In-Some) → bytes_in (fields 1 c.args.rest.now) ≡ option_zip (number_of c.in-Some.serial.now) (text_of c.in-Some.escaped.now)
-in_fields c = ap bytes_in (two _ _ _ (c.in-Some.ensures 0))
+in_fields : (c : In-Some) → values_in (Number ∷ Text ∷ []) c.args.rest.now ≡ option_zip (number_of c.in-Some.serial.now) (text_of c.in-Some.escaped.now)
+in_fields c = ap (values_of (Number ∷ Text ∷ [])) (two _ _ _ (c.in-Some.ensures 0))
 
 pub returns-in_default-2 : goal.returns-in_default-2
 returns-in_default-2 c =
