@@ -16,7 +16,7 @@ enum Step {
     Resized(u16, u16),
 }
 
-/// The first line and column, and how many lines and columns.
+/// The first line and column, counted from 0, and how many lines and columns.
 type Place = (u16, u16, u16, u16);
 
 /// What a layout gives after some more steps, on a page of this size.
@@ -49,13 +49,13 @@ const BELOW: Step = Step::Split(Way::Below);
 
 const RIGHT: Step = Step::Split(Way::Right);
 
-/// Halves over one another, from window 7. Two: regions in rows 1 to 11 and 13 to 22, captions in
-/// rows 12 and 23. Three: rows 1 to 5, 7 to 11, 13 to 22; captions 6, 12, 23.
+/// Halves over one another, from window 7. Two: regions in rows 0 to 10 and 12 to 21, captions in
+/// rows 11 and 22. Three: rows 0 to 4, 6 to 10, 12 to 21; captions 5, 11, 22.
 static STACKED: [Row; 3] = [
     Row {
         steps: &[BELOW],
         size: (24, 80),
-        boxes: &[(1, 1, 12, 80), (13, 1, 11, 80)],
+        boxes: &[(0, 0, 12, 80), (12, 0, 11, 80)],
         separators: &[],
         shown: &[SEVENTH, Shown::EMPTY],
         focus: 0,
@@ -63,7 +63,7 @@ static STACKED: [Row; 3] = [
     Row {
         steps: &[BELOW],
         size: (24, 80),
-        boxes: &[(1, 1, 6, 80), (7, 1, 6, 80), (13, 1, 11, 80)],
+        boxes: &[(0, 0, 6, 80), (6, 0, 6, 80), (12, 0, 11, 80)],
         separators: &[],
         shown: &[SEVENTH, Shown::EMPTY, Shown::EMPTY],
         focus: 0,
@@ -71,7 +71,7 @@ static STACKED: [Row; 3] = [
     Row {
         steps: &[Step::Only],
         size: (24, 80),
-        boxes: &[(1, 1, 23, 80)],
+        boxes: &[(0, 0, 23, 80)],
         separators: &[],
         shown: &[SEVENTH],
         focus: 0,
@@ -83,16 +83,16 @@ static BESIDE: [Row; 2] = [
     Row {
         steps: &[RIGHT],
         size: (24, 80),
-        boxes: &[(1, 1, 23, 39), (1, 41, 23, 40)],
-        separators: &[(1, 40, 23, 1)],
+        boxes: &[(0, 0, 23, 39), (0, 40, 23, 40)],
+        separators: &[(0, 39, 23, 1)],
         shown: &[SEVENTH, Shown::EMPTY],
         focus: 0,
     },
     Row {
         steps: &[],
         size: (10, 41),
-        boxes: &[(1, 1, 9, 20), (1, 22, 9, 20)],
-        separators: &[(1, 21, 9, 1)],
+        boxes: &[(0, 0, 9, 20), (0, 21, 9, 20)],
+        separators: &[(0, 20, 9, 1)],
         shown: &[SEVENTH, Shown::EMPTY],
         focus: 0,
     },
@@ -105,47 +105,47 @@ static FOCUSED: [Row; 7] = [
     Row {
         steps: &[BELOW, Step::Next, Step::Show(SECOND), RIGHT],
         size: (24, 80),
-        boxes: &[(1, 1, 12, 80), (13, 1, 11, 39), (13, 41, 11, 40)],
-        separators: &[(13, 40, 11, 1)],
+        boxes: &[(0, 0, 12, 80), (12, 0, 11, 39), (12, 40, 11, 40)],
+        separators: &[(12, 39, 11, 1)],
         shown: &[SEVENTH, SECOND, Shown::EMPTY],
         focus: 1,
     },
     Row {
         steps: &[Step::Next],
         size: (24, 80),
-        boxes: &[(1, 1, 12, 80), (13, 1, 11, 39), (13, 41, 11, 40)],
-        separators: &[(13, 40, 11, 1)],
+        boxes: &[(0, 0, 12, 80), (12, 0, 11, 39), (12, 40, 11, 40)],
+        separators: &[(12, 39, 11, 1)],
         shown: &[SEVENTH, SECOND, Shown::EMPTY],
         focus: 2,
     },
     Row {
         steps: &[Step::Next],
         size: (24, 80),
-        boxes: &[(1, 1, 12, 80), (13, 1, 11, 39), (13, 41, 11, 40)],
-        separators: &[(13, 40, 11, 1)],
+        boxes: &[(0, 0, 12, 80), (12, 0, 11, 39), (12, 40, 11, 40)],
+        separators: &[(12, 39, 11, 1)],
         shown: &[SEVENTH, SECOND, Shown::EMPTY],
         focus: 0,
     },
     Row {
         steps: &[Step::Remove],
         size: (24, 80),
-        boxes: &[(1, 1, 23, 39), (1, 41, 23, 40)],
-        separators: &[(1, 40, 23, 1)],
+        boxes: &[(0, 0, 23, 39), (0, 40, 23, 40)],
+        separators: &[(0, 39, 23, 1)],
         shown: &[SECOND, Shown::EMPTY],
         focus: 0,
     },
     Row {
         steps: &[Step::Close(7), Step::Resized(24, 80)],
         size: (24, 80),
-        boxes: &[(1, 1, 23, 39), (1, 41, 23, 40)],
-        separators: &[(1, 40, 23, 1)],
+        boxes: &[(0, 0, 23, 39), (0, 40, 23, 40)],
+        separators: &[(0, 39, 23, 1)],
         shown: &[SECOND, Shown::EMPTY],
         focus: 0,
     },
     Row {
         steps: &[Step::Next, Step::Show(THIRD), Step::Resized(4, 4)],
         size: (4, 20),
-        boxes: &[(1, 1, 3, 20)],
+        boxes: &[(0, 0, 3, 20)],
         separators: &[],
         shown: &[THIRD],
         focus: 0,
@@ -153,7 +153,7 @@ static FOCUSED: [Row; 7] = [
     Row {
         steps: &[Step::Close(3)],
         size: (4, 20),
-        boxes: &[(1, 1, 3, 20)],
+        boxes: &[(0, 0, 3, 20)],
         separators: &[],
         shown: &[Shown::EMPTY],
         focus: 0,
@@ -184,7 +184,7 @@ fn are(rects: &[Rect], places: &[Place]) -> bool {
 }
 
 fn is_status(rect: &Rect, rows: u16, columns: u16) -> bool {
-    (rect.line, rect.column, rect.rows, rect.columns) == (rows, 1, 1, columns)
+    (rect.line, rect.column, rect.rows, rect.columns) == (rows.saturating_sub(1), 0, 1, columns)
 }
 
 fn shows(layout: &Layout, shown: &[Shown]) -> bool {

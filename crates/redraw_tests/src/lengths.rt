@@ -166,8 +166,8 @@ impl Page {
         });
         let mut boxes = Vec::with_capacity(alloc, 1)?;
         boxes.push(Rect {
-            line: 1,
-            column: 1,
+            line: 0,
+            column: 0,
             rows: 24,
             columns: 80,
         })?;

@@ -1,6 +1,7 @@
 //! Windows that print made-up bytes, and a client that shows them.
 
-ghost use Rattle.std.specs.Prelude.{IfOk, ◌<◌};
+ghost use Rattle.std.specs.Prelude.{IfOk, ◌<◌, length};
+ghost use Rattle.view.specs.Composing.{HasPageSize};
 ghost use Rattle.view.specs.View.{HasSize};
 
 use cells::Cell;
@@ -257,7 +258,7 @@ impl Stage {
     }
 }
 
-/// The view of two panes and an empty one.
+/// The view of two panes, and an empty one for each further box.
 fn composed<'a>(
     alloc: Global,
     rects: &Rects,
@@ -265,7 +266,12 @@ fn composed<'a>(
     second: Pane<'a>,
     text: &[u8],
 ) -> Result<View, AllocError>
-    ensures { IfOk result (HasSize rects.now.status.line rects.now.status.columns) }
+    requires { rects.now.focus < length rects.now.boxes.items }
+    ensures { IfOk result (HasPageSize rects.now) }
 {
-    compose(alloc, rects, &[first, second, Pane::Empty], text)
+    let mut panes = Vec::with_capacity(alloc, rects.boxes.len())?;
+    panes.push(first)?;
+    panes.push(second)?;
+    panes.resize(rects.boxes.len(), Pane::Empty)?;
+    compose(alloc, rects, &panes, text)
 }

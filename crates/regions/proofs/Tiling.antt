@@ -1,5 +1,5 @@
 -- The parts of a page cover each place once.
-use Rattle.std.proofs.Common.{◌≡◌, ℕ, ◌+◌, ◌-◌, ◌/◌, ◌<◌, Bool, true, false, ◌&&◌, ltb, List, [], ◌∷◌, ◌++◌, map, refl, sym, ap, subst, ◌∙◌, arith}
+use Rattle.std.proofs.Common.{◌≡◌, ℕ, ◌+◌, ◌-◌, ◌/◌, ◌<◌, Bool, true, false, ◌&&◌, ltb, le-leb, List, [], ◌∷◌, ◌++◌, map, refl, sym, ap, subst, ◌∙◌, arith}
 use Rattle.std.proofs.lemmas.Bool.Decides.{nat_tests}
 use Rattle.std.proofs.lemmas.Bool.{ltb-true}
 use Rattle.regions.specs.declared.rect.Rect.{Rect}
@@ -83,6 +83,16 @@ covers (split Right a b) r l c h =
       times_append (separators a (left r)) (separators b (right r)) l c,
     )
 
+-- a page as a rectangle
+abbrev pub page_of : ℕ → ℕ → Rect
+page_of rows columns = record { line = 0; column = 0; rows = rows; columns = columns }
+
+from_zero : (n x : ℕ) → among 0 n x ≡ ltb x n
+from_zero n x = let all : 0 + n ≡ n = omega arith in rw (le-leb 0 x (omega arith), all) refl
+
+pub page_has : (rows columns l c : ℕ) → has (page_of rows columns) l c ≡ (ltb l rows && ltb c columns)
+page_has rows columns l c = rw (from_zero rows l, from_zero columns c) refl
+
 pub page_once : (s : Shape) (rows columns : ℕ) → has_room s rows columns ≡ true → TilesPage rows columns (parts (boxes s (box_of rows columns)) (separators s (box_of rows columns)) (status_of rows columns))
 page_once s rows columns h l c =
     let box = box_of rows columns in
@@ -90,10 +100,10 @@ page_once s rows columns h l c =
     let f : fits s (rows - 1) columns ≡ true = sym (room_fits s rows columns) ∙ h in
     let high : 1 < rows - 1 = tall s (rows - 1) columns f in
     let e : (rows - 1) + 1 ≡ rows = omega arith in
-    let below : 1 + (rows - 1) ≡ rows = omega arith in
-    let page : Rect = record { line = 1; column = 1; rows = rows; columns = columns } in
-    let joined : one_if (has page l c) ≡ one_if (has box l c) + one_if (has (status_of rows columns) l c) =
-    subst (λ (n : ℕ). one_if (has page l c) ≡ one_if (has box l c) + one_if (has (record { line = n; column = 1; rows = 1; columns = columns }) l c)) below (by_rows page (rows - 1) 1 l c e) in
+    let above : 0 + (rows - 1) ≡ rows - 1 = omega arith in
+    let joined : one_if (ltb l rows && ltb c columns) ≡ one_if (has box l c) + one_if (has (status_of rows columns) l c) =
+    ap one_if (sym (page_has rows columns l c))
+    ∙ subst (λ (n : ℕ). one_if (has (page_of rows columns) l c) ≡ one_if (has box l c) + one_if (has (record { line = n; column = 0; rows = 1; columns = columns }) l c)) above (by_rows (page_of rows columns) (rows - 1) 1 l c e) in
     omega (
       arith,
       covers s box l c f,

@@ -13,10 +13,10 @@ abbrev pub rows_of_box : ℕ → ℕ
 rows_of_box rows = rows - 1
 
 abbrev pub box_of : ℕ → ℕ → Rect
-box_of rows columns = record { line = 1; column = 1; rows = rows_of_box rows; columns = columns }
+box_of rows columns = record { line = 0; column = 0; rows = rows_of_box rows; columns = columns }
 
 abbrev pub status_of : ℕ → ℕ → Rect
-status_of rows columns = record { line = rows; column = 1; rows = 1; columns = columns }
+status_of rows columns = record { line = rows - 1; column = 0; rows = 1; columns = columns }
 
 -- one row beside the caption, and two columns
 abbrev pub is_roomy : Rect → Bool
@@ -79,7 +79,7 @@ times (r ∷ rs) line column = one_if (has r line column) + times rs line column
 -- These cover each place of the page once, and no other place.
 abbrev pub TilesPage : ℕ → ℕ → List Rect → Type 0
 TilesPage rows columns rs =
-    (line column : ℕ) → times rs line column ≡ one_if (among 1 rows line && among 1 columns column)
+    (line column : ℕ) → times rs line column ≡ one_if (nat_lt line rows && nat_lt column columns)
 
 -- So do the boxes with their captions, the separators and the status line.
 abbrev pub RectsTile : ℕ → ℕ → Rects → Type 0

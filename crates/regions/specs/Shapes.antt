@@ -1,5 +1,5 @@
 -- Shapes of layouts: a region, or two halves (GNU Screen manual, "Split" and "Remove"). Lines and
--- columns count from 1.
+-- columns count from 0.
 use Rattle.std.specs.Prelude.{ℕ, ◌+◌, ◌-◌, ◌/◌, Bool, true, false, ◌&&◌, nat_lt, if◌then◌else◌}
 use Rattle.std.specs.Prelude.{List, [], ◌∷◌, ◌++◌, take, drop, get_or}
 use Rattle.regions.specs.declared.rect.Rect.{Rect}

@@ -1,6 +1,6 @@
 //! The layout of a client's page.
 
-ghost use Rattle.std.specs.Prelude.{◌≡◌, ◌<◌, ◌≤◌, ◌↔◌, true, length, map, slice_get, Some};
+ghost use Rattle.std.specs.Prelude.{◌≡◌, ◌+◌, ◌<◌, ◌≤◌, ◌↔◌, true, length, map, slice_get, Some};
 ghost use Rattle.std.specs.Prelude.{OnOk, OnErr, IfOk, IfErr, IsOk};
 ghost use Rattle.regions.specs.Shapes.{region};
 ghost use Rattle.regions.specs.Pages.{has_room, KeepsRoom, IsRects, RectsTile, rects_error};
@@ -190,6 +190,8 @@ impl Layout {
         // One box a region, the focused one among them.
         ensures each { IfOk result (λ r. length r.boxes.items ≡ length self.now.shown) }
         ensures focused { IfOk result (λ r. r.focus < length r.boxes.items) }
+        // The status line is the last row.
+        ensures last { IfOk result (λ r. r.status.line + 1 ≡ rows) }
         // They cover each place of the page once.
         ensures tiles { IfOk result (λ r. RectsTile rows columns r) }
     {

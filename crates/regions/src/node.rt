@@ -113,7 +113,7 @@ impl Node {
     pub fn put_boxes(&self, r: Rect, out: &mut Vec<Rect>) -> Result<(), AllocError>
         requires rows { r.rows < 65535 }
         requires lines { r.line + r.rows ≤ 65535 }
-        requires columns { r.column + r.columns ≤ 65536 }
+        requires columns { r.column + r.columns ≤ 65535 }
         requires room { fits (shape self.now) r.rows r.columns ≡ true }
         ensures { OnOk result (out.new.items ≡ out.old.items ++ boxes (shape self.now) r) }
     {
@@ -136,7 +136,7 @@ impl Node {
     pub fn put_separators(&self, r: Rect, out: &mut Vec<Rect>) -> Result<(), AllocError>
         requires rows { r.rows < 65535 }
         requires lines { r.line + r.rows ≤ 65535 }
-        requires columns { r.column + r.columns ≤ 65536 }
+        requires columns { r.column + r.columns ≤ 65535 }
         requires room { fits (shape self.now) r.rows r.columns ≡ true }
         ensures { OnOk result (out.new.items ≡ out.old.items ++ separators (shape self.now) r) }
     {

@@ -1,5 +1,5 @@
 -- The view that is composed for a client.
-use Rattle.std.proofs.Common.{◌≡◌, ℕ, ◌<◌, List, Option, Some, None, refl, ap, sym, ◌∙◌, subst}
+use Rattle.std.proofs.Common.{◌≡◌, ℕ, ◌+◌, ◌<◌, List, Option, Some, None, refl, ap, sym, ◌∙◌, subst}
 use Rattle.std.proofs.Common.{map, length, Result, Ok, Err, IfOk}
 use Rattle.std.proofs.lemmas.List.{length-map}
 use Rattle.regions.specs.declared.rect.Rect.{Rect}
@@ -9,6 +9,7 @@ use Rattle.regions.specs.Pages.{IsRects}
 use Rattle.regions.specs.Shapes.{Shape}
 use Rattle.terminal_model.specs.Shows.{View}
 use Rattle.acl.specs.declared.user_id.UserId.{UserId}
+use Rattle.view.specs.Composing.{HasPageSize}
 use Rattle.view.specs.View.{HasSize}
 use Rattle.view.specs.Drawable.{IsDrawable}
 use Rattle.view.specs.Granted as view
@@ -83,19 +84,21 @@ pub view_is : (s : State) (c : Client) (r : Rects) (parts : List view.Part) (sta
     (result : Result View AllocError)
     → IsRects c.layout.shape c.layout.focus c.shadow.rows c.shadow.columns r
     → length r.boxes.items ≡ length c.layout.shown → r.focus < length r.boxes.items
+    → r.status.line + 1 ≡ c.shadow.rows
     → ((t : Tables) → Stands t s → AreFit t → parts ≡ map (part_shown t c.user) c.layout.shown)
-    → SaysStatus s c status → IfOk result (HasSize r.status.line r.status.columns)
+    → SaysStatus s c status → IfOk result (HasPageSize r)
     → IfOk result (λ v. (shape : Shape) (rows columns : ℕ)
     → view.AreParts shape rows columns r parts → v ≡ view.view_of r parts status)
     → IfOk result (λ v. (shape : Shape) (rows columns : ℕ)
     → view.AreParts shape rows columns r parts → view.AreDrawable parts → IsDrawable v)
     → IfOk result (IsViewFor s c)
-view_is s c r parts status (Ok v) rects each inside shown says size exact drawable = λ t m st fit is.
+view_is s c r parts status (Ok v) rects each inside last shown says size exact drawable = λ t m st fit is.
     let page : HasSize c.shadow.rows c.shadow.columns v =
-    subst (λ (box : Rect). HasSize box.line box.columns v) rects.status_is size in
+    subst (λ n. HasSize n c.shadow.columns v) last
+    (subst (λ (box : Rect). HasSize (r.status.line + 1) box.columns v) rects.status_is size) in
     granted_is t s m c st is r rects parts status v each inside (shown t st fit)
     (says t m st fit is) page (exact m.layout.shape m.rows m.columns) (drawable m.layout.shape m.rows m.columns)
-view_is s c r parts status (Err e) rects each inside shown says size exact drawable = tt
+view_is s c r parts status (Err e) rects each inside last shown says size exact drawable = tt
 
 -- that of the client of a serial
 pub view_there : (t : Tables) (c : Client) (o : Option model.Client) (v : View)

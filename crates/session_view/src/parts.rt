@@ -1,6 +1,6 @@
 //! What the regions of a client's page show.
 
-ghost use Rattle.std.specs.Prelude.{◌≡◌, IfOk, List, map};
+ghost use Rattle.std.specs.Prelude.{◌≡◌, IfOk, List, length, map};
 ghost use Rattle.acl.specs.declared.user_id.UserId.{UserId};
 ghost use Rattle.regions.specs.declared.shown.Shown.{Shown};
 ghost use Rattle.session_model.specs.Tables.{Tables};
@@ -83,7 +83,8 @@ pub(crate) fn parts<'a>(
     user: UserId,
     shown: &[Shown],
 ) -> Result<Vec<Part<'a>>, AllocError>
-    ensures { IfOk result (λ made. AreParts state.now user shown.now made.items) }
+    ensures shown { IfOk result (λ made. AreParts state.now user shown.now made.items) }
+    ensures each { IfOk result (λ made. length made.items ≡ length shown.now) }
 {
     let mut made = Vec::with_capacity(state.alloc, shown.len())?;
     for region in shown {
@@ -94,9 +95,10 @@ pub(crate) fn parts<'a>(
 
 /// The parts as they are composed.
 pub(crate) fn panes<'p>(alloc: Global, parts: &'p [Part<'_>]) -> Result<Vec<Pane<'p>>, AllocError>
-    ensures { IfOk result (λ made. (t : Tables) (user : UserId) (shown : List Shown)
+    ensures shown { IfOk result (λ made. (t : Tables) (user : UserId) (shown : List Shown)
         → Matched (ShowsPart t user) shown parts.now
         → map part_of made.items ≡ map (part_shown t user) shown) }
+    ensures each { IfOk result (λ made. length made.items ≡ length parts.now) }
 {
     let mut made = Vec::with_capacity(alloc, parts.len())?;
     for part in parts {

@@ -1,6 +1,6 @@
 -- The pieces of a page are laid one after the other.
-use Rattle.std.proofs.Common.{◌≡◌, ℕ, zero, suc, ◌+◌, ◌-◌, ◌<◌, ◌≤◌, Bool, true, false, ◌&&◌, ltb, List, [], ◌∷◌, ◌++◌, length, map, take, drop, get_or, refl, sym, ap, ◌∙◌, arith, ⊎_elim}
-use Rattle.std.specs.Prelude.{if◌then◌else◌}
+use Rattle.std.proofs.Common.{◌≡◌, ℕ, zero, suc, ◌+◌, ◌-◌, ◌<◌, ◌≤◌, Bool, true, false, ◌&&◌, ltb, List, [], ◌∷◌, ◌++◌, length, map, take, drop, get_or, refl, sym, ap, ◌∙◌, arith, ⊎_elim, lt-ltb}
+use Rattle.std.specs.Prelude.{if◌then◌else◌, nat_lt}
 use Rattle.std.specs.List.{list_all}
 use Rattle.std.proofs.lemmas.Bool.{cases_lt, ltb-true}
 use Rattle.std.proofs.lemmas.List.{drop_more, take_more, take-append-drop, get_or_past}
@@ -10,21 +10,26 @@ use Rattle.cells.specs.Page.{line_at, IsGrid}
 use Rattle.terminal_model.specs.Places.{place}
 use Rattle.terminal_model.specs.Shows.{View}
 use Rattle.regions.specs.declared.rect.Rect.{Rect}
-use Rattle.regions.specs.Pages.{has, among, times, one_if, TilesPage, inner, caption, is_roomy, parts}
+use Rattle.regions.specs.Pages.{has, times, one_if, TilesPage, inner, caption, is_roomy, parts}
 use Rattle.view.specs.Granted.{Piece, cell_of}
 use Rattle.view.specs.Rows.{IsOnPage, IsFree, IsPlaced, nowhere, laid, Lays}
-use Rattle.view.proofs.Laying.{InRect, has_in, in_has, not_has, cases_has, free_of_blanks}
+use Rattle.view.proofs.Laying.{InRect, in_has, not_has, cases_has, free_of_blanks}
+
+both : (a b : Bool) → (a && b) ≡ true → (a ≡ true) × (b ≡ true)
+both true true h = (refl, refl)
+both true false h = cc
+both false b h = cc
 
 abbrev pub rects_of : List Piece → List Rect
 rects_of ps = map (λ (p : Piece). p.rect) ps
 
 -- what stands on the page of a view, where a piece has a place
 pub record Covers (ps : List Piece) (v : View) : Type 0 where
-  pub cells_are : (line column : ℕ) → (times (rects_of ps) (line + 1) (column + 1) ≡ 0 → ⊥) → place v.page line column ≡ cell_of ps (line + 1) (column + 1)
+  pub cells_are : (line column : ℕ) → (times (rects_of ps) line column ≡ 0 → ⊥) → place v.page line column ≡ cell_of ps line column
 
 -- what stands on it
 pub record Holds (ps : List Piece) (v : View) : Type 0 where
-  pub cells_are : (line column : ℕ) → place v.page line column ≡ cell_of ps (line + 1) (column + 1)
+  pub cells_are : (line column : ℕ) → place v.page line column ≡ cell_of ps line column
 
 none_has : (r : Rect) (rs : List Rect) (l c : ℕ) → times (r ∷ rs) l c ≡ 0 → (has r l c ≡ false) × (times rs l c ≡ 0)
 none_has r rs l c h = go (has r l c) h
@@ -61,7 +66,7 @@ abbrev pub piece_at : List Piece → ℕ → Piece
 piece_at ps n = get_or ps n nowhere
 
 abbrev pub Tiles : List Piece → ℕ → ℕ → Type 0
-Tiles all rows columns = (l c : ℕ) → times (rects_of all) l c ≡ one_if (among 1 rows l && among 1 columns c)
+Tiles all rows columns = (l c : ℕ) → times (rects_of all) l c ≡ one_if (nat_lt l rows && nat_lt c columns)
 
 few : (b : Bool) → one_if b ≤ 1
 few true = omega arith
@@ -87,10 +92,10 @@ module _ (all : List Piece) (rows columns : ℕ) (tiles : Tiles all rows columns
   one l c h = rw h refl
 
   clear : (l c : ℕ) → has (piece_at all n).rect l c ≡ true → times (rects_of (take n all)) l c ≡ 0
-  clear l c h = omega (arith, whole l c, tiles l c, one l c h, few (among 1 rows l && among 1 columns c))
+  clear l c h = omega (arith, whole l c, tiles l c, one l c h, few (nat_lt l rows && nat_lt c columns))
 
-  on_page : (l c : ℕ) → has (piece_at all n).rect l c ≡ true → among 1 rows l && among 1 columns c ≡ true
-  on_page l c h = go (among 1 rows l && among 1 columns c) (tiles l c)
+  on_page : (l c : ℕ) → has (piece_at all n).rect l c ≡ true → nat_lt l rows && nat_lt c columns ≡ true
+  on_page l c h = go (nat_lt l rows && nat_lt c columns) (tiles l c)
     where
       go : (b : Bool) → times (rects_of all) l c ≡ one_if b → b ≡ true
       go true e = refl
@@ -99,9 +104,8 @@ module _ (all : List Piece) (rows columns : ℕ) (tiles : Tiles all rows columns
   module _ (v : View) (high : length v.page ≡ rows) (wide : length (line_at v.page 0) ≡ columns) where
     pub inside : (l c : ℕ) → has (piece_at all n).rect l c ≡ true → IsOnPage v.page l c
     inside l c h =
-        let page : Rect = record { line = 1; column = 1; rows = rows; columns = columns } in
-        let i : InRect page l c = has_in page l c (on_page l c h) in
-        record { below = i.above; above = omega (arith, i.below); right = i.left; left = omega (arith, i.right) }
+        let inside = both (nat_lt l rows) (nat_lt c columns) (on_page l c h) in
+        (rw high (ltb-true l rows inside.0), rw wide (ltb-true c columns inside.1))
 
     pub is_placed : 0 < (piece_at all n).rect.rows → 0 < (piece_at all n).rect.columns → IsPlaced (piece_at all n).rect v.page
     is_placed r c = record { tall = r; wide = c; inside = inside }
@@ -126,51 +130,45 @@ module _ (all : List Piece) (rows columns : ℕ) (tiles : Tiles all rows columns
     cells_are = λ l c some.
         lays.cells_are l c
         ∙ ⊎_elim
-        (λ (i : InRect (piece_at all n).rect (l + 1) (c + 1)).
-        let t : has (piece_at all n).rect (l + 1) (c + 1) ≡ true = in_has (piece_at all n).rect (l + 1) (c + 1) i in
-        let here : laid (piece_at all n) old.page l c ≡ (piece_at all n).cell (l + 1 - (piece_at all n).rect.line) (c + 1 - (piece_at all n).rect.column) = rw t refl in
-        let alone : cell_of (piece_at all n ∷ []) (l + 1) (c + 1) ≡ (piece_at all n).cell (l + 1 - (piece_at all n).rect.line) (c + 1 - (piece_at all n).rect.column) = rw t refl in
-        here ∙ sym (outside (take n all) (piece_at all n ∷ []) (l + 1) (c + 1) (clear (l + 1) (c + 1) t) ∙ alone))
-        (λ (out : has (piece_at all n).rect (l + 1) (c + 1) ≡ false).
+        (λ (i : InRect (piece_at all n).rect l c).
+        let t : has (piece_at all n).rect l c ≡ true = in_has (piece_at all n).rect l c i in
+        let here : laid (piece_at all n) old.page l c ≡ (piece_at all n).cell (l - (piece_at all n).rect.line) (c - (piece_at all n).rect.column) = rw t refl in
+        let alone : cell_of (piece_at all n ∷ []) l c ≡ (piece_at all n).cell (l - (piece_at all n).rect.line) (c - (piece_at all n).rect.column) = rw t refl in
+        here ∙ sym (outside (take n all) (piece_at all n ∷ []) l c (clear l c t) ∙ alone))
+        (λ (out : has (piece_at all n).rect l c ≡ false).
         let there : laid (piece_at all n) old.page l c ≡ place old.page l c = rw out refl in
-        there ∙ covers.cells_are l c (λ none. some (none_more (l + 1) (c + 1) out none)) ∙ sym (behind (take n all) (piece_at all n) (l + 1) (c + 1) out))
-        (cases_has (piece_at all n).rect (l + 1) (c + 1))
-        ∙ ap (λ (ps : List Piece). cell_of ps (l + 1) (c + 1)) (sym (take_more all n nowhere lt));
+        there ∙ covers.cells_are l c (λ none. some (none_more l c out none)) ∙ sym (behind (take n all) (piece_at all n) l c out))
+        (cases_has (piece_at all n).rect l c)
+        ∙ ap (λ (ps : List Piece). cell_of ps l c) (sym (take_more all n nowhere lt));
   }
 
 -- Where the pieces of a page cover it, nothing else stands on it.
 pub all_hold : (all : List Piece) (rows columns : ℕ) → Tiles all rows columns → (v : View) → IsGrid v.page → length v.page ≡ rows → length (line_at v.page 0) ≡ columns → Covers all v → Holds all v
-all_hold all rows columns tiles v grid high wide covers = record { cells_are = λ l c. go l c (among 1 rows (l + 1) && among 1 columns (c + 1)) refl }
+all_hold all rows columns tiles v grid high wide covers = record { cells_are = λ l c. go l c (nat_lt l rows && nat_lt c columns) refl }
   where
     clash : (b : Bool) → b ≡ true → b ≡ false → ⊥
     clash b t f = cc
 
-    past : (l c : ℕ) → among 1 rows (l + 1) && among 1 columns (c + 1) ≡ false → place v.page l c ≡ blank
+    past : (l c : ℕ) → nat_lt l rows && nat_lt c columns ≡ false → place v.page l c ≡ blank
     past l c e = ⊎_elim
         (λ (h : l < length v.page). ⊎_elim
         (λ (k : c < columns).
-        let page : Rect = record { line = 1; column = 1; rows = rows; columns = columns } in
-        let on : has page (l + 1) (c + 1) ≡ true = in_has page (l + 1) (c + 1) (record { above = omega arith; below = omega (arith, h, high); left = omega arith; right = omega (arith, k) }) in
-        absurd (clash (has page (l + 1) (c + 1)) on e))
+        let on : (nat_lt l rows && nat_lt c columns) ≡ true = rw (lt-ltb l rows (rw high at h), lt-ltb c columns k) refl in
+        absurd (clash (nat_lt l rows && nat_lt c columns) on e))
         (λ (k : columns ≤ c). get_or_past (line_at v.page l) c blank (omega (arith, grid.well_formed.width l h, wide, k)))
         (cases_lt c columns))
         (λ (h : length v.page ≤ l). ap (λ (cells : List Cell). cell_at cells c) (get_or_past v.page l [] h) ∙ get_or_past [] c blank (omega arith))
         (cases_lt l (length v.page))
 
-    go : (l c : ℕ) (b : Bool) → among 1 rows (l + 1) && among 1 columns (c + 1) ≡ b → place v.page l c ≡ cell_of all (l + 1) (c + 1)
+    go : (l c : ℕ) (b : Bool) → nat_lt l rows && nat_lt c columns ≡ b → place v.page l c ≡ cell_of all l c
     go l c true e =
-        let one : times (rects_of all) (l + 1) (c + 1) ≡ 1 = tiles (l + 1) (c + 1) ∙ ap one_if e in
+        let one : times (rects_of all) l c ≡ 1 = tiles l c ∙ ap one_if e in
         covers.cells_are l c (λ none. absurd (omega (arith, one, none)))
     go l c false e =
-        let none : times (rects_of all) (l + 1) (c + 1) ≡ 0 = tiles (l + 1) (c + 1) ∙ ap one_if e in
-        past l c e ∙ sym (uncovered all (l + 1) (c + 1) none)
+        let none : times (rects_of all) l c ≡ 0 = tiles l c ∙ ap one_if e in
+        past l c e ∙ sym (uncovered all l c none)
 
 -- ---- a box is its region and its caption
-
-both : (a b : Bool) → (a && b) ≡ true → (a ≡ true) × (b ≡ true)
-both true true h = (refl, refl)
-both true false h = cc
-both false b h = cc
 
 box_parts : (r : Rect) (l c : ℕ) → 0 < r.rows → one_if (has r l c) ≡ one_if (has (inner r) l c) + one_if (has (caption r) l c)
 box_parts r l c some = ⊎_elim
@@ -201,7 +199,7 @@ boxes_parts (r ∷ rs) l c h =
     omega (arith, box_parts r l c (omega (arith, tall)), boxes_parts rs l c t.1)
 
 pub parts_tile : (rows columns : ℕ) (boxes separators : List Rect) (status : Rect) → list_all is_roomy boxes ≡ true → TilesPage rows columns (parts boxes separators status)
-    → (l c : ℕ) → times (boxes ++ (separators ++ status ∷ [])) l c ≡ one_if (among 1 rows l && among 1 columns c)
+    → (l c : ℕ) → times (boxes ++ (separators ++ status ∷ [])) l c ≡ one_if (nat_lt l rows && nat_lt c columns)
 parts_tile rows columns boxes separators status roomy tiles l c =
     omega (
       arith,

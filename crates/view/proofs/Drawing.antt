@@ -1,6 +1,6 @@
 -- A composed view can be shown by a terminal.
 use Rattle.std.proofs.Common.{◌≡◌, ℕ, suc, ◌+◌, ◌-◌, ◌<◌, ◌≤◌, Bool, true, false, ◌&&◌, List, [], ◌∷◌, ◌++◌, length, map, refl, sym, ap, subst, ◌∙◌, arith, ⊎_elim, eq-eqb}
-use Rattle.std.specs.Prelude.{if◌then◌else◌, ◌==◌, chars}
+use Rattle.std.specs.Prelude.{if◌then◌else◌, ◌==◌, nat_lt, chars}
 use Rattle.std.specs.List.{range_with_len}
 use Rattle.std.specs.Str.{all_scalars}
 use Rattle.std.specs.Str.Lossy.{utf8_lossy}
@@ -14,7 +14,7 @@ use Rattle.terminal_model.specs.Drawable.{IsDrawableCell, IsDrawableLine}
 use Rattle.terminal_model.specs.Shows.{View}
 use Rattle.regions.specs.declared.rect.Rect.{Rect}
 use Rattle.regions.specs.declared.rects.Rects.{Rects}
-use Rattle.regions.specs.Pages.{has, among, times, one_if}
+use Rattle.regions.specs.Pages.{has, times, one_if}
 use Rattle.view.specs.Drawable.{IsDrawable}
 use Rattle.view.specs.Granted.{Piece, Part, vacant, unread, read, AreDrawable, HasDrawableLines, pieces, region_piece, separator_piece, status_piece, box_at, part_at, box_cell, part_cell, caption_text, caption_rendition, first_shown, cell_of, reverse}
 use Rattle.view.proofs.Composed.{Holds, Tiles, rects_of}
@@ -135,12 +135,11 @@ few false = omega arith
 pub view_drawn : (ps : List Piece) (rows columns : ℕ) (v : View) → Tiles ps rows columns → AllDrawn ps → Holds ps v → IsDrawable v
 view_drawn ps rows columns v tiles d holds = record {
   lines = λ line h. record {
-    printed = λ c k. subst IsDrawableCell (sym (holds.cells_are line c)) (printed_of ps (line + 1) (c + 1) d);
+    printed = λ c k. subst IsDrawableCell (sym (holds.cells_are line c)) (printed_of ps line c d);
     halves = λ c left.
-        let once : (i j : ℕ) → times (rects_of ps) i j ≤ 1 = λ i j. omega (arith, tiles i j, few (among 1 rows i && among 1 columns j)) in
-        let here : cell_at (line_at v.page line) c ≡ cell_of ps (line + 1) (c + 1) = holds.cells_are line c in
-        let half = halves_of ps d once (line + 1) (c + 1) (ap (λ (x : Cell). is_left x.shape) (sym here) ∙ left) in
-        let e : suc c + 1 ≡ suc (c + 1) = omega arith in
-        ap unprotected (holds.cells_are line (suc c) ∙ ap (cell_of ps (line + 1)) e) ∙ half.1 ∙ ap (λ (x : Cell). right_cell x.character x.rendition false) (sym here);
+        let once : (i j : ℕ) → times (rects_of ps) i j ≤ 1 = λ i j. omega (arith, tiles i j, few (nat_lt i rows && nat_lt j columns)) in
+        let here : cell_at (line_at v.page line) c ≡ cell_of ps line c = holds.cells_are line c in
+        let half = halves_of ps d once line c (ap (λ (x : Cell). is_left x.shape) (sym here) ∙ left) in
+        ap unprotected (holds.cells_are line (suc c)) ∙ half.1 ∙ ap (λ (x : Cell). right_cell x.character x.rendition false) (sym here);
   };
 }

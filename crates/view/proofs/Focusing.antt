@@ -18,31 +18,28 @@ both true false h = cc
 both false b h = cc
 
 module _ (r : Rect) (page : List (List Cell)) (placed : IsPlaced r page) where
-  pub corner : IsOnPage page r.line r.column
-  corner = placed.inside r.line r.column (in_has r r.line r.column (record { above = omega arith; below = omega (arith, placed.tall); left = omega arith; right = omega (arith, placed.wide) }))
-
   pub last : IsOnPage page (r.line + (r.rows - 1)) (r.column + (r.columns - 1))
   last = placed.inside (r.line + (r.rows - 1)) (r.column + (r.columns - 1))
       (in_has r (r.line + (r.rows - 1)) (r.column + (r.columns - 1)) (record { above = omega arith; below = omega (arith, placed.tall); left = omega arith; right = omega (arith, placed.wide) }))
 
   pub line_fits : IsGrid page → r.line + r.rows ≤ 65535
-  line_fits grid = omega (arith, last.above, grid.size.most_rows, placed.tall)
+  line_fits grid = omega (arith, last.0, grid.size.most_rows, placed.tall)
 
   pub column_fits : IsGrid page → r.column + r.columns ≤ 65535
-  column_fits grid = omega (arith, last.left, grid.size.most_columns, placed.wide)
+  column_fits grid = omega (arith, last.1, grid.size.most_columns, placed.wide)
 
   window_inside : (w : Window) (c : Option Position) → IfSome (cursor_in r w c) (λ p. IsInside (length page) (length (line_at page 0)) p.line p.column)
   window_inside w None = tt
   window_inside w (Some p) = go (p.line - first_shown (r.rows - 1) w.cursor) (w.shows_cursor && (ltb (p.line - first_shown (r.rows - 1) w.cursor) (r.rows - 1) && ltb p.column r.columns)) refl
     where
       go : (row : ℕ) (b : Bool) → w.shows_cursor && (ltb row (r.rows - 1) && ltb p.column r.columns) ≡ b
-          → IfSome (cond b (Some (record { line = r.line - 1 + row; column = r.column - 1 + p.column })) None) (λ (q : Position). IsInside (length page) (length (line_at page 0)) q.line q.column)
+          → IfSome (cond b (Some (record { line = r.line + row; column = r.column + p.column })) None) (λ (q : Position). IsInside (length page) (length (line_at page 0)) q.line q.column)
       go row false e = tt
       go row true e =
           let tests = both (ltb row (r.rows - 1)) (ltb p.column r.columns) (both w.shows_cursor (ltb row (r.rows - 1) && ltb p.column r.columns) e).1 in
           let below : row < r.rows - 1 = ltb-true row (r.rows - 1) tests.0 in
           let left : p.column < r.columns = ltb-true p.column r.columns tests.1 in
-          (omega (arith, below, last.above, corner.below), omega (arith, left, last.left, corner.right))
+          (omega (arith, below, last.0), omega (arith, left, last.1))
 
   pub cursor_inside : (part : Part) → IfSome (cursor_of r part) (λ p. IsInside (length page) (length (line_at page 0)) p.line p.column)
   cursor_inside vacant = tt

@@ -84,12 +84,14 @@ module _ (old cells : List Cell) (at : ℕ) (paired : IsPaired old) (some : 0 < 
   inside : (c : ℕ) → at ≤ c → c < at + length cells → overlaid_cell cells at old c ≡ cell_at cells (c - at)
   inside c a b = rw (le-leb at c a, lt-ltb c (at + length cells) b) refl
 
-pub free_corner : (r : Rect) (page : List (List Cell)) → IsFree r page → 0 < r.rows → IsOnPage page r.line r.column
-free_corner r page free some = free.inside r.line r.column (in_has r r.line r.column (record { above = omega arith; below = omega arith; left = omega arith; right = omega (arith, free.wide) }))
-
 -- a row of cells in a free rectangle of one row
-module _ (r : Rect) (old : View) (line column : ℕ) (cells : List Cell) (grid : IsGrid old.page) (free : IsFree r old.page) (one : r.rows ≡ 1) (paired : IsPaired cells) (wide : length cells ≡ r.columns)
-    (l_is : r.line ≡ line + 1) (c_is : r.column ≡ column + 1) where
+module _ (r : Rect) (old : View) (cells : List Cell) (grid : IsGrid old.page) (free : IsFree r old.page) (one : r.rows ≡ 1) (paired : IsPaired cells) (wide : length cells ≡ r.columns) where
+  abbrev line : ℕ
+  line = r.line
+
+  abbrev column : ℕ
+  column = r.column
+
   corner : IsOnPage old.page r.line r.column
   corner = free.inside r.line r.column (in_has r r.line r.column (record { above = omega arith; below = omega arith; left = omega arith; right = omega (arith, free.wide) }))
 
@@ -97,16 +99,16 @@ module _ (r : Rect) (old : View) (line column : ℕ) (cells : List Cell) (grid :
   last = free.inside r.line (r.column + (r.columns - 1)) (in_has r r.line (r.column + (r.columns - 1)) (record { above = omega arith; below = omega arith; left = omega arith; right = omega (arith, free.wide) }))
 
   pub line_inside : line < length old.page
-  line_inside = omega (arith, corner.above)
+  line_inside = corner.0
 
   pub cells_fit : column + length cells ≤ length (line_at old.page 0)
-  cells_fit = omega (arith, last.left, free.wide)
+  cells_fit = omega (arith, last.1, free.wide)
 
   starts : is_right (cell_at (line_at old.page line) column).shape ≡ false
-  starts = free.starts line column (in_has r (line + 1) (column + 1) (record { above = omega arith; below = omega arith; left = omega arith; right = omega (arith, free.wide) })) (omega arith)
+  starts = free.starts line column (in_has r line column (record { above = omega arith; below = omega arith; left = omega arith; right = omega (arith, free.wide) })) (omega arith)
 
   ends : is_left (cell_at (line_at old.page line) (column + (length cells - 1))).shape ≡ false
-  ends = free.ends line (column + (length cells - 1)) (in_has r (line + 1) (column + (length cells - 1) + 1) (record { above = omega arith; below = omega arith; left = omega arith; right = omega (arith, free.wide) })) (omega (arith, free.wide))
+  ends = free.ends line (column + (length cells - 1)) (in_has r line (column + (length cells - 1)) (record { above = omega arith; below = omega arith; left = omega arith; right = omega (arith, free.wide) })) (omega (arith, free.wide))
 
   wide_line : length (line_at old.page line) ≡ length (line_at old.page 0)
   wide_line = grid.well_formed.width line line_inside
@@ -125,27 +127,26 @@ module _ (r : Rect) (old : View) (line column : ℕ) (cells : List Cell) (grid :
 
     placed : (l c : ℕ) → place new.page l c ≡ laid (row_piece r cells) old.page l c
     placed l c = ap (λ (p : List (List Cell)). place p l c) page_is ∙ written_at l c ∙ ⊎_elim
-        (λ (i : InRect r (l + 1) (c + 1)).
+        (λ (i : InRect r l c).
         let e : l ≡ line = omega (arith, i.above, i.below) in
-        let k : c - column ≡ c + 1 - r.column = omega (arith, i.left) in
-        rw (in_has r (l + 1) (c + 1) i, eq-eqb l line e)
-        (inside (line_at old.page line) cells column (grid.well_formed.paired line) some starts ends c (omega (arith, i.left)) (omega (arith, i.right)) ∙ ap (cell_at cells) k))
-        (λ (out : has r (l + 1) (c + 1) ≡ false). rw out (⊎_elim
+        rw (in_has r l c i, eq-eqb l line e)
+        (inside (line_at old.page line) cells column (grid.well_formed.paired line) some starts ends c i.left (omega (arith, i.right))))
+        (λ (out : has r l c ≡ false). rw out (⊎_elim
         (λ (e : l ≡ line). rw (eq-eqb l line e) (beside (line_at old.page line) cells column (grid.well_formed.paired line) some starts ends c (side l c e out) ∙ ap (λ (n : ℕ). place old.page n c) (sym e)))
         (λ (ne : l ≡ line → ⊥). rw (ne_eqb l line ne) refl)
         (cases_eq l line)))
-        (cases_has r (l + 1) (c + 1))
+        (cases_has r l c)
       where
-        side : (l c : ℕ) → l ≡ line → has r (l + 1) (c + 1) ≡ false → (c < column) ⊎ (column + length cells ≤ c)
+        side : (l c : ℕ) → l ≡ line → has r l c ≡ false → (c < column) ⊎ (column + length cells ≤ c)
         side l c e out = ⊎_elim
             (λ (h : c < column). inl h)
             (λ (h : column ≤ c). ⊎_elim
-            (λ (k : c < column + length cells). let t : has r (l + 1) (c + 1) ≡ true = in_has r (l + 1) (c + 1) (record { above = omega arith; below = omega arith; left = omega arith; right = omega arith }) in absurd (go t out))
+            (λ (k : c < column + length cells). let t : has r l c ≡ true = in_has r l c (record { above = omega arith; below = omega arith; left = omega arith; right = omega arith }) in absurd (go t out))
             (λ (k : column + length cells ≤ c). inr k)
             (cases_lt c (column + length cells)))
             (cases_lt c column)
           where
-            go : has r (l + 1) (c + 1) ≡ true → has r (l + 1) (c + 1) ≡ false → ⊥
+            go : has r l c ≡ true → has r l c ≡ false → ⊥
             go t f = cc
 
     pub row_lays : Lays (row_piece r cells) old new
@@ -168,15 +169,15 @@ free_of_blanks r page some inside blanks = record {
 }
 
 -- as wide as a page
-pub free_if_wide : (r : Rect) (page : List (List Cell)) → IsGrid page → r.column ≡ 1 → r.columns ≡ length (line_at page 0) → 0 < r.line → r.line + r.rows ≤ length page + 1 → IsFree r page
-free_if_wide r page grid first wide below above = record {
+pub free_if_wide : (r : Rect) (page : List (List Cell)) → IsGrid page → r.column ≡ 0 → r.columns ≡ length (line_at page 0) → r.line + r.rows ≤ length page → IsFree r page
+free_if_wide r page grid first wide above = record {
   wide = omega (arith, wide, grid.size.least_columns);
-  inside = λ l c h. let i = has_in r l c h in record { below = omega (arith, below, i.above); above = omega (arith, i.below, above); right = omega (arith, first, i.left); left = omega (arith, first, wide, i.right) };
+  inside = λ l c h. let i = has_in r l c h in (omega (arith, i.below, above), omega (arith, first, wide, i.right));
   starts = λ l c h at.
       let none : c ≡ 0 = omega (arith, at, first) in
       ap (λ (k : ℕ). is_right (place page l k).shape) none ∙ (grid.well_formed.paired l).first;
   ends = λ l c h at.
-      let i = has_in r (l + 1) (c + 1) h in
+      let i = has_in r l c h in
       let end : length (line_at page l) ≤ suc c = omega (arith, grid.well_formed.width l (omega (arith, i.below, above)), at, first, wide) in
       (grid.well_formed.paired l).next c ∙ ap (λ (x : Cell). is_right x.shape) (get_or_past (line_at page l) (suc c) blank end);
 }
@@ -185,14 +186,14 @@ free_if_wide r page grid first wide below above = record {
 pub still_free : (r : Rect) (p : Piece) (old new : View) → ((l c : ℕ) → has r l c ≡ true → has p.rect l c ≡ false) → Lays p old new → IsFree r old.page → IsFree r new.page
 still_free r p old new apart lays free = record {
   wide = free.wide;
-  inside = λ l c h. let on = free.inside l c h in record { below = on.below; above = rw lays.rows_are on.above; right = on.right; left = rw lays.columns_are on.left };
+  inside = λ l c h. let on = free.inside l c h in (rw lays.rows_are on.0, rw lays.columns_are on.1);
   starts = λ l c h first. ap (λ (x : Cell). is_right x.shape) (same l c h) ∙ free.starts l c h first;
   ends = λ l c h last. ap (λ (x : Cell). is_left x.shape) (same l c h) ∙ free.ends l c h last;
 }
   where
-    same : (l c : ℕ) → has r (l + 1) (c + 1) ≡ true → place new.page l c ≡ place old.page l c
+    same : (l c : ℕ) → has r l c ≡ true → place new.page l c ≡ place old.page l c
     same l c h =
-        let out : has p.rect (l + 1) (c + 1) ≡ false = apart (l + 1) (c + 1) h in
+        let out : has p.rect l c ≡ false = apart l c h in
         let kept : laid p old.page l c ≡ place old.page l c = rw out refl in
         lays.cells_are l c ∙ kept
 
@@ -205,7 +206,7 @@ pub none_lays : (p : Piece) (v : View) → Lays (first_rows p 0) v v
 none_lays p v = record {
   rows_are = refl;
   columns_are = refl;
-  cells_are = λ l c. let out : has (record p.rect { rows = 0 }) (l + 1) (c + 1) ≡ false = not_has (record p.rect { rows = 0 }) (l + 1) (c + 1) (λ i. omega (arith, i.above, i.below)) in rw out refl;
+  cells_are = λ l c. let out : has (record p.rect { rows = 0 }) l c ≡ false = not_has (record p.rect { rows = 0 }) l c (λ i. omega (arith, i.above, i.below)) in rw out refl;
   rest = refl;
 }
 
@@ -215,20 +216,20 @@ row_is_free p n old mid free lt lays = record {
   inside = λ l c h.
       let i = has_in (row_of p.rect n) l c h in
       let on = free.inside l c (in_has p.rect l c (record { above = omega (arith, i.above); below = omega (arith, i.below); left = i.left; right = i.right })) in
-      record { below = on.below; above = rw lays.rows_are on.above; right = on.right; left = rw lays.columns_are on.left };
+      (rw lays.rows_are on.0, rw lays.columns_are on.1);
   starts = λ l c h first. ap (λ (x : Cell). is_right x.shape) (unchanged l c h) ∙ free.starts l c (inside l c h) first;
   ends = λ l c h last. ap (λ (x : Cell). is_left x.shape) (unchanged l c h) ∙ free.ends l c (inside l c h) last;
 }
   where
-    inside : (l c : ℕ) → has (row_of p.rect n) (l + 1) (c + 1) ≡ true → has p.rect (l + 1) (c + 1) ≡ true
+    inside : (l c : ℕ) → has (row_of p.rect n) l c ≡ true → has p.rect l c ≡ true
     inside l c h =
-        let i = has_in (row_of p.rect n) (l + 1) (c + 1) h in
-        in_has p.rect (l + 1) (c + 1) (record { above = omega (arith, i.above); below = omega (arith, i.below); left = i.left; right = i.right })
+        let i = has_in (row_of p.rect n) l c h in
+        in_has p.rect l c (record { above = omega (arith, i.above); below = omega (arith, i.below); left = i.left; right = i.right })
 
-    unchanged : (l c : ℕ) → has (row_of p.rect n) (l + 1) (c + 1) ≡ true → place mid.page l c ≡ place old.page l c
+    unchanged : (l c : ℕ) → has (row_of p.rect n) l c ≡ true → place mid.page l c ≡ place old.page l c
     unchanged l c h =
-        let i = has_in (row_of p.rect n) (l + 1) (c + 1) h in
-        let out : has (record p.rect { rows = n }) (l + 1) (c + 1) ≡ false = not_has (record p.rect { rows = n }) (l + 1) (c + 1) (λ j. omega (arith, i.above, j.below)) in
+        let i = has_in (row_of p.rect n) l c h in
+        let out : has (record p.rect { rows = n }) l c ≡ false = not_has (record p.rect { rows = n }) l c (λ j. omega (arith, i.above, j.below)) in
         let same : laid (first_rows p n) old.page l c ≡ place old.page l c = rw out refl in
         lays.cells_are l c ∙ same
 
@@ -237,30 +238,30 @@ one_more_row p n old mid new cells first next row = record {
   rows_are = next.rows_are ∙ first.rows_are;
   columns_are = next.columns_are ∙ first.columns_are;
   cells_are = λ l c. next.cells_are l c ∙ ⊎_elim
-      (λ (i : InRect (row_of p.rect n) (l + 1) (c + 1)).
-      let more : has (record p.rect { rows = n + 1 }) (l + 1) (c + 1) ≡ true = in_has (record p.rect { rows = n + 1 }) (l + 1) (c + 1) (record { above = omega (arith, i.above); below = omega (arith, i.below); left = i.left; right = i.right }) in
-      let at : n ≡ l + 1 - p.rect.line = omega (arith, i.above, i.below) in
-      rw (in_has (row_of p.rect n) (l + 1) (c + 1) i, more) (row.cells_are (c + 1 - p.rect.column) (omega (arith, i.left, i.right)) ∙ ap (λ (k : ℕ). p.cell k (c + 1 - p.rect.column)) at))
-      (λ (out : has (row_of p.rect n) (l + 1) (c + 1) ≡ false). rw out (first.cells_are l c ∙ ⊎_elim
-      (λ (i : InRect (record p.rect { rows = n }) (l + 1) (c + 1)).
-      let more : has (record p.rect { rows = n + 1 }) (l + 1) (c + 1) ≡ true = in_has (record p.rect { rows = n + 1 }) (l + 1) (c + 1) (record { above = i.above; below = omega (arith, i.below); left = i.left; right = i.right }) in
-      rw (in_has (record p.rect { rows = n }) (l + 1) (c + 1) i, more) refl)
-      (λ (none : has (record p.rect { rows = n }) (l + 1) (c + 1) ≡ false).
-      let less : has (record p.rect { rows = n + 1 }) (l + 1) (c + 1) ≡ false = not_has (record p.rect { rows = n + 1 }) (l + 1) (c + 1) (λ j. neither l c out none j) in
+      (λ (i : InRect (row_of p.rect n) l c).
+      let more : has (record p.rect { rows = n + 1 }) l c ≡ true = in_has (record p.rect { rows = n + 1 }) l c (record { above = omega (arith, i.above); below = omega (arith, i.below); left = i.left; right = i.right }) in
+      let at : n ≡ l - p.rect.line = omega (arith, i.above, i.below) in
+      rw (in_has (row_of p.rect n) l c i, more) (row.cells_are (c - p.rect.column) (omega (arith, i.left, i.right)) ∙ ap (λ (k : ℕ). p.cell k (c - p.rect.column)) at))
+      (λ (out : has (row_of p.rect n) l c ≡ false). rw out (first.cells_are l c ∙ ⊎_elim
+      (λ (i : InRect (record p.rect { rows = n }) l c).
+      let more : has (record p.rect { rows = n + 1 }) l c ≡ true = in_has (record p.rect { rows = n + 1 }) l c (record { above = i.above; below = omega (arith, i.below); left = i.left; right = i.right }) in
+      rw (in_has (record p.rect { rows = n }) l c i, more) refl)
+      (λ (none : has (record p.rect { rows = n }) l c ≡ false).
+      let less : has (record p.rect { rows = n + 1 }) l c ≡ false = not_has (record p.rect { rows = n + 1 }) l c (λ j. neither l c out none j) in
       rw (none, less) refl)
-      (cases_has (record p.rect { rows = n }) (l + 1) (c + 1))))
-      (cases_has (row_of p.rect n) (l + 1) (c + 1));
+      (cases_has (record p.rect { rows = n }) l c)))
+      (cases_has (row_of p.rect n) l c);
   rest = next.rest ∙ ap (λ (v : View). record v { page = new.page }) first.rest;
 }
   where
     clash : (b : Bool) → b ≡ true → b ≡ false → ⊥
     clash b t f = cc
 
-    neither : (l c : ℕ) → has (row_of p.rect n) (l + 1) (c + 1) ≡ false → has (record p.rect { rows = n }) (l + 1) (c + 1) ≡ false → InRect (record p.rect { rows = n + 1 }) (l + 1) (c + 1) → ⊥
+    neither : (l c : ℕ) → has (row_of p.rect n) l c ≡ false → has (record p.rect { rows = n }) l c ≡ false → InRect (record p.rect { rows = n + 1 }) l c → ⊥
     neither l c out none j = ⊎_elim
-        (λ (h : l + 1 < p.rect.line + n). clash _ (in_has (record p.rect { rows = n }) (l + 1) (c + 1) (record { above = j.above; below = h; left = j.left; right = j.right })) none)
-        (λ (h : p.rect.line + n ≤ l + 1). clash _ (in_has (row_of p.rect n) (l + 1) (c + 1) (record { above = h; below = omega (arith, j.below); left = j.left; right = j.right })) out)
-        (cases_lt (l + 1) (p.rect.line + n))
+        (λ (h : l < p.rect.line + n). clash _ (in_has (record p.rect { rows = n }) l c (record { above = j.above; below = h; left = j.left; right = j.right })) none)
+        (λ (h : p.rect.line + n ≤ l). clash _ (in_has (row_of p.rect n) l c (record { above = h; below = omega (arith, j.below); left = j.left; right = j.right })) out)
+        (cases_lt l (p.rect.line + n))
 
 pub all_rows : (p : Piece) (n : ℕ) (old new : View) → n ≡ p.rect.rows → Lays (first_rows p n) old new → Lays p old new
 all_rows p n old new e lays = subst (λ (k : ℕ). Lays (first_rows p k) old new) e lays

@@ -17,7 +17,7 @@ use Rattle.regions.specs.Shapes.{Shape, region, split, upper, lower, left, right
 use Rattle.regions.specs.Pages.{is_roomy, times, parts, TilesPage}
 use Rattle.regions.specs.Pages.{box_of, status_of}
 use Rattle.regions.proofs.Tiling.{page_once}
-use Rattle.regions.proofs.Room.{both_true, wide, room_fits}
+use Rattle.regions.proofs.Room.{both_true, wide, tall, room_fits}
 use Rattle.terminal_model.specs.Screen.{Page}
 use Rattle.std.proofs.Math.Seq.{take-length}
 use Rattle.std.specs.Prelude.{chars}
@@ -26,9 +26,10 @@ use Rattle.std.specs.Str.Lossy.{utf8_lossy}
 use Rattle.terminal_model.specs.Drawable.{IsDrawableLine}
 use Rattle.view.specs.Drawable.{IsDrawable}
 use Rattle.view.proofs.Drawing.{pieces_drawn, view_drawn}
-use Rattle.view.specs.View.{HasSize}
+use Rattle.view.specs.Composing.{HasPageSize}
 use Rattle.view.specs.Rows.{IsFree, AreFree, IsPlaced, nowhere, Lays, FocusesOn}
 use Rattle.view.specs.declared.pane.Pane.{Pane}
+use Rattle.view.specs.declared.pane.Pane.TheVariants.{Empty}
 use Rattle.view.specs.Granted.{Piece, Part, vacant, part_of, AreParts, HasPairedLines, pieces, region_piece, separator_piece, status_piece, box_at, part_at, box_cell, caption_text, AreDrawable, cell_of, page_of, cursor_of, arrows_of, keypad_of, view_of, view_in}
 use Rattle.view.proofs.Laying.{free_if_wide, still_free}
 use Rattle.view.proofs.Composed.{Covers, Holds, Tiles, rects_of, piece_at, parts_tile, free_on_blanks, is_placed, apart, laid_more, all_hold}
@@ -158,8 +159,11 @@ module _ (r : Rects) (ps : List Part) (text : List ℕ) where
     pub status_rows : r.status.rows ≡ 1
     status_rows = ap (λ (t : Rect). t.rows) is.rects.status_is
 
-    pub status_line : r.status.line ≡ rows
-    status_line = ap (λ (t : Rect). t.line) is.rects.status_is
+    pub status_line : r.status.line + 1 ≡ rows
+    status_line =
+        let high : 1 < rows - 1 = tall s (rows - 1) columns (sym (room_fits s rows columns) ∙ is.room) in
+        let last : r.status.line ≡ rows - 1 = ap (λ (t : Rect). t.line) is.rects.status_is in
+        omega (arith, high, last)
 
     pub status_columns : r.status.columns ≡ columns
     status_columns = ap (λ (t : Rect). t.columns) is.rects.status_is
@@ -169,9 +173,9 @@ module _ (r : Rects) (ps : List Part) (text : List ℕ) where
 
 -- ---- the page that holds them
 
-pub page-is : (ps : List Piece) (v : View) (rows columns : ℕ) → IsGrid v.page → length v.page ≡ rows → length (line_at v.page 0) ≡ columns → Holds ps v → v.page ≡ page_of rows columns (λ line column. cell_of ps (line + 1) (column + 1))
+pub page-is : (ps : List Piece) (v : View) (rows columns : ℕ) → IsGrid v.page → length v.page ≡ rows → length (line_at v.page 0) ≡ columns → Holds ps v → v.page ≡ page_of rows columns (cell_of ps)
 page-is ps v rows columns grid high wide_is holds =
-    let cell : ℕ → ℕ → Cell = λ line column. cell_of ps (line + 1) (column + 1) in
+    let cell : ℕ → ℕ → Cell = cell_of ps in
     ext_get_or [] v.page (page_of rows columns cell) (high ∙ sym (length-map-range_with_len (λ line. map (cell line) (range_with_len 0 columns)) 0 rows)) (λ l h.
     let lt : l < rows = rw high at h in
     let line : List Cell = map (cell l) (range_with_len 0 columns) in
@@ -215,7 +219,7 @@ module _ (r : Rects) (ps : List Part) (text : List ℕ) (s : Shape) (rows column
               (cases_lt k n);
         }
 
-    placed : (p : Piece) (old : View) → HasSize r.status.line r.status.columns old → piece_at (pieces r ps text) n ≡ p → 0 < p.rect.rows → 0 < p.rect.columns → IsPlaced p.rect old.page
+    placed : (p : Piece) (old : View) → HasPageSize r old → piece_at (pieces r ps text) n ≡ p → 0 < p.rect.rows → 0 < p.rect.columns → IsPlaced p.rect old.page
     placed p old size e tall some =
         let high : length old.page ≡ rows = size.rows_are ∙ status_line r ps text s rows columns is in
         let broad : length (line_at old.page 0) ≡ columns = size.columns_are ∙ status_columns r ps text s rows columns is in
@@ -251,18 +255,18 @@ module _ (r : Rects) (ps : List Part) (text : List ℕ) (s : Shape) (rows column
       subst (λ (k : ℕ). Stage r ps text k new) more
       (next (length r.boxes.items + n) inside (status_piece r.status text) old new (ap (λ (k : ℕ). piece_at (pieces r ps text) (length r.boxes.items + k)) e ∙ status_at r ps text) (λ h. absurd (omega arith)) stage (lays (status_rows r ps text s rows columns is)))
 
-  pub focus_placed : (v : View) → HasSize r.status.line r.status.columns v → IsPlaced (box_at r r.focus) v.page
+  pub focus_placed : (v : View) → HasPageSize r v → IsPlaced (box_at r r.focus) v.page
   focus_placed v size =
       let inside : r.focus < length (pieces r ps text) = omega (arith, is.focus, pieces_length r ps text) in
       let room = box_roomy r ps text s rows columns is r.focus r.status is.focus in
       placed r.focus inside (region_piece r ps r.focus) v size (region_at r ps text r.focus is.focus) (omega (arith, room.0)) (omega (arith, room.1))
 
-  all_held : (v : View) → HasSize r.status.line r.status.columns v → IsGrid v.page → Stage r ps text (length (pieces r ps text)) v → Holds (pieces r ps text) v
+  all_held : (v : View) → HasPageSize r v → IsGrid v.page → Stage r ps text (length (pieces r ps text)) v → Holds (pieces r ps text) v
   all_held v size grid stage =
       all_hold (pieces r ps text) rows columns (pieces_tile r ps text s rows columns is) v grid (size.rows_are ∙ status_line r ps text s rows columns is) (size.columns_are ∙ status_columns r ps text s rows columns is)
       (subst (λ (xs : List Piece). Covers xs v) (take-length (pieces r ps text)) stage.covers)
 
-  pub composed : (old new : View) → HasSize r.status.line r.status.columns old → IsGrid old.page → Stage r ps text (length (pieces r ps text)) old → FocusesOn (box_at r r.focus) (part_at ps r.focus) old new → new ≡ view_of r ps text
+  pub composed : (old new : View) → HasPageSize r old → IsGrid old.page → Stage r ps text (length (pieces r ps text)) old → FocusesOn (box_at r r.focus) (part_at ps r.focus) old new → new ≡ view_of r ps text
   unfolding view_in
   composed old new size grid stage focused =
       let holds : Holds (pieces r ps text) old = all_held old size grid stage in
@@ -271,7 +275,7 @@ module _ (r : Rects) (ps : List Part) (text : List ℕ) (s : Shape) (rows column
         cursor = cursor_of (box_at r r.focus) (part_at ps r.focus);
         has_application_arrows = arrows_of (part_at ps r.focus);
         has_application_keypad = keypad_of (part_at ps r.focus);
-      }) (page-is (pieces r ps text) old r.status.line r.status.columns grid size.rows_are size.columns_are holds)
+      }) (page-is (pieces r ps text) old (r.status.line + 1) r.status.columns grid size.rows_are size.columns_are holds)
 
 -- ---- pages on which all pieces are free
 
@@ -285,7 +289,7 @@ one_box region r h = (refl, refl)
 one_box (split Below a b) r h = absurd (omega (arith, h, length-append (boxes a (upper r)) (boxes b (lower r)), some_boxes a (upper r), some_boxes b (lower r)))
 one_box (split Right a b) r h = absurd (omega (arith, h, length-append (boxes a (left r)) (boxes b (right r)), some_boxes a (left r), some_boxes b (right r)))
 
-module _ (r : Rects) (ps : List Part) (text : List ℕ) (s : Shape) (rows columns : ℕ) (is : AreParts s rows columns r ps) (v : View) (size : HasSize r.status.line r.status.columns v) where
+module _ (r : Rects) (ps : List Part) (text : List ℕ) (s : Shape) (rows columns : ℕ) (is : AreParts s rows columns r ps) (v : View) (size : HasPageSize r v) where
   high_page : length v.page ≡ rows
   high_page = size.rows_are ∙ status_line r ps text s rows columns is
 
@@ -318,12 +322,12 @@ module _ (r : Rects) (ps : List Part) (text : List ℕ) (s : Shape) (rows column
       (λ (h : n < length r.boxes.items).
       let first : n ≡ 0 = omega (arith, h, one) in
       let rect_is : (piece_at (pieces r ps text) n).rect ≡ box_of rows columns = ap (λ (p : Piece). p.rect) (region_at r ps text n h) ∙ ap (λ (k : ℕ). box_at r k) first ∙ ap (λ (bs : List Rect). get_or bs 0 r.status) (is.rects.boxes_are ∙ alone.0) in
-      subst (λ (x : Rect). IsFree x v.page) (sym rect_is) (free_if_wide (box_of rows columns) v.page grid refl (sym broad_page) (omega arith) (omega (arith, high_page, grid.size.least_rows))))
+      subst (λ (x : Rect). IsFree x v.page) (sym rect_is) (free_if_wide (box_of rows columns) v.page grid refl (sym broad_page) (omega (arith, high_page, grid.size.least_rows))))
       (λ (h : length r.boxes.items ≤ n).
       let no_bars : length r.separators.items ≡ 0 = ap length (is.rects.separators_are ∙ alone.1) in
       let last : n ≡ length r.boxes.items + length r.separators.items = omega (arith, h, lt, no_bars, pieces_length r ps text) in
       let rect_is : (piece_at (pieces r ps text) n).rect ≡ status_of rows columns = ap (λ (k : ℕ). (piece_at (pieces r ps text) k).rect) last ∙ ap (λ (p : Piece). p.rect) (status_at r ps text) ∙ is.rects.status_is in
-      subst (λ (x : Rect). IsFree x v.page) (sym rect_is) (free_if_wide (status_of rows columns) v.page grid refl (sym broad_page) (omega (arith, high_page, grid.size.least_rows)) (omega (arith, high_page))))
+      subst (λ (x : Rect). IsFree x v.page) (sym rect_is) (free_if_wide (status_of rows columns) v.page grid refl (sym broad_page) (omega (arith, high_page, grid.size.least_rows))))
       (cases_lt n (length r.boxes.items))
     where
       alone : (boxes s (box_of rows columns) ≡ box_of rows columns ∷ []) × (separators s (box_of rows columns) ≡ [])
@@ -331,14 +335,11 @@ module _ (r : Rects) (ps : List Part) (text : List ℕ) (s : Shape) (rows column
 
 -- ---- the parts of panes
 
-pub part_is : (panes : List Pane) (k : ℕ) (p : Pane) → k < length panes → p ≡ get_or panes k p → part_of p ≡ part_at (map part_of panes) k
-part_is panes k p lt e = ap part_of e ∙ sym (get_or-map part_of panes k p vacant lt)
-
-pub all_there : (r : Rects) (panes : List Pane) (s : Shape) (rows columns k : ℕ) → AreParts s rows columns r (map part_of panes) → k < length r.boxes.items → k < length panes
-all_there r panes s rows columns k is lt = let n : length (map part_of panes) ≡ length panes = length-map panes part_of in omega (arith, is.each, n, lt)
+pub part_is : (panes : List Pane) (k : ℕ) → k < length panes → part_of (get_or panes k Empty) ≡ part_at (map part_of panes) k
+part_is panes k lt = sym (get_or-map part_of panes k Empty vacant lt)
 
 module _ (r : Rects) (ps : List Part) (text : List ℕ) (s : Shape) (rows columns : ℕ) (is : AreParts s rows columns r ps) where
-  pub drawable_view : (old new : View) → HasSize r.status.line r.status.columns old → IsGrid old.page → Stage r ps text (length (pieces r ps text)) old → new.page ≡ old.page → AreDrawable ps → all_scalars (chars (utf8_lossy text)) ≡ true → IsDrawable new
+  pub drawable_view : (old new : View) → HasPageSize r old → IsGrid old.page → Stage r ps text (length (pieces r ps text)) old → new.page ≡ old.page → AreDrawable ps → all_scalars (chars (utf8_lossy text)) ≡ true → IsDrawable new
   drawable_view old new size grid stage same drawable status =
       let holds : Holds (pieces r ps text) old = all_held r ps text s rows columns is old size grid stage in
       let captions : (n : ℕ) → n < length ps → all_scalars (caption_text (part_at ps n)) ≡ true = λ n h. stage.captions n (omega (arith, h, is.each, pieces_length r ps text)) (omega (arith, h, is.each)) in

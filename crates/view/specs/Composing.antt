@@ -1,5 +1,5 @@
 -- What the steps of composing do.
-use Rattle.std.specs.Prelude.{◌≡◌, ℕ, ◌+◌, ◌<◌, ◌≤◌, Bool, true, List, length}
+use Rattle.std.specs.Prelude.{◌≡◌, ℕ, ◌+◌, ◌≤◌, Bool, true, List, length}
 use Rattle.std.specs.Str.{all_scalars}
 use Rattle.cells.specs.declared.cell.Cell.{Cell}
 use Rattle.cells.specs.Line.{IsPaired}
@@ -7,15 +7,18 @@ use Rattle.regions.specs.declared.rect.Rect.{Rect}
 use Rattle.regions.specs.declared.rects.Rects.{Rects}
 use Rattle.regions.specs.Shapes.{Shape}
 use Rattle.terminal_model.specs.Shows.{View}
-use Rattle.view.specs.declared.pane.Pane.{Pane}
 use Rattle.view.specs.declared.view.Cursor.{Cursor}
 use Rattle.view.specs.Drawable.{IsDrawable}
 use Rattle.view.specs.Granted.{Part, AreParts, AreDrawable, HasPairedLines}
-use Rattle.view.specs.Granted.{parts_of, box_at, part_at, box_piece, separator_piece, status_piece}
+use Rattle.view.specs.Granted.{box_piece, separator_piece, status_piece}
 use Rattle.view.specs.Granted.{caption_text, cursor_of, pieces, view_of}
 use Rattle.view.specs.Rows.{IsBoxRow, IsFree, AreFree, IsPlaced, Lays, FocusesOn}
 use Rattle.view.specs.Rows.{row_of, row_piece}
-use Rattle.view.specs.View.{place_of}
+use Rattle.view.specs.View.{HasSize, place_of}
+
+-- the size of the page of these rectangles, whose last row is the status line
+abbrev pub HasPageSize : Rects → View → Type 0
+HasPageSize r v = HasSize (r.status.line + 1) r.status.columns v
 
 -- the granted view, where these are the parts of a page
 abbrev pub ShowsParts : Rects → List Part → List ℕ → View → Type 0
@@ -76,15 +79,8 @@ HasScalarCaption part = all_scalars (caption_text part) ≡ true
 abbrev pub TakesFocus : Rect → Part → View → View → Type 0
 TakesFocus rect part old new = IsPlaced rect old.page → FocusesOn rect part old new
 
--- The focused region has the focus, where it has a box and a pane.
-abbrev pub FocusesOnFocused : Rects → List Pane → View → View → Type 0
-FocusesOnFocused r panes old new =
-    r.focus < length r.boxes.items → r.focus < length panes
-    → TakesFocus (box_at r r.focus) (part_at (parts_of panes) r.focus) old new
-
--- a focused region's cursor, where its box lies on a page of at most 65534 lines and columns
+-- a focused region's cursor, where its box lies on a page of at most 65535 lines and columns
 abbrev pub IsCursorOf : Rect → Part → Cursor → Type 0
 IsCursorOf rect part cursor =
-    0 < rect.line → rect.line + rect.rows ≤ 65535
-    → 0 < rect.column → rect.column + rect.columns ≤ 65535
+    rect.line + rect.rows ≤ 65535 → rect.column + rect.columns ≤ 65535
     → place_of cursor ≡ cursor_of rect part

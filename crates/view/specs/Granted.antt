@@ -1,5 +1,4 @@
--- What a client is granted to see, place by place. A page counts its lines and columns from 1; a
--- view and the pieces of a page count theirs from 0.
+-- What a client is granted to see, place by place. Lines and columns count from 0.
 use Rattle.std.specs.Prelude.{◌≡◌, ℕ, ◌+◌, ◌-◌, ◌<◌, Bool, true, false, not, ◌&&◌, ◌==◌, nat_lt}
 use Rattle.std.specs.Prelude.{if◌then◌else◌, List, [], ◌∷◌, ◌++◌, length, map, slice_index_or}
 use Rattle.std.specs.Prelude.{chars, codes, decimal, Option, Some, None, option_map}
@@ -208,7 +207,7 @@ cursor_in box w None = None
 cursor_in box w (Some p) =
     let row : ℕ = p.line - first_shown (box.rows - 1) w.cursor in
     if w.shows_cursor && (nat_lt row (box.rows - 1) && nat_lt p.column box.columns)
-    then Some (record { line = box.line - 1 + row; column = box.column - 1 + p.column }) else None
+    then Some (record { line = box.line + row; column = box.column + p.column }) else None
 
 abbrev pub cursor_of : Rect → Part → Option Position
 cursor_of box vacant = None
@@ -233,10 +232,9 @@ key_modes_of part = record {
   has_application_keypad = keypad_of part;
 }
 
--- the page down to its status line; its cells count from 0
+-- the page down to its status line, which is the last
 abbrev pub page_in : Layout → List Piece → List (List Cell)
-page_in l ps =
-    page_of l.status.line l.status.columns (λ line column. cell_of ps (line + 1) (column + 1))
+page_in l ps = page_of (l.status.line + 1) l.status.columns (cell_of ps)
 
 unfoldable pub view_in : Layout → List Part → List ℕ → View
 view_in l parts status = record {

@@ -1,5 +1,5 @@
 -- Rows of cells, and pieces that are laid over a page.
-use Rattle.std.specs.Prelude.{◌≡◌, ℕ, ◌+◌, ◌<◌, ◌≤◌, nat_lt, Bool, true, false, if◌then◌else◌}
+use Rattle.std.specs.Prelude.{◌≡◌, ℕ, ◌+◌, ◌<◌, nat_lt, Bool, true, false, if◌then◌else◌}
 use Rattle.std.specs.Prelude.{List, length, slice_index_or}
 use Rattle.cells.specs.declared.cell.Cell.{Cell}
 use Rattle.cells.specs.Line.{blank, cell_at, is_left, is_right}
@@ -7,6 +7,7 @@ use Rattle.cells.specs.Page.{line_at}
 use Rattle.regions.specs.declared.rect.Rect.{Rect}
 use Rattle.regions.specs.Pages.{has}
 use Rattle.terminal_model.specs.Places.{place}
+use Rattle.terminal_model.specs.Screen.{IsInside}
 use Rattle.terminal_model.specs.Shows.{View}
 use Rattle.view.specs.Granted.{Window, Part, Piece, cursor_of, arrows_of, keypad_of}
 use Rattle.view.specs.Granted.{shown_cell, window_cell, part_cell, caption_cell, box_cell, cell_in}
@@ -48,12 +49,9 @@ IsBoxRow rect is_focused part row cells =
 
 -- ---- pieces
 
--- a place of a page, which counts its lines and columns from 1
-pub record IsOnPage (page : List (List Cell)) (line column : ℕ) : Type 0 where
-  pub below : 0 < line
-  pub above : line ≤ length page
-  pub right : 0 < column
-  pub left : column ≤ length (line_at page 0)
+-- a place of a page
+abbrev pub IsOnPage : List (List Cell) → ℕ → ℕ → Type 0
+IsOnPage page line column = IsInside (length page) (length (line_at page 0)) line column
 
 -- a rectangle of a page, which has a place for rows, and one for columns
 pub record IsPlaced (r : Rect) (page : List (List Cell)) : Type 0 where
@@ -65,10 +63,10 @@ pub record IsPlaced (r : Rect) (page : List (List Cell)) : Type 0 where
 pub record IsFree (r : Rect) (page : List (List Cell)) : Type 0 where
   pub wide : 0 < r.columns
   pub inside : (line column : ℕ) → has r line column ≡ true → IsOnPage page line column
-  pub starts : (line column : ℕ) → has r (line + 1) (column + 1) ≡ true
-      → column + 1 ≡ r.column → is_right (place page line column).shape ≡ false
-  pub ends : (line column : ℕ) → has r (line + 1) (column + 1) ≡ true
-      → column + 2 ≡ r.column + r.columns → is_left (place page line column).shape ≡ false
+  pub starts : (line column : ℕ) → has r line column ≡ true
+      → column ≡ r.column → is_right (place page line column).shape ≡ false
+  pub ends : (line column : ℕ) → has r line column ≡ true
+      → column + 1 ≡ r.column + r.columns → is_left (place page line column).shape ≡ false
 
 -- a piece without a place
 abbrev pub nowhere : Piece
@@ -84,8 +82,7 @@ AreFree ps page = (n : ℕ) → n < length ps → IsFree (slice_index_or ps n no
 -- what stands at a place of a page once a piece was laid over it
 abbrev pub laid : Piece → List (List Cell) → ℕ → ℕ → Cell
 laid p page line column =
-    if has p.rect (line + 1) (column + 1) then cell_in p (line + 1) (column + 1)
-    else place page line column
+    if has p.rect line column then cell_in p line column else place page line column
 
 -- a piece was laid over the page of a view, and nothing else changed
 pub record Lays (p : Piece) (old new : View) : Type 0 where

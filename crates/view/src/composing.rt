@@ -4,12 +4,11 @@ ghost use Rattle.std.specs.Prelude.{◌≡◌, ◌<◌, ◌+◌, true, IsTrue, I
 ghost use Rattle.std.specs.Str.{all_scalars};
 ghost use Rattle.std.specs.Str.Lossy.{utf8_lossy};
 ghost use Rattle.cells.specs.Page.{IsGrid};
-ghost use Rattle.view.specs.View.{HasSize, KeepsSize};
+ghost use Rattle.view.specs.View.{KeepsSize};
 ghost use Rattle.view.specs.Granted.{read, window_of, part_of, parts_of, key_modes_of};
-ghost use Rattle.view.specs.Composing.{ShowsParts, ShowsDrawable, HasFreePieces};
-ghost use Rattle.view.specs.Composing.{HasScalarCaption};
+ghost use Rattle.view.specs.Composing.{HasPageSize, ShowsParts, ShowsDrawable, HasFreePieces};
+ghost use Rattle.view.specs.Composing.{HasScalarCaption, TakesFocus, IsCursorOf};
 ghost use Rattle.view.specs.Composing.{LaysRow, LaysBoxRow, LaysBox, LaysSeparator, LaysStatus};
-ghost use Rattle.view.specs.Composing.{TakesFocus, FocusesOnFocused, IsCursorOf};
 
 use crate::pane::{Contents, Pane};
 use crate::region_rows::{REVERSE, box_row, first_shown, line_shown_whole};
@@ -29,12 +28,14 @@ pub fn compose(
     panes: &[Pane],
     status: &[u8],
 ) -> Result<View, AllocError>
-    ensures size { IfOk result (λ v. HasSize rects.now.status.line rects.now.status.columns v) }
+    requires each { length panes.now ≡ length rects.now.boxes.items }
+    requires focus { rects.now.focus < length rects.now.boxes.items }
+    ensures size { IfOk result (HasPageSize rects.now) }
     ensures exact { IfOk result (λ v. ShowsParts rects.now (parts_of panes.now) status.now v) }
     ensures drawable { IfOk result (λ v. ShowsDrawable rects.now (parts_of panes.now) v) }
 {
     let page = rects.status;
-    let Ok(view) = View::blank(alloc, page.line as usize, page.columns as usize) else {
+    let Ok(view) = View::blank(alloc, page.line as usize + 1, page.columns as usize) else {
         return Err(AllocError);
     };
     compose_on(alloc, view, rects, panes, status)
@@ -49,7 +50,9 @@ pub fn compose_over(
     panes: &[Pane],
     status: &[u8],
 ) -> Result<View, AllocError>
-    ensures size { IfOk result (λ v. HasSize rects.now.status.line rects.now.status.columns v) }
+    requires each { length panes.now ≡ length rects.now.boxes.items }
+    requires focus { rects.now.focus < length rects.now.boxes.items }
+    ensures size { IfOk result (HasPageSize rects.now) }
     ensures exact { IfOk result (λ v. ShowsParts rects.now (parts_of panes.now) status.now v) }
     ensures drawable { IfOk result (λ v. ShowsDrawable rects.now (parts_of panes.now) v) }
 {
@@ -62,13 +65,12 @@ pub fn compose_over(
 /// Whether a view has the size of a page that one region has alone: all that is put there is as wide
 /// as the page, and nothing of the view stays.
 fn is_covered(view: &View, rects: &Rects) -> bool
-    ensures size { IsTrue result
-        → HasSize rects.now.status.line rects.now.status.columns view.now }
+    ensures size { IsTrue result → HasPageSize rects.now view.now }
     ensures lone { IsTrue result → length rects.now.boxes.items ≡ 1 }
     ensures grid { IsTrue result → IsGrid view.now.page }
 {
     rects.boxes.len() == 1
-        && view.rows() == rects.status.line as usize
+        && view.rows() == rects.status.line as usize + 1
         && view.columns() == rects.status.columns as usize
 }
 
@@ -81,22 +83,23 @@ fn compose_on(
     panes: &[Pane],
     status: &[u8],
 ) -> Result<View, AllocError>
-    requires size { HasSize rects.now.status.line rects.now.status.columns view }
+    requires each { length panes.now ≡ length rects.now.boxes.items }
+    requires focus { rects.now.focus < length rects.now.boxes.items }
+    requires size { HasPageSize rects.now view }
     requires free { HasFreePieces rects.now (parts_of panes.now) status.now view }
-    ensures size { IfOk result (λ v. HasSize rects.now.status.line rects.now.status.columns v) }
+    ensures size { IfOk result (HasPageSize rects.now) }
     ensures exact { IfOk result (λ v. ShowsParts rects.now (parts_of panes.now) status.now v) }
     ensures drawable { IfOk result (λ v. ShowsDrawable rects.now (parts_of panes.now) v) }
 {
     for place in 0..rects.boxes.len() {
-        if let Some(pane) = panes.get(place) {
-            view.put_box(alloc, rects.boxes[place], pane, place == rects.focus)?;
-        }
+        let pane = &panes[place];
+        view.put_box(alloc, rects.boxes[place], pane, place == rects.focus)?;
     }
     for separator in &rects.separators {
         view.put_separator(*separator);
     }
     view.put_status(alloc, rects.status, status)?;
-    view.focus(rects, panes);
+    view.focus(rects.boxes[rects.focus], &panes[rects.focus]);
     Ok(view)
 }
 
@@ -107,9 +110,7 @@ impl View {
         ensures lays { LaysRow rect row cells.now self.old self.new }
     {
         let line = rect.line as usize + row as usize;
-        if 0 < line && 0 < rect.column {
-            self.put(line - 1, rect.column as usize - 1, cells);
-        }
+        self.put(line, rect.column as usize, cells);
     }
 
     fn put_box(
@@ -179,20 +180,9 @@ impl View {
         Ok(())
     }
 
-    /// The cursor and the modes of the keyboard are those of the focused region.
-    fn focus(&mut self, rects: &Rects, panes: &[Pane])
-        ensures size { KeepsSize self.old self.new }
-        ensures focused { FocusesOnFocused rects.now panes.now self.old self.new }
-    {
-        if rects.focus < rects.boxes.len() {
-            if let Some(pane) = panes.get(rects.focus) {
-                self.focus_pane(rects.boxes[rects.focus], pane);
-            }
-        }
-    }
-
-    /// They are those of its window, where it is readable.
-    fn focus_pane(&mut self, rect: Rect, pane: &Pane)
+    /// The cursor and the modes of the keyboard are those of the focused region: of its window, where
+    /// that is readable.
+    fn focus(&mut self, rect: Rect, pane: &Pane)
         ensures size { KeepsSize self.old self.new }
         ensures focused { TakesFocus rect (part_of pane.now) self.old self.new }
     {
@@ -232,8 +222,8 @@ fn cursor_in(rect: Rect, contents: &Contents) -> Cursor
             let row = line.saturating_sub(first_shown(contents, rows));
             if contents.shows_cursor && row < rows && column < columns {
                 Cursor::At {
-                    line: rect.line.saturating_sub(1).saturating_add(row as u16),
-                    column: rect.column.saturating_sub(1).saturating_add(column as u16),
+                    line: rect.line.saturating_add(row as u16),
+                    column: rect.column.saturating_add(column as u16),
                 }
             } else {
                 Cursor::Hidden

@@ -21,13 +21,13 @@ returns-clause-granted c =
     (subst
     (λ n. IsRects row.layout.shape row.layout.focus c.rows-rows.result n c.in-Ok.rects)
     c.columns-columns.ensures c.in-Ok.ensures.ok))
-    c.in-Ok.ensures.each c.in-Ok.ensures.focused
+    c.in-Ok.ensures.each c.in-Ok.ensures.focused (c.in-Ok.ensures.last ∙ c.rows-rows.ensures)
     (λ t st fit.
     ap (map part_of) c.deref-2.ensures.value
-    ∙ c.in_ok-panes.ensures t row.user row.layout.shown
+    ∙ c.in_ok-panes.ensures.shown t row.user row.layout.shown
     (subst (λ (parts : List Part). Matched (ShowsPart t row.user) row.layout.shown parts)
     (sym c.deref.ensures.value)
     (subst (λ (shown : List Shown). Matched (ShowsPart t row.user) shown c.in_ok-parts.parts.items)
-    c.shown.ensures.value (c.in_ok-parts.ensures t st fit))))
+    c.shown.ensures.value (c.in_ok-parts.ensures.shown t st fit))))
     (subst (SaysStatus c.args.state.now row) (sym text) c.in_ok-status.ensures)
     c.compose_over.ensures.size c.compose_over.ensures.exact c.compose_over.ensures.drawable

@@ -1,4 +1,4 @@
-use Rattle.std.proofs.Common.{map, ap, ◌∙◌}
+use Rattle.std.proofs.Common.{◌+◌, map, ap, ◌∙◌}
 use Rattle.terminal_model.specs.Places.{place}
 use Rattle.terminal_model.specs.Shows.{View}
 use Rattle.terminal_model.proofs.Places.{blank-at}
@@ -10,4 +10,4 @@ pub compose_on-requires-clause-free : goal.compose_on-requires-clause-free
 compose_on-requires-clause-free c = λ s rows columns is.
     let r = c.args.rects.now in
     blank_free r (map part_of c.args.panes.now) c.args.status.now s rows columns is c.in-Ok.view c.in-Ok.ensures.size
-    (λ l k. ap (λ (v : View). place v.page l k) c.in-Ok.ensures.ok ∙ blank-at r.status.line r.status.columns l k)
+    (λ l k. ap (λ (v : View). place v.page l k) c.in-Ok.ensures.ok ∙ blank-at (r.status.line + 1) r.status.columns l k)

@@ -1,14 +1,15 @@
-use Rattle.std.proofs.Common.{◌≡◌, ◌+◌, ◌<◌, ℕ, List, arith, map, sym, ap, ◌∙◌, length, lt-ltb, subst, get_or}
+use Rattle.std.proofs.Common.{◌≡◌, ◌+◌, ◌<◌, ℕ, List, arith, map, sym, ap, ◌∙◌, length, subst, get_or}
 use Rattle.std.proofs.lemmas.List.{get_or_default}
 use Rattle.cells.specs.Page.{IsGrid}
 use Rattle.terminal_model.specs.Shows.{View}
 use Rattle.regions.specs.declared.rect.Rect.{Rect}
-use Rattle.view.specs.View.{HasSize}
-use Rattle.view.specs.Granted.{AreParts, part_of, part_at, box_at, pieces}
-use Rattle.view.specs.Rows.{FocusesOn}
+use Rattle.view.specs.declared.pane.Pane.{Pane}
+use Rattle.view.specs.declared.pane.Pane.TheVariants.{Empty}
+use Rattle.view.specs.Composing.{HasPageSize}
+use Rattle.view.specs.Granted.{Part, AreParts, part_of, part_at, box_at, pieces}
+use Rattle.view.specs.Rows.{IsPlaced, FocusesOn}
 use Rattle.regions.specs.Shapes.{Shape}
-use Rattle.view.proofs.Pieces.{Stage, no_stage, box_stage, separator_stage, status_stage, focus_placed, composed, drawable_view, part_is, all_there}
-use Rattle.view.proofs.composing.compose_on.Goals.{in-Some+in_ok-put_box, in_default}
+use Rattle.view.proofs.Pieces.{Stage, no_stage, box_stage, separator_stage, status_stage, focus_placed, composed, drawable_view, part_is}
 use Rattle.view.proofs.composing.compose_on.Goals as goal
 
 pub loop-place-init : goal.loop-place-init
@@ -18,33 +19,23 @@ loop-place-init c = record {
 }
 
 pub loop-place-preserved : goal.loop-place-preserved
-loop-place-preserved c = elim c.match-get.branch [
-  | in-Some+in_ok-put_box w ↦
-      let r = c.args.rects.now in
-      let n : ℕ = c.loop-place.place in
-      let lt : n < length r.boxes.items = omega (arith, c.loop-place-test.true, c.len-place-end.ensures) in
-      let size = c.loop-place.invariant.size in
-      let put : HasSize r.status.line r.status.columns w.put_box.new.self = record {
-        rows_are = w.in_ok-put_box.ensures.size.rows_are ∙ size.rows_are;
-        columns_are = w.in_ok-put_box.ensures.size.columns_are ∙ size.columns_are;
-      } in
-      let rect : Rect = w.index.result.now in
-      let re : rect ≡ box_at r n = w.index.ensures ∙ get_or_default r.boxes.items n rect r.status lt in
-      record {
-        size = subst (λ (v : View). HasSize r.status.line r.status.columns v) (sym w.view-is) put;
-        stage = λ s rows columns is.
-            subst (λ (v : View). Stage r (map part_of c.args.panes.now) c.args.status.now (n + 1) v) (sym w.view-is)
-            (box_stage r (map part_of c.args.panes.now) c.args.status.now s rows columns is n rect (part_of w.in-Some.pane.now) c.loop-place.view w.put_box.new.self lt re
-            (part_is c.args.panes.now n w.in-Some.pane.now (all_there r c.args.panes.now s rows columns n is lt) w.in-Some.ensures.lookup.1) (c.loop-place.invariant.stage s rows columns is) w.in_ok-put_box.ensures.lays w.in_ok-put_box.ensures.characters);
-      }
-  | in_default w ↦ record {
-    size = subst (λ (v : View). HasSize c.args.rects.now.status.line c.args.rects.now.status.columns v) (sym w.view-is) c.loop-place.invariant.size;
-    stage = λ s rows columns is.
-        let t = lt-ltb c.loop-place.place (length c.args.panes.now) (all_there c.args.rects.now c.args.panes.now s rows columns c.loop-place.place is (omega (arith, c.loop-place-test.true, c.len-place-end.ensures))) in
-        let f = w.in_default.ensures.lookup.0 in
-        absurd (cc);
-  }
-]
+loop-place-preserved c =
+    let r = c.args.rects.now in
+    let n : ℕ = c.loop-place.place in
+    let lt : n < length r.boxes.items = omega (arith, c.loop-place-test.true, c.len-place-end.ensures) in
+    let there : n < length c.args.panes.now = omega (arith, lt, c.requires.each) in
+    let rect : Rect = c.index.result.now in
+    let re : rect ≡ box_at r n = c.index.ensures ∙ get_or_default r.boxes.items n rect r.status lt in
+    let pane : Pane = get_or c.args.panes.now n Empty in
+    record {
+      size = record {
+        rows_are = c.in_ok-put_box.ensures.size.rows_are ∙ c.loop-place.invariant.size.rows_are;
+        columns_are = c.in_ok-put_box.ensures.size.columns_are ∙ c.loop-place.invariant.size.columns_are;
+      };
+      stage = λ s rows columns is.
+          box_stage r (map part_of c.args.panes.now) c.args.status.now s rows columns is n rect (part_of pane) c.loop-place.view c.put_box.new.self lt re
+          (part_is c.args.panes.now n there) (c.loop-place.invariant.stage s rows columns is) c.in_ok-put_box.ensures.lays c.in_ok-put_box.ensures.characters;
+    }
 
 pub loop-separator-init : goal.loop-separator-init
 loop-separator-init c =
@@ -77,7 +68,7 @@ last_stage c s rows columns is =
     let all : c.loop-separator.separator-index ≡ length r.separators.items = omega (arith, c.loop-separator-test.false, c.loop-separator.auto.separator-index-end, ap length c.deref-separator-items.ensures.value) in
     status_stage r (map part_of c.args.panes.now) c.args.status.now s rows columns is c.loop-separator.separator-index c.loop-separator.view c.put_status.new.self all (inv.stage s rows columns is) c.in_ok-put_status.ensures.lays
 
-last_size : (c : goal.After-focus) → HasSize c.args.rects.now.status.line c.args.rects.now.status.columns c.put_status.new.self
+last_size : (c : goal.After-focus) → HasPageSize c.args.rects.now c.put_status.new.self
 last_size c = record {
   rows_are = c.in_ok-put_status.ensures.size.rows_are ∙ c.loop-separator.invariant.size.rows_are;
   columns_are = c.in_ok-put_status.ensures.size.columns_are ∙ c.loop-separator.invariant.size.columns_are;
@@ -90,7 +81,17 @@ focused : (c : goal.After-focus) (s : Shape) (rows columns : ℕ) → AreParts s
     → FocusesOn (box_at c.args.rects.now c.args.rects.now.focus) (part_at (map part_of c.args.panes.now) c.args.rects.now.focus) c.put_status.new.self c.focus.new.self
 focused c s rows columns is =
     let r = c.args.rects.now in
-    c.focus.ensures.focused is.focus (all_there r c.args.panes.now s rows columns r.focus is is.focus) (focus_placed r (map part_of c.args.panes.now) c.args.status.now s rows columns is c.put_status.new.self (last_size c))
+    let ps : List Part = map part_of c.args.panes.now in
+    let old : View = c.put_status.new.self in
+    let new : View = c.focus.new.self in
+    let rect : Rect = c.index-2.result.now in
+    let pane : Pane = get_or c.args.panes.now r.focus Empty in
+    let there : r.focus < length c.args.panes.now = omega (arith, c.requires.focus, c.requires.each) in
+    let re : rect ≡ box_at r r.focus = c.index-2.ensures ∙ get_or_default r.boxes.items r.focus rect r.status c.requires.focus in
+    let pe : part_of pane ≡ part_at ps r.focus = part_is c.args.panes.now r.focus there in
+    let placed : IsPlaced rect old.page = subst (λ (x : Rect). IsPlaced x old.page) (sym re) (focus_placed r ps c.args.status.now s rows columns is old (last_size c)) in
+    subst (λ (x : Rect). FocusesOn x (part_at ps r.focus) old new) re
+    (subst (λ (y : Part). FocusesOn rect y old new) pe (c.focus.ensures.focused placed))
 
 pub returns-clause-exact : goal.returns-clause-exact
 returns-clause-exact c = λ s rows columns is.

@@ -1,27 +1,22 @@
-use Rattle.std.proofs.Common.{◌≡◌, arith, map, sym, ◌∙◌, length, lt-ltb, subst}
-use Rattle.std.proofs.lemmas.List.{get_or_default}
-use Rattle.regions.specs.declared.rect.Rect.{Rect}
-use Rattle.view.specs.Granted.{Part, part_of, box_at, part_at}
-use Rattle.view.specs.Rows.{IsPlaced, FocusesOn}
-use Rattle.view.proofs.Pieces.{part_is}
+use Rattle.std.proofs.Common.{◌≡◌, ap, ◌∙◌, length}
+use Rattle.std.specs.Prelude.{IfSome}
+use Rattle.cells.specs.Page.{line_at, IsGrid}
+use Rattle.terminal_model.specs.Screen.{IsInside}
+use Rattle.terminal_model.specs.Shows.{View}
+use Rattle.view.specs.View.{place_of}
+use Rattle.view.specs.Granted.{Part, part_of, cursor_of}
+use Rattle.view.specs.declared.view.KeyModes.{KeyModes}
+use Rattle.view.proofs.Focusing.{line_fits, column_fits, cursor_inside, same_view}
 use Rattle.view.proofs.view.View.focus.Goals as goal
 
-pub returns-in-Some-clause-focused : goal.returns-in-Some-clause-focused
-returns-in-Some-clause-focused c = λ here there placed.
-    let r = c.args.rects.now in
-    let rect : Rect = c.index.result.now in
-    let part : Part = part_of c.in-Some.pane.now in
-    let re : rect ≡ box_at r r.focus = c.index.ensures ∙ get_or_default r.boxes.items r.focus rect r.status here in
-    let pe : part ≡ part_at (map part_of c.args.panes.now) r.focus = part_is c.args.panes.now r.focus c.in-Some.pane.now there c.in-Some.ensures.lookup.1 in
-    let done : FocusesOn rect part c.args.self.now c.focus_pane.new.self = c.focus_pane.ensures.focused (subst (λ (x : Rect). IsPlaced x c.args.self.now.page) (sym re) placed) in
-    subst (λ (x : Rect). FocusesOn x (part_at (map part_of c.args.panes.now) r.focus) c.args.self.now c.focus_pane.new.self) re
-    (subst (λ (y : Part). FocusesOn rect y c.args.self.now c.focus_pane.new.self) pe done)
-
-pub returns-in_default-clause-focused : goal.returns-in_default-clause-focused
-returns-in_default-clause-focused c = λ here there placed.
-    let t = lt-ltb c.args.rects.now.focus (length c.args.panes.now) there in
-    let f = c.in_default.ensures.lookup.0 in
-    absurd (cc)
-
-pub returns-else-rects-len-clause-focused : goal.returns-else-rects-len-clause-focused
-returns-else-rects-len-clause-focused c = λ here there placed. absurd (omega (arith, c.if-rects-len.false, c.len.ensures))
+pub returns-clause-focused : goal.returns-clause-focused
+returns-clause-focused c = λ placed.
+    let page = c.args.self.now.page in
+    let part : Part = part_of c.args.pane.now in
+    let page_is : c.self.inside.grid ≡ page = ap (λ (v : View). v.page) c.self.view_is in
+    let grid : IsGrid page = rw (← page_is) c.self.invariant.grid in
+    let at : place_of c.cursor_of.result ≡ cursor_of c.args.rect part = c.cursor_of.ensures (line_fits c.args.rect page placed grid) (column_fits c.args.rect page placed grid) in
+    let inside : IfSome (place_of c.cursor_of.result) (λ p. IsInside (length c.self.inside.grid) (length (line_at c.self.inside.grid 0)) p.line p.column) = rw (at, page_is) (cursor_inside c.args.rect page placed part) in
+    let modes = c.modes_of-self-inside.ensures in
+    c.set_cursor.ensures.value inside
+    ∙ same_view _ _ _ _ _ _ _ _ page_is at (ap (λ (m : KeyModes). m.has_application_arrows) modes) (ap (λ (m : KeyModes). m.has_application_keypad) modes)
