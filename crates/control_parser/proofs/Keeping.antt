@@ -7,7 +7,7 @@ use Rattle.charsets.specs.declared.unit.Unit.{Unit}
 use Rattle.charsets.specs.declared.unit.Unit.TheVariants as units
 use Rattle.control_parser.specs.declared.func.Func.{Func}
 use Rattle.control_parser.specs.declared.func.Func.TheVariants.{Print, Control, Esc, Csi}
-use Rattle.control_parser.specs.declared.state.Text.{Text}
+use Rattle.control_parser.specs.declared.state.SequenceText.{SequenceText}
 use Rattle.control_parser.specs.declared.state.State.{State}
 use Rattle.control_parser.specs.declared.state.State.TheVariants as state
 use Rattle.control_parser.specs.Text.{is_intermediate, is_well_formed, fields}
@@ -72,15 +72,15 @@ inside_tracks here r u s x e h =
     tracks_cond (is_control (code u)) _ _ _ _ (record { funcs = refl; rest = e })
     (tracks_cond (code u == 0x7F) _ _ _ _ (record { funcs = refl; rest = e }) h)
 
-abbrev pub csi_list : Option Text → ℕ → List Func
+abbrev pub csi_list : Option SequenceText → ℕ → List Func
 csi_list None c = []
 csi_list (Some p) c = Csi p.mark p.params p.intermediates c ∷ []
 
-pub control_of-parts : (t : List ℕ) (c : ℕ) (o : Option Text) → parts t ≡ o → control_of t c ≡ csi_list o c
+pub control_of-parts : (t : List ℕ) (c : ℕ) (o : Option SequenceText) → parts t ≡ o → control_of t c ≡ csi_list o c
 unfolding parts
 control_of-parts t c o h = by (is_well_formed t) _ ∙ ap (λ o. csi_list o c) h
   where
-    by : (b : Bool) (p : Text) → cond b (Csi p.mark p.params p.intermediates c ∷ []) [] ≡ csi_list (cond b (Some p) None) c
+    by : (b : Bool) (p : SequenceText) → cond b (Csi p.mark p.params p.intermediates c ∷ []) [] ≡ csi_list (cond b (Some p) None) c
     by true p = refl
     by false p = refl
 
@@ -108,12 +108,12 @@ escape_tracks t u false e = inside_tracks state.EscapeIgnored (escape t) u _ _ (
     (tracks_right (length t == 0) _ _ _ (grind (arith, nat_tests)) (record { funcs = escape_of_as t (code u) false e; rest = refl }))
     (broken_tracks u true)))
 
-grown_tracks : (o : Option Text) (t : List ℕ) → parts t ≡ o → Tracks (grown_step o) ([], control t)
+grown_tracks : (o : Option SequenceText) (t : List ℕ) → parts t ≡ o → Tracks (grown_step o) ([], control t)
 unfolding kept
 grown_tracks None t h = record { funcs = refl; rest = ap kept_text (sym h) }
 grown_tracks (Some p) t h = record { funcs = refl; rest = ap kept_text (sym h) }
 
-control_tracks : (t : List ℕ) (u : Unit) (o : Option Text) → parts t ≡ o → Tracks (step_of (kept_text o) u) (rest_step (control t) u)
+control_tracks : (t : List ℕ) (u : Unit) (o : Option SequenceText) → parts t ≡ o → Tracks (step_of (kept_text o) u) (rest_step (control t) u)
 unfolding kept
 control_tracks t u (Some p) e = inside_tracks (state.Control p) (control t) u _ _ (ap kept_text (sym e))
     (tracks_cond (is_sequence_text (code u)) _ _ _ _ (grown_tracks (text_grown p (code u)) (t ++ code u ∷ []) (parts-push t (code u) ∙ ap (λ o. grown o (code u)) e))

@@ -11,7 +11,7 @@ use Rattle.control_parser.specs.declared.func.Func.{Func}
 use Rattle.control_parser.specs.declared.func.Func.TheVariants.{Print}
 use Rattle.control_parser.specs.declared.state.State.{State}
 use Rattle.control_parser.specs.declared.state.State.TheVariants as state
-use Rattle.control_parser.specs.declared.state.Text.{Text}
+use Rattle.control_parser.specs.declared.state.SequenceText.{SequenceText}
 use Rattle.control_parser.specs.Grammar.{Rest, nothing, escape, control, string, osc, is_graphic, with_front, functions, functions_behind}
 use Rattle.control_parser.specs.Kept.{kept, kept_text, parts, opening, functions_of_pieces, StandsFor}
 use Rattle.control_parser.proofs.Machine.{machine, functions_behind-machine}
@@ -72,7 +72,7 @@ kept-ground (escape t) h = by (nat_le (length t) 2) h
     by false h = absurd (cc)
 kept-ground (control t) h = by (parts t) h
   where
-    by : (o : Option Text) → kept_text o ≡ state.Ground → control t ≡ nothing
+    by : (o : Option SequenceText) → kept_text o ≡ state.Ground → control t ≡ nothing
     by None h = absurd (cc)
     by (Some x) h = absurd (cc)
 kept-ground string h = absurd (cc)

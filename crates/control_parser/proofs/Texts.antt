@@ -5,7 +5,7 @@ use Rattle.std.specs.List.{list_all}
 use Rattle.std.proofs.lemmas.Bool.Decides.{nat_tests}
 use Rattle.std.proofs.lemmas.Bool.{cases_Bool, cases_lt}
 use Rattle.std.proofs.lemmas.List.{length-take, take-append-le}
-use Rattle.control_parser.specs.declared.state.Text.{Text}
+use Rattle.control_parser.specs.declared.state.SequenceText.{SequenceText}
 use Rattle.control_parser.specs.Text.{is_intermediate, is_digit, is_number, is_mark, while, number_after, value, onto_first, fields, values, mark_of, unmarked, longer, digit_added}
 use Rattle.control_parser.specs.Steps.{text_grown}
 use Rattle.control_parser.specs.Kept.{parts}
@@ -140,13 +140,13 @@ unmarked-push x xs c = by (is_mark x)
 abbrev are_fine : List ℕ → Bool
 are_fine is = list_all is_intermediate is && nat_le (length is) 2
 
-abbrev found : Bool → Option ℕ → List ℕ → List ℕ → Text
+abbrev found : Bool → Option ℕ → List ℕ → List ℕ → SequenceText
 found begun mark front is = record { begun = begun; mark = mark; params = take 16 (values front); over = nat_lt 16 (length (values front)); intermediates = is }
 
-abbrev finish : Bool → Option ℕ → List ℕ × List ℕ → Option Text
+abbrev finish : Bool → Option ℕ → List ℕ × List ℕ → Option SequenceText
 finish begun mark w = cond (are_fine w.1) (Some (found begun mark w.0 w.1)) None
 
-abbrev pub grown : Option Text → ℕ → Option Text
+abbrev pub grown : Option SequenceText → ℕ → Option SequenceText
 grown None c = None
 grown (Some t) c = text_grown t c
 
@@ -189,7 +189,7 @@ next_found begun mark front c h =
     ∙ ap (λ o. Some (record { begun = true; mark = mark; params = cond (nat_lt (length (take 16 vs)) 16) (take 16 vs ++ 0 ∷ []) (take 16 vs); over = o; intermediates = [] })) (over-next vs)
 
 -- behind numbers alone
-chosen : (mark : Option ℕ) (front : List ℕ) (c : ℕ) (i d s m : Bool) (in_i in_d in_s in_m : Option Text) → (i ≡ true → (d || s) ≡ false) → m ≡ false
+chosen : (mark : Option ℕ) (front : List ℕ) (c : ℕ) (i d s m : Bool) (in_i in_d in_s in_m : Option SequenceText) → (i ≡ true → (d || s) ≡ false) → m ≡ false
     → finish true mark (front, c ∷ []) ≡ cond i in_i None
     → (d ≡ true → Some (found true mark (front ++ c ∷ []) []) ≡ in_d) → (s ≡ true → Some (found true mark (front ++ c ∷ []) []) ≡ in_s)
     → finish true mark (cond (d || s) (front ++ c ∷ [], []) (front, c ∷ [])) ≡ cond i in_i (cond d in_d (cond s in_s (cond m in_m None)))
@@ -230,7 +230,7 @@ fine-push is c =
     ap (λ b. b && nat_le (length (is ++ c ∷ [])) 2) (all-push is_intermediate is c)
     ∙ fine_by (list_all is_intermediate is) (is_intermediate c) (nat_le (length is) 2) (not (length is == 2)) (nat_le (length (is ++ c ∷ [])) 2) m
 
-more_by : (f q e z : Bool) (t new : Text) (c : ℕ) (other : Option Text) → z ≡ false → text_grown t c ≡ cond q (cond e None (Some new)) (cond (not z) None other)
+more_by : (f q e z : Bool) (t new : SequenceText) (c : ℕ) (other : Option SequenceText) → z ≡ false → text_grown t c ≡ cond q (cond e None (Some new)) (cond (not z) None other)
     → cond (f && (q && not e)) (Some new) None ≡ grown (cond f (Some t) None) c
 more_by false q e z t new c other y h = refl
 more_by true true true z t new c other y h = sym h
@@ -253,7 +253,7 @@ full_mark : (c : ℕ) (xs : List ℕ) → IsFull xs → (is_mark c && not (not (
 full_mark c [] h = absurd h
 full_mark c (x ∷ xs) h = let e : (length (x ∷ xs) == 0) ≡ false = grind (arith, nat_tests) in rw e (and-false (is_mark c))
 
-four : (i d s m : Bool) (in_i in_d in_s in_m : Option Text) → i ≡ false → d ≡ false → s ≡ false → m ≡ true → cond i in_i (cond d in_d (cond s in_s (cond m in_m None))) ≡ in_m
+four : (i d s m : Bool) (in_i in_d in_s in_m : Option SequenceText) → i ≡ false → d ≡ false → s ≡ false → m ≡ true → cond i in_i (cond d in_d (cond s in_s (cond m in_m None))) ≡ in_m
 four i d s m in_i in_d in_s in_m a b e f = rw (a, b, e, f) refl
 
 marked : (c : ℕ) (b : Bool) → b ≡ true

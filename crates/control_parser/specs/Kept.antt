@@ -4,7 +4,7 @@ use Rattle.std.specs.Prelude.{length, map, Option, Some, None}
 use Rattle.charsets.specs.declared.unit.Unit.{Unit}
 use Rattle.charsets.specs.declared.unit.Unit.TheVariants.{Code}
 use Rattle.control_parser.specs.declared.func.Func.{Func}
-use Rattle.control_parser.specs.declared.state.Text.{Text}
+use Rattle.control_parser.specs.declared.state.SequenceText.{SequenceText}
 use Rattle.control_parser.specs.declared.state.State.{State}
 use Rattle.control_parser.specs.declared.state.State.TheVariants.{Ground, Escape, EscapeIgnored}
 use Rattle.control_parser.specs.declared.state.State.TheVariants.{Control, ControlIgnored, String}
@@ -15,7 +15,7 @@ use Rattle.control_parser.specs.Grammar.{Rest, nothing, escape, control, string,
 use Rattle.control_parser.specs.Grammar.{functions}
 
 -- the parts of a control sequence's text so far, or None where it is ignored
-unfoldable pub parts : List ℕ → Option Text
+unfoldable pub parts : List ℕ → Option SequenceText
 parts text = if is_well_formed text then Some (record {
   begun = not (length text == 0);
   mark = mark_of text;
@@ -24,7 +24,7 @@ parts text = if is_well_formed text then Some (record {
   intermediates = intermediates_of text;
 }) else None
 
-abbrev pub kept_text : Option Text → State
+abbrev pub kept_text : Option SequenceText → State
 kept_text None = ControlIgnored
 kept_text (Some t) = Control t
 

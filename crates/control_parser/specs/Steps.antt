@@ -5,29 +5,29 @@ use Rattle.std.specs.Prelude.{if◌then◌else◌, List, [], ◌∷◌, ◌++◌
 use Rattle.charsets.specs.declared.unit.Unit.{Unit}
 use Rattle.control_parser.specs.declared.func.Func.{Func}
 use Rattle.control_parser.specs.declared.func.Func.TheVariants.{Print, Control, Esc, Csi}
-use Rattle.control_parser.specs.declared.state.Text.{Text}
+use Rattle.control_parser.specs.declared.state.SequenceText.{SequenceText}
 use Rattle.control_parser.specs.declared.state.State.{State}
 use Rattle.control_parser.specs.declared.state.State.TheVariants as state
 use Rattle.control_parser.specs.Text.{is_intermediate, is_digit, is_mark, with_last, digit_added}
 use Rattle.control_parser.specs.Grammar.{code, is_control, is_c1, is_sequence_text}
 use Rattle.control_parser.specs.Grammar.{is_string_opener, alone}
 
-abbrev pub no_text : Text
+abbrev pub no_text : SequenceText
 no_text = record { begun = false; mark = None; params = 0 ∷ []; over = false; intermediates = [] }
 
 -- one intermediate more, of at most two
-abbrev pub with_intermediate : Text → ℕ → Option Text
+abbrev pub with_intermediate : SequenceText → ℕ → Option SequenceText
 with_intermediate t c =
     if length t.intermediates == 2 then None
     else Some (record t { begun = true; intermediates = t.intermediates ++ c ∷ [] })
 
 -- one digit more of the last parameter
-abbrev pub with_digit : Text → ℕ → Text
+abbrev pub with_digit : SequenceText → ℕ → SequenceText
 with_digit t d =
     record t { begun = true; params = if t.over then t.params else digit_added t.params d }
 
 -- one parameter more, of at most sixteen
-abbrev pub with_parameter : Text → Text
+abbrev pub with_parameter : SequenceText → SequenceText
 with_parameter t =
     record t {
       begun = true;
@@ -35,7 +35,7 @@ with_parameter t =
       over = if nat_lt (length t.params) 16 then t.over else true;
     }
 
-abbrev pub text_grown : Text → ℕ → Option Text
+abbrev pub text_grown : SequenceText → ℕ → Option SequenceText
 text_grown t c =
     if is_intermediate c then with_intermediate t c
     else (if not (length t.intermediates == 0) then None
@@ -45,11 +45,11 @@ text_grown t c =
     else None))))
 
 -- the text whose last parameter has this value
-abbrev pub valued : Text → ℕ → Text
+abbrev pub valued : SequenceText → ℕ → SequenceText
 valued t value = record t { params = with_last t.params value }
 
 -- a digit counts for the last parameter
-pub record TakesDigits (t : Text) : Type 0 where
+pub record TakesDigits (t : SequenceText) : Type 0 where
   pub few : t.over ≡ false
   pub inside : t.intermediates ≡ []
 
@@ -83,7 +83,7 @@ inside_step here u otherwise =
 abbrev pub breaks_string : ℕ → Bool
 breaks_string c = c == 0x18 || (c == 0x1A || (c == 0x1B || is_c1 c))
 
-abbrev pub grown_step : Option Text → Option Func × State
+abbrev pub grown_step : Option SequenceText → Option Func × State
 grown_step None = (None, state.ControlIgnored)
 grown_step (Some t) = (None, state.Control t)
 
@@ -100,7 +100,7 @@ escape_step is u =
     (if length is == 0 then begun_step (code u) else (Some (Esc is (code u)), state.Ground))
     else broken_step u true)
 
-abbrev pub control_step : Text → Unit → Option Func × State
+abbrev pub control_step : SequenceText → Unit → Option Func × State
 control_step t u =
     if is_sequence_text (code u) then grown_step (text_grown t (code u))
     else (if is_final_from 0x3F (code u) then

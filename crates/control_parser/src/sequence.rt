@@ -5,14 +5,14 @@ ghost use Rattle.control_parser.specs.declared.func.Func.TheVariants.{Csi};
 ghost use Rattle.control_parser.specs.Spelling.{ReadsBehindCsi};
 ghost use Rattle.control_parser.specs.Text.{longer};
 
-use crate::state::Text;
+use crate::state::SequenceText;
 use std::marker::Model;
 
 /// The place of a control sequence that is read at once. It is used for one after another, so that
 /// none is copied.
 #[derive(Debug, Drop)]
 pub struct Sequence {
-    text: Text,
+    text: SequenceText,
     /// The final byte.
     last: u8,
 }
@@ -30,7 +30,7 @@ impl Sequence {
     /// Some control sequence.
     pub fn new() -> Sequence {
         Sequence {
-            text: Text::empty(),
+            text: SequenceText::empty(),
             last: b'm',
         }
     }

@@ -14,7 +14,7 @@ use charsets::Unit;
 
 /// The text of a control sequence so far.
 #[derive(Clone, Copy, Debug)]
-pub struct Text {
+pub struct SequenceText {
     pub begun: bool,
     pub mark: Option<u8>,
     pub params: Params,
@@ -30,7 +30,7 @@ pub enum State {
     Escape(Intermediates),
     /// An escape sequence with more than two intermediates.
     EscapeIgnored,
-    Control(Text),
+    Control(SequenceText),
     /// A control sequence whose text can't become well formed.
     ControlIgnored,
     /// DCS, SOS, PM, APC or ESC k.
@@ -82,12 +82,12 @@ fn ends_string(c: u32) -> bool
     c == CAN || c == SUB || c == ESC || is_c1(c)
 }
 
-impl Text {
+impl SequenceText {
     /// The text of a control sequence that has just begun.
-    pub fn empty() -> Text
+    pub fn empty() -> SequenceText
         ensures { result ≡ no_text }
     {
-        Text {
+        SequenceText {
             begun: false,
             mark: None,
             params: Params::absent(),
@@ -165,7 +165,7 @@ impl State {
         ensures { (result, self.new) ≡ begun_step last }
     {
         *self = match last {
-            b'[' => State::Control(Text::empty()),
+            b'[' => State::Control(SequenceText::empty()),
             b']' => State::Osc,
             b'P' | b'X' | b'^' | b'_' | b'k' => State::String,
             _ => {

@@ -2,7 +2,7 @@ use Rattle.std.proofs.Common.{◌≡◌, get_or, ◌+◌, ◌<◌, ◌-◌, ◌�
 use Rattle.std.proofs.lemmas.List.{get_or-take, get_or-drop}
 use Rattle.charsets.specs.declared.unit.Coding.TheVariants.{Utf8}
 use Rattle.control_parser.specs.declared.func.Func.TheVariants.{Csi}
-use Rattle.control_parser.specs.declared.state.Text.{Text}
+use Rattle.control_parser.specs.declared.state.SequenceText.{SequenceText}
 use Rattle.control_parser.specs.Text.{value_of, with_last}
 use Rattle.control_parser.specs.Spelling.{ReadsAs}
 use Rattle.control_parser.specs.Steps.{no_text, valued}
@@ -26,7 +26,7 @@ pub loop-at-preserved : goal.loop-at-preserved
 loop-at-preserved c =
     let bytes : List ℕ = c.args.bytes.now in
     let rest : List ℕ = take (length bytes - c.loop-at.at) (drop c.loop-at.at bytes) in
-    let text : Text = record no_text { params = c.loop-at.self-inside.params } in
+    let text : SequenceText = record no_text { params = c.loop-at.self-inside.params } in
     let count = c.numeral-value.result.1 - 1 in
     let is = c.numeral-value.ensures in
     let some : c.loop-at.at + count < length bytes = omega (arith, is.some, is.few, c.saturating_sub-end.ensures, c.loop-at-test.true) in
@@ -49,7 +49,7 @@ pub returns-then-c-le126-clause-reads : goal.returns-then-c-le126-clause-reads
 returns-then-c-le126-clause-reads c = λ positive.
     let bytes : List ℕ = c.args.bytes.now in
     let rest : List ℕ = take (length bytes - c.loop-at.at) (drop c.loop-at.at bytes) in
-    let text : Text = record no_text { params = c.loop-at.self-inside.params } in
+    let text : SequenceText = record no_text { params = c.loop-at.self-inside.params } in
     let count = c.numeral-value.result.1 - 1 in
     let is = c.numeral-value.ensures in
     let some : c.loop-at.at + count < length bytes = omega (arith, is.some, is.few, c.saturating_sub-end.ensures, c.loop-at-test.true) in
