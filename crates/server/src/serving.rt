@@ -27,7 +27,7 @@ use std::time::Clock;
 // The users' file is read by the concrete runtime: of a generic one, a bound with associated types
 // (`Files`) isn't known in other threads.
 /// What a server stands on beside its handles.
-#[derive(Clone, Copy)]
+#[derive(Drop)]
 pub struct Host<G> {
     /// Where the users' file is read, and on whose standard error is told who comes and goes.
     pub runtime: HostRuntime,
@@ -36,7 +36,7 @@ pub struct Host<G> {
 }
 
 /// What the words of `muxd` ask for.
-#[derive(Clone, Copy, Debug)]
+#[derive(Drop)]
 struct Asked<'a> {
     socket: &'a str,
     users: &'a str,
@@ -46,36 +46,42 @@ struct Asked<'a> {
     tells: bool,
 }
 
+// The start of a loop, and how others reach it.
+fn place(alloc: Global, me: usize, poll: Poll) -> io::Result<(LoopStart, LoopHandle)> {
+    let waker = Waker::new(poll.registry(), WAKE)?;
+    let registry = poll.registry().try_clone()?;
+    let start = LoopStart {
+        me,
+        poll,
+        registry,
+        acceptor: None,
+    };
+    Ok((start, LoopHandle::new(waker, VecDeque::new(alloc))))
+}
+
+// The acceptor of a loop that waits at this poll.
+fn acceptor(alloc: Global, mut listener: UnixListener, poll: &Poll) -> io::Result<Acceptor> {
+    let registry = poll.registry();
+    registry.register(&mut listener, LISTEN, Interest::READABLE)?;
+    Ok(Acceptor::new(alloc, listener, registry.try_clone()?)?)
+}
+
 // A place for each loop, of which the first has the listener, and how others reach them.
 fn places<R: Net>(
     rt: &R,
     alloc: Global,
     loops: usize,
-    mut listener: UnixListener,
-) -> Result<(Vec<LoopStart>, Vec<LoopHandle>), ServeFault> {
+    listener: UnixListener,
+) -> io::Result<(Vec<LoopStart>, Vec<LoopHandle>)> {
     let mut starts = Vec::new(alloc);
     let mut loop_handles = Vec::new(alloc);
-    let mut acceptor = None;
-    let mut polls = Vec::new(alloc);
-    for _ in 0..loops {
-        polls.push(Poll::new(rt)?)?;
+    for me in 0..loops {
+        let (start, loop_handle) = place(alloc, me, Poll::new(rt)?)?;
+        starts.push(start)?;
+        loop_handles.push(loop_handle)?;
     }
-    if let Some(poll) = polls.first() {
-        poll.registry()
-            .register(&mut listener, LISTEN, Interest::READABLE)?;
-        acceptor = Some(Acceptor::new(alloc, listener, poll.registry().try_clone()?)?);
-    }
-    for poll in polls {
-        let waker = Waker::new(poll.registry(), WAKE)?;
-        loop_handles.push(LoopHandle::new(waker, VecDeque::new(alloc)))?;
-        let me = starts.len();
-        let registry = poll.registry().try_clone()?;
-        starts.push(LoopStart {
-            me,
-            poll,
-            registry,
-            acceptor: acceptor.take(),
-        })?;
+    if let Some(first) = starts.first_mut() {
+        first.acceptor = Some(acceptor(alloc, listener, &first.poll)?);
     }
     Ok((starts, loop_handles))
 }
@@ -135,7 +141,7 @@ where
 // What the loops share, and their starts.
 fn shared<R: Net + AllocGlobal>(
     rt: &R,
-    asked: Asked,
+    asked: &Asked,
     watched: Watched,
     listener: UnixListener,
 ) -> Result<(Shared, Vec<LoopStart>), ServeFault> {
@@ -172,7 +178,7 @@ fn journal<'a>(
 // Serves these users on a listener, behind what the owner commands at first.
 fn begin<R, G, O>(
     rt: &R,
-    asked: Asked,
+    asked: &Asked,
     host: Host<G>,
     (users, seen, setup): (Users, Stamp, Setup),
     listener: UnixListener,
@@ -209,7 +215,7 @@ where
 
 fn run<R, G, O, E>(
     rt: &R,
-    asked: Asked,
+    asked: &Asked,
     host: Host<G>,
     output: &mut O,
     errors: &mut E,
@@ -286,7 +292,7 @@ where
         loops: usize::from(loops),
         tells: matches.get_flag("log"),
     };
-    match run(rt, asked, host, output, errors) {
+    match run(rt, &asked, host, output, errors) {
         Ok(()) => 0,
         Err(fault) => {
             let _ = writeln!(errors, "muxd: {fault}");

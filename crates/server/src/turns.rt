@@ -4,8 +4,10 @@ use crate::acceptor::Acceptor;
 use crate::loop_handle::{LoopHandle, LoopStart, Shared};
 use crate::winding::wind_up;
 use mio::{Events, Poll, Registry, Token};
+use server_log::Log;
 use server_loop::{
-    End, Gate, LULL, Loop, LoopBody, NewsLine, Pace, Recorder, Seat, SharedSession, Trail,
+    End, Gate, LULL, Loop, LoopBody, News, NewsLine, Pace, Pending, Recorder, Seat, SharedSession,
+    Submitted, Trail,
 };
 use server_system::{Setup, UsersSource, Wired};
 use server_trail::{Cause, Journal};
@@ -57,6 +59,41 @@ impl Watch<'_> {
         self.acceptor.as_ref().is_some_and(|it| it.is_stuck)
     }
 
+    // How long to wait for events, where the loop itself has this to do.
+    fn timeout(&self, pending: Pending) -> Option<Duration> {
+        if pending == Pending::Work || self.has_more() {
+            Some(Duration::ZERO)
+        } else if self.pace.expects_more() {
+            Some(Duration::from_millis(LULL))
+        } else if pending == Pending::Retry || self.is_stuck() || self.pace.is_holding() {
+            Some(Duration::from_millis(PAUSE))
+        } else if pending == Pending::Patience {
+            Some(Duration::from_millis(LOOK))
+        } else {
+            None
+        }
+    }
+
+    // Waits until the loop has something to do. It is woken by news only while it sleeps.
+    fn sleep(&mut self, pending: Pending) -> io::Result<()> {
+        let mut longest = self.timeout(pending);
+        if longest != Some(Duration::ZERO) && !self.loop_handle.may_sleep() {
+            longest = Some(Duration::ZERO);
+        }
+        let waited = self.wait(longest);
+        self.loop_handle.is_awake();
+        waited
+    }
+
+    // Wakes the other loops where they may have something to do. While much comes to this one,
+    // draws wait, and so does the news that there is output to draw.
+    fn tell_others(&self, submitted: Submitted, is_news: bool) -> io::Result<()> {
+        if is_news || submitted.has_acted || (submitted.is_some && !self.pace.is_busy()) {
+            self.shared.wake_others(self.me)?;
+        }
+        Ok(())
+    }
+
     /// Waits for events, at most so long. An interrupted wait has none.
     pub fn wait(&mut self, timeout: Option<Duration>) -> io::Result<()> {
         match self.poll.poll(&mut self.events, timeout) {
@@ -87,32 +124,6 @@ fn admit<'a, L: Roll, G: Gate + Drop>(
             let _ = own.peers.admit(wired, handed.is_extra);
         }
     }
-}
-
-// How long to wait for events.
-fn timeout<L: Roll, G: Gate + Drop>(watch: &Watch, own: &Loop<Wired, G, L>) -> Option<Duration> {
-    if own.peers.is_due() || watch.has_more() {
-        Some(Duration::ZERO)
-    } else if watch.pace.expects_more() {
-        Some(Duration::from_millis(LULL))
-    } else if own.peers.has_waiting() || watch.is_stuck() || watch.pace.is_holding() {
-        Some(Duration::from_millis(PAUSE))
-    } else if own.peers.is_awaiting() {
-        Some(Duration::from_millis(LOOK))
-    } else {
-        None
-    }
-}
-
-// Waits until the loop has something to do. It is woken by news only while it sleeps.
-fn sleep<L: Roll, G: Gate + Drop>(watch: &mut Watch, own: &Loop<Wired, G, L>) -> io::Result<()> {
-    let mut longest = timeout(watch, own);
-    if longest != Some(Duration::ZERO) && !watch.loop_handle.may_sleep() {
-        longest = Some(Duration::ZERO);
-    }
-    let waited = watch.wait(longest);
-    watch.loop_handle.is_awake();
-    waited
 }
 
 // Marks the connections that have something to read. Whether somebody may wait to be taken in.
@@ -156,46 +167,10 @@ fn take_in<'a, L: Roll, G: Gate + Drop>(
     Ok(())
 }
 
-// Wakes the other loops where they may have something to do. While much comes to this one, draws
-// wait, and so does the news that there is output to draw.
-fn tell_others<L: Roll, G: Gate + Drop>(
-    watch: &Watch,
-    own: &mut Loop<Wired, G, L>,
-    is_news: bool,
-) -> io::Result<()> {
-    let has_acted = own.peers.take_acted();
-    let has_submitted = own.peers.take_submitted();
-    if is_news || has_acted || (has_submitted && !watch.pace.is_busy()) {
-        watch.shared.wake_others(watch.me)?;
-    }
-    Ok(())
-}
-
-// Who may connect is looked at anew, where a first message may be there.
-fn look_at_users<L: Roll, G: Gate + Drop, U: UsersSource, R: Clock + Wait>(
-    rt: &R,
-    server: &Server<G, U>,
-    count: &mut u64,
-    own: &mut Loop<Wired, G, L>,
-) {
-    if own.peers.has_newcomer() {
-        let shared = &server.shared;
-        if let Some(users) = shared.watched.newest(rt, &shared.log, &server.users, count) {
-            own.users = Some(users);
-        }
-    }
-}
-
 // Tells what happened.
-fn tell_news<L: Roll, G: Gate + Drop, R: Clock + Wait>(
-    rt: &R,
-    shared: &Shared,
-    own: &mut Loop<Wired, G, L>,
-) {
-    if shared.tells {
-        for news in own.peers.take_news() {
-            shared.log.put(rt, &NewsLine(news));
-        }
+fn tell_news<R: Clock + Wait>(rt: &R, log: &Log, happened: Vec<News>) {
+    for news in happened {
+        log.put(rt, &NewsLine(news));
     }
 }
 
@@ -210,16 +185,6 @@ fn begin_turn<'a, L: Roll, G: Gate + Drop, R: Clock + Wait>(
     }
     let is_asked = sort(&watch.events, own);
     take_in(rt, watch, own, is_asked)
-}
-
-// Why the server is to end, if it is. Where the trail's file can't go on, it ends as at a full trail.
-fn end_of<L: Roll, G: Gate + Drop>(
-    session: &SharedSession<L>,
-    own: &Loop<Wired, G, L>,
-) -> Option<End> {
-    let recorder = session.recorder.as_ref();
-    let stopped = recorder.and_then(|recorder| recorder.stopped());
-    own.peers.end().or(stopped.map(|_stopped| End::TrailFull))
 }
 
 // One turn: what came is read and done, and what comes of it is written.
@@ -237,14 +202,48 @@ fn turn<L: Roll, G: Gate + Drop, R: Clock + Wait>(
     let is_news = watch
         .pace
         .note(&watch.shared.busy, now, own.take_read_much());
-    tell_others(watch, own, is_news)?;
+    watch.tell_others(own.peers.take_submitted(), is_news)?;
     let holds_draws = watch.pace.holds(&watch.shared.busy, now, own.take_typed());
     own.expire();
     own.peers.end_turn(rt, session, holds_draws);
-    tell_others(watch, own, false)?;
-    tell_news(rt, watch.shared, own);
-    if let Some(end) = end_of(session, own) {
-        watch.shared.end(end)?;
+    watch.pace.draw(now, own.peers.take_drawn());
+    watch.tell_others(own.peers.take_submitted(), false)?;
+    tell_news(rt, &watch.shared.log, own.peers.take_news());
+    match own.peers.end() {
+        Some(end) => watch.shared.end(end),
+        // Where the trail's file can't go on, the server ends as at a full trail.
+        None if session.has_stopped() => watch.shared.end(End::TrailFull),
+        None => Ok(()),
+    }
+}
+
+// Turns until the server ends.
+fn take_turns<'a, L: Roll, G: Gate + Drop, U: UsersSource, R: Clock + Wait>(
+    rt: &R,
+    server: &Server<G, U>,
+    session: &SharedSession<L>,
+    watch: &mut Watch<'a>,
+    own: &mut Loop<Wired<'a>, G, L>,
+) -> io::Result<()> {
+    let shared = &server.shared;
+    let mut count = 0;
+    for _ in rt.forever() {
+        watch.sleep(own.peers.pending())?;
+        begin_turn(rt, watch, own)?;
+        if own.peers.has_newcomer() {
+            // Who may connect may have changed.
+            let watched = &shared.watched;
+            if let Some(users) = watched.newest(rt, &shared.log, &server.users, &mut count) {
+                own.users = Some(users);
+            }
+        }
+        turn(rt, session, watch, own)?;
+        if let Some(end) = shared.over.get() {
+            watch.acceptor = None;
+            wind_up(rt, session, watch, own, *end)?;
+            tell_news(rt, &shared.log, own.peers.take_news());
+            break;
+        }
     }
     Ok(())
 }
@@ -280,22 +279,10 @@ fn run_loop<L: Roll, G: Gate + Copy + Drop, U: UsersSource, R: Clock + Wait>(
         acceptor,
         pace: Pace::new(),
     };
-    let mut count = 0;
     let loops = shared.loop_handles.len();
     let mut own: Loop<Wired, G, L> = Loop::new(alloc, seat, gate, loops)?;
     own.peers.tells = shared.tells;
-    for _ in rt.forever() {
-        sleep(&mut watch, &own)?;
-        begin_turn(rt, &mut watch, &mut own)?;
-        look_at_users(rt, server, &mut count, &mut own);
-        turn(rt, session, &mut watch, &mut own)?;
-        if let Some(end) = shared.over.get() {
-            watch.acceptor = None;
-            wind_up(rt, session, &mut watch, &mut own, *end)?;
-            tell_news(rt, shared, &mut own);
-            break;
-        }
-    }
+    take_turns(rt, server, session, &mut watch, &mut own)?;
     Ok(own.into_seat())
 }
 

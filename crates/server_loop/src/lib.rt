@@ -10,7 +10,7 @@ mod turn;
 pub use news_line::NewsLine;
 pub use pace::{LULL, Pace};
 pub use server_peers::{
-    End, Gate, Guest, Hub, LoopBody, LoopsFault, News, Open, Peers, Recorder, Seat, Session,
-    SharedSession, Start, Trail, keep,
+    End, Gate, Guest, Hub, LoopBody, LoopsFault, News, Open, Peers, Pending, Recorder, Seat,
+    Session, SharedSession, Start, Submitted, Trail, keep,
 };
 pub use turn::Loop;

@@ -7,8 +7,12 @@ use std::time::Duration;
 // the last.
 const MOST: u64 = 20;
 
-/// Where much came, and no more for so many milliseconds, it is over.
+/// Where much came, and no more for so many milliseconds, it is over. As long the draws of a crowd
+/// wait for the next ones.
 pub const LULL: u64 = 1;
+
+// So many clients that are drawn in one turn are a crowd.
+const CROWD: usize = 8;
 
 /// What a loop knows of whether draws are to wait.
 #[derive(Clone, Copy, Debug)]
@@ -16,8 +20,20 @@ pub struct Pace {
     // When much came last, if that isn't over.
     much: Option<Duration>,
     awaits_echo: bool,
+    // When a crowd was drawn last, if that was just now.
+    drawn: Option<Duration>,
     // When the draws that wait began to.
     since: Option<Duration>,
+}
+
+// The time of what was lately, if that isn't over. Without a clock it is.
+fn lately(last: Option<Duration>, now: Option<Duration>) -> Option<Duration> {
+    match (last, now) {
+        (Some(last), Some(now)) if now.saturating_sub(last) < Duration::from_millis(LULL) => {
+            Some(last)
+        }
+        _ => None,
+    }
 }
 
 impl Pace {
@@ -25,6 +41,7 @@ impl Pace {
         Pace {
             much: None,
             awaits_echo: false,
+            drawn: None,
             since: None,
         }
     }
@@ -41,19 +58,24 @@ impl Pace {
 
     /// Whether more may come at once.
     pub fn expects_more(&self) -> bool {
-        self.is_busy() || self.awaits_echo
+        self.is_busy() || self.awaits_echo || self.drawn.is_some()
+    }
+
+    /// So many clients were drawn in this turn.
+    pub fn draw(&mut self, now: Option<Duration>, clients: usize) {
+        if clients >= CROWD {
+            self.drawn = now;
+        }
     }
 
     /// Tells the other loops whether much comes to this one, in the number of those to which much
     /// comes. The answer is whether that is new. Without a clock it is over at once.
     pub fn note(&mut self, busy: &AtomicU64, now: Option<Duration>, is_much: bool) -> bool {
         let was_busy = self.is_busy();
-        self.much = match (self.much, now) {
-            _ if is_much => Some(now.unwrap_or(Duration::ZERO)),
-            (Some(last), Some(now)) if now.saturating_sub(last) < Duration::from_millis(LULL) => {
-                Some(last)
-            }
-            _ => None,
+        self.much = if is_much {
+            Some(now.unwrap_or(Duration::ZERO))
+        } else {
+            lately(self.much, now)
         };
         if self.is_busy() == was_busy {
             return false;
@@ -67,10 +89,12 @@ impl Pace {
     }
 
     /// Whether the draws of this turn are to wait, as they do where keys were typed in it, whose
-    /// echo may come at once. Without a clock they don't.
+    /// echo may come at once, and behind those of a crowd, while which more may have come. Without
+    /// a clock they don't.
     pub fn holds(&mut self, busy: &AtomicU64, now: Option<Duration>, awaits_echo: bool) -> bool {
         self.awaits_echo = awaits_echo;
-        let is_much = awaits_echo || 0 < busy.load(Ordering::SeqCst);
+        self.drawn = lately(self.drawn, now);
+        let is_much = awaits_echo || self.drawn.is_some() || 0 < busy.load(Ordering::SeqCst);
         self.since = match now {
             Some(now) if is_much => match self.since {
                 None => Some(now),

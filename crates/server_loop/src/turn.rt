@@ -5,6 +5,7 @@ use server_peers::{Came, Gate, Peers, Role, Seat, SharedSession};
 use server_users::Users;
 use std::alloc::{AllocError, Global};
 use std::io::{Read, Write};
+use std::ops::Range;
 use std::sync::Wait;
 use std::sync::ledger::Ledger as Roll;
 use std::time::Duration;
@@ -125,13 +126,6 @@ impl<S: Read + Write + Drop, G: Gate + Drop, L: Roll> Loop<S, G, L> {
         matches!(self.peers.role_of(key), Role::Window(_))
     }
 
-    // Whether a window, or another connection, has something to do.
-    fn is_due(&mut self, key: usize, as_window: bool) -> bool {
-        self.peers.is_awake(key)
-            && self.is_window(key) == as_window
-            && self.peers.is_due_at(key)
-    }
-
     // Does some of what a connection asked for. Whether all of it is done.
     fn obey_some(&mut self, rt: &impl Wait, shared: &SharedSession<L>, key: usize) -> bool {
         for _ in 0..STEPS {
@@ -179,19 +173,36 @@ impl<S: Read + Write + Drop, G: Gate + Drop, L: Roll> Loop<S, G, L> {
         }
     }
 
-    // Windows have their turn one after the other, as far as output may be done in this turn.
-    fn serve_windows(&mut self, rt: &impl Wait, shared: &SharedSession<L>) {
-        self.output_left = PIECE;
-        let count = self.peers.keys_end();
-        let first = self.next;
-        for key in (first..count).chain(0..first.min(count)) {
-            if self.output_left == 0 {
+    // Windows whose keys are in this range have their turn one after the other, as far as output
+    // may be done in this turn.
+    fn serve_windows(&mut self, rt: &impl Wait, shared: &SharedSession<L>, keys: Range<usize>) {
+        let mut from = keys.start;
+        for _ in 0..self.peers.keys_end() {
+            let Some(key) = self.peers.next_awake(from) else {
+                return;
+            };
+            if keys.end <= key || self.output_left == 0 {
                 return;
             }
-            if self.is_due(key, true) {
+            if self.is_window(key) && self.peers.is_due_at(key) {
                 self.next = key.saturating_add(1);
                 self.serve(rt, shared, key);
             }
+            from = key.saturating_add(1);
+        }
+    }
+
+    // Clients and strangers have their turn.
+    fn serve_others(&mut self, rt: &impl Wait, shared: &SharedSession<L>) {
+        let mut from = 0;
+        for _ in 0..self.peers.keys_end() {
+            let Some(key) = self.peers.next_awake(from) else {
+                return;
+            };
+            if !self.is_window(key) && self.peers.is_due_at(key) {
+                self.serve(rt, shared, key);
+            }
+            from = key.saturating_add(1);
         }
     }
 
@@ -203,11 +214,10 @@ impl<S: Read + Write + Drop, G: Gate + Drop, L: Roll> Loop<S, G, L> {
     /// Reads what is there to be read and does it, at most so much of each connection that others
     /// have their turn, and keys before output.
     pub fn read_all(&mut self, rt: &impl Wait, shared: &SharedSession<L>) {
-        for key in 0..self.peers.keys_end() {
-            if self.is_due(key, false) {
-                self.serve(rt, shared, key);
-            }
-        }
-        self.serve_windows(rt, shared);
+        self.serve_others(rt, shared);
+        self.output_left = PIECE;
+        let first = self.next;
+        self.serve_windows(rt, shared, first..usize::MAX);
+        self.serve_windows(rt, shared, 0..first);
     }
 }

@@ -1,6 +1,7 @@
 //! The connections of one loop, by their keys.
 
-use crate::peer::{Peer, Role};
+use crate::marks::Marks;
+use crate::peer::{Awaits, Peer, Role};
 use slab::Slab;
 use std::alloc::{AllocError, Global};
 
@@ -9,8 +10,8 @@ use std::alloc::{AllocError, Global};
 #[derive(Drop)]
 pub struct Connections<S> {
     peers: Slab<Peer<S>>,
-    // By keys: whether the connection doesn't rest.
-    awake: Vec<bool>,
+    // Those that don't rest.
+    awake: Marks,
     // How many were taken in.
     number: u64,
 }
@@ -19,29 +20,23 @@ impl<S: Drop> Connections<S> {
     pub fn new(alloc: Global) -> Connections<S> {
         Connections {
             peers: Slab::new(alloc),
-            awake: Vec::new(alloc),
+            awake: Marks::new(alloc),
             number: 0,
         }
     }
 
     /// The key that the next one gets.
-    pub fn next_key(&self) -> usize {
+    pub fn vacant_key(&self) -> usize {
         self.peers.vacant_key()
     }
 
-    /// Takes one in, under `next_key`.
-    pub fn admit(
-        &mut self,
-        alloc: Global,
-        stream: S,
-        is_extra: bool,
-    ) -> Result<(), AllocError> {
-        if self.awake.len() <= self.next_key() {
-            self.awake.push(false)?;
-        }
+    /// Takes one in, under `vacant_key`.
+    pub fn admit(&mut self, alloc: Global, stream: S, is_extra: bool) -> Result<(), AllocError> {
+        let next = self.vacant_key();
+        self.awake.reserve(next)?;
         let peer = Peer::new(alloc, stream, self.number, is_extra)?;
         let key = self.peers.insert(peer)?;
-        let _ = self.touch(key);
+        self.awake.set(key, true);
         self.number = self.number.saturating_add(1);
         Ok(())
     }
@@ -52,40 +47,21 @@ impl<S: Drop> Connections<S> {
 
     /// All keys are below it.
     pub fn end(&self) -> usize {
-        self.awake.len()
+        self.peers.capacity()
     }
 
     pub fn get(&self, key: usize) -> Option<&Peer<S>> {
         self.peers.get(key)
     }
 
-    pub fn is_awake(&self, key: usize) -> bool {
-        self.awake.get(key).is_some_and(|is_awake| *is_awake)
-    }
-
-    /// The one of this key, unless it rests.
-    pub fn get_awake(&self, key: usize) -> Option<&Peer<S>> {
-        if self.is_awake(key) {
-            self.peers.get(key)
-        } else {
-            None
-        }
-    }
-
-    /// The one of this key, to be changed, unless it rests.
-    pub fn get_awake_mut(&mut self, key: usize) -> Option<&mut Peer<S>> {
-        if self.is_awake(key) {
-            self.peers.get_mut(key)
-        } else {
-            None
-        }
+    /// The first one from this key on that doesn't rest.
+    pub fn next_awake(&self, from: usize) -> Option<usize> {
+        self.awake.next(from)
     }
 
     /// The one of this key, which doesn't rest from now on.
     pub fn touch(&mut self, key: usize) -> Option<&mut Peer<S>> {
-        if let Some(is_awake) = self.awake.get_mut(key) {
-            *is_awake = true;
-        }
+        self.awake.set(key, true);
         self.peers.get_mut(key)
     }
 
@@ -95,6 +71,21 @@ impl<S: Drop> Connections<S> {
             .iter()
             .find(|(_, peer)| peer.role == role && peer.listens())
             .map(|(key, _)| key)
+    }
+
+    /// Whether one awaits this.
+    pub fn any_awaits(&self, what: Awaits) -> bool {
+        let mut from = 0;
+        for _ in 0..self.end() {
+            let Some(key) = self.next_awake(from) else {
+                return false;
+            };
+            if self.peers.get(key).is_some_and(|peer| peer.awaits(what)) {
+                return true;
+            }
+            from = key.saturating_add(1);
+        }
+        false
     }
 
     /// A step other than a draw was made, which all may be to be shown.
@@ -109,14 +100,14 @@ impl<S: Drop> Connections<S> {
     /// One with which all is done goes, and one with which nothing is to be done rests.
     pub fn settle(&mut self, key: usize) {
         let Some(peer) = self.peers.get(key) else {
+            self.awake.set(key, false);
             return;
         };
         if peer.is_done() {
+            self.awake.set(key, false);
             let _ = self.peers.try_remove(key);
         } else if peer.is_at_rest() {
-            if let Some(is_awake) = self.awake.get_mut(key) {
-                *is_awake = false;
-            }
+            self.awake.set(key, false);
         }
     }
 }

@@ -39,6 +39,17 @@ impl<S: Read + Write + Drop, G: Gate + Drop, L: Roll> Peers<S, G, L> {
         Ok(())
     }
 
+    pub(crate) fn tell_all_leaving(&mut self, rt: &impl Wait, shared: &SharedSession<L>) {
+        let mut from = 0;
+        for _ in 0..self.peers.end() {
+            let Some(key) = self.peers.next_awake(from) else {
+                return;
+            };
+            let _ = self.tell_leaving(rt, shared, key);
+            from = key.saturating_add(1);
+        }
+    }
+
     // The connection is told to go, behind all that was put into it.
     pub(crate) fn expel(
         &mut self,
@@ -100,7 +111,7 @@ impl<S: Read + Write + Drop, G: Gate + Drop, L: Roll> Peers<S, G, L> {
         let mut count = 0usize;
         let mut oldest: Option<(u64, usize)> = None;
         for key in 0..self.peers.end() {
-            let Some(peer) = self.peers.get_awake_mut(key) else {
+            let Some(peer) = self.peers.get(key) else {
                 continue;
             };
             if peer.is_new() {
@@ -130,29 +141,34 @@ impl<S: Read + Write + Drop, G: Gate + Drop, L: Roll> Peers<S, G, L> {
     /// Those whose first message didn't come in time are told to go, and those that were told so
     /// and didn't read it are closed.
     pub fn expire(&mut self, now: Duration) {
-        for key in 0..self.peers.end() {
-            let Some(peer) = self.peers.get_awake_mut(key) else {
-                continue;
+        let mut from = 0;
+        for _ in 0..self.peers.end() {
+            let Some(key) = self.peers.next_awake(from) else {
+                return;
             };
-            if peer.is_overdue(now) {
-                match peer.stage {
-                    Stage::Ending => peer.close(),
-                    _ => peer.end(Why::Fault),
+            if let Some(peer) = self.peers.touch(key) {
+                if peer.is_overdue(now) {
+                    match peer.stage {
+                        Stage::Ending => peer.close(),
+                        _ => peer.end(Why::Fault),
+                    }
                 }
             }
+            from = key.saturating_add(1);
         }
     }
 
     pub(crate) fn sweep(&mut self) {
-        for key in 0..self.peers.end() {
-            let Some(peer) = self.peers.get_awake_mut(key) else {
-                continue;
+        let mut from = 0;
+        for _ in 0..self.peers.end() {
+            let Some(key) = self.peers.next_awake(from) else {
+                return;
             };
-            let news = peer.farewell();
-            self.peers.settle(key);
-            if let Some(news) = news {
+            if let Some(news) = self.peers.touch(key).and_then(|peer| peer.farewell()) {
                 self.tell(news);
             }
+            self.peers.settle(key);
+            from = key.saturating_add(1);
         }
     }
 

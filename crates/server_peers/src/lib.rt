@@ -8,6 +8,7 @@ mod frames;
 mod gate;
 mod inbox;
 mod leaving;
+mod marks;
 mod news;
 mod peer;
 mod peers;
@@ -20,7 +21,7 @@ pub use gate::{Gate, Open};
 pub use inbox::Asked;
 pub use news::{Guest, News};
 pub use peer::Role;
-pub use peers::{Peers, Unanswered};
+pub use peers::{Peers, Pending, Submitted, Unanswered};
 pub use server_session::{
     Hub, LoopBody, LoopsFault, Recorder, Seat, Session, SharedSession, Start, Trail, keep,
 };

@@ -47,6 +47,19 @@ pub enum Stage {
     Closed,
 }
 
+/// What a connection may await.
+#[derive(Clone, Copy)]
+pub enum Awaits {
+    /// To be looked at, though no event will tell of it.
+    Work,
+    /// That its user may cause more entries.
+    Leave,
+    /// To be looked at for the first time.
+    FirstWork,
+    /// The end of its patience.
+    End,
+}
+
 /// One connection.
 #[derive(Drop)]
 pub struct Peer<S> {
@@ -153,6 +166,16 @@ impl<S: Drop> Peer<S> {
     pub fn is_due(&self) -> bool {
         let has_work = self.has_more || !self.inbox.is_empty();
         has_work && self.stage == Stage::Open && !self.is_held
+    }
+
+    /// Whether it awaits this.
+    pub fn awaits(&self, what: Awaits) -> bool {
+        match what {
+            Awaits::Work => self.is_due(),
+            Awaits::Leave => self.is_held,
+            Awaits::FirstWork => self.is_new() && self.is_due(),
+            Awaits::End => self.is_awaited(),
+        }
     }
 
     /// Whether it is waited for: for its first message, or until it has read its last.

@@ -5,7 +5,7 @@ use crate::end::End;
 use crate::gate::Gate;
 use crate::inbox::Asked;
 use crate::news::{Guest, News};
-use crate::peer::{Role, Stage};
+use crate::peer::{Awaits, Role, Stage};
 use crate::stream::Came;
 use acl::UserId;
 use hub::{Answer, FULL, HubFault, Seat};
@@ -31,6 +31,27 @@ pub enum Unanswered {
     Over,
 }
 
+/// What a loop has to do, though no event will tell of it.
+#[derive(Clone, Copy, PartialEq, Eq)]
+pub enum Pending {
+    /// Something at once.
+    Work,
+    /// Something is to be tried again soon.
+    Retry,
+    /// A connection is waited for, which has a time for it.
+    Patience,
+    Nothing,
+}
+
+/// What steps a loop submitted.
+#[derive(Clone, Copy)]
+pub struct Submitted {
+    /// One other than a draw.
+    pub is_some: bool,
+    /// One that may have an effect beside a draw.
+    pub has_acted: bool,
+}
+
 /// The connections of one loop.
 #[derive(Drop)]
 pub struct Peers<S, G, L: Roll> {
@@ -49,6 +70,8 @@ pub struct Peers<S, G, L: Roll> {
     pub(crate) has_waiting: bool,
     // The first connection that wasn't looked at yet, while draws are asked for.
     pub(crate) draws_from: Option<usize>,
+    // How many draws were made since they were last counted.
+    pub(crate) drawn: usize,
     pub(crate) end: Option<End>,
     /// Whether news is told.
     pub tells: bool,
@@ -68,6 +91,7 @@ impl<S: Read + Write + Drop, G: Gate + Drop, L: Roll> Peers<S, G, L> {
             is_told: false,
             has_waiting: false,
             draws_from: None,
+            drawn: 0,
             end: None,
             tells: false,
             news: Vec::new(alloc),
@@ -76,7 +100,7 @@ impl<S: Read + Write + Drop, G: Gate + Drop, L: Roll> Peers<S, G, L> {
 
     /// The key that the next connection gets.
     pub fn next_key(&self) -> usize {
-        self.peers.next_key()
+        self.peers.vacant_key()
     }
 
     /// Takes a connection in, under `next_key`. Without memory it is closed. One that is taken in
@@ -99,53 +123,51 @@ impl<S: Read + Write + Drop, G: Gate + Drop, L: Roll> Peers<S, G, L> {
         self.peers.end()
     }
 
-    /// Whether something may be to be done with a connection.
-    pub fn is_awake(&self, key: usize) -> bool {
-        self.peers.is_awake(key)
-    }
-
-    fn has_due(&self) -> bool {
-        (0..self.peers.end())
-            .any(|key| self.peers.get_awake(key).is_some_and(|peer| peer.is_due()))
-    }
-
-    fn has_held(&self) -> bool {
-        (0..self.peers.end()).any(|key| self.peers.get_awake(key).is_some_and(|peer| peer.is_held))
+    /// The first connection from this key on with which something may be to be done.
+    pub fn next_awake(&self, from: usize) -> Option<usize> {
+        self.peers.next_awake(from)
     }
 
     /// Whether something is to be done at once, though no event will tell of it.
     pub fn is_due(&self) -> bool {
-        self.is_behind || self.draws_from.is_some() || self.has_due()
+        let is_begun = self.is_behind || self.draws_from.is_some();
+        is_begun || self.peers.any_awaits(Awaits::Work)
     }
 
     /// Whether something is to be tried again soon, though no event will tell of it.
     pub fn has_waiting(&self) -> bool {
-        self.has_waiting || self.has_held()
+        self.has_waiting || self.peers.any_awaits(Awaits::Leave)
     }
 
     /// Whether a first message may be there.
     pub fn has_newcomer(&self) -> bool {
-        (0..self.peers.end()).any(|key| {
-            self.peers
-                .get_awake(key)
-                .is_some_and(|peer| peer.is_new() && peer.is_due())
-        })
+        self.peers.any_awaits(Awaits::FirstWork)
     }
 
-    /// Whether a connection is waited for, which has a time for it.
-    pub fn is_awaiting(&self) -> bool {
-        (0..self.peers.end())
-            .any(|key| self.peers.get_awake(key).is_some_and(|peer| peer.is_awaited()))
+    /// What is to be done next.
+    pub fn pending(&self) -> Pending {
+        if self.is_due() {
+            Pending::Work
+        } else if self.has_waiting() {
+            Pending::Retry
+        } else if self.peers.any_awaits(Awaits::End) {
+            Pending::Patience
+        } else {
+            Pending::Nothing
+        }
     }
 
-    /// Whether a step other than a draw was submitted since the last call.
-    pub fn take_submitted(&mut self) -> bool {
-        std::mem::replace(&mut self.has_submitted, false)
+    /// What steps were submitted since the last call.
+    pub fn take_submitted(&mut self) -> Submitted {
+        Submitted {
+            is_some: std::mem::replace(&mut self.has_submitted, false),
+            has_acted: std::mem::replace(&mut self.has_acted, false),
+        }
     }
 
-    /// Whether a step was submitted since the last call that may have an effect beside a draw.
-    pub fn take_acted(&mut self) -> bool {
-        std::mem::replace(&mut self.has_acted, false)
+    /// How many draws were made since the last call.
+    pub fn take_drawn(&mut self) -> usize {
+        std::mem::replace(&mut self.drawn, 0)
     }
 
     /// Why the server is to end, if it is.
@@ -233,7 +255,7 @@ impl<S: Read + Write + Drop, G: Gate + Drop, L: Roll> Peers<S, G, L> {
 
     /// Whether a connection has something to do, which is tried again where it was held.
     pub fn is_due_at(&mut self, key: usize) -> bool {
-        match self.peers.get_awake_mut(key) {
+        match self.peers.touch(key) {
             Some(peer) => {
                 peer.is_held = false;
                 peer.is_due()

@@ -3,7 +3,7 @@
 use crate::end::End;
 use crate::frames::{Sending, put, why_of};
 use crate::gate::Gate;
-use crate::peer::{Role, Stage};
+use crate::peer::{Peer, Role, Stage};
 use crate::peers::{Peers, Unanswered};
 use attach_proto::Why;
 use server_session::SharedSession;
@@ -16,6 +16,10 @@ const MOST_UNSENT: usize = 1_048_576;
 
 // So many draws are asked for in a turn; the others in the next ones, between which keys are read.
 const DRAWS: usize = 16;
+
+fn is_laggard<S: Drop>(peer: &Peer<S>) -> bool {
+    peer.listens() && peer.turn.unsent() > MOST_UNSENT
+}
 
 impl<S: Read + Write + Drop, G: Gate + Drop, L: Roll> Peers<S, G, L> {
     /// Puts something behind what waits for a connection. Where it can't be had, the connection
@@ -104,10 +108,13 @@ impl<S: Read + Write + Drop, G: Gate + Drop, L: Roll> Peers<S, G, L> {
     }
 
     fn write_all(&mut self, rt: &impl Wait, shared: &SharedSession<L>) {
-        for key in 0..self.peers.end() {
-            if self.peers.is_awake(key) {
-                self.write_to(rt, shared, key);
-            }
+        let mut from = 0;
+        for _ in 0..self.peers.end() {
+            let Some(key) = self.peers.next_awake(from) else {
+                return;
+            };
+            self.write_to(rt, shared, key);
+            from = key.saturating_add(1);
         }
     }
 
@@ -129,6 +136,7 @@ impl<S: Read + Write + Drop, G: Gate + Drop, L: Roll> Peers<S, G, L> {
                 if let Some(peer) = self.peers.touch(key) {
                     peer.turn.drawn();
                 }
+                self.drawn = self.drawn.saturating_add(1);
             }
             Err(Unanswered::NoMemory) => self.has_waiting = true,
             Err(Unanswered::Over) => {}
@@ -182,17 +190,19 @@ impl<S: Read + Write + Drop, G: Gate + Drop, L: Roll> Peers<S, G, L> {
 
     // Those for whom too much waits are told so, and closed once they take no more.
     fn drop_laggards(&mut self, rt: &impl Wait, shared: &SharedSession<L>) {
-        for key in 0..self.peers.end() {
-            let Some(peer) = self.peers.get_awake_mut(key) else {
-                continue;
+        let mut from = 0;
+        for _ in 0..self.peers.end() {
+            let Some(key) = self.peers.next_awake(from) else {
+                return;
             };
-            if peer.listens() && peer.turn.unsent() > MOST_UNSENT {
+            if self.peers.get(key).is_some_and(|peer| is_laggard(peer)) {
                 self.expel(rt, shared, key, Why::TooFarBehind);
                 if let Some(peer) = self.peers.touch(key) {
                     peer.stage = Stage::Cut;
                 }
                 self.write_to(rt, shared, key);
             }
+            from = key.saturating_add(1);
         }
     }
 
@@ -200,11 +210,7 @@ impl<S: Read + Write + Drop, G: Gate + Drop, L: Roll> Peers<S, G, L> {
     /// lets go what is closed. Where draws of a crowd were begun, it goes on with them.
     pub fn end_turn(&mut self, rt: &impl Wait, shared: &SharedSession<L>, holds_draws: bool) {
         self.has_waiting = false;
-        for key in 0..self.peers.end() {
-            if self.peers.is_awake(key) {
-                let _ = self.tell_leaving(rt, shared, key);
-            }
-        }
+        self.tell_all_leaving(rt, shared);
         self.hand_out(rt, shared);
         self.write_all(rt, shared);
         self.draw_all(rt, shared, holds_draws);

@@ -31,6 +31,14 @@ impl<L: Roll> SharedSession<L> {
         Ok(answer)
     }
 
+    /// Whether there is a file of the trail, and nothing is written to it any more.
+    pub fn has_stopped(&self) -> bool {
+        match &self.recorder {
+            Some(recorder) => recorder.stopped().is_some(),
+            None => false,
+        }
+    }
+
     // A loop has ended.
     pub(crate) fn leave(&self, rt: &impl Wait) {
         if let Some(recorder) = &self.recorder {

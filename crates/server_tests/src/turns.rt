@@ -234,7 +234,7 @@ fn entries_have_a_rate(rt: HostRuntime) -> Result<(), Fail> {
     Ok(())
 }
 
-/// Six clients of a window that prints again while the first of them are drawn.
+/// Twenty clients of a window that prints again while the first sixteen of them are drawn.
 #[derive(Drop)]
 struct Drawn;
 
@@ -247,7 +247,7 @@ impl Play for Drawn {
         let window = stage.connect(Habit::Whole, WINDOW)?;
         stage.turns(rt, 2);
         let mut clients = Vec::new(alloc);
-        for _ in 0..6 {
+        for _ in 0..20 {
             clients.push(stage.connect(Habit::Whole, ATTACH)?)?;
         }
         stage.turns(rt, 4);
@@ -274,6 +274,6 @@ impl Play for Drawn {
 #[test]
 fn a_crowd_is_drawn_to_its_end(rt: HostRuntime) -> Result<(), Fail> {
     let (count, _) = perform(&rt, rt.alloc(), &mut Drawn)?;
-    assert_eq!(rt; count, 6);
+    assert_eq!(rt; count, 20);
     Ok(())
 }
