@@ -212,9 +212,13 @@ impl<S: Read + Write + Drop, G: Gate + Drop, L: Roll> Loop<S, G, L> {
     }
 
     /// Reads what is there to be read and does it, at most so much of each connection that others
-    /// have their turn, and keys before output.
+    /// have their turn, and keys before output. While a crowd is drawn windows wait, so that all of
+    /// it is drawn the same.
     pub fn read_all(&mut self, rt: &impl Wait, shared: &SharedSession<L>) {
         self.serve_others(rt, shared);
+        if self.peers.is_drawing() {
+            return;
+        }
         self.output_left = PIECE;
         let first = self.next;
         self.serve_windows(rt, shared, first..usize::MAX);

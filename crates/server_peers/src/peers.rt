@@ -165,6 +165,11 @@ impl<S: Read + Write + Drop, G: Gate + Drop, L: Roll> Peers<S, G, L> {
         }
     }
 
+    /// Whether draws of a crowd were begun, and some are left.
+    pub fn is_drawing(&self) -> bool {
+        self.draws_from.is_some()
+    }
+
     /// How many draws were made since the last call.
     pub fn take_drawn(&mut self) -> usize {
         std::mem::replace(&mut self.drawn, 0)
