@@ -1,11 +1,12 @@
 //! `mux`: a client, a window or a command.
 
 use crate::fault::{ClientFault, Gone};
-use crate::opening::{Opened, Way, open, size, warn_of_token};
+use crate::opening::{Opened, Way, open, warn_of_token};
 use crate::refusals::explain;
 use crate::showing::show;
 use crate::standing::{Intake, Outlet, Shared, Standing};
 use crate::watching::stand_in;
+use crate::words::size;
 use attach_proto::{Reader, Side, Why};
 use clap::ArgMatches;
 use program_words::{of_client, tell};
@@ -58,16 +59,7 @@ fn shared_of<R: Net + Files<File = File> + AllocGlobal, I: Drop, O: Drop>(
             output,
             sizes: told,
         }),
-        standing: Mutex::new(Standing {
-            bytes: Vec::new(alloc),
-            sizes: Vec::new(alloc),
-            is_writing: false,
-            writings: 0,
-            is_watched: false,
-            end: None,
-            input: None,
-            has_dropped: false,
-        }),
+        standing: Mutex::new(Standing::new(alloc)),
         news: Condvar::new(),
         begun: Condvar::new(),
     })
@@ -117,13 +109,8 @@ fn wait_for_end<R: Wait + Clock, I, O>(rt: &R, shared: &Shared<I, O>) -> Ending 
             })
             .0;
     }
-    let end = match (standing.end.take(), standing.input.take()) {
-        (Some(Ok(_)), Some(fault)) => Err(fault),
-        (Some(end), _) => end,
-        (None, _) => Err(ClientFault::Ended),
-    };
     Ending {
-        end,
+        end: standing.ending(),
         has_dropped: standing.has_dropped,
     }
 }
@@ -155,6 +142,15 @@ fn run<
     Ok(wait_for_end(rt, &shared))
 }
 
+fn tell_fault<E: Write>(fault: &ClientFault, way: Way, matches: &ArgMatches, errors: &mut E) {
+    let _ = write!(errors, "mux: {fault}");
+    if let ClientFault::Said(said) = fault {
+        let line = matches.get_str("line").unwrap_or("");
+        let _ = explain(said, way, line, errors);
+    }
+    let _ = writeln!(errors);
+}
+
 // Says why a peer ended. The answer is the status to exit with.
 fn tell_end<E: Write>(ending: Ending, way: Way, matches: &ArgMatches, errors: &mut E) -> u8 {
     if ending.has_dropped {
@@ -168,12 +164,7 @@ fn tell_end<E: Write>(ending: Ending, way: Way, matches: &ArgMatches, errors: &m
             0
         }
         Err(fault) => {
-            let _ = write!(errors, "mux: {fault}");
-            if let ClientFault::Said(said) = &fault {
-                let line = matches.get_str("line").unwrap_or("");
-                let _ = explain(said, way, line, errors);
-            }
-            let _ = writeln!(errors);
+            tell_fault(&fault, way, matches, errors);
             fault.status()
         }
     }

@@ -1,5 +1,6 @@
 //! What can be wrong for a peer, and what to do then.
 
+use crate::words::WordsFault;
 use attach_proto::{Why, WriteFault};
 use std::alloc::{AllocError, AllocFailed};
 use std::io;
@@ -89,6 +90,16 @@ impl From<WriteFault> for ClientFault {
         match fault {
             WriteFault::Unspellable => ClientFault::TooLong,
             WriteFault::NoMemory => ClientFault::NoMemory,
+        }
+    }
+}
+
+impl From<WordsFault> for ClientFault {
+    fn from(fault: WordsFault) -> ClientFault {
+        match fault {
+            WordsFault::Missing => ClientFault::Words,
+            WordsFault::TooLong => ClientFault::TooLong,
+            WordsFault::NoMemory => ClientFault::NoMemory,
         }
     }
 }

@@ -9,5 +9,6 @@ mod sending;
 mod showing;
 mod standing;
 mod watching;
+mod words;
 
 pub use attach::client;

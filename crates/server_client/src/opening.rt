@@ -1,7 +1,8 @@
 //! What a connection begins with, and the files that the words name.
 
 use crate::fault::ClientFault;
-use attach_proto::{Bytes, Message, Text, Token, write_message};
+use crate::words::{first_frame, word};
+use attach_proto::Token;
 use clap::ArgMatches;
 use std::alloc::Global;
 use std::fs;
@@ -17,7 +18,7 @@ const OTHERS_READ: u32 = 0o044;
 const OTHERS_WRITE: u32 = 0o022;
 
 /// What a peer is to the server.
-#[derive(Clone, Copy, Debug, PartialEq, Eq)]
+#[derive(Clone, Copy, PartialEq, Eq)]
 pub enum Way {
     Attach,
     Window,
@@ -31,87 +32,6 @@ impl Way {
             "window" => Way::Window,
             _ => Way::Command,
         }
-    }
-}
-
-fn word<'a>(matches: &'a ArgMatches, name: &str) -> Result<&'a str, ClientFault> {
-    matches.get_str(name).ok_or(ClientFault::Words)
-}
-
-fn number(matches: &ArgMatches, name: &str) -> Result<u16, ClientFault> {
-    matches.get_one::<u16>(name).ok_or(ClientFault::Words)
-}
-
-/// Lines and columns.
-pub fn size(matches: &ArgMatches) -> Result<(u16, u16), ClientFault> {
-    Ok((number(matches, "rows")?, number(matches, "cols")?))
-}
-
-fn text(alloc: Global, matches: &ArgMatches, name: &str) -> Result<Text, ClientFault> {
-    Ok(Text::new(alloc, word(matches, name)?)?)
-}
-
-fn frame_of(alloc: Global, message: &Message) -> Result<Vec<u8>, ClientFault> {
-    let mut frame = Vec::new(alloc);
-    write_message(alloc, message, &mut frame)?;
-    Ok(frame)
-}
-
-fn attach_frame(alloc: Global, matches: &ArgMatches, token: Token) -> Result<Vec<u8>, ClientFault> {
-    let name = text(alloc, matches, "user")?;
-    let (rows, columns) = size(matches)?;
-    let message = Message::Attach {
-        rows,
-        columns,
-        token,
-        name,
-    };
-    frame_of(alloc, &message)
-}
-
-fn window_frame(alloc: Global, matches: &ArgMatches, token: Token) -> Result<Vec<u8>, ClientFault> {
-    let name = text(alloc, matches, "user")?;
-    let (rows, columns) = size(matches)?;
-    let keep = number(matches, "keep")?;
-    let title = text(alloc, matches, "title")?;
-    let message = Message::Window {
-        rows,
-        columns,
-        keep,
-        token,
-        name,
-        title,
-    };
-    frame_of(alloc, &message)
-}
-
-fn command_frame(
-    alloc: Global,
-    matches: &ArgMatches,
-    token: Token,
-) -> Result<Vec<u8>, ClientFault> {
-    let name = text(alloc, matches, "user")?;
-    let line = Bytes::new(alloc, word(matches, "line")?.as_bytes())?;
-    let message = Message::Command {
-        window: matches.get_one::<u8>("window"),
-        token,
-        name,
-        line,
-    };
-    frame_of(alloc, &message)
-}
-
-/// The frame of a first message with this token: TooLong where no frame holds the words.
-fn first_frame(
-    alloc: Global,
-    way: Way,
-    matches: &ArgMatches,
-    token: Token,
-) -> Result<Vec<u8>, ClientFault> {
-    match way {
-        Way::Attach => attach_frame(alloc, matches, token),
-        Way::Window => window_frame(alloc, matches, token),
-        Way::Command => command_frame(alloc, matches, token),
     }
 }
 

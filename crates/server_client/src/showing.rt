@@ -3,13 +3,13 @@
 use crate::fault::{ClientFault, Gone};
 use crate::opening::Way;
 use crate::sending::{start_sending, start_sizes};
-use crate::standing::{Intake, Shared, Standing};
+use crate::standing::{Intake, Outlet, Shared, Standing};
 use attach_proto::{LONGEST, Message, ProtoFault, Why};
 use std::alloc::Global;
 use std::io::{Read, Write};
-use std::mem;
 use std::sync::{Arc, Wait};
 use std::thread::Threads;
+use std::{io, mem};
 
 // How much may wait for a window's standard output.
 const MOST_WAITING: usize = 1_048_576;
@@ -36,6 +36,28 @@ impl Standing {
         writeln!(self.sizes, "{rows} {columns}")?;
         Ok(())
     }
+
+    // Takes what waits, for a writing that begins. None where nothing does: then no thread writes.
+    fn begin_writing(&mut self, alloc: Global) -> Option<Writing> {
+        self.is_writing = !self.bytes.is_empty() || !self.sizes.is_empty();
+        if !self.is_writing {
+            return None;
+        }
+        self.writings = self.writings.wrapping_add(1);
+        Some(Writing {
+            bytes: mem::replace(&mut self.bytes, Vec::new(alloc)),
+            sizes: mem::replace(&mut self.sizes, Vec::new(alloc)),
+            is_watched: mem::replace(&mut self.is_watched, true),
+        })
+    }
+}
+
+// What a writing takes, and whether it was watched before.
+#[derive(Drop)]
+struct Writing {
+    bytes: Vec<u8>,
+    sizes: Vec<u8>,
+    is_watched: bool,
 }
 
 // The peer is let in: its input is read from now on, and a window's first size is told.
@@ -76,6 +98,20 @@ fn list<R: Wait, I, O>(
     Ok(())
 }
 
+// Once a peer is welcome, its status line says what the session says.
+fn hear<R: Wait + AllocGlobal, I, O>(
+    rt: &R,
+    shared: &Shared<I, O>,
+    intake: &mut Intake<I>,
+    text: &str,
+) -> Result<(), ClientFault> {
+    if intake.input.is_some() {
+        list(rt, shared, intake)?;
+        intake.said = Some(String::from_str(rt.alloc(), text)?);
+    }
+    Ok(())
+}
+
 // Puts in order what a message brings. The answer is the end, where it is the last one.
 fn take<
     R: Threads + Wait + AllocGlobal + Copy + Send + 'static,
@@ -87,30 +123,35 @@ fn take<
     intake: &mut Intake<I>,
     message: &Message,
 ) -> Result<Option<Why>, ClientFault> {
-    match message {
-        Message::Welcome(_) => welcome(rt, shared, intake)?,
+    let taken = match message {
+        Message::Welcome(_) => welcome(rt, shared, intake),
         Message::Draw(bytes) | Message::Input(bytes) => {
             let mut standing = shared.standing.lock(rt);
-            standing.put(shared.way, bytes.as_slice())?;
+            standing.put(shared.way, bytes.as_slice())
         }
         Message::Size { rows, columns } => {
             let mut standing = shared.standing.lock(rt);
-            standing.put_size(*rows, *columns)?;
+            standing.put_size(*rows, *columns)
         }
-        // Once a peer is welcome, its status line says what the session says.
-        Message::Say(text) if intake.input.is_some() => {
-            list(rt, shared, intake)?;
-            intake.said = Some(String::from_str(rt.alloc(), text.as_str())?);
-        }
-        Message::Gone(why) => {
-            if *why != Why::Fault {
-                list(rt, shared, intake)?;
-            }
-            return Ok(Some(*why));
-        }
-        _ => {}
-    }
+        Message::Say(text) => hear(rt, shared, intake, text.as_str()),
+        Message::Gone(why) => return leave(rt, shared, intake, *why),
+        _ => Ok(()),
+    };
+    taken?;
     Ok(None)
+}
+
+// The end that the server told.
+fn leave<R: Wait, I, O>(
+    rt: &R,
+    shared: &Shared<I, O>,
+    intake: &mut Intake<I>,
+    why: Why,
+) -> Result<Option<Why>, ClientFault> {
+    if why != Why::Fault {
+        list(rt, shared, intake)?;
+    }
+    Ok(Some(why))
 }
 
 // What a read of the socket came to.
@@ -121,6 +162,32 @@ enum Came {
     End(Result<Why, ClientFault>),
     /// Another thread read how it ended.
     Nothing,
+}
+
+// Puts in order what was read.
+fn take_bytes<
+    R: Threads + Wait + AllocGlobal + Copy + Send + 'static,
+    I: Read + Send + Drop + 'static,
+    O: Write + Send + Drop + 'static,
+>(
+    rt: &R,
+    shared: &Arc<Shared<I, O>, Global>,
+    intake: &mut Intake<I>,
+    bytes: &[u8],
+) -> Result<Came, ClientFault> {
+    let mut messages = Vec::new(rt.alloc());
+    let fed = intake.reader.feed(bytes, &mut messages);
+    for message in &messages {
+        if let Some(why) = take(rt, shared, intake, message)? {
+            intake.is_over = true;
+            return Ok(Came::End(ended(shared.way, why, intake.said.take())));
+        }
+    }
+    match fed {
+        Ok(()) => Ok(Came::Some),
+        Err(ProtoFault::NoMemory) => Err(ClientFault::NoMemory),
+        Err(_) => Err(ClientFault::NoServerOfOurs),
+    }
 }
 
 // Reads the socket once.
@@ -141,19 +208,7 @@ fn read_once<
         list(rt, shared, intake)?;
         return Ok(Came::End(Err(ClientFault::Ended)));
     }
-    let mut messages = Vec::new(rt.alloc());
-    let fed = intake.reader.feed(&buffer[..count], &mut messages);
-    for message in &messages {
-        if let Some(why) = take(rt, shared, intake, message)? {
-            intake.is_over = true;
-            return Ok(Came::End(ended(shared.way, why, intake.said.take())));
-        }
-    }
-    match fed {
-        Ok(()) => Ok(Came::Some),
-        Err(ProtoFault::NoMemory) => Err(ClientFault::NoMemory),
-        Err(_) => Err(ClientFault::NoServerOfOurs),
-    }
+    take_bytes(rt, shared, intake, &buffer[..count])
 }
 
 // Takes what waits. None where nothing does, or another thread writes.
@@ -161,30 +216,31 @@ fn waiting<R: Wait + AllocGlobal, I, O>(
     rt: &R,
     shared: &Shared<I, O>,
     mine: bool,
-) -> Option<(Vec<u8>, Vec<u8>)> {
+) -> Option<Writing> {
     let mut standing = shared.standing.lock(rt);
     if standing.is_writing != mine {
         return None;
     }
-    if standing.bytes.is_empty() && standing.sizes.is_empty() {
-        standing.is_writing = false;
-        let has_ended = standing.end.is_some();
-        drop(standing);
-        if has_ended {
-            shared.news.notify_all();
-        }
-        return None;
-    }
-    standing.is_writing = true;
-    standing.writings = standing.writings.wrapping_add(1);
-    let is_watched = mem::replace(&mut standing.is_watched, true);
-    let bytes = mem::replace(&mut standing.bytes, Vec::new(rt.alloc()));
-    let sizes = mem::replace(&mut standing.sizes, Vec::new(rt.alloc()));
+    let waiting = standing.begin_writing(rt.alloc());
+    let has_ended = standing.end.is_some();
     drop(standing);
-    if !is_watched {
-        shared.begun.notify_all();
+    match &waiting {
+        Some(begun) if !begun.is_watched => shared.begun.notify_all(),
+        None if has_ended => shared.news.notify_all(),
+        _ => {}
     }
-    Some((bytes, sizes))
+    waiting
+}
+
+impl<O: Write> Outlet<O> {
+    fn write(&mut self, writing: &Writing) -> Result<(), io::Error> {
+        // A size that nobody takes ends nothing.
+        if let Some(file) = &mut self.sizes {
+            let _ = file.write_all(&writing.sizes);
+        }
+        self.output.write_all(&writing.bytes)?;
+        self.output.flush()
+    }
 }
 
 // Writes what waits, unless another thread does.
@@ -194,18 +250,27 @@ fn write_waiting<R: Wait + AllocGlobal, I, O: Write>(
 ) -> Result<(), ClientFault> {
     let mut mine = false;
     for _ in rt.forever() {
-        let Some((bytes, sizes)) = waiting(rt, shared, mine) else {
+        let Some(writing) = waiting(rt, shared, mine) else {
             break;
         };
         mine = true;
-        let mut outlet = shared.outlet.lock(rt);
-        // A size that nobody takes ends nothing.
-        if let Some(file) = &mut outlet.sizes {
-            let _ = file.write_all(&sizes);
-        }
-        outlet.output.write_all(&bytes)?;
-        outlet.output.flush()?;
+        shared.outlet.lock(rt).write(&writing)?;
     }
+    Ok(())
+}
+
+// Nobody waits for a window's program for long: it may read no more.
+fn finish<R: Wait + AllocGlobal, I, O: Write>(
+    rt: &R,
+    shared: &Shared<I, O>,
+    end: Result<Why, ClientFault>,
+) -> Result<(), ClientFault> {
+    if shared.way == Way::Window {
+        shared.end(rt, end);
+        return write_waiting(rt, shared);
+    }
+    write_waiting(rt, shared)?;
+    shared.end(rt, end);
     Ok(())
 }
 
@@ -215,23 +280,17 @@ pub fn pass_on<
     I: Read + Send + Drop + 'static,
     O: Write + Send + Drop + 'static,
 >(rt: &R, shared: &Arc<Shared<I, O>, Global>, buffer: &mut [u8]) -> Result<bool, ClientFault> {
-    let end = match read_once(rt, shared, buffer)? {
+    match read_once(rt, shared, buffer)? {
         Came::Some => {
             write_waiting(rt, shared)?;
-            return Ok(true);
+            Ok(true)
         }
-        Came::End(end) => end,
-        Came::Nothing => return Ok(false),
-    };
-    // Nobody waits for a window's program for long: it may read no more.
-    if shared.way == Way::Window {
-        shared.end(rt, end);
-        write_waiting(rt, shared)?;
-    } else {
-        write_waiting(rt, shared)?;
-        shared.end(rt, end);
+        Came::End(end) => {
+            finish(rt, shared, end)?;
+            Ok(false)
+        }
+        Came::Nothing => Ok(false),
     }
-    Ok(false)
 }
 
 /// Reads and writes until the peer ends.

@@ -2,9 +2,10 @@
 
 use crate::fault::ClientFault;
 use crate::opening::Way;
-use attach_proto::{Message, Reader, Why, write_message};
+use attach_proto::{Reader, Why};
 use std::alloc::Global;
 use std::fs::File;
+use std::io;
 use std::io::Write;
 use std::os::unix::net::UnixStream;
 use std::sync::{Condvar, Mutex, Wait};
@@ -27,6 +28,30 @@ pub struct Standing {
     pub input: Option<ClientFault>,
     /// A line of the sizes' file said no size.
     pub has_dropped: bool,
+}
+
+impl Standing {
+    pub fn new(alloc: Global) -> Standing {
+        Standing {
+            bytes: Vec::new(alloc),
+            sizes: Vec::new(alloc),
+            is_writing: false,
+            writings: 0,
+            is_watched: false,
+            end: None,
+            input: None,
+            has_dropped: false,
+        }
+    }
+
+    /// How the peer ended: a fault of its input comes before a good end.
+    pub fn ending(&mut self) -> Result<Why, ClientFault> {
+        match (self.end.take(), self.input.take()) {
+            (Some(Ok(_)), Some(fault)) => Err(fault),
+            (Some(end), _) => end,
+            (None, _) => Err(ClientFault::Ended),
+        }
+    }
 }
 
 /// What a reader of the socket has.
@@ -70,18 +95,10 @@ pub struct Shared<I, O> {
 
 impl<I, O> Shared<I, O> {
     /// Sends one frame.
-    pub fn send<R: Wait>(
-        &self,
-        rt: &R,
-        alloc: Global,
-        message: &Message,
-    ) -> Result<(), ClientFault> {
-        let mut frame = Vec::new(alloc);
-        write_message(alloc, message, &mut frame)?;
+    pub fn send<R: Wait>(&self, rt: &R, frame: &[u8]) -> io::Result<()> {
         let _turn = self.sending.lock(rt);
         let mut stream = &self.stream;
-        stream.write_all(&frame)?;
-        Ok(())
+        stream.write_all(frame)
     }
 
     /// The peer ends: the first cause holds.

@@ -2,7 +2,7 @@
 
 use crate::fault::ClientFault;
 use crate::showing::pass_on;
-use crate::standing::Shared;
+use crate::standing::{Shared, Standing};
 use attach_proto::LONGEST;
 use std::alloc::Global;
 use std::io::{Read, Write};
@@ -15,6 +15,24 @@ const PERIOD: u64 = 100;
 
 // After so many periods without a writing, nothing is looked at until the next one.
 const IDLE: u32 = 20;
+
+impl Standing {
+    // Whether the writing that a period began with goes on at its end. So many periods before it had
+    // no writing.
+    fn goes_on(&mut self, number: u64, idle: &mut u32) -> bool {
+        if self.writings != number {
+            *idle = 0;
+        } else if self.is_writing {
+            return true;
+        } else if *idle < IDLE {
+            *idle += 1;
+        } else {
+            *idle = 0;
+            self.is_watched = false;
+        }
+        false
+    }
+}
 
 // Waits until a writing takes long: its number. None where the peer ended.
 fn wait_for_stuck<R: Wait + Clock, I, O>(rt: &R, shared: &Shared<I, O>) -> Option<u64> {
@@ -31,15 +49,8 @@ fn wait_for_stuck<R: Wait + Clock, I, O>(rt: &R, shared: &Shared<I, O>) -> Optio
         if standing.end.is_some() {
             return None;
         }
-        if standing.writings != seen {
-            idle = 0;
-        } else if standing.is_writing {
+        if standing.goes_on(seen, &mut idle) {
             return Some(seen);
-        } else if idle < IDLE {
-            idle += 1;
-        } else {
-            idle = 0;
-            standing.is_watched = false;
         }
     }
     None
