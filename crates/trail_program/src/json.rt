@@ -36,16 +36,21 @@ fn words_of(event: KeptRef<'_>) -> usize {
     }
 }
 
+/// Writes one more string of a list.
+fn write_item<W: Write>(bytes: &[u8], is_first: &mut bool, output: &mut W) -> io::Result<()> {
+    if !*is_first {
+        output.write_all(b",")?;
+    }
+    *is_first = false;
+    write_string(bytes, output)
+}
+
 /// Writes the words of an event as a list.
 fn write_event<W: Write>(text: &[u8], count: usize, output: &mut W) -> io::Result<()> {
     output.write_all(b",\"event\":[")?;
     let mut is_first = true;
     for word in text.split(|byte| *byte == b' ').skip(2).take(count) {
-        if !is_first {
-            output.write_all(b",")?;
-        }
-        is_first = false;
-        write_string(word, output)?;
+        write_item(word, &mut is_first, output)?;
     }
     output.write_all(b"]")
 }
@@ -62,35 +67,33 @@ fn write_notes<W: Write>(
     output.write_all(begin)?;
     let mut is_first = true;
     for word in text.split(|byte| *byte == b' ').skip(count) {
-        let [first, rest @ ..] = word else {
-            continue;
-        };
-        if *first != mark {
-            continue;
+        if let [first, note @ ..] = word
+            && *first == mark
+        {
+            write_item(note, &mut is_first, output)?;
         }
-        if !is_first {
-            output.write_all(b",")?;
-        }
-        is_first = false;
-        write_string(rest, output)?;
     }
     output.write_all(b"]")
 }
 
+/// Writes the word of a reply, and the checks and acts behind it.
+fn write_reply<W: Write>(text: &[u8], place: usize, output: &mut W) -> io::Result<()> {
+    output.write_all(b",\"reply\":")?;
+    let reply = text.split(|byte| *byte == b' ').nth(place);
+    write_string(reply.unwrap_or(b""), output)?;
+    let notes_at = place.saturating_add(1);
+    write_notes(b",\"checks\":[", text, notes_at, b'?', output)?;
+    write_notes(b",\"acts\":[", text, notes_at, b'!', output)
+}
+
 /// Writes an entry, whose line this is.
 pub fn write_entry<W: Write>(line: &Line, text: &[u8], output: &mut W) -> io::Result<()> {
-    // Behind the place, the time and the event's words.
     let count = words_of(line.entry.event().get());
-    let reply_at = count.saturating_add(2);
-    let notes_at = reply_at.saturating_add(1);
     write!(output, "{{\"place\":{}", line.place)?;
     write_time(line.ms, output)?;
     write_event(text, count, output)?;
-    output.write_all(b",\"reply\":")?;
-    let reply = text.split(|byte| *byte == b' ').nth(reply_at);
-    write_string(reply.unwrap_or(b""), output)?;
-    write_notes(b",\"checks\":[", text, notes_at, b'?', output)?;
-    write_notes(b",\"acts\":[", text, notes_at, b'!', output)?;
+    // The reply stands behind the place, the time and the event's words.
+    write_reply(text, count.saturating_add(2), output)?;
     output.write_all(b"}\n")
 }
 

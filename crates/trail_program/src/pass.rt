@@ -3,9 +3,9 @@
 use crate::fault::Fault;
 use crate::heading::header_of;
 use acl::UserId;
-use std::alloc::Global;
+use std::alloc::{AllocError, Global};
 use std::io::BufRead;
-use trail_audit::{Audit, Halt};
+use trail_audit::{Audit, Halt, Header};
 use trail_rights::{Decider, Led, Sight, Watch, watch_entries};
 
 /// What a pass looks for.
@@ -33,6 +33,19 @@ pub struct Pass {
     pub halt: Halt,
 }
 
+/// A watch that has read nothing behind this first line.
+fn watch_of(
+    alloc: Global,
+    header: &Header,
+    owner: UserId,
+    search: Search,
+) -> Result<Watch, AllocError> {
+    let audit = Audit::new(alloc, header.edition, owner)?;
+    let Search { deciders, leds } = search;
+    let sight = Sight::new(alloc, header.edition, deciders, leds);
+    Ok(Watch::new(audit, sight))
+}
+
 /// Reads a file as far as the entry of the place `last`.
 pub fn read_pass<R: BufRead>(
     alloc: Global,
@@ -43,10 +56,7 @@ pub fn read_pass<R: BufRead>(
 ) -> Result<Pass, Fault> {
     let header = header_of(alloc, reader)?;
     let owner = owner.unwrap_or(header.owner);
-    let audit = Audit::new(alloc, header.edition, owner)?;
-    let Search { deciders, leds } = search;
-    let sight = Sight::new(alloc, header.edition, deciders, leds);
-    let mut watch = Watch::new(audit, sight);
+    let mut watch = watch_of(alloc, &header, owner, search)?;
     let mut line = Vec::new(alloc);
     let halt = watch_entries(&mut watch, reader, &mut line, last)?;
     Ok(Pass { owner, watch, halt })

@@ -18,7 +18,7 @@ use std::io::{BufRead, BufReader, Write};
 use std::rt::Files;
 use std::time::Clock;
 use std::{fs, io, str};
-use trail_audit::{Audit, Ended, Halt, Wrong};
+use trail_audit::{Audit, Ended, Halt, Header, Wrong};
 use trail_rights::{Decider, Led};
 
 /// The file is legal, and whole.
@@ -63,6 +63,27 @@ fn tell_ended<W: Write>(ended: Ended, count: u64, output: &mut W) -> io::Result<
     writeln!(output)
 }
 
+/// Writes that entries are legal, and why the file isn't whole.
+fn tell_unended<W: Write>(count: u64, why: &str, output: &mut W) -> io::Result<()> {
+    writeln!(output, "legal: {count} entries\n{why}")
+}
+
+/// Writes that a last line counts other entries.
+fn tell_miscounted<W: Write>(line: u64, count: u64, output: &mut W) -> io::Result<()> {
+    writeln!(
+        output,
+        "bad: line {line}: the last line doesn't end {count} entries"
+    )
+}
+
+/// Writes that lines stand behind a last one.
+fn tell_continued<W: Write>(line: u64, output: &mut W) -> io::Result<()> {
+    writeln!(
+        output,
+        "bad: behind line {line}: more stands behind the last line"
+    )
+}
+
 /// Writes how a file ends, and gives the status to exit with.
 fn tell_finish<W: Write>(
     finish: Finish,
@@ -73,33 +94,15 @@ fn tell_finish<W: Write>(
     let (status, told) = match finish {
         Finish::Stopped { line, wrong } => return tell_wrong(line, wrong, count, owner, output),
         Finish::Ended { ended } => (LEGAL, tell_ended(ended, count, output)),
-        Finish::Miscounted { line } => (
-            ILLEGAL,
-            writeln!(
-                output,
-                "bad: line {line}: the last line doesn't end {count} entries"
-            ),
-        ),
-        Finish::Continued { line } => (
-            ILLEGAL,
-            writeln!(
-                output,
-                "bad: behind line {line}: more stands behind the last line"
-            ),
-        ),
+        Finish::Miscounted { line } => (ILLEGAL, tell_miscounted(line, count, output)),
+        Finish::Continued { line } => (ILLEGAL, tell_continued(line, output)),
         Finish::Torn => (
             UNENDED,
-            writeln!(
-                output,
-                "legal: {count} entries\ntorn: its last line isn't whole"
-            ),
+            tell_unended(count, "torn: its last line isn't whole", output),
         ),
         Finish::Open => (
             UNENDED,
-            writeln!(
-                output,
-                "legal: {count} entries\nnot ended: it has no last line"
-            ),
+            tell_unended(count, "not ended: it has no last line", output),
         ),
     };
     told?;
@@ -120,6 +123,15 @@ fn check<R: BufRead, W: Write>(
     tell_finish(finish, audit.count(), owner, output)
 }
 
+/// Writes what a first line says.
+fn tell_header<W: Write>(header: &Header, output: &mut W) -> io::Result<()> {
+    write!(output, "owner {}", text_of(&header.owner))?;
+    if let Some(time) = time_of(header.ms) {
+        write!(output, ", begun at {time}")?;
+    }
+    writeln!(output)
+}
+
 /// Shows a file.
 fn show<R: BufRead, W: Write>(
     alloc: Global,
@@ -129,12 +141,7 @@ fn show<R: BufRead, W: Write>(
 ) -> Result<u8, Fault> {
     let header = header_of(alloc, reader)?;
     if form == Form::Plain {
-        let owner = text_of(&header.owner);
-        write!(output, "owner {owner}")?;
-        if let Some(time) = time_of(header.ms) {
-            write!(output, ", begun at {time}")?;
-        }
-        writeln!(output)?;
+        tell_header(&header, output)?;
     }
     show_lines(alloc, form, reader, output)?;
     Ok(LEGAL)
@@ -321,6 +328,15 @@ fn tell<W: Write, E: Write>(error: &Error, output: &mut W, errors: &mut E) -> u8
     }
 }
 
+/// Writes why a file isn't judged, nor shown, and gives the status to exit with.
+fn tell_fault<E: Write>(fault: &Fault, path: &str, errors: &mut E) -> u8 {
+    let _ = writeln!(errors, "mux-trail: {path}: {fault}");
+    match fault {
+        Fault::NoHeader(_) | Fault::NoLine(_) => ILLEGAL,
+        Fault::Io(_) | Fault::NoPlace(_) | Fault::Changed | Fault::NoMemory => TROUBLE,
+    }
+}
+
 /// Does what the words ask of a file.
 fn do_asked<R: Clock + Files + AllocGlobal, W: Write, E: Write>(
     rt: &R,
@@ -340,14 +356,7 @@ fn do_asked<R: Clock + Files + AllocGlobal, W: Write, E: Write>(
     };
     match run(rt, way, asked, output) {
         Ok(status) => status,
-        Err(fault) => {
-            let path = asked.path;
-            let _ = writeln!(errors, "mux-trail: {path}: {fault}");
-            match fault {
-                Fault::NoHeader(_) | Fault::NoLine(_) => ILLEGAL,
-                Fault::Io(_) | Fault::NoPlace(_) | Fault::Changed | Fault::NoMemory => TROUBLE,
-            }
-        }
+        Err(fault) => tell_fault(&fault, asked.path, errors),
     }
 }
 

@@ -5,7 +5,7 @@ use crate::json::{write_end, write_entry};
 use jiff::Timestamp;
 use std::alloc::Global;
 use std::io::{self, BufRead, Write};
-use trail_audit::{Came, next_line, read_end};
+use trail_audit::{Came, Ended, next_line, read_end};
 use trail_lines::{Line, Unread, read_line};
 
 /// A time in milliseconds since 1970, in the form of RFC 3339.
@@ -45,7 +45,26 @@ pub enum Form {
     Json,
 }
 
-/// Writes a last line, which stands in `text`.
+/// Writes an entry, which stands in `text`.
+fn show_entry<W: Write>(form: Form, line: &Line, text: &[u8], output: &mut W) -> io::Result<()> {
+    match form {
+        Form::Plain => show_line(line, text, output),
+        Form::Json => write_entry(line, text, output),
+    }
+}
+
+/// Writes a last line's text.
+fn show_ended<W: Write>(form: Form, ended: &Ended, text: &[u8], output: &mut W) -> io::Result<()> {
+    match form {
+        Form::Json => write_end(ended, output),
+        Form::Plain => {
+            output.write_all(text)?;
+            output.write_all(b"\n")
+        }
+    }
+}
+
+/// Writes a last line, which stands in `text`. The answer is whether it is one.
 fn show_end<W: Write>(
     alloc: Global,
     form: Form,
@@ -57,14 +76,29 @@ fn show_end<W: Write>(
         Err(Unread::NoMemory) => return Err(Fault::NoMemory),
         Err(Unread::Malformed) => return Ok(false),
     };
-    match form {
-        Form::Json => write_end(&ended, output)?,
-        Form::Plain => {
-            output.write_all(text)?;
-            output.write_all(b"\n")?;
-        }
-    }
+    show_ended(form, &ended, text, output)?;
     Ok(true)
+}
+
+/// Writes a line's text, whatever line it is. The answer is whether others stand behind it.
+fn show_text<W: Write>(
+    alloc: Global,
+    form: Form,
+    number: u64,
+    text: &[u8],
+    output: &mut W,
+) -> Result<bool, Fault> {
+    match read_line(alloc, text) {
+        Ok(line) => {
+            show_entry(form, &line, text, output)?;
+            Ok(true)
+        }
+        Err(Unread::NoMemory) => Err(Fault::NoMemory),
+        Err(Unread::Malformed) => match show_end(alloc, form, text, output)? {
+            true => Ok(false),
+            false => Err(Fault::NoLine(number)),
+        },
+    }
 }
 
 /// Writes the lines of a reader behind the first one, each as soon as it is read, as far as the
@@ -77,25 +111,14 @@ pub fn show_lines<R: BufRead, W: Write>(
 ) -> Result<(), Fault> {
     let mut text = Vec::new(alloc);
     for number in 2..u64::MAX {
-        match next_line(reader, &mut text)? {
-            Came::Whole => {}
-            Came::Torn | Came::Nothing => return Ok(()),
-        }
-        match read_line(alloc, text.as_slice()) {
-            Ok(line) => match form {
-                Form::Plain => show_line(&line, text.as_slice(), output)?,
-                Form::Json => write_entry(&line, text.as_slice(), output)?,
-            },
-            Err(Unread::NoMemory) => return Err(Fault::NoMemory),
-            Err(Unread::Malformed) => {
-                if !show_end(alloc, form, text.as_slice(), output)? {
-                    return Err(Fault::NoLine(number));
-                }
-                output.flush()?;
-                return Ok(());
-            }
-        }
+        let Came::Whole = next_line(reader, &mut text)? else {
+            break;
+        };
+        let goes_on = show_text(alloc, form, number, text.as_slice(), output)?;
         output.flush()?;
+        if !goes_on {
+            break;
+        }
     }
     Ok(())
 }

@@ -6,12 +6,12 @@ use crate::texts::text_of;
 use acl::{Bit, CommandName, Object, UserId};
 use command_lang::name_text;
 use hub_replay::Replay;
-use std::alloc::Global;
+use std::alloc::{AllocError, Global};
 use std::io::{self, Write};
 use trail_rights::{Led, holder, may};
 
 /// The known users, the owner first.
-pub fn users_of(alloc: Global, replay: &Replay) -> Result<Vec<UserId>, Fault> {
+pub fn users_of(alloc: Global, replay: &Replay) -> Result<Vec<UserId>, AllocError> {
     let mut users = Vec::new(alloc);
     for place in 0..replay.user_count() {
         if let Some(user) = replay.user_at(place) {
@@ -45,6 +45,21 @@ fn letter(replay: &Replay, user: UserId, bit: Bit, object: Object) -> char {
     }
 }
 
+/// Writes a user's bits on a window.
+fn write_bits<W: Write>(
+    replay: &Replay,
+    user: UserId,
+    window: u32,
+    output: &mut W,
+) -> io::Result<()> {
+    let object = Object::Window(window);
+    let name = text_of(&user);
+    let read = letter(replay, user, Bit::Read, object);
+    let write = letter(replay, user, Bit::Write, object);
+    let execute = letter(replay, user, Bit::Execute, object);
+    write!(output, " {name}:{read}{write}{execute}")
+}
+
 /// Writes a window: who holds its lock, and each user's bits.
 fn write_window<W: Write>(
     pass: &Pass,
@@ -60,12 +75,7 @@ fn write_window<W: Write>(
         None => write!(output, " held by ?")?,
     }
     for user in users {
-        let object = Object::Window(window);
-        let name = text_of(user);
-        let read = letter(replay, *user, Bit::Read, object);
-        let write = letter(replay, *user, Bit::Write, object);
-        let execute = letter(replay, *user, Bit::Execute, object);
-        write!(output, " {name}:{read}{write}{execute}")?;
+        write_bits(replay, *user, window, output)?;
     }
     writeln!(output)
 }
@@ -81,20 +91,32 @@ fn write_commands<W: Write>(replay: &Replay, user: UserId, output: &mut W) -> io
     writeln!(output)
 }
 
-/// Writes users with their leaders, windows with their holders and rights, and commands.
-pub fn write_rights<W: Write>(alloc: Global, pass: &Pass, output: &mut W) -> Result<(), Fault> {
+/// Writes how many entries there are, and users with their leaders.
+fn write_users<W: Write>(pass: &Pass, output: &mut W) -> io::Result<()> {
     let count = pass.watch.audit().count();
     writeln!(output, "entries {count}")?;
     for led in pass.watch.sight().leds() {
         write_user(led, output)?;
     }
-    let replay = pass.watch.audit().replay();
-    let users = users_of(alloc, replay)?;
+    Ok(())
+}
+
+/// Writes windows with their holders and the users' rights, and the users' commands.
+fn write_objects<W: Write>(pass: &Pass, users: &[UserId], output: &mut W) -> io::Result<()> {
     for window in pass.watch.sight().windows() {
-        write_window(pass, users.as_slice(), *window, output)?;
+        write_window(pass, users, *window, output)?;
     }
-    for user in &users {
+    let replay = pass.watch.audit().replay();
+    for user in users {
         write_commands(replay, *user, output)?;
     }
+    Ok(())
+}
+
+/// Writes users with their leaders, windows with their holders and rights, and commands.
+pub fn write_rights<W: Write>(alloc: Global, pass: &Pass, output: &mut W) -> Result<(), Fault> {
+    write_users(pass, output)?;
+    let users = users_of(alloc, pass.watch.audit().replay())?;
+    write_objects(pass, users.as_slice(), output)?;
     Ok(())
 }

@@ -94,6 +94,17 @@ fn write_decider<W: Write>(alloc: Global, decider: &Decider, output: &mut W) -> 
     }
 }
 
+/// Writes whether the user has the bit, and whether he is the owner.
+fn write_answer<W: Write>(pass: &Pass, question: Question, output: &mut W) -> io::Result<()> {
+    let Question { user, bit, object } = question;
+    let has_bit = may(pass.watch.audit().replay(), user, bit, object);
+    writeln!(output, "{}", if has_bit { "yes" } else { "no" })?;
+    if user == pass.owner {
+        writeln!(output, "{}: the owner", text_of(&user))?;
+    }
+    Ok(())
+}
+
 /// Writes whether the user has the bit, and the acts that decide it: his own, and his leaders'.
 pub fn write_reasons<W: Write>(
     alloc: Global,
@@ -105,12 +116,7 @@ pub fn write_reasons<W: Write>(
         writeln!(output, "no: the window isn't open")?;
         return Ok(());
     }
-    let Question { user, bit, object } = question;
-    let has_bit = may(pass.watch.audit().replay(), user, bit, object);
-    writeln!(output, "{}", if has_bit { "yes" } else { "no" })?;
-    if user == pass.owner {
-        writeln!(output, "{}: the owner", text_of(&user))?;
-    }
+    write_answer(pass, question, output)?;
     for decider in pass.watch.sight().deciders() {
         write_decider(alloc, decider, output)?;
     }
