@@ -180,8 +180,8 @@ impl View {
         Ok(())
     }
 
-    /// The cursor and the modes of the keyboard are those of the focused region: of its window, where
-    /// that is readable.
+    /// The cursor and the modes of the keyboard are those of the focused region: of its window,
+    /// where that is readable.
     fn focus(&mut self, rect: Rect, pane: &Pane)
         ensures size { KeepsSize self.old self.new }
         ensures focused { TakesFocus rect (part_of pane.now) self.old self.new }
