@@ -48,7 +48,7 @@ fn share(state: &mut State, sharing: &mut Sharing, client: u32, frame: Frame)
     ensures shared { SharesOrForgets client frame sharing.old sharing.new }
 {
     let lead = Lead { client, frame };
-    let unneeded = if sharing.may_lead(client) {
+    let unneeded = if sharing.may_lead(state, client) {
         sharing.begin(lead)
     } else {
         sharing.forget(client);

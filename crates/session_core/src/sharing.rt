@@ -7,7 +7,7 @@ ghost use Rattle.session_core.specs.Sharing.{PassesOn, AreLeft};
 
 use session_model::{CLIENTS, Event, Reply};
 use session_state::State;
-use session_view::Lead;
+use session_view::{Lead, see_the_same};
 use std::alloc::{AllocError, Global};
 use std::mem;
 
@@ -65,11 +65,20 @@ impl Sharing {
         self.alike.contains(&client)
     }
 
+    /// Whether a client sees the same as those that were drawn the same last.
+    fn sees_the_same(&self, state: &State, client: u32) -> bool {
+        match self.alike.first() {
+            Some(other) => see_the_same(state, client, *other).unwrap_or(false),
+            None => false,
+        }
+    }
+
     /// Whether a client's own frame may be the one that others follow: nobody follows another one,
-    /// and few clients would be forgotten.
-    pub(crate) fn may_lead(&self, client: u32) -> bool {
+    /// and few clients would be forgotten, or such that will follow this one.
+    pub(crate) fn may_lead(&self, state: &State, client: u32) -> bool {
         let is_free = self.lead.is_none() || self.followers.len() < 2;
-        is_free && (self.alike.len() < 2 || self.knows(client))
+        let is_one = self.alike.len() < 2 || self.knows(client);
+        is_free && (is_one || self.sees_the_same(state, client))
     }
 
     /// A client was drawn something else.

@@ -15,5 +15,6 @@ mod viewing;
 pub use drawing::draw;
 pub use following::{Lead, draw_like};
 pub use lists::{aclgrp_of, displays, screen, windows};
+pub use sameness::see_the_same;
 pub use texts::{clients_text, leaders_text, windows_text};
 pub use viewing::view_of;

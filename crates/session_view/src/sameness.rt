@@ -129,7 +129,7 @@ fn are_alike(state: &State, a: &Client, b: &Client) -> Result<bool, AllocError>
 }
 
 /// Whether the clients of two serials are there and known to see the same.
-pub(crate) fn see_the_same(state: &State, client: u32, other: u32) -> Result<bool, AllocError>
+pub fn see_the_same(state: &State, client: u32, other: u32) -> Result<bool, AllocError>
     ensures { IfOk result (λ same. same ≡ true → SeeTheSame client other state.now) }
 {
     let Some(a) = state.clients.get(client) else {
