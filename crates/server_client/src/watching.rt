@@ -17,8 +17,8 @@ const PERIOD: u64 = 100;
 const IDLE: u32 = 20;
 
 impl Standing {
-    // Whether the writing that a period began with goes on at its end. So many periods before it had
-    // no writing.
+    // Whether the writing that a period began with goes on at its end. So many periods before it
+    // had no writing.
     fn goes_on(&mut self, number: u64, idle: &mut u32) -> bool {
         if self.writings != number {
             *idle = 0;

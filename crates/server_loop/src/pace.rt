@@ -89,7 +89,7 @@ impl Pace {
     }
 
     /// Whether the draws of this turn are to wait, as they do where keys were typed in it, whose
-    /// echo may come at once, and behind those of a crowd, while which more may have come. Without
+    /// echo may come at once, and behind those of a crowd, during which more may have come. Without
     /// a clock they don't.
     pub fn holds(&mut self, busy: &AtomicU64, now: Option<Duration>, awaits_echo: bool) -> bool {
         self.awaits_echo = awaits_echo;

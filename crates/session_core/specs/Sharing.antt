@@ -69,8 +69,8 @@ abbrev pub SharesOrForgets : ℕ → Made → Sharing → Sharing → Type 0
 SharesOrForgets client f old new =
     Begins (record { client = client; frame = f }) old new ⊎ Forgets client old new
 
--- where what is to be shown may have changed, the followers are those that were drawn the same last,
--- or those that were before the frame still are
+-- where what is to be shown may have changed, the followers are those that were drawn the same
+-- last, or those that were before the frame still are
 abbrev pub PassesOn : Option Lead → Sharing → Sharing → Type 0
 PassesOn None old new = new ≡ old
 PassesOn (Some l) old new =

@@ -147,8 +147,8 @@ pub(crate) fn keep_memory(state: &mut State, lead: Option<Lead>)
 }
 
 /// Notes a step. Keys, a command and output leave all terminals as they are, but not what they are
-/// to show; another event but a Draw, which has noted it itself, may be of a terminal that is new or
-/// has another size. The memory of a frame that isn't needed any more is kept.
+/// to show; another event but a Draw, which has noted it itself, may be of a terminal that is new
+/// or has another size. The memory of a frame that isn't needed any more is kept.
 pub(crate) fn note_step(state: &mut State, sharing: &mut Sharing, event: Event, reply: &Reply)
     ensures state { state.new ≡ state.old }
     ensures left { AreLeft reply.now (happening event.entry) sharing.old sharing.new }
