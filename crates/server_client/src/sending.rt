@@ -5,7 +5,8 @@ ghost use Rattle.std.specs.Io.{ReadsAtMost};
 use crate::fault::ClientFault;
 use crate::opening::Way;
 use crate::standing::Shared;
-use attach_proto::{Bytes, LONGEST, Message, WriteFault, write_message};
+use crate::words::frame_of;
+use attach_proto::{Bytes, LONGEST, Message, WriteFault};
 use size_lines::{Size, SizeLines};
 use std::alloc::{AllocError, Global};
 use std::fs::File;
@@ -25,12 +26,6 @@ fn read_input<I: Read>(input: &mut I, buffer: &mut [u8]) -> io::Result<usize>
         Err(error) if error.raw_os_error() == Some(EIO) => Ok(0),
         read => read,
     }
-}
-
-fn frame_of(alloc: Global, message: &Message) -> Result<Vec<u8>, WriteFault> {
-    let mut frame = Vec::new(alloc);
-    write_message(alloc, message, &mut frame)?;
-    Ok(frame)
 }
 
 fn input_frame(alloc: Global, way: Way, input: &[u8]) -> Result<Vec<u8>, WriteFault> {

@@ -82,6 +82,13 @@ fn command(alloc: Global, matches: &ArgMatches, token: Token) -> Result<Message,
     })
 }
 
+/// The frame of a message.
+pub fn frame_of(alloc: Global, message: &Message) -> Result<Vec<u8>, WriteFault> {
+    let mut frame = Vec::new(alloc);
+    write_message(alloc, message, &mut frame)?;
+    Ok(frame)
+}
+
 /// The frame of a first message with this token: TooLong where no frame holds the words.
 pub fn first_frame(
     alloc: Global,
@@ -94,7 +101,5 @@ pub fn first_frame(
         Way::Window => window(alloc, matches, token),
         Way::Command => command(alloc, matches, token),
     }?;
-    let mut frame = Vec::new(alloc);
-    write_message(alloc, &message, &mut frame)?;
-    Ok(frame)
+    Ok(frame_of(alloc, &message)?)
 }
