@@ -53,7 +53,7 @@ pub enum Awaits {
     /// To be looked at, though no event will tell of it.
     Work,
     /// That its user may cause more entries.
-    Leave,
+    Ration,
     /// To be looked at for the first time.
     FirstWork,
     /// The end of its patience.
@@ -172,7 +172,7 @@ impl<S: Drop> Peer<S> {
     pub fn awaits(&self, what: Awaits) -> bool {
         match what {
             Awaits::Work => self.is_due(),
-            Awaits::Leave => self.is_held,
+            Awaits::Ration => self.is_held,
             Awaits::FirstWork => self.is_new() && self.is_due(),
             Awaits::End => self.is_awaited(),
         }

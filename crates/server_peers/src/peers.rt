@@ -136,7 +136,7 @@ impl<S: Read + Write + Drop, G: Gate + Drop, L: Roll> Peers<S, G, L> {
 
     /// Whether something is to be tried again soon, though no event will tell of it.
     pub fn has_waiting(&self) -> bool {
-        self.has_waiting || self.peers.any_awaits(Awaits::Leave)
+        self.has_waiting || self.peers.any_awaits(Awaits::Ration)
     }
 
     /// Whether a first message may be there.
