@@ -22,7 +22,7 @@ shell:
 	@examples/shell.sh
 
 # Proves the programs and all that they stand on, several crates at a time, and puts the programs into bin/.  What was
-# interrupted goes on where it was.  make build JOBS=2: two crates at a time.
+# interrupted goes on where it was.  make build JOBS=2: two jobs at a time.
 build:
 	@RT='$(RT)' tools/build $(if $(JOBS),-j $(JOBS)) $(PROGRAMS)
 
