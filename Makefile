@@ -37,7 +37,7 @@ check:
 
 # The gate: every proof from nothing, the must-fail edits, the tests and the programs.
 test:
-	@RT='$(RT)' tools/rt ci
+	@RT='$(RT)' RT_JOBS=$${RT_JOBS:-$$(nproc)} tools/rt ci
 
 # Tries the edits of edits/ in copies of the tree: all, or make edits CRATE=acl.
 edits:
