@@ -21,4 +21,4 @@ pub use reader::Reader;
 pub use reading::LONGEST;
 pub use side::Side;
 pub use why::Why;
-pub use writing::write_message;
+pub use writing::{head_of, write_message};
