@@ -3,13 +3,13 @@ ghost use Rattle.std.specs.Prelude.{slice_get, true, false, vec_len};
 ghost use Rattle.acl_words.specs.declared.limits.TheConstants.{WINDOWS};
 ghost use Rattle.std.specs.Vec.{vec_capacity};
 
-use crate::carry::conclude;
+use crate::carry::{Plan, conclude};
 use crate::follower::Follower;
 use crate::lists::Lists;
 use crate::plan::{change_fault, plan_addition, plan_change, plan_group, plan_masks, plan_removal};
+use crate::rights_change::RightsChange;
 use acl_words::{
-    AclFault, Act, Bit, BitChange, Edition, EntryDenial, Leaders, MaskEntry, NewLeader, Object,
-    UserId,
+    AclFault, Act, Bit, Edition, EntryDenial, Leaders, MaskEntry, NewLeader, Object, UserId,
 };
 use std::alloc::{AllocError, Global};
 use std::marker::Model;
@@ -141,25 +141,29 @@ impl Acl {
     /// known.
     pub fn change<F: Follower>(
         &mut self,
-        names: &[Option<UserId>],
-        changes: &[BitChange],
-        objects: &[Object],
+        change: RightsChange,
         acts: &mut Vec<Act>,
         room: usize,
         follower: &mut F,
     ) -> Result<(), AclFault>
         ensures answer { Refuses self.old
-            (λ _ owner h. change_fault owner (users_of owner h) names.now) result }
-        ensures done { OnOk result (DoesOn objects.now self.old self.new
+            (λ _ owner h. change_fault owner (users_of owner h) change.entry.names.now) result }
+        ensures done { OnOk result (DoesOn change.entry.objects.now self.old self.new
             acts.old.items acts.new.items (F.follows follower.old) (F.follows follower.new)
-            (λ owner h. change_acts (users_of owner h) names.now changes.now objects.now)) }
+            (λ owner h. change_acts (users_of owner h) change.entry.names.now
+            change.entry.changes.now change.entry.objects.now)) }
         ensures room { OnOk result (vec_len acts.new + room ≤ vec_capacity acts.new) }
         ensures err { OnErr result ((self.new ≡ self.old) × (acts.new.items ≡ acts.old.items)
             × (follower.new ≡ follower.old)) }
     {
         let start = acts.len();
-        let planned = plan_change(&self.lists, names, changes, objects, acts);
-        conclude(&mut self.lists, planned, start, room, acts, follower)
+        let planned = plan_change(&self.lists, change, acts);
+        let plan = Plan {
+            planned,
+            start,
+            room,
+        };
+        conclude(&mut self.lists, plan, acts, follower)
     }
 
     /// `acladd`: makes names known, and then grants each of these users each bit on the objects,
@@ -183,7 +187,12 @@ impl Acl {
     {
         let start = acts.len();
         let planned = plan_addition(&self.lists, names, objects, acts);
-        conclude(&mut self.lists, planned, start, room, acts, follower)
+        let plan = Plan {
+            planned,
+            start,
+            room,
+        };
+        conclude(&mut self.lists, plan, acts, follower)
     }
 
     /// `acldel`: takes a user away, with all that is his.
@@ -205,7 +214,12 @@ impl Acl {
     {
         let start = acts.len();
         let planned = plan_removal(&self.lists, name, acts);
-        conclude(&mut self.lists, planned, start, room, acts, follower)
+        let plan = Plan {
+            planned,
+            start,
+            room,
+        };
+        conclude(&mut self.lists, plan, acts, follower)
     }
 
     /// `aclgrp`: gives a user a leader, or none. In the first edition a new leader takes the former
@@ -229,7 +243,12 @@ impl Acl {
     {
         let start = acts.len();
         let planned = plan_group(&self.lists, name, leader, acts);
-        conclude(&mut self.lists, planned, start, room, acts, follower)
+        let plan = Plan {
+            planned,
+            start,
+            room,
+        };
+        conclude(&mut self.lists, plan, acts, follower)
     }
 
     /// `aclumask`: sets what users get on windows that `by` opens later, and the presets.
@@ -252,7 +271,12 @@ impl Acl {
     {
         let start = acts.len();
         let planned = plan_masks(&self.lists, by, entries, acts);
-        conclude(&mut self.lists, planned, start, room, acts, follower)
+        let plan = Plan {
+            planned,
+            start,
+            room,
+        };
+        conclude(&mut self.lists, plan, acts, follower)
     }
 
     /// A known user opened a window, whose serial number is new. At most 39 others are open.

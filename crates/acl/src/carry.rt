@@ -12,6 +12,15 @@ use crate::follower::Follower;
 use crate::lists::Lists;
 use acl_words::{AclFault, Act};
 
+/// The acts of a list command: whether they were planned well, from which place on they stand, and
+/// how many more there is to be room for behind them.
+#[derive(Drop)]
+pub struct Plan {
+    pub planned: Result<(), AclFault>,
+    pub start: usize,
+    pub room: usize,
+}
+
 /// How many names become known.
 fn count_known(acts: &[Act]) -> usize
     ensures { result ≡ count_by makes_known acts.now }
@@ -75,28 +84,32 @@ fn apply_all<F: Follower>(lists: &mut Lists, acts: &[Act], follower: &mut F)
     }
 }
 
-/// Does the acts from `start` on where they were planned well, with room for so many more behind
+/// Does the acts that were planned where they were planned well, with room for so many more behind
 /// them; else takes them back, and answers the fault.
 pub fn conclude<F: Follower>(
     lists: &mut Lists,
-    planned: Result<(), AclFault>,
-    start: usize,
-    room: usize,
+    plan: Plan,
     acts: &mut Vec<Act>,
     follower: &mut F,
 ) -> Result<(), AclFault>
-    requires { start ≤ vec_len acts.old }
-    ensures answer { (fault : Option AclFault) → Answers planned fault → Answers result fault }
+    requires { plan.start ≤ vec_len acts.old }
+    ensures answer { (fault : Option AclFault) → Answers plan.planned fault
+        → Answers result fault }
     ensures acts { OnOk result (acts.new.items ≡ acts.old.items) }
     ensures stands { OnOk result
-        (TakesAll (table_of lists.old) (table_of lists.new) (drop start acts.old.items)) }
+        (TakesAll (table_of lists.old) (table_of lists.new) (drop plan.start acts.old.items)) }
     ensures follower { OnOk result (FollowsAll (F.follows follower.old) (F.follows follower.new)
-        (table_of lists.old) (drop start acts.old.items)) }
-    ensures room { OnOk result (vec_len acts.new + room ≤ vec_capacity acts.new) }
-    ensures ok { OnOk result (planned ≡ Ok tt) }
+        (table_of lists.old) (drop plan.start acts.old.items)) }
+    ensures room { OnOk result (vec_len acts.new + plan.room ≤ vec_capacity acts.new) }
+    ensures ok { OnOk result (plan.planned ≡ Ok tt) }
     ensures err { OnErr result ((table_of lists.new ≡ table_of lists.old)
-        × (acts.new.items ≡ take start acts.old.items) × (follower.new ≡ follower.old)) }
+        × (acts.new.items ≡ take plan.start acts.old.items) × (follower.new ≡ follower.old)) }
 {
+    let Plan {
+        planned,
+        start,
+        room,
+    } = plan;
     let ready = match planned {
         Ok(()) => make_room(lists, room, start, acts),
         Err(fault) => Err(fault),

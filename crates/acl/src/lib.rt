@@ -7,6 +7,7 @@ mod follower;
 mod laws;
 mod lists;
 mod plan;
+mod rights_change;
 mod rows;
 mod sets;
 
@@ -26,4 +27,5 @@ pub use faults::AclFault;
 pub use follower::Follower;
 pub use laws::{acts_aside, acts_in_order, users_listed, windows_stay};
 pub use lists::Lists;
+pub use rights_change::RightsChange;
 pub use user_id::UserId;

@@ -15,6 +15,7 @@ ghost use Rattle.acl.specs.Table.{users_in, led_by};
 ghost use Rattle.acl.specs.Lists.{table_of};
 
 use crate::lists::Lists;
+use crate::rights_change::RightsChange;
 use crate::sets::{plan_sets, push_act};
 use acl_words::{
     AclFault, Act, Bit, BitChange, MaskEntry, MaskScope, NewLeader, Object, USERS, UserId,
@@ -156,19 +157,19 @@ fn plan_name_sets(
 }
 
 /// A change of bits, user by user. A name that isn't known becomes known.
-pub fn plan_change(
-    lists: &Lists,
-    names: &[Option<UserId>],
-    changes: &[BitChange],
-    objects: &[Object],
-    acts: &mut Vec<Act>,
-) -> Result<(), AclFault>
-    ensures answer { Answers result
-        (change_fault (table_of lists.now).owner (users_in (table_of lists.now)) names.now) }
+pub fn plan_change(lists: &Lists, change: RightsChange, acts: &mut Vec<Act>) -> Result<(), AclFault>
+    ensures answer { Answers result (change_fault (table_of lists.now).owner
+        (users_in (table_of lists.now)) change.entry.names.now) }
     ensures ok { OnOk result (acts.new.items ≡ acts.old.items
-        ++ change_acts (users_in (table_of lists.now)) names.now changes.now objects.now) }
+        ++ change_acts (users_in (table_of lists.now)) change.entry.names.now
+        change.entry.changes.now change.entry.objects.now) }
     ensures err { OnErr result (Keeps acts.old.items acts.new.items) }
 {
+    let RightsChange {
+        names,
+        changes,
+        objects,
+    } = change;
     if let Some(fault) = change_fault(lists, names) {
         return Err(fault);
     }

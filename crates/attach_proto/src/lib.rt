@@ -22,4 +22,4 @@ pub use side::Side;
 pub use strings::{Bytes, Text};
 pub use token::{TOKEN_LEN, Token};
 pub use why::Why;
-pub use writing::write_message;
+pub use writing::{head_of, write_message};

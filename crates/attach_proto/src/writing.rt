@@ -7,11 +7,15 @@ ghost use Rattle.attach_proto.specs.Spelling.{two, named, window_byte, kind_of, 
 ghost use Rattle.attach_proto.specs.Spelling.{spelling, HasFields, IsSpellable};
 
 use crate::fault::WriteFault;
+use crate::kind::Kind;
 use crate::message::Message;
 use crate::reading::LONGEST;
 use crate::token::Token;
 use std::alloc::{AllocError, Global};
 use strings::{Bytes, Text};
+
+/// How many bytes stand before a payload.
+const HEAD: usize = 3;
 
 fn is_token(token: &Token) -> bool
     ensures { (result ≡ true) × IsToken token.now }
@@ -187,6 +191,15 @@ fn put_payload(out: &mut Vec<u8>, message: &Message) -> Result<(), AllocError>
     Ok(())
 }
 
+/// What stands before a payload in a frame of this kind.
+pub fn head_of(kind: Kind, payload: &[u8]) -> [u8; HEAD]
+    requires { length payload.now ≤ 8192 }
+    ensures { result ++ payload.now ≡ frame kind payload.now }
+{
+    let len = payload.len() as u16;
+    [kind.code(), (len / 256) as u8, (len % 256) as u8]
+}
+
 // The frame, or None where its payload is too long.
 fn frame_of(alloc: Global, message: &Message) -> Result<Option<Vec<u8>>, AllocError>
     requires { HasFields message.now }
@@ -200,8 +213,7 @@ fn frame_of(alloc: Global, message: &Message) -> Result<Option<Vec<u8>>, AllocEr
         return Ok(None);
     }
     let mut frame = Vec::new(alloc);
-    frame.push(message.kind().code())?;
-    put_two(&mut frame, payload.len() as u16)?;
+    frame.extend_from_slice(&head_of(message.kind(), &payload))?;
     frame.extend_from_slice(&payload)?;
     Ok(Some(frame))
 }

@@ -4,7 +4,7 @@ use crate::stage::{Answer, Name, Stage, user};
 use AclFault::{
     NoMemory, NoSuchGroup, OwnerKept, ReservedName, TooManyGroups, TooManyUsers, UnknownUser,
 };
-use acl::{AclFault, Bit, BitChange, Edition, Object};
+use acl::{AclFault, Bit, BitChange, Edition, Object, RightsChange};
 use std::alloc::Global;
 
 /// At most one allocation is refused in a run, so a second try never is.
@@ -28,11 +28,16 @@ fn set_often(stage: &mut Stage, value: bool, objects: &[Object]) -> Result<(), A
         bit: Bit::Read,
         value,
     }; 1024];
+    let names = [user(Name::Bob)];
+    let change = RightsChange {
+        names: &names,
+        changes: &changes,
+        objects,
+    };
     for _ in 0..TRIES {
-        let (acts, locks) = (&mut stage.acts, &mut stage.locks);
         let done = stage
             .acl
-            .change(&[user(Name::Bob)], &changes, objects, acts, 0, locks);
+            .change(change, &mut stage.acts, 0, &mut stage.locks);
         if done != Err(NoMemory) {
             return done;
         }

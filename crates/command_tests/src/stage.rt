@@ -2,7 +2,7 @@
 
 use acl::{
     Acl, AclFault, Act, Bit, BitChange, CommandName, Edition, LockMode, MaskEntry, MaskScope,
-    NewLeader, Object, PresetKind, UserId,
+    NewLeader, Object, PresetKind, RightsChange, UserId,
 };
 use std::alloc::Global;
 use writelock::Locks;
@@ -149,9 +149,11 @@ impl Stage {
         object: Object,
     ) -> Result<(), AclFault> {
         self.acl.change(
-            &[user(name)],
-            changes,
-            &[object],
+            RightsChange {
+                names: &[user(name)],
+                changes,
+                objects: &[object],
+            },
             &mut self.acts,
             0,
             &mut self.locks,

@@ -9,7 +9,10 @@ ghost use Rattle.hub_replay.specs.Following.{Redoes, Tells, StandsAfter, is_name
 ghost use Rattle.hub_trail.specs.Judging.{leader_in};
 
 use crate::replay::Replay;
-use acl::{AclFault, Bit, BitChange, MaskEntry, MaskScope, NewLeader, Object, PresetKind, UserId};
+use acl::{
+    AclFault, Bit, BitChange, MaskEntry, MaskScope, NewLeader, Object, PresetKind, RightsChange,
+    UserId,
+};
 use std::alloc::AllocError;
 
 /// Whether a list command was done; an error where memory was refused.
@@ -44,9 +47,11 @@ pub fn know(replay: &mut Replay, user: UserId) -> Result<bool, AllocError>
     replay.scratch.clear();
     redone(
         replay.acl.change(
-            &[Some(user)],
-            &[],
-            &[],
+            RightsChange {
+                names: &[Some(user)],
+                changes: &[],
+                objects: &[],
+            },
             &mut replay.scratch,
             0,
             &mut replay.locks,
@@ -85,9 +90,11 @@ pub fn set(
     replay.scratch.clear();
     redone(
         replay.acl.change(
-            &[Some(user)],
-            &[BitChange { bit, value }],
-            &[object],
+            RightsChange {
+                names: &[Some(user)],
+                changes: &[BitChange { bit, value }],
+                objects: &[object],
+            },
             &mut replay.scratch,
             0,
             &mut replay.locks,

@@ -8,7 +8,7 @@ ghost use Rattle.session_lists.specs.Asked.{answered};
 use crate::masks::entries_of;
 use crate::names::{named, names_of, new_leader};
 use crate::objects::{every_object, objects_of};
-use acl::AclFault;
+use acl::{AclFault, RightsChange};
 use command_lang::{BitList, Leader, Masks, Text, Texts, Users};
 use session_model::{Bytes, Refusal};
 use session_state::{Caller, State, StepOutput};
@@ -61,12 +61,13 @@ pub fn aclchg(
         return Err(Refusal::Acl(fault));
     }
     let objects = objects_of(state.alloc, &state.windows, list.as_slice())?;
+    let change = RightsChange {
+        names: &names,
+        changes: bits.as_slice(),
+        objects: &objects,
+    };
     let (acts, locks) = (&mut made.acts, &mut state.locks);
-    answered(
-        state
-            .acl
-            .change(&names, bits.as_slice(), &objects, acts, ROOM, locks),
-    )
+    answered(state.acl.change(change, acts, ROOM, locks))
 }
 
 /// `aclgrp` with a leader: the user follows him, or with `none` nobody.

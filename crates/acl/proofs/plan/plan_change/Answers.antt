@@ -16,21 +16,21 @@ returns-in_err-plan_name_sets-clause-err c =
 pub loop-i-preserved : goal.loop-i-preserved
 loop-i-preserved c =
     let users = users_in (table_of c.args.lists.now) in
-    let changes = c.args.changes.now in
-    let objects = c.args.objects.now in
+    let changes = c.args.change.changes.now in
+    let objects = c.args.change.objects.now in
     let i = c.loop-i.i in
-    let name = slice_index_or c.args.names.now i None in
-    let before = with_names users (take i c.args.names.now) in
-    let rest = drop (i + 1) c.args.names.now in
+    let name = slice_index_or c.args.change.names.now i None in
+    let before = with_names users (take i c.args.change.names.now) in
+    let rest = drop (i + 1) c.args.change.names.now in
     let left = change_acts (with_name before name) rest changes objects in
     let acts = c.loop-i.acts.items in
     record {
-      left = ap (λ us. c.plan_name_sets.new.acts.items ++ change_acts us rest changes objects) (with_names-next users c.args.names.now i (omega arith))
+      left = ap (λ us. c.plan_name_sets.new.acts.items ++ change_acts us rest changes objects) (with_names-next users c.args.change.names.now i (omega arith))
           ∙ ap (λ xs. xs ++ left) (c.in_ok-plan_name_sets.ensures.ok ∙ ap (λ xs. xs ++ name_sets changes objects name) c.in_ok-plan_known.ensures.ok)
           ∙ ap (λ xs. xs ++ left) (append_assoc acts (new_acts before name) (name_sets changes objects name))
           ∙ append_assoc acts (new_acts before name ++ name_sets changes objects name) left
           ∙ ap (λ xs. acts ++ (xs ++ left)) (sym (name_acts-parts before name changes objects))
-          ∙ ap (λ ns. acts ++ change_acts before ns changes objects) (drop-next c.args.names.now i None (omega arith))
+          ∙ ap (λ ns. acts ++ change_acts before ns changes objects) (drop-next c.args.change.names.now i None (omega arith))
           ∙ c.loop-i.invariant.left;
       kept = keeps-on _ _ _ c.loop-i.invariant.kept (keeps-on _ _ _ (_, c.in_ok-plan_known.ensures.ok) (_, c.in_ok-plan_name_sets.ensures.ok));
     }
