@@ -37,8 +37,8 @@ fn pen_at(cursor: Cursor) -> Pen
     ensures { result ≡ pen_of (place_of cursor) }
 {
     let (line, column) = match cursor {
-        Cursor::Hidden => (u16::MAX, u16::MAX),
-        Cursor::At { line, column } => (line, column),
+        Cursor::Hidden => (None, None),
+        Cursor::At { line, column } => (Some(line), Some(column)),
     };
     Pen {
         line,
@@ -56,8 +56,8 @@ fn first_bytes(alloc: Global, view: &View, out: &mut Vec<u8>) -> Result<(), Allo
         return Err(AllocError);
     };
     let mut pen = Pen {
-        line: 0,
-        column: 0,
+        line: Some(0),
+        column: Some(0),
         rendition: Some(Rendition::PLAIN),
     };
     paint(&mut pen, &blank, true, view, 0, out)?;

@@ -71,7 +71,7 @@ fn draw_piece(
         return Ok(column + erased);
     }
     let cell = after[column];
-    pen.put_cell(line, column as u16, cell, out)?;
+    pen.put_cell(line, column as u16, after.len() as u16, cell, out)?;
     Ok(column + columns_of(cell) as usize)
 }
 

@@ -41,5 +41,5 @@ returns-clause-draws c old new rows before lh rh lines whole differs =
     let width = c.columns_of.ensures.value in
     cell_piece old new rows c.args.pen.now c.put_cell.new.self c.args.line c.args.column (c.args.column + c.columns_of.result) cell cells c.args.out.now.items c.put_cell.new.out.items
     here lines.new_is lines.new_paired lines.new_drawable whole inside (ap (λ k. c.args.column + k) width)
-    (c.in_ok-put_cell.ensures.takes old new rows (length cells) lh rh fits (omega (arith, c.requires.few)) (subst IsDrawableCell (sym here) (lines.new_drawable.printed c.args.column inside))
+    (c.in_ok-put_cell.ensures.takes old new rows lh rh fits (omega (arith, c.requires.few)) (subst IsDrawableCell (sym here) (lines.new_drawable.printed c.args.column inside))
     (ap (λ (z : Cell). is_right z.shape) here ∙ whole) (cell_stands old new c.args.line before cells lines c.args.column cell here) differs)
