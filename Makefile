@@ -22,7 +22,7 @@ shell:
 	@examples/shell.sh
 
 # Proves the programs and all that they stand on, several crates at a time, and puts the programs into bin/.  What was
-# interrupted goes on where it was.  make build JOBS=2: two crates at a time.
+# interrupted goes on where it was.  make build JOBS=2: two jobs at a time.
 build:
 	@RT='$(RT)' tools/build $(if $(JOBS),-j $(JOBS)) $(PROGRAMS)
 
@@ -37,7 +37,7 @@ check:
 
 # The gate: every proof from nothing, the must-fail edits, the tests and the programs.
 test:
-	@RT='$(RT)' tools/rt ci
+	@RT='$(RT)' RT_JOBS=$${RT_JOBS:-$$(nproc)} tools/rt ci
 
 # Tries the edits of edits/ in copies of the tree: all, or make edits CRATE=acl.
 edits:

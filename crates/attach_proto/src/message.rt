@@ -3,9 +3,10 @@
 ghost use Rattle.std.specs.Prelude.{◌≡◌};
 ghost use Rattle.attach_proto.specs.Spelling.{kind_of};
 
-use crate::fields::{Bytes, Text, Token};
 use crate::kind::Kind;
+use crate::token::Token;
 use crate::why::Why;
+use strings::{Bytes, Text};
 
 // No `==`: its fields keep capacities that no contract sees, and a comparison is derived only where a
 // value gives the fields back.

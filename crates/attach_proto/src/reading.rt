@@ -1,19 +1,20 @@
 //! The front of a stream.
 
 ghost use Rattle.std.specs.Prelude.{◌≡◌, ◌<◌, IfOk, Some, None};
-ghost use Rattle.attach_proto.specs.Texts.{Gives};
+ghost use Rattle.attach_proto.specs.Texts.{Gives, text_of};
 ghost use Rattle.attach_proto.specs.Reading.{front, one_at, two_at, split_at, token_at, name_at};
 ghost use Rattle.attach_proto.specs.Reading.{end_at, some_of, window_of, attach_of};
 ghost use Rattle.attach_proto.specs.Reading.{window_frame_of, command_of, size_of, number_of};
 ghost use Rattle.attach_proto.specs.Reading.{message_of, sized, of_length};
 
 use crate::fault::{ProtoFault, Unread};
-use crate::fields::{Bytes, Text, Token};
 use crate::kind::Kind;
 use crate::message::Message;
 use crate::side::Side;
+use crate::token::Token;
 use crate::why::Why;
 use std::alloc::{AllocError, Global};
+use strings::{Bytes, Text};
 
 /// What stands at the front of a stream.
 #[derive(Drop)]
@@ -63,13 +64,23 @@ fn token_at(bytes: &[u8]) -> Result<(Token, &[u8]), Unread>
     }
 }
 
+/// The text of these bytes, if they are one.
+fn text_at(alloc: Global, bytes: &[u8]) -> Result<Text, Unread>
+    ensures { Gives (λ t. t) result (text_of bytes.now) }
+{
+    match str::from_utf8(bytes) {
+        Ok(text) => Ok(Text::of(alloc, text)?),
+        Err(_) => Err(Unread::Payload),
+    }
+}
+
 #[tactic(auto, unfolding(crate::specs::Reading::name_at))]
 fn name_at(alloc: Global, bytes: &[u8]) -> Result<(Text, &[u8]), Unread>
     ensures { Gives (λ x. (x.0, x.1.now)) result (name_at bytes.now) }
 {
     let (len, rest) = one_at(bytes)?;
     let (name, rest) = split_at(rest, len as usize)?;
-    let name = Text::read(alloc, name)?;
+    let name = text_at(alloc, name)?;
     Ok((name, rest))
 }
 
@@ -88,7 +99,7 @@ fn some_of(alloc: Global, bytes: &[u8]) -> Result<Bytes, Unread>
     if bytes.is_empty() {
         return Err(Unread::Payload);
     }
-    Ok(Bytes::new(alloc, bytes)?)
+    Ok(Bytes::of(alloc, bytes)?)
 }
 
 fn window_of(byte: u8) -> Option<u8>
@@ -104,7 +115,7 @@ fn attach_of(alloc: Global, bytes: &[u8]) -> Result<Message, Unread>
     let (rows, rest) = two_at(bytes)?;
     let (columns, rest) = two_at(rest)?;
     let (token, rest) = token_at(rest)?;
-    let name = Text::read(alloc, rest)?;
+    let name = text_at(alloc, rest)?;
     Ok(Message::Attach {
         rows,
         columns,
@@ -122,7 +133,7 @@ fn window_frame_of(alloc: Global, bytes: &[u8]) -> Result<Message, Unread>
     let (keep, rest) = two_at(rest)?;
     let (token, rest) = token_at(rest)?;
     let (name, rest) = name_at(alloc, rest)?;
-    let title = Text::read(alloc, rest)?;
+    let title = text_at(alloc, rest)?;
     Ok(Message::Window {
         rows,
         columns,
@@ -140,7 +151,7 @@ fn command_of(alloc: Global, bytes: &[u8]) -> Result<Message, Unread>
     let (window, rest) = one_at(bytes)?;
     let (token, rest) = token_at(rest)?;
     let (name, rest) = name_at(alloc, rest)?;
-    let line = Bytes::new(alloc, rest)?;
+    let line = Bytes::of(alloc, rest)?;
     let window = window_of(window);
     Ok(Message::Command {
         window,
@@ -201,7 +212,7 @@ fn message_of(alloc: Global, kind: Kind, bytes: &[u8]) -> Result<Message, Unread
         Kind::Welcome => Ok(Message::Welcome(number_of(bytes)?)),
         Kind::Draw => Ok(Message::Draw(some_of(alloc, bytes)?)),
         Kind::Input => Ok(Message::Input(some_of(alloc, bytes)?)),
-        Kind::Say => Ok(Message::Say(Text::read(alloc, bytes)?)),
+        Kind::Say => Ok(Message::Say(text_at(alloc, bytes)?)),
         Kind::Size => {
             let (rows, columns) = size_of(bytes)?;
             Ok(Message::Size { rows, columns })

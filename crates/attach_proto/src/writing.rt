@@ -7,10 +7,11 @@ ghost use Rattle.attach_proto.specs.Spelling.{two, named, window_byte, kind_of, 
 ghost use Rattle.attach_proto.specs.Spelling.{spelling, HasFields, IsSpellable};
 
 use crate::fault::WriteFault;
-use crate::fields::{Bytes, Text, Token};
 use crate::message::Message;
 use crate::reading::LONGEST;
+use crate::token::Token;
 use std::alloc::{AllocError, Global};
+use strings::{Bytes, Text};
 
 fn is_token(token: &Token) -> bool
     ensures { (result ≡ true) × IsToken token.now }

@@ -109,8 +109,8 @@ fn texts_of_faults(rt: HostRuntime) {
 
 /// The parts of a message, with ample memory.
 fn are_made(alloc: Global) -> Option<bool> {
-    let bytes = Bytes::new(alloc, b"ab").ok()?;
-    let text = Text::new(alloc, "ab").ok()?;
+    let bytes = Bytes::of(alloc, b"ab").ok()?;
+    let text = Text::of(alloc, "ab").ok()?;
     Some(bytes.as_slice() == text.as_str().as_bytes())
 }
 

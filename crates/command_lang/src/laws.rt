@@ -1,6 +1,7 @@
 //! Laws of lines and commands.
 
 ghost use Rattle.std.specs.Prelude.{◌≡◌, ◌<◌, ◌⊎◌, ◌↔◌, ℕ, List, Ok, Err};
+ghost use Rattle.acl.specs.limits.TheConstants.{WINDOWS};
 ghost use Rattle.command_lang_table.specs.declared.command.Command.{Command};
 ghost use Rattle.command_lang_table.specs.declared.command.Command.TheVariants as command;
 ghost use Rattle.command_lang_table.specs.declared.fault.ParseFault.{ParseFault};
@@ -19,5 +20,5 @@ pub fn each_line_is_a_command_or_faulty()
 
 /// A line that gives a window a number gives it one below 40.
 pub fn numbers_are_below_40()
-    ensures { (line : List ℕ) (n : ℕ) → Relates line (command.Number n) → n < 40 }
+    ensures { (line : List ℕ) (n : ℕ) → Relates line (command.Number n) → n < WINDOWS }
 {}

@@ -5,9 +5,9 @@ ghost use Rattle.std.specs.Str.{chars};
 ghost use Rattle.command_lang_words.specs.Grammar.{size, IsCut};
 
 use crate::parts::put_parts;
-use crate::text::Text;
 use crate::word::Word;
 use std::alloc::{AllocError, Global};
+use strings::Text;
 
 /// How many bytes characters have in UTF-8.
 fn byte_count(cs: &[char]) -> usize

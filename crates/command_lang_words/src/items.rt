@@ -4,6 +4,7 @@ ghost use Rattle.std.specs.Prelude.{◌≡◌, ◌++◌, ◌∷◌, [], OnOk, On
 
 use std::alloc::{AllocError, Global};
 use std::marker::Model;
+use strings::Text;
 
 /// Items, in order. Contracts see them as their list.
 #[derive(Drop, Debug)]
@@ -45,3 +46,6 @@ impl<T: Drop> Items<T> {
         self.items.as_slice()
     }
 }
+
+/// Texts, in order.
+pub type Texts = Items<Text>;

@@ -5,11 +5,10 @@ mod cut;
 mod items;
 mod laws;
 mod parts;
-mod text;
 mod word;
 
 pub use cut::words;
-pub use items::Items;
+pub use items::{Items, Texts};
 pub use laws::each_line_is_cut_once;
-pub use text::{Text, Texts};
+pub use strings::Text;
 pub use word::Word;

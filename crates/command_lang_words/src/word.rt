@@ -1,4 +1,4 @@
-use crate::text::Text;
+use strings::Text;
 
 /// A word of a line: the place of its first byte, its text in UTF-8, and whether it is closed: the
 /// line doesn't end inside its quotes, or behind a backslash.

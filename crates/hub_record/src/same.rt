@@ -63,8 +63,8 @@ fn is_command(event: &Kept, user: UserId, window: Option<u8>, line: &Bytes) -> b
 }
 
 /// Whether the event is an Open of this user and size.
-fn is_open(event: &Kept, user: UserId, rows: u16, columns: u16, keep: u16, title: &Bytes) -> bool
-    ensures { (result ≡ true) ↔ (event.now ≡ kept.Open user rows columns keep title.now) }
+fn is_open(event: &Kept, user: UserId, size: (u16, u16), keep: u16, title: &Bytes) -> bool
+    ensures { (result ≡ true) ↔ (event.now ≡ kept.Open user size.0 size.1 keep title.now) }
 {
     match event {
         Kept::Open {
@@ -75,8 +75,8 @@ fn is_open(event: &Kept, user: UserId, rows: u16, columns: u16, keep: u16, title
             title: given,
         } => {
             *named == user
-                && *height == rows
-                && *width == columns
+                && *height == size.0
+                && *width == size.1
                 && *kept == keep
                 && are_same(given, title)
         }
@@ -113,7 +113,7 @@ pub fn is_same(event: &Kept, other: &Kept) -> bool
             columns,
             keep,
             title,
-        } => is_open(other, *user, *rows, *columns, *keep, title),
+        } => is_open(other, *user, (*rows, *columns), *keep, title),
         Kept::Closed { window } => is_closed(other, *window),
     }
 }

@@ -5,13 +5,9 @@
 #[cfg(test)]
 mod compare;
 #[cfg(test)]
-mod editions;
-#[cfg(test)]
 mod entries;
 #[cfg(test)]
 mod events;
-#[cfg(test)]
-mod fresh;
 #[cfg(test)]
 mod many;
 #[cfg(test)]
@@ -22,5 +18,3 @@ mod runs;
 mod side;
 #[cfg(test)]
 mod totals;
-#[cfg(test)]
-mod windows;

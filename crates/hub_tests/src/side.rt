@@ -6,7 +6,6 @@ use acl::{Edition, UserId};
 use hub::{Hub, HubFault, Seat, Session, Trail};
 use session_model::{Event, Reply};
 use std::alloc::Global;
-use std::sync::Wait;
 use std::sync::ledger::{Blank, Ledger as Roll};
 
 /// A hub with its one seat.
@@ -58,17 +57,6 @@ pub fn line_of(user: UserId, line: &[u8]) -> Event<'_> {
         window: None,
         line,
     }
-}
-
-/// Whether all of these are submitted, and none is refused.
-pub fn are_done<L: Roll, R: Wait>(rt: &R, side: &mut Side<L>, events: &[Event<'_>]) -> bool {
-    for event in events {
-        match side.hub.submit(rt, &mut side.seat, *event) {
-            Ok(answer) if answer.reply().is_ok() => {}
-            _ => return false,
-        }
-    }
-    true
 }
 
 /// How many bytes of keys a step read.

@@ -11,6 +11,7 @@ use Rattle.acl.specs.declared.edition.Edition.{Edition}
 use Rattle.acl.specs.declared.entries.NewLeader.{NewLeader}
 use Rattle.acl.specs.declared.entries.NewLeader.TheVariants.{Nobody, Named}
 use Rattle.acl.specs.declared.user_id.UserId.{UserId}
+use Rattle.acl.specs.limits.TheConstants.{WINDOWS}
 use Rattle.acl.specs.Commands.{new_name_fault, known_name_fault, group_fault}
 use Rattle.acl.specs.History.{History, followed_by, is_known, is_open, open_count, there, may}
 use Rattle.acl.specs.History.{users_of, among, leaders_of}
@@ -49,7 +50,7 @@ can_follow edition owner h (act.Grouped u leader) =
 can_follow edition owner h (act.Masked by u bit value) =
     is_none (known_name_fault owner (users_of owner h) (Some u))
 can_follow edition owner h (act.Opened by w) =
-    is_known owner h by && (not (is_open h w) && nat_lt (open_count h) 40)
+    is_known owner h by && (not (is_open h w) && nat_lt (open_count h) WINDOWS)
 can_follow edition owner h (act.Attached client user) = not (is_client h client)
 can_follow edition owner h (act.Entered u w) = is_open h w
 can_follow edition owner h (act.Mode by w mode) =

@@ -73,8 +73,8 @@ fn given(alloc: Global, line: &str) -> io::Result<Message> {
     Ok(Message::Command {
         window: None,
         token: token(OWN)?,
-        name: Text::new(alloc, "own")?,
-        line: Bytes::new(alloc, line.as_bytes())?,
+        name: Text::of(alloc, "own")?,
+        line: Bytes::of(alloc, line.as_bytes())?,
     })
 }
 

@@ -154,12 +154,12 @@ impl Line {
     }
 
     pub fn types(&mut self, bytes: &[u8]) -> io::Result<()> {
-        let bytes = Bytes::new(self.alloc, bytes)?;
+        let bytes = Bytes::of(self.alloc, bytes)?;
         self.send(&Message::Keys(bytes))
     }
 
     pub fn writes(&mut self, bytes: &[u8]) -> io::Result<()> {
-        let bytes = Bytes::new(self.alloc, bytes)?;
+        let bytes = Bytes::of(self.alloc, bytes)?;
         self.send(&Message::Output(bytes))
     }
 
@@ -221,8 +221,8 @@ pub fn command<R: Net + Clock>(
     let first = Message::Command {
         window,
         token: token(digits)?,
-        name: Text::new(alloc, "own")?,
-        line: Bytes::new(alloc, line.as_bytes())?,
+        name: Text::of(alloc, "own")?,
+        line: Bytes::of(alloc, line.as_bytes())?,
     };
     let why = Line::new(rt, alloc, path, &first)?.gone()?;
     Ok(why == Why::Detached)

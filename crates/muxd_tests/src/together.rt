@@ -61,7 +61,7 @@ fn client<R: Net + Clock>(rt: &R, alloc: Global, name: &str, digits: &str) -> io
         rows: ROWS,
         columns: COLUMNS,
         token: token(digits)?,
-        name: Text::new(alloc, name)?,
+        name: Text::of(alloc, name)?,
     };
     joined(rt, alloc, &attach)
 }
@@ -72,8 +72,8 @@ fn window<R: Net + Clock>(rt: &R, alloc: Global) -> io::Result<Line> {
         columns: COLUMNS,
         keep: 10,
         token: token(OWN)?,
-        name: Text::new(alloc, "own")?,
-        title: Text::new(alloc, "sh")?,
+        name: Text::of(alloc, "own")?,
+        title: Text::of(alloc, "sh")?,
     };
     joined(rt, alloc, &open)
 }

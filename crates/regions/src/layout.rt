@@ -50,6 +50,13 @@ impl Model for Layout {
     ghost invariant = { λ l. IsLaidOut (shape l.tree) l.focus l.shown.items };
 }
 
+/// Whether regions show the same.
+fn show_the_same(shown: &[Shown], others: &[Shown]) -> bool
+    ensures { (result ≡ true) ↔ (shown.now ≡ others.now) }
+{
+    shown == others
+}
+
 impl Layout {
     /// One region.
     pub fn new(alloc: Global, shown: Shown) -> Result<Layout, AllocError>
@@ -71,6 +78,15 @@ impl Layout {
         ensures few { length result.now ≤ 16 }
     {
         self.shown.as_slice()
+    }
+
+    /// Whether two layouts have the same regions, which show the same, and the focus in the same.
+    pub fn is_same(&self, other: &Layout) -> bool
+        ensures { (result ≡ true) ↔ (self.now ≡ other.now) }
+    {
+        self.focus == other.focus
+            && self.tree.is_same(&other.tree)
+            && show_the_same(self.shown.as_slice(), other.shown.as_slice())
     }
 
     /// The place of the focused region in that order.

@@ -1,6 +1,6 @@
 //! The tree of splits.
 
-ghost use Rattle.std.specs.Prelude.{◌≡◌, ◌<◌, ◌≤◌, ◌+◌, ◌++◌, OnOk, IfOk, true};
+ghost use Rattle.std.specs.Prelude.{◌≡◌, ◌↔◌, ◌<◌, ◌≤◌, ◌+◌, ◌++◌, OnOk, IfOk, true};
 ghost use Rattle.regions.specs.Shapes.{shape, is_region, regions, fits, boxes, separators};
 ghost use Rattle.regions.specs.Shapes.{halves, split_at, without, after};
 ghost use Rattle.regions.specs.Pages.{has_room};
@@ -31,6 +31,19 @@ impl Node {
         ensures { result ≡ is_region (shape self.now) }
     {
         matches!(self, Node::Region)
+    }
+
+    /// Whether two trees have the same splits.
+    pub fn is_same(&self, other: &Node) -> bool
+        ensures { (result ≡ true) ↔ (shape self.now ≡ shape other.now) }
+    {
+        match (self, other) {
+            (Node::Region, Node::Region) => true,
+            (Node::Split(way, a, b), Node::Split(another, c, d)) => {
+                way == another && a.is_same(c) && b.is_same(d)
+            }
+            _ => false,
+        }
     }
 
     pub fn regions(&self) -> usize

@@ -29,7 +29,7 @@ fn read_input<I: Read>(input: &mut I, buffer: &mut [u8]) -> io::Result<usize>
 }
 
 fn input_frame(alloc: Global, way: Way, input: &[u8]) -> Result<Vec<u8>, WriteFault> {
-    let bytes = Bytes::new(alloc, input)?;
+    let bytes = Bytes::of(alloc, input)?;
     let message = match way {
         Way::Window => Message::Output(bytes),
         Way::Attach | Way::Command => Message::Keys(bytes),

@@ -42,7 +42,7 @@ pub fn size(matches: &ArgMatches) -> Result<(u16, u16), WordsFault> {
 }
 
 fn text(alloc: Global, matches: &ArgMatches, name: &str) -> Result<Text, WordsFault> {
-    Ok(Text::new(alloc, word(matches, name)?)?)
+    Ok(Text::of(alloc, word(matches, name)?)?)
 }
 
 fn attach(alloc: Global, matches: &ArgMatches, token: Token) -> Result<Message, WordsFault> {
@@ -73,7 +73,7 @@ fn window(alloc: Global, matches: &ArgMatches, token: Token) -> Result<Message, 
 
 fn command(alloc: Global, matches: &ArgMatches, token: Token) -> Result<Message, WordsFault> {
     let name = text(alloc, matches, "user")?;
-    let line = Bytes::new(alloc, word(matches, "line")?.as_bytes())?;
+    let line = Bytes::of(alloc, word(matches, "line")?.as_bytes())?;
     Ok(Message::Command {
         window: matches.get_one::<u8>("window"),
         token,

@@ -2,10 +2,9 @@
 
 use crate::end::End;
 use crate::gate::Gate;
-use crate::news::News;
-use crate::peer::{Role, Stage};
 use crate::peers::{Peers, Unanswered};
 use attach_proto::Why;
+use server_connections::{News, Role, Stage};
 use server_session::SharedSession;
 use std::io::{Read, Write};
 use std::sync::Wait;

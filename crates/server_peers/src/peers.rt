@@ -1,14 +1,10 @@
 //! One loop's connections, and its seat in the session.
 
-use crate::connections::Connections;
 use crate::end::End;
 use crate::gate::Gate;
-use crate::inbox::Asked;
-use crate::news::{Guest, News};
-use crate::peer::{Awaits, Role, Stage};
-use crate::stream::Came;
 use acl::UserId;
 use hub::{Answer, FULL, HubFault, Seat};
+use server_connections::{Asked, Awaits, Came, Connections, Guest, News, Role, Stage};
 use server_session::SharedSession;
 use session_model::Event;
 use std::alloc::{AllocError, Global};

@@ -1,11 +1,10 @@
 //! What connections are sent, and when they are drawn.
 
 use crate::end::End;
-use crate::frames::{Sending, put, why_of};
 use crate::gate::Gate;
-use crate::peer::{Peer, Role, Stage};
 use crate::peers::{Peers, Unanswered};
 use attach_proto::Why;
+use server_connections::{Peer, Role, Sending, Stage, put, why_of};
 use server_session::SharedSession;
 use session_model::{Effect, Event, Reason};
 use std::io::{Read, Write};

@@ -13,6 +13,9 @@ use std::marker::Model;
 /// How many bytes stand ready for the end.
 pub const LAST: usize = 4;
 
+/// How many bytes stand before a frame's payload.
+pub const HEAD: usize = 3;
+
 /// The bytes that a connection has still to write, and whether a step other than a draw was made
 /// since its last draw.
 pub struct Turn {
@@ -68,11 +71,14 @@ impl Turn {
         })
     }
 
-    // Lets go what was written, once it is half of what is held.
+    // Lets go what was written, once it is half of what is held. Where it is all, nothing moves.
     fn shrink(&mut self)
         ensures { self.new ≡ self.old }
     {
-        if self.sent >= self.bytes.len() - self.sent {
+        if self.sent == self.bytes.len() {
+            self.bytes.clear();
+            self.sent = 0;
+        } else if self.sent >= self.bytes.len() - self.sent {
             self.bytes.drain(..self.sent);
             self.sent = 0;
         }
@@ -89,6 +95,21 @@ impl Turn {
         self.shrink();
         self.bytes.reserve(bytes.len() + LAST)?;
         self.bytes.extend_from_slice(bytes)
+    }
+
+    /// Puts a frame's head and its payload behind those that wait: both or neither.
+    pub fn put_frame(&mut self, head: [u8; HEAD], payload: &[u8]) -> Result<(), AllocError>
+        ensures ok { OnOk result
+            (self.new ≡ record self.old { unsent = self.old.unsent ++ (head ++ payload.now) }) }
+        ensures err { OnErr result (self.new ≡ self.old) }
+        ensures written { (put written : List ℕ) → HasWritten put written self.old
+            → OnOk result (HasWritten (put ++ (head ++ payload.now)) written self.new) }
+    {
+        self.shrink();
+        self.bytes.reserve(HEAD + payload.len() + LAST)?;
+        // The room is there.
+        let _ = self.bytes.extend_from_slice(&head);
+        self.bytes.extend_from_slice(payload)
     }
 
     /// Puts the last bytes behind those that wait, once. It takes no memory.

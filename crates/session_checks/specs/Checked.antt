@@ -1,7 +1,7 @@
 -- Checks that were made.
 use Rattle.std.specs.Prelude.{ℕ, ◌≡◌, ◌⊎◌, ◌++◌, true, false, List, [], ◌∷◌}
 use Rattle.std.specs.Prelude.{Option, Some, None, Result, Ok, Err, if◌then◌else◌, Bool}
-use Rattle.std.specs.Prelude.{nat_lt, ◌&&◌, ◌^◌, length}
+use Rattle.std.specs.Prelude.{nat_lt, ◌&&◌, length}
 use Rattle.std.specs.Option.{option_map}
 use Rattle.acl.specs.declared.user_id.UserId.{UserId}
 use Rattle.acl.specs.declared.bits.Bit.TheVariants.{Write, Execute}
@@ -9,6 +9,7 @@ use Rattle.acl.specs.declared.act.Object.TheVariants as object
 use Rattle.acl.specs.History.{there}
 use Rattle.session_model.specs.declared.check.Check.{Check}
 use Rattle.session_model.specs.declared.check.Check.TheVariants.{Right, Unlocked, Must}
+use Rattle.session_model.specs.declared.limits.TheConstants.{CLIENTS, SERIALS}
 use Rattle.session_model.specs.declared.refusal.Refusal.{Refusal}
 use Rattle.session_model.specs.declared.refusal.Refusal.TheVariants.{NoMemory, NoWindow}
 use Rattle.session_model.specs.declared.verdict.Verdict.{Verdict}
@@ -77,4 +78,4 @@ only_if needed check = if needed then check else None
 
 -- one client more has a place, and a serial
 abbrev pub has_seat : Tables → Bool
-has_seat t = nat_lt (length t.clients) 64 && nat_lt t.next_client (2 ^ 32)
+has_seat t = nat_lt (length t.clients) CLIENTS && nat_lt t.next_client SERIALS

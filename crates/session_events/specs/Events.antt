@@ -1,9 +1,10 @@
 -- What an event does to a session's state, whichever tables that stands for.
-use Rattle.std.specs.Prelude.{ℕ, ◌≡◌, ◌∷◌, ◌^◌, [], true, List, Option, Some, None, Result, Ok, Err}
+use Rattle.std.specs.Prelude.{ℕ, ◌≡◌, ◌∷◌, [], true, List, Option, Some, None, Result, Ok, Err}
 use Rattle.std.specs.Prelude.{nat_lt, if◌then◌else◌}
 use Rattle.acl.specs.declared.user_id.UserId.{UserId}
 use Rattle.acl.specs.History.{History, is_open}
 use Rattle.session_model.specs.declared.check.Check.TheVariants.{Must as must}
+use Rattle.session_model.specs.declared.limits.TheConstants.{SERIALS}
 use Rattle.session_model.specs.declared.refusal.Refusal.{Refusal}
 use Rattle.session_model.specs.declared.refusal.Refusal.TheVariants.{NoMemory, BadSize}
 use Rattle.session_model.specs.Tables.{Window, Client, Tables, window_at, client_at, with_client}
@@ -19,7 +20,7 @@ use Rattle.session_state.specs.Doing.{HasDone}
 
 -- the serial that comes next, unless all are given
 abbrev pub serial_from : ℕ → Option ℕ
-serial_from next = if nat_lt next (2 ^ 32) then Some next else None
+serial_from next = if nat_lt next SERIALS then Some next else None
 
 -- a window that is open after these acts, if it is one
 abbrev pub IsOpenIn : History → Option ℕ → Type 0

@@ -25,14 +25,7 @@ pub fn open(
     let Some(window) = serial_from(state.next_window) else {
         return Err(Refusal::Windows(WindowsFault::Full));
     };
-    let WindowSize {
-        rows,
-        columns,
-        keep,
-    } = size;
-    let number = state
-        .windows
-        .open(state.alloc, window, rows, columns, keep, title)?;
+    let number = state.windows.open(state.alloc, window, size, title)?;
     state.next_window += 1;
     made.acts.push(Act::Opened { by: user, window }).unwrap();
     state.acl.window_opened(user, window);

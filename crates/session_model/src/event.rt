@@ -1,8 +1,8 @@
 //! What happens to a session, and what comes of it.
 
-use crate::bytes::Bytes;
 use crate::refusal::Refusal;
 use acl::UserId;
+use strings::Bytes;
 
 /// An event. It lends its bytes and its texts. Windows and clients are named by serial numbers,
 /// each counted from 0 in the order in which they came, and a command's window by its number; sizes

@@ -3,7 +3,6 @@
 //! and definitions share.
 #![tactic(auto)]
 
-mod bytes;
 mod check;
 mod event;
 mod limits;
@@ -12,11 +11,11 @@ mod refusal;
 mod text;
 mod verdict;
 
-pub use bytes::Bytes;
 pub use check::Check;
 pub use event::{Done, Effect, Event, Ran, Reason, Reply};
 pub use limits::{CLIENTS, SERIALS};
 pub use message::Message;
 pub use refusal::{Denied, EntryDenied, LockDenied, Refusal, WindowsFault};
+pub use strings::Bytes;
 pub use text::push_decimal;
 pub use verdict::Verdict;

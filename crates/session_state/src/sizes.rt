@@ -1,15 +1,7 @@
-//! Sizes of clients' terminals and of windows.
+//! Sizes of clients' terminals.
 
 ghost use Rattle.std.specs.Prelude.{◌≡◌};
 ghost use Rattle.session_model.specs.Comings.{is_client_size};
-
-/// What size a window has: lines, columns, and how many lines that left at the top it keeps.
-#[derive(Clone, Copy, PartialEq, Eq, Debug)]
-pub struct WindowSize {
-    pub rows: u16,
-    pub columns: u16,
-    pub keep: u16,
-}
 
 /// Whether a client's terminal may have so many lines and columns: 4 to 200 by 20 to 300.
 pub fn is_client_size(rows: u16, columns: u16) -> bool

@@ -8,5 +8,5 @@ mod window;
 mod windows;
 
 pub use titles::is_title;
-pub use window::{Window, is_window_size};
+pub use window::{Window, WindowSize, is_window_size};
 pub use windows::Windows;

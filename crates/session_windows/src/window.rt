@@ -31,6 +31,14 @@ impl Serial for Window {
     }
 }
 
+/// What size a window has: lines, columns, and how many lines that left at the top it keeps.
+#[derive(Clone, Copy)]
+pub struct WindowSize {
+    pub rows: u16,
+    pub columns: u16,
+    pub keep: u16,
+}
+
 /// Whether a window may have so many lines and columns, and keep so many lines above its page: 2 to
 /// 200 lines by 2 to 300 columns, and at most 2,000 lines.
 pub fn is_window_size(rows: u16, columns: u16, keep: u16) -> bool
@@ -51,17 +59,20 @@ impl Window {
         alloc: Global,
         serial: u32,
         number: u8,
-        rows: u16,
-        columns: u16,
-        keep: u16,
+        size: WindowSize,
         title: &str,
     ) -> Result<Window, Refusal>
-        requires { is_window_size rows columns keep ≡ true }
-        ensures ok { IfOk result
-            (WindowStands (new_row serial number rows columns keep title.now)) }
+        requires { is_window_size size.rows size.columns size.keep ≡ true }
+        ensures ok { IfOk result (WindowStands
+            (new_row serial number size.rows size.columns size.keep title.now)) }
         ensures err { IfErr result (λ refusal. refusal ≡ NoMemory) }
     {
-        let emulator = match Emulator::new(alloc, rows as usize, columns as usize, keep as usize) {
+        let (rows, columns, keep) = (
+            size.rows as usize,
+            size.columns as usize,
+            size.keep as usize,
+        );
+        let emulator = match Emulator::new(alloc, rows, columns, keep) {
             Ok(emulator) => emulator,
             Err(GridFault::BadSize) => return Err(Refusal::BadSize),
             Err(GridFault::NoMemory) => return Err(Refusal::NoMemory),

@@ -7,7 +7,7 @@ ghost use Rattle.terminal_model.specs.Writing.{Clear, Reset, Encoding};
 use crate::among::{Among, End, nearest};
 use crate::numbers::{first_free, is_above, is_taken, numbered, numbered_by};
 use crate::titles::is_title;
-use crate::window::{Window, is_window_size};
+use crate::window::{Window, WindowSize, is_window_size};
 use charsets::Coding;
 use session_model::{Refusal, WindowsFault};
 use session_rows::Rows;
@@ -155,18 +155,17 @@ impl Windows {
         &mut self,
         alloc: Global,
         serial: u32,
-        rows: u16,
-        columns: u16,
-        keep: u16,
+        size: WindowSize,
         title: &str,
     ) -> Result<u8, Refusal>
-        ensures answer { Opens serial rows columns keep title.now self.old result self.new }
+        ensures answer { Opens serial size.rows size.columns size.keep title.now
+            self.old result self.new }
         ensures number { IfOk result (IsFree self.old) }
         ensures row { IfOk result (λ number. AddsRow serial number self.old self.new) }
         ensures last { OnOk result (IsOneMore self.old self.new) }
         ensures err { OnErr result (self.new ≡ self.old) }
     {
-        if !is_window_size(rows, columns, keep) {
+        if !is_window_size(size.rows, size.columns, size.keep) {
             return Err(Refusal::BadSize);
         }
         let Some(number) = self.number_for(serial) else {
@@ -175,7 +174,7 @@ impl Windows {
         if !is_title(title) {
             return Err(Refusal::Windows(WindowsFault::BadTitle));
         }
-        let window = Window::new(alloc, serial, number, rows, columns, keep, title)?;
+        let window = Window::new(alloc, serial, number, size, title)?;
         self.rows.push(window)?;
         Ok(number)
     }

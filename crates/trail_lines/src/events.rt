@@ -94,15 +94,15 @@ fn push_command(
 /// `open USER ROWS COLS KEEP TEXT`
 fn push_open(
     user: UserId,
-    rows: u16,
-    columns: u16,
+    size: (u16, u16),
     keep: u16,
     title: &[u8],
     out: &mut Vec<u8>,
 ) -> Result<(), AllocError>
     ensures { OnOk result (out.new.items
-        ≡ out.old.items ++ event_then (Open user rows columns keep title.now) []) }
+        ≡ out.old.items ++ event_then (Open user size.0 size.1 keep title.now) []) }
 {
+    let (rows, columns) = size;
     out.extend_from_slice(b"open ")?;
     push_user(user, out)?;
     push_size(rows, columns, out)?;
@@ -139,7 +139,7 @@ pub fn push_event(event: KeptRef<'_>, out: &mut Vec<u8>) -> Result<(), AllocErro
             columns,
             keep,
             title,
-        } => push_open(user, rows, columns, keep, title, out),
+        } => push_open(user, (rows, columns), keep, title, out),
         KeptRef::Closed { window } => push_kind(b"closed ", window, out),
     }
 }

@@ -6,7 +6,7 @@ use Rattle.terminal_model.specs.declared.state.State.{State}
 use Rattle.terminal_model.specs.declared.action.Mode.{Mode}
 use Rattle.terminal_model.specs.declared.action.Mode.TheVariants as modes
 use Rattle.terminal_model.specs.declared.action.Action.{Action}
-use Rattle.terminal_model.specs.declared.action.Action.TheVariants.{Print, Backspace, Tab, LineFeed, CarriageReturn, Shift, Designate, SetCoding, Index, NextLine, ReverseIndex, SetTab, Save, Restore, SetEightBitReports, SetApplicationKeypad, Reset, Align, Up, Down, Right, Left, MoveTo, SetMargins, ClearTab, ClearTabs, EraseInPage, EraseInLine, EraseCells, EraseUnprotectedInPage, EraseUnprotectedInLine, InsertCells, DeleteCells, InsertLines, DeleteLines, Protect, Render, SetMode, BlankPage, SoftReset, ReportStatus, ReportPlace, ReportPrinter, ReportAttributes, ReportSecondaryAttributes}
+use Rattle.terminal_model.specs.declared.action.Action.TheVariants.{Print, InsertLines, DeleteLines, SetMargins, SetMode}
 use Rattle.terminal_model.specs.Screen.{Screen, with_state}
 use Rattle.terminal_model.specs.Motion.{bottom_of, margins_or_none}
 use Rattle.terminal_model.specs.Printing.{columns_of, drawn, lacks_room, marked_at, printed, printed_as, wide_or_none, wide_printed, wrapped}
@@ -68,43 +68,4 @@ acted_columns x (SetMargins top bottom) = margins_columns (nat_lt top (bottom_of
 acted_columns x (SetMode mode on) = homed_columns mode _
 acted_columns x (InsertLines n) = inserted_columns (is_in_margins x.state) n x
 acted_columns x (DeleteLines n) = deleted_columns (is_in_margins x.state) n x
-acted_columns x Backspace = refl
-acted_columns x Tab = refl
-acted_columns x LineFeed = refl
-acted_columns x CarriageReturn = refl
-acted_columns x (Shift shift) = refl
-acted_columns x (Designate place set) = refl
-acted_columns x (SetCoding coding) = refl
-acted_columns x Index = refl
-acted_columns x NextLine = refl
-acted_columns x ReverseIndex = refl
-acted_columns x SetTab = refl
-acted_columns x Save = refl
-acted_columns x Restore = refl
-acted_columns x (SetEightBitReports on) = refl
-acted_columns x (SetApplicationKeypad on) = refl
-acted_columns x Reset = refl
-acted_columns x Align = refl
-acted_columns x (Up n) = refl
-acted_columns x (Down n) = refl
-acted_columns x (Right n) = refl
-acted_columns x (Left n) = refl
-acted_columns x (MoveTo line column) = refl
-acted_columns x ClearTab = refl
-acted_columns x ClearTabs = refl
-acted_columns x (EraseInPage part) = refl
-acted_columns x (EraseInLine part) = refl
-acted_columns x (EraseCells n) = refl
-acted_columns x (EraseUnprotectedInPage part) = refl
-acted_columns x (EraseUnprotectedInLine part) = refl
-acted_columns x (InsertCells n) = refl
-acted_columns x (DeleteCells n) = refl
-acted_columns x (Protect on) = refl
-acted_columns x (Render attribute) = refl
-acted_columns x BlankPage = refl
-acted_columns x SoftReset = refl
-acted_columns x ReportStatus = refl
-acted_columns x ReportPlace = refl
-acted_columns x ReportPrinter = refl
-acted_columns x ReportAttributes = refl
-acted_columns x ReportSecondaryAttributes = refl
+acted_columns x _ = refl

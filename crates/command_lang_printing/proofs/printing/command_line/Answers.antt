@@ -15,4 +15,4 @@ loop-word-init c =
 pub loop-word-preserved : goal.loop-word-preserved
 unfolding lib.Utf8.encode
 loop-word-preserved c =
-    words-more _ _ _ _ c.as_slice-word-items.result.now _ _ _ c.loop-word-test.true c.word-item.is c.as_str.ensures c.loop-word.invariant c.in_ok-push.ensures.bytes c.in_ok-put_word.ensures
+    words-more _ _ _ _ c.as_slice-word-items.result.now _ _ _ c.loop-word-test.true c.word-item.is c.as_str.ensures.value c.loop-word.invariant c.in_ok-push.ensures.bytes c.in_ok-put_word.ensures

@@ -15,4 +15,4 @@ returns-in_err-push_item-clause-err c =
     c.loop-item.invariant t st
     ∙ ap (option_map (λ os. c.loop-item.objects.items ++ os))
     (item_unnamed t list i c.item-item.result c.loop-item.objects.items inside c.item-item.is
-    (ap (item_objects t) (sym c.as_str.ensures) ∙ none t st))) c.in_err-push_item.ensures.err)
+    (ap (item_objects t) (sym c.as_str.ensures.value) ∙ none t st))) c.in_err-push_item.ensures.err)

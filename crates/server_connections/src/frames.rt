@@ -51,7 +51,7 @@ fn put_message(alloc: Global, turn: &mut Turn, message: &Message) -> Result<(), 
 
 fn put_text(alloc: Global, turn: &mut Turn, text: &[u8]) -> Result<(), WriteFault> {
     match str::from_utf8(text) {
-        Ok(text) => put_message(alloc, turn, &Message::Say(Text::new(alloc, text)?)),
+        Ok(text) => put_message(alloc, turn, &Message::Say(Text::of(alloc, text)?)),
         Err(_) => Err(WriteFault::Unspellable),
     }
 }
@@ -62,13 +62,13 @@ pub fn put(alloc: Global, turn: &mut Turn, sending: Sending) -> Result<(), Write
         Sending::Welcome(number) => put_message(alloc, turn, &Message::Welcome(number)),
         Sending::Draw(bytes) => {
             for piece in bytes.chunks(LONGEST) {
-                put_message(alloc, turn, &Message::Draw(Bytes::new(alloc, piece)?))?;
+                put_message(alloc, turn, &Message::Draw(Bytes::of(alloc, piece)?))?;
             }
             Ok(())
         }
         Sending::Input(bytes) => {
             for piece in bytes.chunks(LONGEST) {
-                put_message(alloc, turn, &Message::Input(Bytes::new(alloc, piece)?))?;
+                put_message(alloc, turn, &Message::Input(Bytes::of(alloc, piece)?))?;
             }
             Ok(())
         }

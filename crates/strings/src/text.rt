@@ -1,14 +1,14 @@
-//! The text of a word. Contracts see it as its bytes in UTF-8, while the grammar is over characters: so
-//! no lemma cuts a text between bytes.
+//! Texts. Contracts see a text as its bytes in UTF-8, while grammars are over characters: so no lemma
+//! cuts a text between bytes.
 
-ghost use Rattle.std.specs.Prelude.{◌≡◌, IfOk};
+ghost use Rattle.std.specs.Prelude.{◌≡◌, IfOk, true};
+ghost use Rattle.std.specs.Str.{is_utf8};
 ghost use Rattle.std.specs.String.{string_bytes};
 
-use crate::items::Items;
 use std::alloc::{AllocError, Global};
 use std::marker::Model;
 
-/// The text of a word.
+/// A name, a title, a word or another text: UTF-8 (Unicode core specification, section 3.9).
 #[derive(Drop, Debug)]
 pub struct Text {
     text: String,
@@ -41,11 +41,9 @@ impl Text {
 
     /// The characters.
     pub fn as_str(&self) -> &str
-        ensures { result.now ≡ self.now }
+        ensures value { result.now ≡ self.now }
+        ensures text { is_utf8 self.now ≡ true }
     {
         self.text.as_str()
     }
 }
-
-/// Texts, in order.
-pub type Texts = Items<Text>;

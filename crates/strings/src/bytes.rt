@@ -5,7 +5,7 @@ ghost use Rattle.std.specs.Prelude.{◌≡◌, ◌++◌, ◌==◌, [], length, O
 use std::alloc::{AllocError, Global};
 use std::marker::Model;
 
-/// Bytes of an effect or a text. Contracts see them as a list.
+/// Any bytes. Contracts see them as a list.
 #[derive(Debug)]
 pub struct Bytes {
     items: Vec<u8>,

@@ -1,87 +1,11 @@
-//! What messages hold. Contracts see each field as its list of bytes.
+//! Tokens. Contracts see a token as its list of digits.
 
-ghost use Rattle.std.specs.Prelude.{◌≡◌, ◌==◌, ◌↔◌, IfOk, IsTrue};
+ghost use Rattle.std.specs.Prelude.{◌≡◌, ◌↔◌, IsTrue};
 ghost use Rattle.std.specs.List.{list_all};
-ghost use Rattle.attach_proto.specs.Texts.{Gives, token_of, text_of, IsToken, IsText, is_token};
-ghost use Rattle.attach_proto.specs.Texts.{is_digit};
+ghost use Rattle.attach_proto.specs.Texts.{token_of, IsToken, is_token, is_digit};
 
-use crate::fault::Unread;
-use std::alloc::{AllocError, Global};
 use std::fmt;
 use std::marker::Model;
-
-/// Any bytes.
-#[derive(Debug, Drop)]
-pub struct Bytes {
-    items: Vec<u8>,
-}
-
-impl Model for Bytes {
-    ghost use Rattle.std.specs.Prelude.{List, ℕ};
-
-    ghost Value = { List ℕ };
-
-    ghost view = { λ b. b.items.items };
-}
-
-impl Bytes {
-    pub fn new(alloc: Global, bytes: &[u8]) -> Result<Bytes, AllocError>
-        ensures { IfOk result (λ b. b ≡ bytes.now) }
-    {
-        Ok(Bytes {
-            items: Vec::from_slice(alloc, bytes)?,
-        })
-    }
-
-    pub fn as_slice(&self) -> &[u8]
-        ensures { result.now ≡ self.now }
-    {
-        self.items.as_slice()
-    }
-}
-
-/// A name, a title or another text: UTF-8.
-#[derive(Debug, Drop)]
-pub struct Text {
-    text: String,
-}
-
-impl Model for Text {
-    ghost use Rattle.std.specs.Prelude.{List, ℕ, string_bytes};
-
-    ghost Value = { List ℕ };
-
-    ghost view = { λ t. string_bytes t.text };
-}
-
-impl Text {
-    pub fn new(alloc: Global, text: &str) -> Result<Text, AllocError>
-        ensures { IfOk result (λ t. t ≡ text.now) }
-    {
-        Ok(Text {
-            text: String::from_str(alloc, text)?,
-        })
-    }
-
-    // The text of these bytes, if they are one.
-    pub(crate) fn read(alloc: Global, bytes: &[u8]) -> Result<Text, Unread>
-        ensures { Gives (λ t. t) result (text_of bytes.now) }
-    {
-        match str::from_utf8(bytes) {
-            Ok(text) => Ok(Text {
-                text: String::from_str(alloc, text)?,
-            }),
-            Err(_) => Err(Unread::Payload),
-        }
-    }
-
-    pub fn as_str(&self) -> &str
-        ensures value { result.now ≡ self.now }
-        ensures text { IsText self.now }
-    {
-        self.text.as_str()
-    }
-}
 
 /// How many digits a token has.
 pub const TOKEN_LEN: usize = 64;

@@ -1,0 +1,18 @@
+//! The connections of one loop of the server: what each is to the session, what was read from it
+//! and what it is sent.
+#![tactic(auto)]
+
+mod connections;
+mod frames;
+mod inbox;
+mod marks;
+mod news;
+mod peer;
+mod stream;
+
+pub use connections::Connections;
+pub use frames::{Sending, put, why_of};
+pub use inbox::Asked;
+pub use news::{Guest, News};
+pub use peer::{Awaits, Peer, Role, Stage};
+pub use stream::Came;

@@ -1,0 +1,8 @@
+//! Bytes and texts that messages, commands, effects and events hold.
+#![tactic(auto)]
+
+mod bytes;
+mod text;
+
+pub use bytes::Bytes;
+pub use text::Text;
