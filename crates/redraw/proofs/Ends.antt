@@ -30,7 +30,7 @@ outside_lines rows columns l c page p h =
 outside_columns : (rows columns l c : ℕ) (page : Page) → IsPage rows columns page → l < rows → columns ≤ c → cell_at (line_at page l) c ≡ blank
 outside_columns rows columns l c page p hl h = cell_at_past (line_at page l) c (rw (p.width l hl) h)
 
-module _ (rows columns : ℕ) (rh : rows < 9999) (ch : columns < 9999) where
+module _ (rows columns : ℕ) where
   forgotten : (pen : Pen) (x : Screen) → Drawing rows columns pen x → Drawing rows columns (pen_of None) x
   forgotten pen x d = record {
     sound = d.sound;
@@ -39,8 +39,8 @@ module _ (rows columns : ℕ) (rh : rows < 9999) (ch : columns < 9999) where
     state_is = d.state_is;
     tabs_are = d.tabs_are;
     none_saved = d.none_saved;
-    line_is = λ h. absurd (omega arith);
-    column_is = λ h. absurd (omega arith);
+    line_is = tt;
+    column_is = tt;
     rendition_is = tt;
   }
 
@@ -93,8 +93,8 @@ module _ (rows columns : ℕ) (rh : rows < 9999) (ch : columns < 9999) where
           state_is = (a.1).state_is;
           tabs_are = (a.1).tabs_are;
           none_saved = (a.1).none_saved;
-          line_is = λ i. absurd (omega arith);
-          column_is = λ i. absurd (omega arith);
+          line_is = tt;
+          column_is = tt;
           rendition_is = tt;
         };
         cells = λ l c hl hc. ((a.1).shows).cells l c;
@@ -110,8 +110,8 @@ module _ (rows columns : ℕ) (rh : rows < 9999) (ch : columns < 9999) where
           state_is = (a.1).state_is;
           tabs_are = (a.1).tabs_are;
           none_saved = (a.1).none_saved;
-          line_is = λ i. h.1;
-          column_is = λ i. h.2;
+          line_is = h.1;
+          column_is = h.2;
           rendition_is = tt;
         };
         cells = λ l c hl hc. ((a.1).shows).cells l c;
@@ -121,7 +121,7 @@ module _ (rows columns : ℕ) (rh : rows < 9999) (ch : columns < 9999) where
       }
 
   -- the cleared screen of the first frame
-  cleared : (t : Terminal) → IsOfSize rows columns t → Stage rows columns (record { line = 0; column = 0; rendition = Some plain }) (blank_page rows columns) false false true (frame_start t.screen)
+  cleared : (t : Terminal) → IsOfSize rows columns t → Stage rows columns (record { line = Some 0; column = Some 0; rendition = Some plain }) (blank_page rows columns) false false true (frame_start t.screen)
   cleared t a =
       let x : Screen = frame_start t.screen in
       let sound : IsSound x = (subst IsTerminal (frame-terminal t a.terminal) (IsTerminal-reads t frame_bytes a.terminal)).sound in
@@ -133,8 +133,8 @@ module _ (rows columns : ℕ) (rh : rows < 9999) (ch : columns < 9999) where
           state_is = refl;
           tabs_are = refl;
           none_saved = refl;
-          line_is = λ h. refl;
-          column_is = λ h. refl;
+          line_is = refl;
+          column_is = refl;
           rendition_is = refl;
         };
         cells = λ l c hl hc. ap (λ n. unprotected (cell_at (line_at (blank_page n t.screen.state.columns) l) c)) a.rows_are ∙ ap (λ n. unprotected (cell_at (line_at (blank_page rows n) l) c)) a.columns_are;
@@ -163,7 +163,7 @@ module _ (rows columns : ℕ) (rh : rows < 9999) (ch : columns < 9999) where
         whole t a = ap (reads t) k.appended ∙ ap (λ u. reads u k.bytes) (a.1).ready_is
 
     first_redraws : (middle bytes : List ℕ) → middle ≡ [] ++ frame_bytes
-        → Takes (blank_page rows columns) v.page (Stage rows columns (record { line = 0; column = 0; rendition = Some plain }) (blank_page rows columns) false false true) (λ x y. EndsAs rows columns v y) middle bytes
+        → Takes (blank_page rows columns) v.page (Stage rows columns (record { line = Some 0; column = Some 0; rendition = Some plain }) (blank_page rows columns) false false true) (λ x y. EndsAs rows columns v y) middle bytes
         → Redraws rows columns None v bytes
     first_redraws middle bytes e k = record {
       rest = k.bytes;
@@ -188,12 +188,6 @@ module _ (rows columns : ℕ) (rh : rows < 9999) (ch : columns < 9999) where
 pub redraws : (rows columns : ℕ) (known : Option View) (v : View) (bytes : List ℕ) → HasSize rows columns v → IsGrid v.page → DrawsBytes known v [] bytes → Redraws rows columns known v bytes
 redraws rows columns known v bytes size grid k = by_known known k
   where
-    rh : length v.page < 9999
-    rh = omega (arith, grid.size.most_rows)
-
-    ch : length (line_at v.page 0) < 9999
-    ch = omega (arith, grid.size.most_columns)
-
     own : HasSize (length v.page) (length (line_at v.page 0)) v
     own = record { rows_are = refl; columns_are = refl }
 
@@ -201,14 +195,14 @@ redraws rows columns known v bytes size grid k = by_known known k
     at_size kn r = subst (λ n. Redraws n columns kn v bytes) size.rows_are (subst (λ n. Redraws (length v.page) n kn v bytes) size.columns_are r)
 
     by_known : (kn : Option View) → DrawsBytes kn v [] bytes → Redraws rows columns kn v bytes
-    by_known None f = at_size None (first_redraws (length v.page) (length (line_at v.page 0)) rh ch v own grid f.middle bytes f.resets f.paints)
-    by_known (Some old) f = at_size (Some old) (next_redraws (length v.page) (length (line_at v.page 0)) rh ch v own grid old bytes f)
+    by_known None f = at_size None (first_redraws (length v.page) (length (line_at v.page 0)) v own grid f.middle bytes f.resets f.paints)
+    by_known (Some old) f = at_size (Some old) (next_redraws (length v.page) (length (line_at v.page 0)) v own grid old bytes f)
 
 -- the pen may be forgotten
-pub ended : (old new : Page) (rows columns : ℕ) (pen : Pen) (v : View) (P : Screen → Type 0) (a b : List ℕ) → rows < 9999 → columns < 9999
+pub ended : (old new : Page) (rows columns : ℕ) (pen : Pen) (v : View) (P : Screen → Type 0) (a b : List ℕ)
     → Takes old new P (λ x y. Final rows columns pen v.page v.has_application_arrows v.has_application_keypad v.cursor y) a b → Takes old new P (λ x y. EndsAs rows columns v y) a b
-ended old new rows columns pen v P a b rh ch t =
-    takes_weaker old new P (λ x y. Final rows columns pen v.page v.has_application_arrows v.has_application_keypad v.cursor y) (λ x y. EndsAs rows columns v y) a b t (λ x y p f. ends rows columns rh ch pen v y f)
+ended old new rows columns pen v P a b t =
+    takes_weaker old new P (λ x y. Final rows columns pen v.page v.has_application_arrows v.has_application_keypad v.cursor y) (λ x y. EndsAs rows columns v y) a b t (λ x y p f. ends rows columns pen v y f)
 
 -- a page of blanks has no halves
 pub blank_halves : (rows columns : ℕ) → HaveHalves (blank_page rows columns)

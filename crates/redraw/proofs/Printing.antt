@@ -1,5 +1,6 @@
 -- Characters, marks and erasures on a screen on which a frame is drawn.
-use Rattle.std.proofs.Common.{◌≡◌, ℕ, ◌+◌, ◌-◌, ◌<◌, ◌≤◌, min, max, Bool, true, false, ◌&&◌, cond, eqb, ltb, List, [], ◌∷◌, length, set, replicate, Some, refl, sym, ap, ◌∙◌, subst, arith, ⊎_elim, eq-eqb}
+use Rattle.std.proofs.Common.{◌≡◌, ℕ, ◌+◌, ◌-◌, ◌<◌, ◌≤◌, min, max, Bool, true, false, ◌&&◌, cond, eqb, ltb, List, [], ◌∷◌, length, set, replicate, Option, Some, refl, sym, ap, ◌∙◌, subst, arith, ⊎_elim, eq-eqb}
+use Rattle.std.specs.Bool.{then_some}
 use Rattle.std.proofs.lemmas.Bool.{cases_lt, cases_eq, cases_Bool, ne_eqb, lt-ltb, le-ltb}
 use Rattle.std.proofs.lemmas.List.{get_or-replicate, get_or_past, length-replicate, get_or-set_same, get_or-set_other}
 use Rattle.charsets.specs.declared.unit.Unit.{Unit}
@@ -8,6 +9,7 @@ use Rattle.charsets.specs.declared.shifts.Shifts.{Shifts}
 use Rattle.charsets.specs.Shifts.{mapped, spent, is_position, is_graphic, starting as starting_shifts}
 use Rattle.charsets.specs.Sets.{character_at}
 use Rattle.cells.specs.declared.cell.Cell.{Cell}
+use Rattle.cells.specs.declared.cell.Rendition.{Rendition}
 use Rattle.cells.specs.Line.{blank, cell_at, unprotected, marked, fresh_at, is_left, is_right, spliced, narrow_cell, left_cell, right_cell}
 use Rattle.cells.specs.Page.{line_at, page_from, edited, IsPage, page_marked}
 use Rattle.control_parser.specs.declared.func.Func.TheVariants.{Print}
@@ -25,10 +27,10 @@ use Rattle.terminal_model.specs.Drawable.{IsGlyph}
 use Rattle.redraw.specs.declared.pen.Pen.{Pen}
 use Rattle.redraw.specs.declared.command.Command.TheVariants.{Glyph, EraseCells, EraseToEnd}
 use Rattle.redraw.specs.Commands.{func_of}
-use Rattle.redraw.specs.Drawing.{Row, seen, row_written, row_of, Drawing, Leads, Writes}
+use Rattle.redraw.specs.Drawing.{Row, seen, row_written, row_of, Drawing, Knows, Leads, Writes}
 use Rattle.redraw.proofs.Writing.{written, written_here, written_elsewhere}
 use Rattle.redraw.proofs.Effects.{one_leads, silent_leads}
-use Rattle.redraw.proofs.Screens.{utf8, no_insert, none_pending, sized, LeadsTo}
+use Rattle.redraw.proofs.Screens.{utf8, no_insert, none_pending, sized, LeadsTo, at_place}
 
 -- WHAT IS SEEN of new cells
 
@@ -84,10 +86,13 @@ module _ (rows columns : ℕ) where
       ap unprotected (written_here line at rows columns fresh page is_page inside c within room some)
       ∙ unprotected_over (cell_at (line_at page line)) (λ k. fresh_at fresh (k - at)) at (length fresh) c
 
-  module _ (old new : Page) (pen : Pen) (x : Screen) (d : Drawing rows columns pen x) (lh : pen.line < rows) (ch : pen.column < columns) where
+  module _ (old new : Page) (pen_line pen_column : ℕ) (known : Option Rendition) (x : Screen) (d : Drawing rows columns (at_place pen_line pen_column known) x) (lh : pen_line < rows) (ch : pen_column < columns) where
+    abbrev pen : Pen
+    pen = at_place pen_line pen_column known
+
     -- ERASURES
-    erase_writes : (y : Screen) (n : ℕ) → IsSound y → 0 < n → pen.column + n ≤ columns → y.state ≡ unpending x.state → y.tabs ≡ x.tabs → y.saved ≡ x.saved → y.page ≡ written pen.line pen.column columns (replicate n blank) x.page
-        → Writes rows columns pen pen.line pen.column n (λ c. blank) x y
+    erase_writes : (y : Screen) (n : ℕ) → IsSound y → 0 < n → pen_column + n ≤ columns → y.state ≡ unpending x.state → y.tabs ≡ x.tabs → y.saved ≡ x.saved → y.page ≡ written pen_line pen_column columns (replicate n blank) x.page
+        → Writes rows columns pen pen_line pen_column n (λ c. blank) x y
     erase_writes y n sound some room state tabs saved page =
         let m : length (replicate n blank) ≡ n = length-replicate n blank in
         let k : y.state.columns ≡ x.state.columns = ap (λ (s : State). s.columns) state in
@@ -99,52 +104,52 @@ module _ (rows columns : ℕ) where
             state_is = state ∙ ap unpending d.state_is ∙ ap drawn_state (sym state);
             tabs_are = tabs ∙ d.tabs_are ∙ rw k refl;
             none_saved = saved ∙ d.none_saved;
-            line_is = λ h. ap (λ (s : State). s.line) state ∙ d.line_is h;
-            column_is = λ h. ap (λ (s : State). s.column) state ∙ d.column_is h;
+            line_is = ap (λ (s : State). s.line) state ∙ d.line_is;
+            column_is = ap (λ (s : State). s.column) state ∙ d.column_is;
             rendition_is = rw (ap (λ (s : State). s.rendition) state) d.rendition_is;
           };
-          here = λ c hc. ap (λ g. unprotected (cell_at (line_at g pen.line) c)) page
-              ∙ page_written pen.line pen.column (replicate n blank) x.page (sized rows columns pen x d) lh (rw m room) (rw m some) c hc
-              ∙ ap (λ j. row_written (seen x pen.line) pen.column j (λ k'. unprotected (fresh_at (replicate n blank) (k' - pen.column))) c) m
-              ∙ over_same (seen x pen.line) pen.column n (λ k'. unprotected (fresh_at (replicate n blank) (k' - pen.column))) (λ k'. blank) c (λ p q. ap unprotected (fresh_blank n (c - pen.column)));
+          here = λ c hc. ap (λ g. unprotected (cell_at (line_at g pen_line) c)) page
+              ∙ page_written pen_line pen_column (replicate n blank) x.page (sized rows columns pen x d) lh (rw m room) (rw m some) c hc
+              ∙ ap (λ j. row_written (seen x pen_line) pen_column j (λ k'. unprotected (fresh_at (replicate n blank) (k' - pen_column))) c) m
+              ∙ over_same (seen x pen_line) pen_column n (λ k'. unprotected (fresh_at (replicate n blank) (k' - pen_column))) (λ k'. blank) c (λ p q. ap unprotected (fresh_blank n (c - pen_column)));
           elsewhere = λ l c ne. ap (λ g. unprotected (cell_at (line_at g l) c)) page
-              ∙ ap (λ z. unprotected (cell_at z c)) (written_elsewhere pen.line pen.column rows columns (replicate n blank) x.page (sized rows columns pen x d) lh l ne);
+              ∙ ap (λ z. unprotected (cell_at z c)) (written_elsewhere pen_line pen_column rows columns (replicate n blank) x.page (sized rows columns pen x d) lh l ne);
           modes = ap (λ (s : State). s.modes) state;
         }
 
     -- the erasure of n cells, by the numbers of the table
-    erased_is : (line from end width n : ℕ) → line ≡ pen.line → from ≡ pen.column → end ≡ pen.column + n → width ≡ columns
-        → page_from (edited line (spliced from (replicate (end - from) blank) end width)) x.page ≡ written pen.line pen.column columns (replicate n blank) x.page
+    erased_is : (line from end width n : ℕ) → line ≡ pen_line → from ≡ pen_column → end ≡ pen_column + n → width ≡ columns
+        → page_from (edited line (spliced from (replicate (end - from) blank) end width)) x.page ≡ written pen_line pen_column columns (replicate n blank) x.page
     erased_is line from end width n el ef ee ew =
         let m : length (replicate n blank) ≡ n = length-replicate n blank in
         let k : end - from ≡ n = omega arith in
-        let z : end ≡ pen.column + length (replicate n blank) = ee ∙ ap (λ j. pen.column + j) (sym m) in
+        let z : end ≡ pen_column + length (replicate n blank) = ee ∙ ap (λ j. pen_column + j) (sym m) in
         ap (λ j. page_from (edited line (spliced from (replicate j blank) end width)) x.page) k
         ∙ ap (λ j. page_from (edited j (spliced from (replicate n blank) end width)) x.page) el
-        ∙ ap (λ j. page_from (edited pen.line (spliced j (replicate n blank) end width)) x.page) ef
-        ∙ ap (λ j. page_from (edited pen.line (spliced pen.column (replicate n blank) j width)) x.page) z
-        ∙ ap (λ j. page_from (edited pen.line (spliced pen.column (replicate n blank) (pen.column + length (replicate n blank)) j)) x.page) ew
+        ∙ ap (λ j. page_from (edited pen_line (spliced j (replicate n blank) end width)) x.page) ef
+        ∙ ap (λ j. page_from (edited pen_line (spliced pen_column (replicate n blank) j width)) x.page) z
+        ∙ ap (λ j. page_from (edited pen_line (spliced pen_column (replicate n blank) (pen_column + length (replicate n blank)) j)) x.page) ew
 
-    pub erase_leads : (n : ℕ) → 0 < n → n < 9999 → pen.column + n ≤ columns
-        → LeadsTo rows columns old new x (spelling (func_of (EraseCells n))) (Writes rows columns pen pen.line pen.column n (λ c. blank) x)
+    pub erase_leads : (n : ℕ) → 0 < n → n < 9999 → pen_column + n ≤ columns
+        → LeadsTo rows columns old new x (spelling (func_of (EraseCells n))) (Writes rows columns pen pen_line pen_column n (λ c. blank) x)
     unfolding acted_from plain_sequence
     erase_leads n some few room =
         let s : State = x.state in
-        let line = d.line_is lh in
-        let column = d.column_is ch in (
+        let line = d.line_is in
+        let column = d.column_is in (
           effect x (func_of (EraseCells n)),
           silent_leads old new x (EraseCells n) (utf8 rows columns pen x d) (some, few) tt,
           erase_writes (effect x (func_of (EraseCells n))) n (IsSound-effect x (func_of (EraseCells n)) d.sound) some room refl refl refl
               (erased_is s.line s.column (min (s.column + max 1 n) s.columns) s.columns n line column (omega (arith, d.columns_are)) d.columns_are),
         )
 
-    pub erase_end_leads : (n : ℕ) → 0 < n → pen.column + n ≡ columns
-        → LeadsTo rows columns old new x (spelling (func_of EraseToEnd)) (Writes rows columns pen pen.line pen.column n (λ c. blank) x)
+    pub erase_end_leads : (n : ℕ) → 0 < n → pen_column + n ≡ columns
+        → LeadsTo rows columns old new x (spelling (func_of EraseToEnd)) (Writes rows columns pen pen_line pen_column n (λ c. blank) x)
     unfolding acted_from plain_sequence
     erase_end_leads n some room =
         let s : State = x.state in
-        let line = d.line_is lh in
-        let column = d.column_is ch in (
+        let line = d.line_is in
+        let column = d.column_is in (
           effect x (func_of EraseToEnd),
           silent_leads old new x EraseToEnd (utf8 rows columns pen x d) tt tt,
           erase_writes (effect x (func_of EraseToEnd)) n (IsSound-effect x (func_of EraseToEnd) d.sound) some (omega arith) refl refl refl
@@ -161,10 +166,24 @@ advanced_drawn : (s : State) (w : ℕ) → s ≡ drawn_state s → advanced s w 
 advanced_drawn s w e =
     ap (λ z. advanced z w) e ∙ ap (λ (b : Bool). record (drawn_state (advanced s w)) { is_wrap_pending = b }) (both_false (ltb (s.column + w) s.columns))
 
+-- the column behind a character, where the page has one
+abbrev pub column_behind : ℕ → ℕ → Option ℕ
+column_behind columns next = then_some (ltb next columns) next
+
+knows_behind : (columns next at : ℕ) → (next < columns → at ≡ next) → Knows (column_behind columns next) at
+knows_behind columns next at is = ⊎_elim
+    (λ (h : next < columns). rw (lt-ltb next columns h) (is h))
+    (λ (h : columns ≤ next). rw (le-ltb next columns h) tt)
+    (cases_lt next columns)
+
+-- a pen that has written n columns from a place on
+abbrev pub pen_behind : ℕ → ℕ → ℕ → Option Rendition → ℕ → Pen
+pen_behind columns line column known n = record { line = Some line; column = column_behind columns (column + n); rendition = known }
+
 -- a cell was written at the pen's place, and the next mark joins it
-pub record Inked (rows columns : ℕ) (pen : Pen) (cell : Cell) (n : ℕ) (x y : Screen) : Type 0 where
-  pub writes : Writes rows columns (record pen { column = pen.column + n }) pen.line pen.column n (row_of cell pen.column) x y
-  pub joining : y.state.joining ≡ Some (record { line = pen.line; column = pen.column })
+pub record Inked (rows columns pen_line pen_column : ℕ) (known : Option Rendition) (cell : Cell) (n : ℕ) (x y : Screen) : Type 0 where
+  pub writes : Writes rows columns (pen_behind columns pen_line pen_column known n) pen_line pen_column n (row_of cell pen_column) x y
+  pub joining : y.state.joining ≡ Some (record { line = pen_line; column = pen_column })
 
 module _ (rows columns : ℕ) (old new : Page) (pen : Pen) (x : Screen) (d : Drawing rows columns pen x) where
   shifts_start : x.state.shifts ≡ starting_shifts
@@ -198,101 +217,104 @@ module _ (rows columns : ℕ) (old new : Page) (pen : Pen) (x : Screen) (d : Dra
         differs = let e : column + 0 ≡ column = omega arith in subst (Differs old new line) (sym e) differs;
       }))
 
-  module _ (lh : pen.line < rows) (ch : pen.column < columns) where
-    placed_page : (fresh : List Cell) → (placed fresh x).page ≡ written pen.line pen.column columns fresh x.page
-    placed_page fresh =
-        let s : State = x.state in
-        let goes : following s (length fresh) ≡ s.column + length fresh = rw (no_insert rows columns pen x d) refl in
-        ap (λ j. page_from (edited s.line (spliced s.column fresh j s.columns)) x.page) goes
-        ∙ ap (λ j. page_from (edited j (spliced s.column fresh (s.column + length fresh) s.columns)) x.page) (d.line_is lh)
-        ∙ ap (λ j. page_from (edited pen.line (spliced j fresh (j + length fresh) s.columns)) x.page) (d.column_is ch)
-        ∙ ap (λ j. page_from (edited pen.line (spliced pen.column fresh (pen.column + length fresh) j)) x.page) d.columns_are
+module _ (rows columns : ℕ) (old new : Page) (pen_line pen_column : ℕ) (known : Option Rendition) (x : Screen) (d : Drawing rows columns (at_place pen_line pen_column known) x) (lh : pen_line < rows) (ch : pen_column < columns) where
+  abbrev placed_pen : Pen
+  placed_pen = at_place pen_line pen_column known
 
-    placed_joins : (fresh : List Cell) → (placed fresh x).state.joining ≡ Some (record { line = pen.line; column = pen.column })
-    placed_joins fresh = rw (d.line_is lh, d.column_is ch) refl
+  placed_page : (fresh : List Cell) → (placed fresh x).page ≡ written pen_line pen_column columns fresh x.page
+  placed_page fresh =
+      let s : State = x.state in
+      let goes : following s (length fresh) ≡ s.column + length fresh = rw (no_insert rows columns placed_pen x d) refl in
+      ap (λ j. page_from (edited s.line (spliced s.column fresh j s.columns)) x.page) goes
+      ∙ ap (λ j. page_from (edited j (spliced s.column fresh (s.column + length fresh) s.columns)) x.page) d.line_is
+      ∙ ap (λ j. page_from (edited pen_line (spliced j fresh (j + length fresh) s.columns)) x.page) d.column_is
+      ∙ ap (λ j. page_from (edited pen_line (spliced pen_column fresh (pen_column + length fresh) j)) x.page) d.columns_are
 
-    placed_writes : (fresh : List Cell) (f : Row) → IsSound (placed fresh x) → 0 < length fresh → pen.column + length fresh ≤ columns
-        → ((c : ℕ) → pen.column ≤ c → c < pen.column + length fresh → unprotected (fresh_at fresh (c - pen.column)) ≡ f c)
-        → Writes rows columns (record pen { column = pen.column + length fresh }) pen.line pen.column (length fresh) f x (placed fresh x)
-    placed_writes fresh f sound some room is =
-        let s : State = x.state in
-        let n : ℕ = length fresh in
+  placed_joins : (fresh : List Cell) → (placed fresh x).state.joining ≡ Some (record { line = pen_line; column = pen_column })
+  placed_joins fresh = rw (d.line_is, d.column_is) refl
+
+  placed_writes : (fresh : List Cell) (f : Row) → IsSound (placed fresh x) → 0 < length fresh → pen_column + length fresh ≤ columns
+      → ((c : ℕ) → pen_column ≤ c → c < pen_column + length fresh → unprotected (fresh_at fresh (c - pen_column)) ≡ f c)
+      → Writes rows columns (pen_behind columns pen_line pen_column known (length fresh)) pen_line pen_column (length fresh) f x (placed fresh x)
+  placed_writes fresh f sound some room is =
+      let s : State = x.state in
+      let n : ℕ = length fresh in
+      record {
+        drawing = record {
+          sound = sound;
+          rows_are = d.rows_are;
+          columns_are = d.columns_are;
+          state_is = advanced_drawn s n d.state_is;
+          tabs_are = d.tabs_are;
+          none_saved = d.none_saved;
+          line_is = d.line_is;
+          column_is = knows_behind columns (pen_column + n) _ (λ h. rw (lt-ltb (s.column + n) s.columns (omega (arith, d.column_is, d.columns_are))) (omega (arith, d.column_is)));
+          rendition_is = d.rendition_is;
+        };
+        here = λ c hc. ap (λ g. unprotected (cell_at (line_at g pen_line) c)) (placed_page fresh)
+            ∙ page_written rows columns pen_line pen_column fresh x.page (sized rows columns placed_pen x d) lh room some c hc
+            ∙ over_same (seen x pen_line) pen_column n (λ k. unprotected (fresh_at fresh (k - pen_column))) f c (λ p q. is c p q);
+        elsewhere = λ l c ne. ap (λ g. unprotected (cell_at (line_at g l) c)) (placed_page fresh)
+            ∙ ap (λ z. unprotected (cell_at z c)) (written_elsewhere pen_line pen_column rows columns fresh x.page (sized rows columns placed_pen x d) lh l ne);
+        modes = refl;
+      }
+
+  narrow_is : (c : ℕ) → IsGlyph 1 c → effect x (Print c) ≡ placed (narrow_cell c x.state.rendition x.state.is_protecting ∷ []) x
+  narrow_is c g = print_is rows columns old new placed_pen x d 1 c g ∙ rw (none_pending rows columns placed_pen x d) refl
+
+  pub narrow_leads : (c : ℕ) → IsGlyph 1 c → StandsAt 1 new (record { line = pen_line; column = pen_column }) c → Differs old new pen_line pen_column
+      → LeadsTo rows columns old new x (spelling (func_of (Glyph c))) (Inked rows columns pen_line pen_column known (narrow_cell c x.state.rendition false) 1 x)
+  narrow_leads c g stands differs =
+      let s : State = x.state in
+      let fresh : List Cell = narrow_cell c s.rendition s.is_protecting ∷ [] in
+      let is = narrow_is c g in
+      let sound : IsSound (placed fresh x) = subst IsSound is (IsSound-effect x (Print c) d.sound) in (
+        placed fresh x,
+        printed_leads rows columns old new placed_pen x d 1 c pen_line pen_column (placed fresh x) g is (ap (λ (y : Screen). y.state.joining) is ∙ placed_joins fresh) stands differs,
         record {
-          drawing = record {
-            sound = sound;
-            rows_are = d.rows_are;
-            columns_are = d.columns_are;
-            state_is = advanced_drawn s n d.state_is;
-            tabs_are = d.tabs_are;
-            none_saved = d.none_saved;
-            line_is = λ h. d.line_is lh;
-            column_is = λ h. rw (lt-ltb (s.column + n) s.columns (omega (arith, d.column_is ch, d.columns_are))) (omega (arith, d.column_is ch));
-            rendition_is = d.rendition_is;
-          };
-          here = λ c hc. ap (λ g. unprotected (cell_at (line_at g pen.line) c)) (placed_page fresh)
-              ∙ page_written rows columns pen.line pen.column fresh x.page (sized rows columns pen x d) lh room some c hc
-              ∙ over_same (seen x pen.line) pen.column n (λ k. unprotected (fresh_at fresh (k - pen.column))) f c (λ p q. is c p q);
-          elsewhere = λ l c ne. ap (λ g. unprotected (cell_at (line_at g l) c)) (placed_page fresh)
-              ∙ ap (λ z. unprotected (cell_at z c)) (written_elsewhere pen.line pen.column rows columns fresh x.page (sized rows columns pen x d) lh l ne);
-          modes = refl;
-        }
+          writes = placed_writes fresh (row_of (narrow_cell c s.rendition false) pen_column) sound (omega arith) (omega arith)
+              (λ k p q. let e : k ≡ pen_column = omega arith in let z : k - pen_column ≡ 0 = omega arith in rw (z, eq-eqb k pen_column e) refl);
+          joining = placed_joins fresh;
+        },
+      )
 
-    narrow_is : (c : ℕ) → IsGlyph 1 c → effect x (Print c) ≡ placed (narrow_cell c x.state.rendition x.state.is_protecting ∷ []) x
-    narrow_is c g = print_is 1 c g ∙ rw (none_pending rows columns pen x d) refl
+  wide_is : (c : ℕ) → IsGlyph 2 c → pen_column + 2 ≤ columns → effect x (Print c) ≡ placed (left_cell c x.state.rendition x.state.is_protecting ∷ right_cell c x.state.rendition x.state.is_protecting ∷ []) x
+  wide_is c g room =
+      let some : eqb (x.state.column + 1) x.state.columns ≡ false = ne_eqb (x.state.column + 1) x.state.columns (λ e. absurd (omega (arith, d.column_is, d.columns_are))) in
+      print_is rows columns old new placed_pen x d 2 c g ∙ rw (none_pending rows columns placed_pen x d, some, some) refl
 
-    pub narrow_leads : (c : ℕ) → IsGlyph 1 c → StandsAt 1 new (record { line = pen.line; column = pen.column }) c → Differs old new pen.line pen.column
-        → LeadsTo rows columns old new x (spelling (func_of (Glyph c))) (Inked rows columns pen (narrow_cell c x.state.rendition false) 1 x)
-    narrow_leads c g stands differs =
-        let s : State = x.state in
-        let fresh : List Cell = narrow_cell c s.rendition s.is_protecting ∷ [] in
-        let is = narrow_is c g in
-        let sound : IsSound (placed fresh x) = subst IsSound is (IsSound-effect x (Print c) d.sound) in (
-          placed fresh x,
-          printed_leads 1 c pen.line pen.column (placed fresh x) g is (ap (λ (y : Screen). y.state.joining) is ∙ placed_joins fresh) stands differs,
-          record {
-            writes = placed_writes fresh (row_of (narrow_cell c s.rendition false) pen.column) sound (omega arith) (omega arith)
-                (λ k p q. let e : k ≡ pen.column = omega arith in let z : k - pen.column ≡ 0 = omega arith in rw (z, eq-eqb k pen.column e) refl);
-            joining = placed_joins fresh;
-          },
-        )
-
-    wide_is : (c : ℕ) → IsGlyph 2 c → pen.column + 2 ≤ columns → effect x (Print c) ≡ placed (left_cell c x.state.rendition x.state.is_protecting ∷ right_cell c x.state.rendition x.state.is_protecting ∷ []) x
-    wide_is c g room =
-        let some : eqb (x.state.column + 1) x.state.columns ≡ false = ne_eqb (x.state.column + 1) x.state.columns (λ e. absurd (omega (arith, d.column_is ch, d.columns_are))) in
-        print_is 2 c g ∙ rw (none_pending rows columns pen x d, some, some) refl
-
-    pub wide_leads : (c : ℕ) → IsGlyph 2 c → pen.column + 2 ≤ columns → StandsAt 2 new (record { line = pen.line; column = pen.column }) c → Differs old new pen.line pen.column
-        → LeadsTo rows columns old new x (spelling (func_of (Glyph c))) (Inked rows columns pen (left_cell c x.state.rendition false) 2 x)
-    wide_leads c g room stands differs =
-        let s : State = x.state in
-        let fresh : List Cell = left_cell c s.rendition s.is_protecting ∷ right_cell c s.rendition s.is_protecting ∷ [] in
-        let is = wide_is c g room in
-        let sound : IsSound (placed fresh x) = subst IsSound is (IsSound-effect x (Print c) d.sound) in (
-          placed fresh x,
-          printed_leads 2 c pen.line pen.column (placed fresh x) g is (ap (λ (y : Screen). y.state.joining) is ∙ placed_joins fresh) stands differs,
-          record {
-            writes = placed_writes fresh (row_of (left_cell c s.rendition false) pen.column) sound (omega arith) room
-                (λ k p q. ⊎_elim
-                (λ (e : k ≡ pen.column). let z : k - pen.column ≡ 0 = omega arith in rw (z, eq-eqb k pen.column e) refl)
-                (λ (ne : k ≡ pen.column → ⊥). let z : k - pen.column ≡ 1 = omega arith in rw (z, ne_eqb k pen.column ne) refl)
-                (cases_eq k pen.column));
-            joining = placed_joins fresh;
-          },
-        )
+  pub wide_leads : (c : ℕ) → IsGlyph 2 c → pen_column + 2 ≤ columns → StandsAt 2 new (record { line = pen_line; column = pen_column }) c → Differs old new pen_line pen_column
+      → LeadsTo rows columns old new x (spelling (func_of (Glyph c))) (Inked rows columns pen_line pen_column known (left_cell c x.state.rendition false) 2 x)
+  wide_leads c g room stands differs =
+      let s : State = x.state in
+      let fresh : List Cell = left_cell c s.rendition s.is_protecting ∷ right_cell c s.rendition s.is_protecting ∷ [] in
+      let is = wide_is c g room in
+      let sound : IsSound (placed fresh x) = subst IsSound is (IsSound-effect x (Print c) d.sound) in (
+        placed fresh x,
+        printed_leads rows columns old new placed_pen x d 2 c pen_line pen_column (placed fresh x) g is (ap (λ (y : Screen). y.state.joining) is ∙ placed_joins fresh) stands differs,
+        record {
+          writes = placed_writes fresh (row_of (left_cell c s.rendition false) pen_column) sound (omega arith) room
+              (λ k p q. ⊎_elim
+              (λ (e : k ≡ pen_column). let z : k - pen_column ≡ 0 = omega arith in rw (z, eq-eqb k pen_column e) refl)
+              (λ (ne : k ≡ pen_column → ⊥). let z : k - pen_column ≡ 1 = omega arith in rw (z, ne_eqb k pen_column ne) refl)
+              (cases_eq k pen_column));
+          joining = placed_joins fresh;
+        },
+      )
 
 -- MARKS
 
-module _ (rows columns : ℕ) (old new : Page) (pen : Pen) (cell : Cell) (n m : ℕ) (x y : Screen) (k : Inked rows columns pen cell n x y) (g : IsGlyph 0 m) (lh : pen.line < rows) (ch : pen.column < columns) (some : 0 < n) where
+module _ (rows columns : ℕ) (old new : Page) (pen_line pen_column : ℕ) (known : Option Rendition) (cell : Cell) (n m : ℕ) (x y : Screen) (k : Inked rows columns pen_line pen_column known cell n x y) (g : IsGlyph 0 m) (lh : pen_line < rows) (ch : pen_column < columns) (some : 0 < n) where
   abbrev next : Pen
-  next = record pen { column = pen.column + n }
+  next = pen_behind columns pen_line pen_column known n
 
   abbrev there : Position
-  there = record { line = pen.line; column = pen.column }
+  there = record { line = pen_line; column = pen_column }
 
-  inked_cell : seen y pen.line pen.column ≡ unprotected cell
-  inked_cell = (k.writes).here pen.column ch ∙ rw (le-ltb pen.column pen.column (omega arith), lt-ltb pen.column (pen.column + n) (omega arith), eq-eqb pen.column pen.column refl) refl
+  inked_cell : seen y pen_line pen_column ≡ unprotected cell
+  inked_cell = (k.writes).here pen_column ch ∙ rw (le-ltb pen_column pen_column (omega arith), lt-ltb pen_column (pen_column + n) (omega arith), eq-eqb pen_column pen_column refl) refl
 
-  mark_is : effect y (Print m) ≡ record y { page = page_marked pen.line pen.column m y.page }
+  mark_is : effect y (Print m) ≡ record y { page = page_marked pen_line pen_column m y.page }
   mark_is = print_is rows columns old new next y (k.writes).drawing 0 m g ∙ ap (λ q. marked_at q m y) k.joining
 
   place_is : has_room cell.marks ≡ true → place_by 0 (record { before = y; func = Print m }) ≡ Some there
@@ -301,45 +323,45 @@ module _ (rows columns : ℕ) (old new : Page) (pen : Pen) (cell : Cell) (n m : 
       ap (mark_place y.page) k.joining ∙ rw (marks, room) refl
 
   abbrev line : List Cell
-  line = line_at y.page pen.line
+  line = line_at y.page pen_line
 
   abbrev line' : List Cell
-  line' = set line pen.column (marked (cell_at line pen.column) m)
+  line' = set line pen_column (marked (cell_at line pen_column) m)
 
   abbrev page' : Page
-  page' = page_marked pen.line pen.column m y.page
+  page' = page_marked pen_line pen_column m y.page
 
   is_page : IsPage rows columns y.page
   is_page = sized rows columns next y (k.writes).drawing
 
-  line_marked : line_at page' pen.line ≡ line'
-  line_marked = get_or-set_same y.page pen.line line' [] (rw is_page.height lh)
+  line_marked : line_at page' pen_line ≡ line'
+  line_marked = get_or-set_same y.page pen_line line' [] (rw is_page.height lh)
 
-  mark_here : (c : ℕ) → c < columns → unprotected (cell_at (line_at page' pen.line) c) ≡ row_written (seen x pen.line) pen.column n (row_of (marked cell m) pen.column) c
+  mark_here : (c : ℕ) → c < columns → unprotected (cell_at (line_at page' pen_line) c) ≡ row_written (seen x pen_line) pen_column n (row_of (marked cell m) pen_column) c
   mark_here c hc = ap (λ z. unprotected (cell_at z c)) line_marked ∙ ⊎_elim
-      (λ (e : c ≡ pen.column).
-      let wide : pen.column < length line = rw (is_page.width pen.line lh) ch in
+      (λ (e : c ≡ pen_column).
+      let wide : pen_column < length line = rw (is_page.width pen_line lh) ch in
       ap (λ j. unprotected (cell_at line' j)) e
-      ∙ ap unprotected (get_or-set_same line pen.column (marked (cell_at line pen.column) m) blank wide)
+      ∙ ap unprotected (get_or-set_same line pen_column (marked (cell_at line pen_column) m) blank wide)
       ∙ ap (λ (z : Cell). marked z m) inked_cell
-      ∙ sym (ap (row_written (seen x pen.line) pen.column n (row_of (marked cell m) pen.column)) e
-      ∙ rw (le-ltb pen.column pen.column (omega arith), lt-ltb pen.column (pen.column + n) (omega arith), eq-eqb pen.column pen.column refl) refl))
-      (λ (ne : c ≡ pen.column → ⊥).
-      ap unprotected (get_or-set_other line pen.column c (marked (cell_at line pen.column) m) blank ne)
+      ∙ sym (ap (row_written (seen x pen_line) pen_column n (row_of (marked cell m) pen_column)) e
+      ∙ rw (le-ltb pen_column pen_column (omega arith), lt-ltb pen_column (pen_column + n) (omega arith), eq-eqb pen_column pen_column refl) refl))
+      (λ (ne : c ≡ pen_column → ⊥).
+      ap unprotected (get_or-set_other line pen_column c (marked (cell_at line pen_column) m) blank ne)
       ∙ (k.writes).here c hc
-      ∙ over_same (seen x pen.line) pen.column n (row_of cell pen.column) (row_of (marked cell m) pen.column) c (λ p q. rw (ne_eqb c pen.column ne) refl))
-      (cases_eq c pen.column)
+      ∙ over_same (seen x pen_line) pen_column n (row_of cell pen_column) (row_of (marked cell m) pen_column) c (λ p q. rw (ne_eqb c pen_column ne) refl))
+      (cases_eq c pen_column)
 
-  mark_elsewhere : (l : ℕ) → (l ≡ pen.line → ⊥) → line_at page' l ≡ line_at y.page l
-  mark_elsewhere l ne = get_or-set_other y.page pen.line l line' [] ne
+  mark_elsewhere : (l : ℕ) → (l ≡ pen_line → ⊥) → line_at page' l ≡ line_at y.page l
+  mark_elsewhere l ne = get_or-set_other y.page pen_line l line' [] ne
 
-  pub mark_leads : has_room cell.marks ≡ true → StandsAt 0 new there m → Differs old new pen.line pen.column
-      → LeadsTo rows columns old new y (spelling (func_of (Glyph m))) (Inked rows columns pen (marked cell m) n x)
+  pub mark_leads : has_room cell.marks ≡ true → StandsAt 0 new there m → Differs old new pen_line pen_column
+      → LeadsTo rows columns old new y (spelling (func_of (Glyph m))) (Inked rows columns pen_line pen_column known (marked cell m) n x)
   mark_leads room stands differs =
       let d = (k.writes).drawing in
       let z : Screen = record y { page = page' } in (
         z,
-        printed_leads rows columns old new next y d 0 m pen.line pen.column z g mark_is (place_is room) stands differs,
+        printed_leads rows columns old new next y d 0 m pen_line pen_column z g mark_is (place_is room) stands differs,
         record {
           writes = record {
             drawing = record {

@@ -19,7 +19,7 @@ use Rattle.terminal_model.specs.Drawing.{IsListed}
 use Rattle.terminal_model.specs.Places.{value_if, value_of_colour, rendition_values}
 use Rattle.terminal_model.proofs.Frames.{all_acted-append, each-append}
 use Rattle.terminal_model.proofs.Renditions.{is_named, named-listed, rendition-is}
-use Rattle.redraw.specs.Drawing.{KnowsRendition}
+use Rattle.redraw.specs.Drawing.{Knows}
 use Rattle.redraw.specs.Renditions.{whole_params, switched, recoloured, change_params, all_bytes, shorter, rendition_params}
 
 -- THE VALUES
@@ -333,7 +333,7 @@ whole-is r =
 whole-made : (x : Screen) (r : Rendition) → effect x (Csi None (whole_params r) [] 0x6D) ≡ with_rendition x r
 whole-made x r = ap (λ values. effect x (Csi None values [] 0x6D)) (whole-is r) ∙ rendition-is x r
 
-pub params-made : (x : Screen) (known : Option Rendition) (r : Rendition) → KnowsRendition known x.state.rendition → effect x (Csi None (rendition_params known r) [] 0x6D) ≡ with_rendition x r
+pub params-made : (x : Screen) (known : Option Rendition) (r : Rendition) → Knows known x.state.rendition → effect x (Csi None (rendition_params known r) [] 0x6D) ≡ with_rendition x r
 params-made x None r h = whole-made x r
 params-made x (Some o) r h = either (λ values. effect x (Csi None values [] 0x6D) ≡ with_rendition x r) (change_params o r) (whole_params r)
     (λ some. from-present x (change_params o r) (change-values o r) some ∙ ap (λ (p : Rendition). all_acted (with_rendition x p) (each rendered (change_params o r))) h ∙ changes-made x o r)

@@ -1,5 +1,5 @@
 -- A screen on which a frame is drawn, after each command.
-use Rattle.std.proofs.Common.{◌≡◌, ℕ, ◌+◌, ◌-◌, ◌<◌, min, max, true, false, eqb, List, Some, refl, sym, ap, subst, arith, ⊎_elim}
+use Rattle.std.proofs.Common.{◌≡◌, ℕ, ◌+◌, ◌-◌, ◌<◌, min, max, true, false, eqb, List, Option, Some, refl, sym, ap, subst, arith, ⊎_elim}
 use Rattle.std.proofs.lemmas.Bool.{cases_Bool, ne_eqb, eqb-true}
 use Rattle.charsets.specs.declared.unit.Coding.TheVariants.{Utf8}
 use Rattle.cells.specs.declared.cell.Rendition.{Rendition}
@@ -16,7 +16,7 @@ use Rattle.redraw.specs.declared.pen.Pen.{Pen}
 use Rattle.redraw.specs.declared.command.Command.{Command}
 use Rattle.redraw.specs.declared.command.Command.TheVariants.{Glyph, MoveTo, NextLine, Forward, Render, EraseCells, EraseToEnd, Arrows, ShowCursor, Keypad}
 use Rattle.redraw.specs.Commands.{func_of, place_params}
-use Rattle.redraw.specs.Drawing.{Drawing, Leads, Keeps, IsWay}
+use Rattle.redraw.specs.Drawing.{Drawing, Knows, Leads, Keeps, IsWay}
 use Rattle.redraw.proofs.Effects.{silent_leads}
 use Rattle.redraw.proofs.Renditions.{with_rendition, params-made}
 
@@ -30,6 +30,10 @@ settled_drawn s e = ap unpending e
 
 rendered_drawn : (s : State) (r : Rendition) → s ≡ drawn_state s → unjoined (record s { rendition = r }) ≡ drawn_state (unjoined (record s { rendition = r }))
 rendered_drawn s r e = ap (λ (z : State). unjoined (record z { rendition = r })) e
+
+-- a pen at a place
+abbrev pub at_place : ℕ → ℕ → Option Rendition → Pen
+at_place line column known = record { line = Some line; column = Some column; rendition = known }
 
 module _ (rows columns : ℕ) where
   module _ (pen : Pen) (x : Screen) (d : Drawing rows columns pen x) where
@@ -57,9 +61,6 @@ module _ (rows columns : ℕ) where
     pub sized : IsPage rows columns x.page
     sized = subst (λ n. IsPage n columns x.page) d.rows_are (subst (λ n. IsPage x.state.rows n x.page) d.columns_are d.sound.sized)
 
-  abbrev pub pen_at : Pen → ℕ → ℕ → Pen
-  pen_at pen line column = record pen { line = line; column = column }
-
   -- a command leads to a screen of which R holds
   abbrev pub LeadsTo : Page → Page → Screen → List ℕ → (Screen → Type 0) → Type 0
   LeadsTo old new x bytes R = (y : Screen) × Leads old new x bytes y × R y
@@ -75,7 +76,7 @@ module _ (rows columns : ℕ) where
 
   module _ (old new : Page) (pen : Pen) (x : Screen) (d : Drawing rows columns pen x) where
     move_leads : (line column : ℕ) → line < rows → rows < 9999 → column < columns → columns < 9999
-        → LeadsTo old new x (spelling (func_of (MoveTo line column))) (Keeps rows columns (pen_at pen line column) x)
+        → LeadsTo old new x (spelling (func_of (MoveTo line column))) (Keeps rows columns (at_place line column pen.rendition) x)
     unfolding acted_from plain_sequence
     move_leads line column lh rh ch cl =
         let s : State = x.state in
@@ -93,8 +94,8 @@ module _ (rows columns : ℕ) where
               state_is = moved_drawn s l c d.state_is;
               tabs_are = d.tabs_are;
               none_saved = d.none_saved;
-              line_is = λ h. there;
-              column_is = λ h. across;
+              line_is = there;
+              column_is = across;
               rendition_is = d.rendition_is;
             };
             cells = λ i k. refl;
@@ -102,14 +103,14 @@ module _ (rows columns : ℕ) where
           },
         )
 
-    next_leads : (pen.line + 1 < rows) → 0 < columns → LeadsTo old new x (spelling (func_of NextLine)) (Keeps rows columns (pen_at pen (pen.line + 1) 0) x)
+    next_leads : (line : ℕ) → pen.line ≡ Some line → (line + 1 < rows) → 0 < columns → LeadsTo old new x (spelling (func_of NextLine)) (Keeps rows columns (at_place (line + 1) 0 pen.rendition) x)
     unfolding acted_from
-    next_leads lh ch =
+    next_leads line is lh ch =
         let s : State = x.state in
-        let at : s.line ≡ pen.line = d.line_is (omega arith) in
+        let at : s.line ≡ line = subst (λ l. Knows l s.line) is d.line_is in
         let bottom = last_line pen x d in
         let above : eqb s.line s.bottom ≡ false = ne_eqb s.line s.bottom (λ e. absurd (omega (arith, d.rows_are))) in
-        let below : line_below (moved_to s s.line 0) ≡ pen.line + 1 = rw above (omega (arith, d.rows_are)) in (
+        let below : line_below (moved_to s s.line 0) ≡ line + 1 = rw above (omega (arith, d.rows_are)) in (
           effect x (func_of NextLine),
           silent_leads old new x NextLine (utf8 pen x d) tt tt,
           record {
@@ -120,8 +121,8 @@ module _ (rows columns : ℕ) where
               state_is = moved_drawn (moved_to s s.line 0) (line_below (moved_to s s.line 0)) 0 (moved_drawn s s.line 0 d.state_is);
               tabs_are = d.tabs_are;
               none_saved = d.none_saved;
-              line_is = λ h. below;
-              column_is = λ h. refl;
+              line_is = below;
+              column_is = refl;
               rendition_is = d.rendition_is;
             };
             cells = λ i k. rw above refl;
@@ -129,14 +130,14 @@ module _ (rows columns : ℕ) where
           },
         )
 
-    forward_leads : (n : ℕ) → pen.line < rows → pen.column + n < columns → 0 < n → n < 9999
-        → LeadsTo old new x (spelling (func_of (Forward n))) (Keeps rows columns (pen_at pen pen.line (pen.column + n)) x)
+    forward_leads : (line column n : ℕ) → pen.line ≡ Some line → pen.column ≡ Some column → line < rows → column + n < columns → 0 < n → n < 9999
+        → LeadsTo old new x (spelling (func_of (Forward n))) (Keeps rows columns (at_place line (column + n) pen.rendition) x)
     unfolding acted_from plain_sequence
-    forward_leads n lh ch some few =
+    forward_leads line column n is_line is_column lh ch some few =
         let s : State = x.state in
-        let at : s.column ≡ pen.column = d.column_is (omega arith) in
+        let at : s.column ≡ column = subst (λ k. Knows k s.column) is_column d.column_is in
         let c : ℕ = min (s.column + max 1 n) (s.columns - 1) in
-        let across : c ≡ pen.column + n = omega (arith, d.columns_are) in (
+        let across : c ≡ column + n = omega (arith, d.columns_are) in (
           effect x (func_of (Forward n)),
           silent_leads old new x (Forward n) (utf8 pen x d) (some, few) tt,
           record {
@@ -147,8 +148,8 @@ module _ (rows columns : ℕ) where
               state_is = moved_drawn s s.line c d.state_is;
               tabs_are = d.tabs_are;
               none_saved = d.none_saved;
-              line_is = λ h. d.line_is lh;
-              column_is = λ h. across;
+              line_is = subst (λ l. Knows l s.line) is_line d.line_is;
+              column_is = across;
               rendition_is = d.rendition_is;
             };
             cells = λ i k. refl;
@@ -180,16 +181,18 @@ module _ (rows columns : ℕ) where
         )
 
     pub way_leads : (line column : ℕ) (way : Command) → line < rows → rows < 9999 → column < columns → columns < 9999 → IsWay pen line column (Some way)
-        → LeadsTo old new x (spelling (func_of way)) (Keeps rows columns (pen_at pen line column) x)
+        → LeadsTo old new x (spelling (func_of way)) (Keeps rows columns (at_place line column pen.rendition) x)
     way_leads line column (MoveTo l c) lh rh ch cl is =
-        subst (λ k. LeadsTo old new x (spelling (func_of (MoveTo k c))) (Keeps rows columns (pen_at pen line column) x)) (sym is.0)
-        (subst (λ k. LeadsTo old new x (spelling (func_of (MoveTo line k))) (Keeps rows columns (pen_at pen line column) x)) (sym is.1) (move_leads line column lh rh ch cl))
+        subst (λ k. LeadsTo old new x (spelling (func_of (MoveTo k c))) (Keeps rows columns (at_place line column pen.rendition) x)) (sym is.0)
+        (subst (λ k. LeadsTo old new x (spelling (func_of (MoveTo line k))) (Keeps rows columns (at_place line column pen.rendition) x)) (sym is.1) (move_leads line column lh rh ch cl))
     way_leads line column NextLine lh rh ch cl is =
-        subst (λ k. LeadsTo old new x (spelling (func_of NextLine)) (Keeps rows columns (pen_at pen k column) x)) is.0
-        (subst (λ k. LeadsTo old new x (spelling (func_of NextLine)) (Keeps rows columns (pen_at pen (pen.line + 1) k) x)) is.1 (next_leads (omega (arith, is.0)) (omega arith)))
+        let below : line - 1 + 1 ≡ line = omega (arith, is.0) in
+        subst (λ k. LeadsTo old new x (spelling (func_of NextLine)) (Keeps rows columns (at_place k column pen.rendition) x)) below
+        (subst (λ k. LeadsTo old new x (spelling (func_of NextLine)) (Keeps rows columns (at_place (line - 1 + 1) k pen.rendition) x)) (sym is.2) (next_leads (line - 1) is.1 (omega arith) (omega arith)))
     way_leads line column (Forward n) lh rh ch cl is =
-        subst (λ k. LeadsTo old new x (spelling (func_of (Forward n))) (Keeps rows columns (pen_at pen k column) x)) is.0
-        (subst (λ k. LeadsTo old new x (spelling (func_of (Forward n))) (Keeps rows columns (pen_at pen pen.line k) x)) is.1 (forward_leads n (omega (arith, is.0)) (omega (arith, is.1)) is.2 (omega (arith, is.1))))
+        let across : column - n + n ≡ column = omega (arith, is.3) in
+        subst (λ k. LeadsTo old new x (spelling (func_of (Forward n))) (Keeps rows columns (at_place line k pen.rendition) x)) across
+        (forward_leads line (column - n) n is.0 is.1 lh (omega arith) is.2 (omega (arith, is.3)))
     way_leads line column (Glyph c) lh rh ch cl is = absurd is
     way_leads line column (Render known r) lh rh ch cl is = absurd is
     way_leads line column (EraseCells n) lh rh ch cl is = absurd is

@@ -17,10 +17,10 @@ use Rattle.redraw.specs.declared.command.Command.{Command}
 use Rattle.redraw.specs.declared.command.Command.TheVariants.{Arrows, ShowCursor, Keypad}
 use Rattle.redraw.specs.Commands.{func_of}
 use Rattle.redraw.specs.Shadow.{AreAlikeAbove}
-use Rattle.redraw.specs.Drawing.{seen, Drawing, Takes, Keeps, HasLine, DrawsLine, HasPage, DrawsPage, Stage, Final, changed}
+use Rattle.redraw.specs.Drawing.{seen, Drawing, Knows, Takes, Keeps, HasLine, DrawsLine, HasPage, DrawsPage, Stage, Final, changed}
 use Rattle.redraw.proofs.Rows.{mixed_front}
 use Rattle.redraw.proofs.Effects.{silent_leads}
-use Rattle.redraw.proofs.Screens.{utf8, LeadsTo}
+use Rattle.redraw.proofs.Screens.{utf8, LeadsTo, at_place}
 use Rattle.redraw.proofs.Takings.{leads_nothing, takes_nothing, takes_then, takes_bytes, takes_weaker, takes_given}
 
 module _ (old new : Page) (rows columns : ℕ) where
@@ -215,10 +215,10 @@ module _ (old new page : Page) (rows columns : ℕ) (pen : Pen) where
       (λ x y s t. record { stage = t; cursor_is = t.shows_are })
 
   -- the pen moves to the cursor's place
-  pub placed_takes : (next : Pen) (line column : ℕ) (arrows keypad was : Bool) (a b c : List ℕ) → next ≡ record pen { line = line; column = column } → line < rows → column < columns
+  pub placed_takes : (next : Pen) (line column : ℕ) (arrows keypad was : Bool) (a b c : List ℕ) → next ≡ at_place line column pen.rendition
       → Takes old new (Drawing rows columns pen) (Keeps rows columns next) a b → Takes old new (Stage rows columns next page arrows keypad was) (λ x y. Stage rows columns next page arrows keypad true y) b c
       → Takes old new (Stage rows columns pen page arrows keypad was) (λ x y. Final rows columns next page arrows keypad (Some (record { line = line; column = column })) y) a c
-  placed_takes next line column arrows keypad was a b c is lh ch moved shown =
+  placed_takes next line column arrows keypad was a b c is moved shown =
       takes_then old new (Stage rows columns pen page arrows keypad was) (Stage rows columns next page arrows keypad was) (Keeps rows columns next) (λ x y. Stage rows columns next page arrows keypad true y)
       (λ x y. Final rows columns next page arrows keypad (Some (record { line = line; column = column })) y) a b c
       (takes_given old new (Drawing rows columns pen) (Stage rows columns pen page arrows keypad was) (Keeps rows columns next) a b (λ x s. s.drawing) moved)
@@ -232,9 +232,9 @@ module _ (old new page : Page) (rows columns : ℕ) (pen : Pen) where
       })
       (λ x y z s k t.
       let d = t.drawing in
-      let el : next.line ≡ line = ap (λ (p : Pen). p.line) is in
-      let ec : next.column ≡ column = ap (λ (p : Pen). p.column) is in
-      record { stage = t; cursor_is = (t.shows_are, d.line_is (omega arith) ∙ el, d.column_is (omega arith) ∙ ec) })
+      let el : z.state.line ≡ line = subst (λ (p : Pen). Knows p.line z.state.line) is d.line_is in
+      let ec : z.state.column ≡ column = subst (λ (p : Pen). Knows p.column z.state.column) is d.column_is in
+      record { stage = t; cursor_is = (t.shows_are, el, ec) })
 
 -- what was drawn is a stage
 pub page_takes : (old new : Page) (rows columns : ℕ) (p q : Pen) (arrows keypad shows : Bool) (a b : List ℕ) → Takes old new (HasPage rows columns p old) (DrawsPage rows columns q old new rows) a b

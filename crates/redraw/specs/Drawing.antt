@@ -6,7 +6,6 @@ use Rattle.cells.specs.declared.cell.Shape.TheVariants.{Narrow, Left, Right}
 use Rattle.cells.specs.declared.cell.Marks.{Marks}
 use Rattle.cells.specs.declared.cell.Marks.TheVariants.{Bare, One, Two}
 use Rattle.cells.specs.declared.cell.Cell.{Cell}
-use Rattle.cells.specs.declared.cell.Rendition.{Rendition}
 use Rattle.cells.specs.Line.{blank, cell_at, is_left, is_right, unprotected, right_cell, IsPaired}
 use Rattle.cells.specs.Page.{line_at}
 use Rattle.control_parser.specs.declared.func.Func.TheVariants.{Print}
@@ -48,12 +47,12 @@ row_written row at n fresh c =
 abbrev pub mixed : Row → Row → ℕ → Row
 mixed old new at c = cond (nat_lt c at) (new c) (kept_from old at c)
 
-abbrev pub KnowsRendition : Option Rendition → Rendition → Type 0
-KnowsRendition None r = Prim.Unit {0}
-KnowsRendition (Some known) r = r ≡ known
+-- what is known of a value: which one it is, or nothing
+abbrev pub Knows : {A : Type 0} → Option A → A → Type 0
+Knows None x = Prim.Unit {0}
+Knows (Some known) x = x ≡ known
 
--- A screen on which a frame is drawn, and what is known of its cursor and rendition. A line or a
--- column past the page isn't known.
+-- a screen on which a frame is drawn, and what is known of its cursor and rendition
 pub record Drawing (rows columns : ℕ) (pen : Pen) (x : Screen) : Type 0 where
   pub sound : IsSound x
   pub rows_are : x.state.rows ≡ rows
@@ -61,9 +60,9 @@ pub record Drawing (rows columns : ℕ) (pen : Pen) (x : Screen) : Type 0 where
   pub state_is : x.state ≡ drawn_state x.state
   pub tabs_are : x.tabs ≡ starting_tabs x.state.columns
   pub none_saved : x.saved ≡ None
-  pub line_is : pen.line < rows → x.state.line ≡ pen.line
-  pub column_is : pen.column < columns → x.state.column ≡ pen.column
-  pub rendition_is : KnowsRendition pen.rendition x.state.rendition
+  pub line_is : Knows pen.line x.state.line
+  pub column_is : Knows pen.column x.state.column
+  pub rendition_is : Knows pen.rendition x.state.rendition
 
 -- the bytes lead from one screen to another, without an answer, by acts that are discreet and
 -- spare, and spell these alone
@@ -149,10 +148,11 @@ glyph_bytes cell = spelling (Print cell.character) ++ mark_bytes cell.marks
 
 -- a way of the pen to a place
 abbrev pub IsWay : Pen → ℕ → ℕ → Option Command → Type 0
-IsWay pen line column None = (pen.line ≡ line) × (pen.column ≡ column)
+IsWay pen line column None = (pen.line ≡ Some line) × (pen.column ≡ Some column)
 IsWay pen line column (Some (MoveTo l c)) = (l ≡ line) × (c ≡ column)
-IsWay pen line column (Some NextLine) = (pen.line + 1 ≡ line) × (0 ≡ column)
-IsWay pen line column (Some (Forward n)) = (pen.line ≡ line) × (pen.column + n ≡ column) × (0 < n)
+IsWay pen line column (Some NextLine) = (0 < line) × (pen.line ≡ Some (line - 1)) × (column ≡ 0)
+IsWay pen line column (Some (Forward n)) =
+    (pen.line ≡ Some line) × (pen.column ≡ Some (column - n)) × (0 < n) × (n ≤ column)
 IsWay pen line column (Some other) = ⊥
 
 -- no right half stands at a place

@@ -52,8 +52,8 @@ pub record Redraws (rows columns : ℕ) (known : Option View) (v : View) (frame 
 
 -- what is known of a pen where the cursor is shown, or hidden
 abbrev pub pen_of : Option Position → Pen
-pen_of None = record { line = 65535; column = 65535; rendition = None }
-pen_of (Some p) = record { line = p.line; column = p.column; rendition = None }
+pen_of None = record { line = None; column = None; rendition = None }
+pen_of (Some p) = record { line = Some p.line; column = Some p.column; rendition = None }
 
 -- the end of a frame, wherever the pen is then
 abbrev pub EndsAs : ℕ → ℕ → View → Screen → Type 0
@@ -73,7 +73,7 @@ NextBytes old v before after =
 -- a screen as the reset leaves it
 abbrev pub IsReset : ℕ → ℕ → Screen → Type 0
 IsReset rows columns =
-    let pen : Pen = record { line = 0; column = 0; rendition = Some plain } in
+    let pen : Pen = record { line = Some 0; column = Some 0; rendition = Some plain } in
     Stage rows columns pen (blank_page rows columns) false false true
 
 -- bytes from the blank page of the reset to a view

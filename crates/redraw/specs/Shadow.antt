@@ -1,5 +1,5 @@
 -- What is known of a client's terminal.
-use Rattle.std.specs.Prelude.{◌≡◌, ◌<◌, ◌≤◌, ℕ, length, Option, Some, None}
+use Rattle.std.specs.Prelude.{◌≡◌, ◌<◌, ◌≤◌, ℕ, length, Option, Some}
 use Rattle.terminal_model.specs.Screen.{Page}
 use Rattle.terminal_model.specs.Shows.{View, seen_at}
 use Rattle.view.specs.View.{HasSize}

@@ -27,7 +27,7 @@ Bytes = Vec ℕ Global
 
 -- a pen at a place, with a rendition that is known
 abbrev pub aimed_at : ℕ → ℕ → Rendition → Pen
-aimed_at line column r = record { line = line; column = column; rendition = Some r }
+aimed_at line column r = record { line = Some line; column = Some column; rendition = Some r }
 
 -- A pen moves to a place, where the page has it; what is seen stays.
 abbrev pub MovesTo : ℕ → ℕ → Pen → Pen → Bytes → Bytes → Type 0
@@ -42,10 +42,10 @@ Renders p q before after =
     (old new : Page) (rows columns : ℕ)
     → Takes old new (Drawing rows columns p) (Keeps rows columns q) before.items after.items
 
--- A cell is put at a place that differs, where it stands in the new page.
-abbrev pub PutsCell : ℕ → ℕ → Cell → Pen → Pen → Bytes → Bytes → Type 0
-PutsCell line column cell p q before after =
-    (old new : Page) (rows columns : ℕ)
+-- A cell is put at a place that differs, where it stands in the new page, of so many columns.
+abbrev pub PutsCell : ℕ → ℕ → ℕ → Cell → Pen → Pen → Bytes → Bytes → Type 0
+PutsCell line column columns cell p q before after =
+    (old new : Page) (rows : ℕ)
     → line < rows → rows < 9999 → column + width_of cell.shape ≤ columns → columns < 9999
     → IsDrawableCell cell → is_right cell.shape ≡ false
     → Stands new line column cell → Differs old new line column

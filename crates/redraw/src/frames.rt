@@ -9,7 +9,7 @@ ghost use Rattle.redraw.specs.Frames.{SkipsKnown, FrameDraws, Appends, KeepsTerm
 ghost use Rattle.terminal_model.specs.Shows.{NeedsNoDraw, NeedsDraw};
 ghost use Rattle.redraw.specs.Shadow.{AreAlikeAbove};
 
-use crate::painting::paint;
+use crate::painting::{Shown, paint};
 use crate::pen::Pen;
 use crate::shadow::{Shadow, first_change};
 use crate::shared::SharedView;
@@ -37,8 +37,8 @@ fn pen_at(cursor: Cursor) -> Pen
     ensures { result ≡ pen_of (place_of cursor) }
 {
     let (line, column) = match cursor {
-        Cursor::Hidden => (u16::MAX, u16::MAX),
-        Cursor::At { line, column } => (line, column),
+        Cursor::Hidden => (None, None),
+        Cursor::At { line, column } => (Some(line), Some(column)),
     };
     Pen {
         line,
@@ -56,11 +56,15 @@ fn first_bytes(alloc: Global, view: &View, out: &mut Vec<u8>) -> Result<(), Allo
         return Err(AllocError);
     };
     let mut pen = Pen {
-        line: 0,
-        column: 0,
+        line: Some(0),
+        column: Some(0),
         rendition: Some(Rendition::PLAIN),
     };
-    paint(&mut pen, &blank, true, view, 0, out)?;
+    let shown = Shown {
+        view: &blank,
+        has_cursor: true,
+    };
+    paint(&mut pen, shown, view, 0, out)?;
     Ok(())
 }
 
@@ -73,7 +77,11 @@ fn next_bytes(old: &View, view: &View, from: usize, out: &mut Vec<u8>) -> Result
 {
     let cursor = old.cursor();
     let mut pen = pen_at(cursor);
-    paint(&mut pen, old, is_shown(cursor), view, from, out)?;
+    let shown = Shown {
+        view: old,
+        has_cursor: is_shown(cursor),
+    };
+    paint(&mut pen, shown, view, from, out)?;
     Ok(())
 }
 

@@ -17,6 +17,13 @@ use cells::{Cell, next_unlike};
 use std::alloc::AllocError;
 use view::{Cursor, KeyModes, View};
 
+/// What a terminal shows: a view's page and modes, and a cursor or none.
+#[derive(Clone, Copy)]
+pub struct Shown<'a> {
+    pub view: &'a View,
+    pub has_cursor: bool,
+}
+
 /// So many blanks are erased where they aren't printed: the bytes of the erasure are fewer.
 const FEWEST_ERASED: usize = 5;
 
@@ -38,23 +45,23 @@ fn blank_run(cells: &[Cell], from: usize) -> usize
 }
 
 /// Draws a line at a column where it differs, up to the column that it returns: the differing
-/// columns end at `end`.
+/// columns are those of `run`, from the first to before the end.
 fn draw_piece(
     pen: &mut Pen,
     line: u16,
     after: &[Cell],
-    column: usize,
-    end: usize,
+    run: (usize, usize),
     out: &mut Vec<u8>,
 ) -> Result<usize, AllocError>
     requires line { line < 9999 }
-    requires inside { column < end }
-    requires end { end ≤ length after.now }
+    requires inside { run.0 < run.1 }
+    requires end { run.1 ≤ length after.now }
     requires few { length after.now ≤ 300 }
-    ensures forth { IfOk result (λ next. (column < next) × (next ≤ length after.now + 1)) }
+    ensures forth { IfOk result (λ next. (run.0 < next) × (next ≤ length after.now + 1)) }
     ensures draws { IfOk result (λ next.
-        PutsPiece line after.now column next pen.old pen.new out.old out.new) }
+        PutsPiece line after.now run.0 next pen.old pen.new out.old out.new) }
 {
+    let (column, end) = run;
     let blanks = blank_run(after, column);
     if blanks >= FEWEST_ERASED && column + blanks == after.len() {
         pen.erase_to_end(line, column as u16, out)?;
@@ -71,7 +78,7 @@ fn draw_piece(
         return Ok(column + erased);
     }
     let cell = after[column];
-    pen.put_cell(line, column as u16, cell, out)?;
+    pen.put_cell(line, column as u16, after.len() as u16, cell, out)?;
     Ok(column + columns_of(cell) as usize)
 }
 
@@ -105,7 +112,7 @@ fn draw_line(
 {
     let (mut column, mut known) = (0, 0);
     while let Some((start, end)) = next_run(before, after, column, known) {
-        column = draw_piece(pen, line, after, start, end, out)?;
+        column = draw_piece(pen, line, after, (start, end), out)?;
         known = end;
     }
     Ok(())
@@ -181,23 +188,24 @@ fn draw_cursor(
     Ok(())
 }
 
-/// Draws what differs between two views of one size, whose pages look the same above the line
-/// `from`. `was_shown` says whether the cursor is shown before.
+/// Draws what differs between what is shown and a view of that size, whose pages look the same
+/// above the line `from`.
 pub fn paint(
     pen: &mut Pen,
-    old: &View,
-    was_shown: bool,
+    shown: Shown,
     new: &View,
     from: usize,
     out: &mut Vec<u8>,
 ) -> Result<(), AllocError>
-    requires size { KeepsSize old.now new.now }
+    requires size { KeepsSize shown.view.now new.now }
     requires inside { from ≤ length new.now.page }
-    requires above { AreAlikeAbove from old.now.page new.now.page }
-    ensures { OnOk result (PutsView old.now was_shown new.now pen.old pen.new out.old out.new) }
+    requires above { AreAlikeAbove from shown.view.now.page new.now.page }
+    ensures { OnOk result (PutsView shown.entry.view.now shown.entry.has_cursor
+        new.now pen.old pen.new out.old out.new) }
 {
+    let old = shown.view;
     draw_page(pen, old, new, from, out)?;
     draw_modes(old.modes(), new.modes(), out)?;
-    draw_cursor(pen, was_shown, new.cursor(), out)?;
+    draw_cursor(pen, shown.has_cursor, new.cursor(), out)?;
     Ok(())
 }

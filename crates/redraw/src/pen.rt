@@ -11,10 +11,10 @@ use std::alloc::AllocError;
 /// Where characters go and how they look.
 #[derive(Clone, Copy, Debug, PartialEq, Eq)]
 pub struct Pen {
-    /// A line past the page's last: nobody knows where the cursor is.
-    pub line: u16,
-    /// A column past the page's last: nobody knows in which one the cursor is.
-    pub column: u16,
+    /// None: nobody knows in which line the cursor is.
+    pub line: Option<u16>,
+    /// None: nobody knows in which column it is.
+    pub column: Option<u16>,
     /// None: nobody knows.
     pub rendition: Option<Rendition>,
 }
@@ -24,29 +24,28 @@ impl Pen {
     fn way_to(&self, line: u16, column: u16) -> Option<Command>
         ensures { IsWay self.now line column result }
     {
-        if self.line == line && self.column == column {
-            None
-        } else if self.line == line && self.column < column {
-            Some(Command::Forward(column - self.column))
-        } else if column == 0 && self.line < line && line - self.line == 1 {
-            Some(Command::NextLine)
-        } else {
-            Some(Command::MoveTo { line, column })
+        let is_in_line = self.line == Some(line);
+        match self.column {
+            Some(known) if is_in_line && known == column => None,
+            Some(known) if is_in_line && known < column => Some(Command::Forward(column - known)),
+            _ if column == 0 && line > 0 && self.line == Some(line - 1) => Some(Command::NextLine),
+            _ => Some(Command::MoveTo { line, column }),
         }
     }
 
     /// Moves the cursor, if it isn't there.
     pub fn move_to(&mut self, line: u16, column: u16, out: &mut Vec<u8>) -> Result<(), AllocError>
         requires { (line < 9999) × (column < 9999) }
-        ensures place { OnOk result (self.new ≡ record self.old { line = line; column = column }) }
+        ensures place { OnOk result
+            (self.new ≡ record self.old { line = Some line; column = Some column }) }
         ensures takes { OnOk result (MovesTo line column self.old self.new out.old out.new) }
     {
         let Some(way) = self.way_to(line, column) else {
             return Ok(());
         };
         way.put(out)?;
-        self.line = line;
-        self.column = column;
+        self.line = Some(line);
+        self.column = Some(column);
         Ok(())
     }
 
@@ -94,20 +93,24 @@ impl Pen {
         Ok(())
     }
 
-    /// Prints a cell's character and marks at a place.
+    /// Prints a cell's character and marks at a place of a line with so many columns. Behind the
+    /// last one nobody knows where the cursor is.
     pub fn put_cell(
         &mut self,
         line: u16,
         column: u16,
+        columns: u16,
         cell: Cell,
         out: &mut Vec<u8>,
     ) -> Result<(), AllocError>
         requires { (line < 9999) × (column < 9999) }
-        ensures takes { OnOk result (PutsCell line column cell self.old self.new out.old out.new) }
+        ensures takes { OnOk result
+            (PutsCell line column columns cell self.old self.new out.old out.new) }
     {
         self.aim(line, column, cell.rendition, out)?;
         put_glyphs(cell, out)?;
-        self.column = column + columns_of(cell);
+        let next = column + columns_of(cell);
+        self.column = (next < columns).then_some(next);
         Ok(())
     }
 

@@ -4,7 +4,7 @@ use Rattle.terminal_model.specs.Drawable.{HaveHalves}
 use Rattle.view.specs.Drawable.{IsDrawable}
 use Rattle.redraw.specs.Shadow.{Knowledge}
 use Rattle.redraw.specs.Steps.{Bytes}
-use Rattle.redraw.specs.Frames.{CanBeShown, DrawsBytes, DrawsNext}
+use Rattle.redraw.specs.Frames.{CanBeShown, DrawsBytes}
 use Rattle.redraw.proofs.frames.draw.Goals.{in-None+in_ok-first_bytes-in-None, in-Some+in-Some-first_change+in_ok-next_bytes-in-Some}
 use Rattle.redraw.proofs.frames.draw.Goals as goal
 

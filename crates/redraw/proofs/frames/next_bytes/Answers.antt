@@ -1,5 +1,5 @@
-use Rattle.std.proofs.Common.{◌≡◌, ℕ, Bool, length, ap, ◌∙◌, subst, arith, is_some}
-use Rattle.cells.specs.Page.{line_at, IsGridSize}
+use Rattle.std.proofs.Common.{◌≡◌, ℕ, Bool, length, ap, ◌∙◌, subst, is_some}
+use Rattle.cells.specs.Page.{line_at}
 use Rattle.redraw.specs.declared.pen.Pen.{Pen}
 use Rattle.redraw.specs.Drawing.{Takes, Stage}
 use Rattle.redraw.specs.Frames.{pen_of, EndsAs, Begins}
@@ -13,9 +13,8 @@ returns c od nd =
     let v = c.args.view.now in
     let rows : ℕ = length v.page in
     let columns : ℕ = length (line_at v.page 0) in
-    let few : IsGridSize (length old.page) (length (line_at old.page 0)) = c.cursor-cursor.ensures.grid.size in
     let drawn = ended old.page v.page rows columns c.paint.new.pen v (Stage rows columns c.pen_at-pen.result old.page old.has_application_arrows old.has_application_keypad c.is_shown.result) c.args.out.now.items c.paint.new.out.items
-    (omega (arith, few.most_rows, c.requires.size.rows_are)) (omega (arith, few.most_columns, c.requires.size.columns_are)) (c.in_ok-paint.ensures od nd) in
+    (c.in_ok-paint.ensures od nd) in
     let pen : c.pen_at-pen.result ≡ pen_of old.cursor = c.pen_at-pen.ensures ∙ ap pen_of c.cursor-cursor.ensures.cursor in
     let shown : c.is_shown.result ≡ is_some old.cursor = c.is_shown.ensures ∙ ap is_some c.cursor-cursor.ensures.cursor in
     let stage = subst (λ (p : Pen). Takes old.page v.page (Stage rows columns p old.page old.has_application_arrows old.has_application_keypad (is_some old.cursor)) (λ x y. EndsAs rows columns v y) c.args.out.now.items c.paint.new.out.items) pen

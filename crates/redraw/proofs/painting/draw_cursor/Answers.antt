@@ -24,5 +24,5 @@ returns-in_ok-change-in-At c before after page rows columns arrows keypad rh cl 
     let within : IsInside rows columns c.in-At.line c.in-At.column = subst (λ (k : Option Position). IfSome k (λ p. IsInside rows columns p.line p.column)) is inside in
     subst (λ (k : Option Position). Takes before after (Stage rows columns pen page arrows keypad c.args.was_shown) (λ x y. Final rows columns next page arrows keypad k y) c.args.out.now.items c.change-in-At.new.out.items) (sym is)
     (placed_takes before after page rows columns pen next c.in-At.line c.in-At.column arrows keypad c.args.was_shown c.args.out.now.items c.move_to.new.out.items c.change-in-At.new.out.items
-    c.in_ok-move_to-in-At.ensures.place within.0 within.1 (c.in_ok-move_to-in-At.ensures.takes before after rows columns within.0 rh within.1 cl)
+    c.in_ok-move_to-in-At.ensures.place (c.in_ok-move_to-in-At.ensures.takes before after rows columns within.0 rh within.1 cl)
     (shown_takes before after page rows columns next arrows keypad c.args.was_shown true c.move_to.new.out.items c.change-in-At.new.out.items c.in_ok-change-in-At.ensures))

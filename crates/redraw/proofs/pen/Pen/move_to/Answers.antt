@@ -2,7 +2,7 @@ use Rattle.std.proofs.Common.{refl, subst}
 use Rattle.control_parser.specs.Spelling.{spelling}
 use Rattle.redraw.specs.Commands.{func_of}
 use Rattle.redraw.specs.Drawing.{Drawing, Keeps, IsWay}
-use Rattle.redraw.proofs.Screens.{way_leads}
+use Rattle.redraw.proofs.Screens.{way_leads, at_place}
 use Rattle.redraw.proofs.Takings.{takes_nothing, takes_bytes}
 use Rattle.redraw.proofs.pen.Pen.move_to.Goals as goal
 
@@ -13,6 +13,6 @@ returns-in_default-clause-takes c old new rows columns lh rh ch cl =
 pub returns-clause-takes : goal.returns-clause-takes
 returns-clause-takes c old new rows columns lh rh ch cl =
     let is = subst (IsWay c.args.self.now c.args.line c.args.column) c.in-Some.is c.way_to.ensures in
-    takes_bytes old new (Drawing rows columns c.args.self.now) (Keeps rows columns (record { line = c.args.line; column = c.args.column; rendition = c.args.self.now.rendition }))
+    takes_bytes old new (Drawing rows columns c.args.self.now) (Keeps rows columns (at_place c.args.line c.args.column c.args.self.now.rendition))
     c.args.out.now.items c.put.new.out.items (spelling (func_of c.in-Some.way)) c.in_ok-put.ensures
     (λ x d. way_leads rows columns old new c.args.self.now x d c.args.line c.args.column c.in-Some.way lh rh ch cl is)

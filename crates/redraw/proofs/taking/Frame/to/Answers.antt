@@ -1,6 +1,6 @@
-use Rattle.std.proofs.Common.{◌≡◌, ◌∙◌, refl, subst, sym, ap, []}
-use Rattle.std.proofs.lemmas.Option.{MatchOption-at_some, MatchOption-at_none}
-use Rattle.terminal_model.specs.Shows.{View, NeedsDraw, NeedsNoDraw}
+use Rattle.std.proofs.Common.{◌≡◌, refl, subst, sym, []}
+use Rattle.std.proofs.lemmas.Option.{MatchOption-at_some}
+use Rattle.terminal_model.specs.Shows.{View, NeedsDraw}
 use Rattle.view.specs.Drawable.{IsDrawable}
 use Rattle.redraw.specs.Shadow.{Knowledge}
 use Rattle.redraw.specs.Frames.{CanBeShown, DrawsBytes, IsFrameFor}
