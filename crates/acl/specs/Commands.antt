@@ -7,6 +7,7 @@ use Rattle.std.specs.Prelude.{if◌then◌else◌}
 use Rattle.std.specs.Option.{option_or}
 use Rattle.acl_words.specs.Same.{same_user}
 pub use Rattle.acl_words.specs.Faults.{number_of_fault}
+use Rattle.acl_words.specs.declared.limits.TheConstants.{USERS}
 use Rattle.acl.specs.History.{History, is_known, among, there, leaders_of, leaders_with}
 use Rattle.acl_words.specs.declared.user_id.UserId.{UserId}
 use Rattle.acl_words.specs.declared.bits.Bit.{Bit}
@@ -49,12 +50,12 @@ abbrev pub names_user : UserId → Option UserId → Bool
 names_user u None = false
 names_user u (Some v) = same_user u v
 
--- acladd, aclchg: a name that may become known. At most 64 users are known
+-- acladd, aclchg: a name that may become known
 abbrev pub new_name_fault : UserId → List UserId → Option UserId → Option AclFault
 new_name_fault owner users None = Some ReservedName
 new_name_fault owner users (Some u) =
     if same_user owner u then Some OwnerKept
-    else (if among users u || nat_lt (length users) 64 then None else Some TooManyUsers)
+    else (if among users u || nat_lt (length users) USERS then None else Some TooManyUsers)
 
 -- the known users, once those of a name are known
 abbrev pub with_name : List UserId → Option UserId → List UserId
