@@ -6,6 +6,7 @@ use Rattle.acl.specs.Same.{same_user}
 use Rattle.acl.specs.History.{History, is_open, open_count, may}
 use Rattle.acl.specs.Slots.{slot_of, SlotsStandFor}
 use Rattle.acl.specs.Table.{Table, lets}
+use Rattle.acl.specs.limits.TheConstants.{WINDOWS}
 use Rattle.acl.specs.declared.edition.Edition.{Edition}
 use Rattle.acl.specs.declared.user_id.UserId.{UserId}
 use Rattle.acl.specs.declared.act.LockMode.{LockMode}
@@ -45,7 +46,7 @@ pub record AreLocks (default : LockMode) (locks : ℕ → Option Lock)
 pub record LocksStandFor (t : Locks) (edition : Edition) (owner : UserId) (h : History)
     : Type 0 where
   pub slots : SlotsStandFor t.windows.serials (is_open h) (open_count h)
-  pub all : length t.locks ≡ 40
+  pub all : length t.locks ≡ WINDOWS
   pub are : AreLocks t.default (lock_in t) edition owner h
 
 -- whether an act of a list command by itself frees what u holds on w

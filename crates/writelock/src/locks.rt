@@ -1,7 +1,7 @@
 use crate::lock::{
     Lock, LockDenial, after_act, entered_by, left_by, lock_by, opened_by, without_holder,
 };
-use acl::{Act, Follower, Lists, LockMode, Slots, UserId};
+use acl::{Act, Follower, Lists, LockMode, Slots, UserId, WINDOWS};
 
 /// A lock that nobody holds.
 const FREE: Lock = Lock {
@@ -13,7 +13,7 @@ const FREE: Lock = Lock {
 #[derive(Clone, Copy, PartialEq, Eq, Debug)]
 pub struct Locks {
     windows: Slots,
-    locks: [Lock; 40],
+    locks: [Lock; WINDOWS],
     default: LockMode,
 }
 
@@ -25,6 +25,7 @@ impl Locks {
     ghost use Rattle.acl.specs.History.{History, is_open, open_count, may};
     ghost use Rattle.acl.specs.Deeds.{Follows};
     ghost use Rattle.acl.specs.Lists.{table_of};
+    ghost use Rattle.acl.specs.limits.TheConstants.{WINDOWS};
     ghost use Rattle.acl.specs.declared.edition.Edition.{Edition};
     ghost use Rattle.acl.specs.declared.act.Act.TheVariants.{Opened, Closed, Parted, Entered, Left};
     ghost use Rattle.acl.specs.declared.act.Act.TheVariants.{Mode, Default};
@@ -39,7 +40,7 @@ impl Locks {
     {
         Locks {
             windows: Slots::new(),
-            locks: [FREE; 40],
+            locks: [FREE; WINDOWS],
             default: LockMode::Off,
         }
     }
@@ -124,7 +125,7 @@ impl Locks {
     pub fn opened(&mut self, by: UserId, window: u32)
         ensures { (edition : Edition) (owner : UserId) (h : History) →
             LocksStandFor self.old edition owner h →
-            is_open h window ≡ false → open_count h < 40 →
+            is_open h window ≡ false → open_count h < WINDOWS →
             LocksStandFor self.new edition owner (Opened by window ∷ h) }
     {
         if let Some(slot) = self.windows.free_slot() {
