@@ -3,7 +3,7 @@
 ghost use Rattle.std.specs.Prelude.{◌≡◌, OnOk, OnErr};
 ghost use Rattle.attach_proto.specs.Spelling.{spelling};
 ghost use Rattle.attach_proto.specs.declared.message.Message.TheVariants as message;
-ghost use Rattle.server_peers.specs.Frames.{PutsFrames, PutsFront};
+ghost use Rattle.server_peers.specs.Frames.{PutsFrames, PutsFront, PutsMessage, Puts};
 
 use attach_proto::{Kind, LONGEST, Message, Text, Why, WriteFault, head_of, write_message};
 use server_turn::Turn;
@@ -43,14 +43,20 @@ pub enum Sending<'a> {
     Size(u16, u16),
 }
 
-fn put_message(alloc: Global, turn: &mut Turn, message: &Message) -> Result<(), WriteFault> {
+fn put_message(alloc: Global, turn: &mut Turn, message: &Message) -> Result<(), WriteFault>
+    ensures ok { OnOk result (PutsMessage message.now turn.old turn.new) }
+    ensures err { OnErr result (turn.new ≡ turn.old) }
+{
     let mut frame = Vec::new(alloc);
     write_message(alloc, message, &mut frame)?;
     turn.put(&frame)?;
     Ok(())
 }
 
-fn put_text(alloc: Global, turn: &mut Turn, text: &[u8]) -> Result<(), WriteFault> {
+fn put_text(alloc: Global, turn: &mut Turn, text: &[u8]) -> Result<(), WriteFault>
+    ensures ok { OnOk result (PutsMessage (message.Say text.now) turn.old turn.new) }
+    ensures err { OnErr result (turn.new ≡ turn.old) }
+{
     match str::from_utf8(text) {
         Ok(text) => put_message(alloc, turn, &Message::Say(Text::new(alloc, text)?)),
         Err(_) => Err(WriteFault::Unspellable),
@@ -69,7 +75,9 @@ fn put_frames(turn: &mut Turn, kind: Kind, bytes: &[u8]) -> Result<(), AllocErro
 }
 
 /// Puts it behind what waits for a peer; what is too long for one frame goes into several.
-pub fn put(alloc: Global, turn: &mut Turn, sending: Sending) -> Result<(), WriteFault> {
+pub fn put(alloc: Global, turn: &mut Turn, sending: Sending) -> Result<(), WriteFault>
+    ensures { OnOk result (Puts sending.entry turn.old turn.new) }
+{
     match sending {
         Sending::Welcome(number) => put_message(alloc, turn, &Message::Welcome(number)),
         Sending::Draw(bytes) => Ok(put_frames(turn, Kind::Draw, bytes)?),
