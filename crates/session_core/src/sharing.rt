@@ -31,11 +31,13 @@ impl Drop for Sharing {
     }
 }
 
-/// Takes a client out of a list.
+/// Takes a client out of a list. It mostly isn't in it.
 fn leave_out(clients: &mut Vec<u32>, client: u32)
     ensures { clients.new.items ≡ without client clients.old.items }
 {
-    clients.retain(|other| *other != client);
+    if clients.contains(&client) {
+        clients.retain(|other| *other != client);
+    }
 }
 
 impl Sharing {
@@ -68,7 +70,7 @@ impl Sharing {
     /// Whether a client sees the same as those that were drawn the same last.
     fn sees_the_same(&self, state: &State, client: u32) -> bool {
         match self.alike.first() {
-            Some(other) => see_the_same(state, client, *other).unwrap_or(false),
+            Some(other) => see_the_same(state, client, *other),
             None => false,
         }
     }

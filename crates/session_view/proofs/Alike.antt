@@ -1,8 +1,6 @@
 -- Clients that are granted to see the same.
-use Rattle.std.proofs.Common.{◌≡◌, ℕ, ◌+◌, ◌<◌, zero, suc, List, [], ◌∷◌, refl, ap, sym, ◌∙◌, subst, map, take, length, get_or, arith}
+use Rattle.std.proofs.Common.{◌≡◌, ℕ, ◌+◌, ◌<◌, zero, suc, List, [], ◌∷◌, ap, sym, ◌∙◌, subst, map, take, length, get_or, arith}
 use Rattle.acl.specs.declared.user_id.UserId.{UserId}
-use Rattle.regions.specs.declared.rect.Rect.{Rect}
-use Rattle.regions.specs.declared.shown.Shown.{Shown}
 use Rattle.regions.specs.Layouts.{Arrangement}
 use Rattle.regions.specs.Shapes.{boxes, separators}
 use Rattle.regions.specs.Pages.{box_of, status_of}
@@ -15,7 +13,7 @@ use Rattle.session_clients.specs.Stands.{ClientStands}
 use Rattle.session_state.specs.declared.state.State.{State}
 use Rattle.session_state.specs.Stands.{Stands}
 use Rattle.session_model.specs.Sound.{AreFit}
-use Rattle.session_view.specs.Sameness.{HaveSameSize, HaveSamePage, HaveSameStatus, ShowBoth, SeesAlso, boxes_on, separators_on}
+use Rattle.session_view.specs.Sameness.{HaveSameSize, HaveSamePage, HaveSameStatus, ShowBoth, SeesAlso}
 
 -- ---- pages
 
@@ -33,17 +31,12 @@ on_client m c is =
     ∙ (ap (λ n. page_of c.layout n m.columns) (sym is.rows_are)
     ∙ ap (λ n. page_of c.layout c.shadow.rows n) (sym is.columns_are))
 
-abbrev made_of : List Rect → List Rect → ℕ → ℕ → ℕ → view.Layout
-made_of boxes separators focus rows columns = record { boxes = boxes; separators = separators; focus = focus; status = status_of rows columns }
-
 on_both : (a b : Client) → HaveSameSize a b → HaveSamePage a b
     → page_of a.layout a.shadow.rows a.shadow.columns ≡ page_of b.layout b.shadow.rows b.shadow.columns
 on_both a b size page =
-    ap (λ x. made_of x (separators_on a) a.layout.focus a.shadow.rows a.shadow.columns) page.boxes
-    ∙ (ap (λ x. made_of (boxes_on b) x a.layout.focus a.shadow.rows a.shadow.columns) page.separators
-    ∙ (ap (λ n. made_of (boxes_on b) (separators_on b) n a.shadow.rows a.shadow.columns) page.focus
-    ∙ (ap (λ n. made_of (boxes_on b) (separators_on b) b.layout.focus n a.shadow.columns) size.0
-    ∙ ap (λ n. made_of (boxes_on b) (separators_on b) b.layout.focus b.shadow.rows n) size.1)))
+    ap (λ (l : Arrangement). page_of l a.shadow.rows a.shadow.columns) page
+    ∙ (ap (λ n. page_of b.layout n a.shadow.columns) size.0
+    ∙ ap (λ n. page_of b.layout b.shadow.rows n) size.1)
 
 -- what the regions of a client's page show
 shown_to : (t : Tables) (m : model.Client) (c : Client) → ClientStands m c
@@ -60,7 +53,7 @@ pub see_alike : (s : State) (a b : Client) → HaveSameSize a b → HaveSameStat
 see_alike s a b size status shown page t m n st fit is its =
     let layout : layout_of m ≡ layout_of n = on_client m a is ∙ (on_both a b size page ∙ sym (on_client n b its)) in
     let parts : map (part_shown t m.user) m.layout.shown ≡ map (part_shown t n.user) n.layout.shown =
-    shown_to t m a is ∙ (shown t st fit ∙ (ap (map (part_shown t b.user)) page.shown ∙ sym (shown_to t n b its))) in record {
+    shown_to t m a is ∙ (shown t st fit ∙ (ap (λ (l : Arrangement). map (part_shown t b.user) l.shown) page ∙ sym (shown_to t n b its))) in record {
       granted =
           ap (λ l. view.view_in l (map (part_shown t m.user) m.layout.shown) (status_text t m)) layout
           ∙ (ap (λ ps. view.view_in (layout_of n) ps (status_text t m)) parts

@@ -1,5 +1,5 @@
 -- Clients that see the same as the one for which a frame was made.
-use Rattle.std.proofs.Common.{◌≡◌, ℕ, List, Some, ap, sym, ◌∙◌, subst}
+use Rattle.std.proofs.Common.{◌≡◌, ℕ, Some, ap, sym, ◌∙◌, subst}
 use Rattle.redraw.specs.Shadow.{Knowledge, knowledge_of}
 use Rattle.redraw.specs.Frames.{Made}
 use Rattle.session_model.specs.Tables as model

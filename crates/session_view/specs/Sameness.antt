@@ -1,11 +1,7 @@
 -- Clients that are granted to see the same.
 use Rattle.std.specs.Prelude.{ℕ, ◌≡◌, List, Some, map}
 use Rattle.acl.specs.declared.user_id.UserId.{UserId}
-use Rattle.regions.specs.declared.rect.Rect.{Rect}
-use Rattle.regions.specs.declared.rects.Rects.{Rects}
 use Rattle.regions.specs.declared.shown.Shown.{Shown}
-use Rattle.regions.specs.Shapes.{boxes, separators}
-use Rattle.regions.specs.Pages.{box_of}
 use Rattle.session_model.specs.declared.message.Message.{Message}
 use Rattle.session_model.specs.Tables as model
 use Rattle.session_model.specs.Tables.{Tables, client_at}
@@ -20,25 +16,9 @@ use Rattle.session_model.specs.Sound.{AreFit}
 abbrev pub HaveSameSize : Client → Client → Type 0
 HaveSameSize a b = (a.shadow.rows ≡ b.shadow.rows) × (a.shadow.columns ≡ b.shadow.columns)
 
--- the same rectangles, with the focus in the same
-pub record AreSameRects (p q : Rects) : Type 0 where
-  pub boxes : p.boxes.items ≡ q.boxes.items
-  pub separators : p.separators.items ≡ q.separators.items
-  pub focus : p.focus ≡ q.focus
-
--- the rectangles of a client's page
-abbrev pub boxes_on : Client → List Rect
-boxes_on c = boxes c.layout.shape (box_of c.shadow.rows c.shadow.columns)
-
-abbrev pub separators_on : Client → List Rect
-separators_on c = separators c.layout.shape (box_of c.shadow.rows c.shadow.columns)
-
 -- their regions are the same, and show the same
-pub record HaveSamePage (a b : Client) : Type 0 where
-  pub boxes : boxes_on a ≡ boxes_on b
-  pub separators : separators_on a ≡ separators_on b
-  pub focus : a.layout.focus ≡ b.layout.focus
-  pub shown : a.layout.shown ≡ b.layout.shown
+abbrev pub HaveSamePage : Client → Client → Type 0
+HaveSamePage a b = a.layout ≡ b.layout
 
 -- messages that say the same, whichever clients have them
 abbrev pub SayTheSame : Message → Message → Type 0

@@ -51,7 +51,7 @@ pub fn draw_like(
         → IsAsBefore state.old state.new made.old made.new) }
     ensures err { OnErr result (IsAsBefore state.old state.new made.old made.new) }
 {
-    if !see_the_same(state, client, lead.client)? {
+    if !see_the_same(state, client, lead.client) {
         return Ok(false);
     }
     if knows {

@@ -1,4 +1,4 @@
-use Rattle.std.proofs.Common.{◌≡◌, ◌∙◌, List, sym, subst}
+use Rattle.std.proofs.Common.{◌∙◌, List, sym, subst}
 use Rattle.std.proofs.lemmas.Option.{MatchOption-at_some}
 use Rattle.session_clients.specs.declared.client.Client.{Client}
 use Rattle.session_state.specs.declared.state.State.{State}
@@ -10,7 +10,7 @@ use Rattle.session_view.proofs.following.draw_like.Goals as goal
 pub returns-then-knows-clause-drawn : goal.returns-then-knows-clause-drawn
 returns-then-knows-clause-drawn c = λ yes t st fit led knows.
     let l : Lead = c.args.lead.now in
-    let r = c.in_ok-see_the_same.ensures c.if-not-branch.false t st fit in
+    let r = c.see_the_same.ensures c.if-not-see_the_same.false t st fit in
     let on = leads_also t c.args.state.now c.args.client l st r.0 r.1 r.2 r.3 r.4 led (knows c.if-knows.true r.0 r.2) in
     (r.0, r.2, sees t c.args.state.now c.args.client l st r.0 r.1 r.2 r.3 r.4 led, c.in_ok-deliver.ensures.ok t r.0 st r.2 on)
 
@@ -18,7 +18,7 @@ pub returns-clause-drawn : goal.returns-clause-drawn
 returns-clause-drawn c = λ yes t st fit led knows.
     let l : Lead = c.args.lead.now in
     let after : State = c.deliver-2.new.state in
-    let r = c.in_ok-see_the_same.ensures c.if-not-branch.false t st fit in
+    let r = c.see_the_same.ensures c.if-not-see_the_same.false t st fit in
     let made = MatchOption-at_some _ _ c.in-Some.frame c.in-Some.is c.in_ok-frame.ensures.made in
     let on = own_leads t c.args.state.now c.args.client l st r.0 r.1 r.2 r.3 r.4 led c.in-Some.frame made.0 (made.1 ∙ c.view.ensures) in (
       r.0,
