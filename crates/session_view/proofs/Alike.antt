@@ -1,21 +1,25 @@
 -- Clients that are granted to see the same.
-use Rattle.std.proofs.Common.{◌≡◌, ℕ, ◌+◌, ◌<◌, zero, suc, List, [], ◌∷◌, ap, sym, ◌∙◌, subst, map, take, length, get_or, arith}
+use Rattle.std.proofs.Common.{◌≡◌, ◌↔◌, ℕ, ◌+◌, ◌<◌, zero, suc, Bool, true, false, List, [], ◌∷◌, Option, Some, None, refl, ap, sym, ◌∙◌, subst, map, take, length, get_or, arith}
+use Prim.Native.Char.{code}
+use mathlib.Core.Bool.{beq}
 use Rattle.acl.specs.declared.user_id.UserId.{UserId}
+use Rattle.acl.specs.declared.bits.Bit.TheVariants.{Read}
+use Rattle.acl.specs.declared.act.Object.TheVariants as object
+use Rattle.regions.specs.declared.shown.Shown.{Shown}
 use Rattle.regions.specs.Layouts.{Arrangement}
 use Rattle.regions.specs.Shapes.{boxes, separators}
 use Rattle.regions.specs.Pages.{box_of, status_of}
 use Rattle.view.specs.Granted as view
+use Rattle.session_model.specs.declared.message.Message.{Message}
+use Rattle.session_model.specs.declared.message.Message.TheVariants as message
 use Rattle.session_model.specs.Tables as model
-use Rattle.session_model.specs.Tables.{Tables, client_at}
-use Rattle.session_model.specs.Granted.{part_shown, layout_of, status_text}
-use Rattle.session_clients.specs.declared.client.Client.{Client}
-use Rattle.session_clients.specs.Stands.{ClientStands}
-use Rattle.session_state.specs.declared.state.State.{State}
-use Rattle.session_state.specs.Stands.{Stands}
-use Rattle.session_model.specs.Sound.{AreFit}
-use Rattle.session_view.specs.Sameness.{HaveSameSize, HaveSamePage, HaveSameStatus, ShowBoth, SeesAlso}
+use Rattle.session_model.specs.Tables.{Tables, window_at}
+use Rattle.session_model.specs.Rights.{may_in}
+use Rattle.session_model.specs.Granted.{part_shown, layout_of, message_text, status_text}
+use Rattle.session_view.specs.Sameness.{SeesAlso, is_for_all, AreKnownAlike}
+use Rattle.session_view.proofs.Panes.{readable, hidden}
 
--- ---- pages
+-- ---- views
 
 abbrev page_of : Arrangement → ℕ → ℕ → view.Layout
 page_of l rows columns = record {
@@ -25,45 +29,57 @@ page_of l rows columns = record {
   status = status_of rows columns;
 }
 
-on_client : (m : model.Client) (c : Client) → ClientStands m c → layout_of m ≡ page_of c.layout c.shadow.rows c.shadow.columns
-on_client m c is =
-    ap (λ l. page_of l m.rows m.columns) (sym is.layout_is)
-    ∙ (ap (λ n. page_of c.layout n m.columns) (sym is.rows_are)
-    ∙ ap (λ n. page_of c.layout c.shadow.rows n) (sym is.columns_are))
+abbrev said : Tables → model.Client → Option (List ℕ) → List ℕ
+said t m o = elim o [ Some line ↦ code ":" ∷ line | None ↦ message_text t m m.message ]
 
-on_both : (a b : Client) → HaveSameSize a b → HaveSamePage a b
-    → page_of a.layout a.shadow.rows a.shadow.columns ≡ page_of b.layout b.shadow.rows b.shadow.columns
-on_both a b size page =
-    ap (λ (l : Arrangement). page_of l a.shadow.rows a.shadow.columns) page
-    ∙ (ap (λ n. page_of b.layout n a.shadow.columns) size.0
-    ∙ ap (λ n. page_of b.layout b.shadow.rows n) size.1)
+said_to_all : (t : Tables) (m n : model.Client) (x : Message) → is_for_all x ≡ true → message_text t m x ≡ message_text t n x
+said_to_all t m n message.Silence all = refl
+said_to_all t m n (message.Text bytes) all = refl
+said_to_all t m n message.AllWindows all = absurd (cc (all))
+said_to_all t m n message.AllClients all = refl
 
--- what the regions of a client's page show
-shown_to : (t : Tables) (m : model.Client) (c : Client) → ClientStands m c
-    → map (part_shown t m.user) m.layout.shown ≡ map (part_shown t c.user) c.layout.shown
-shown_to t m c is =
-    sym (ap (λ (u : UserId). map (part_shown t u) c.layout.shown) is.user_is
-    ∙ ap (λ (l : Arrangement). map (part_shown t m.user) l.shown) is.layout_is)
-
--- ---- views
-
-pub see_alike : (s : State) (a b : Client) → HaveSameSize a b → HaveSameStatus a b
-    → ShowBoth s a.user b.user a.layout.shown → HaveSamePage a b
-    → (t : Tables) (m n : model.Client) → Stands t s → AreFit t → ClientStands m a → ClientStands n b → SeesAlso t m n
-see_alike s a b size status shown page t m n st fit is its =
-    let layout : layout_of m ≡ layout_of n = on_client m a is ∙ (on_both a b size page ∙ sym (on_client n b its)) in
+pub see_alike : (t : Tables) (m n : model.Client) → AreKnownAlike t m n → SeesAlso t m n
+see_alike t m n k =
+    let layout : layout_of m ≡ layout_of n =
+    ap (λ l. page_of l m.rows m.columns) k.layout
+    ∙ (ap (λ r. page_of n.layout r m.columns) k.rows
+    ∙ ap (λ c. page_of n.layout n.rows c) k.columns) in
     let parts : map (part_shown t m.user) m.layout.shown ≡ map (part_shown t n.user) n.layout.shown =
-    shown_to t m a is ∙ (shown t st fit ∙ (ap (λ (l : Arrangement). map (part_shown t b.user) l.shown) page ∙ sym (shown_to t n b its))) in record {
+    k.shown ∙ ap (λ (l : Arrangement). map (part_shown t n.user) l.shown) k.layout in
+    let status : status_text t m ≡ status_text t n =
+    ap (said t m) k.closed
+    ∙ (said_to_all t m n m.message k.messages.1
+    ∙ (ap (message_text t n) k.messages.0
+    ∙ sym (ap (said t n) k.others_closed))) in record {
       granted =
           ap (λ l. view.view_in l (map (part_shown t m.user) m.layout.shown) (status_text t m)) layout
           ∙ (ap (λ ps. view.view_in (layout_of n) ps (status_text t m)) parts
-          ∙ ap (view.view_in (layout_of n) (map (part_shown t n.user) n.layout.shown)) (status t m n is its));
-      rows = sym is.rows_are ∙ (size.0 ∙ its.rows_are);
-      columns = sym is.columns_are ∙ (size.1 ∙ its.columns_are);
+          ∙ ap (view.view_in (layout_of n) (map (part_shown t n.user) n.layout.shown)) status);
+      rows = k.rows;
+      columns = k.columns;
     }
 
--- ---- regions, one after another
+-- ---- regions
 
+-- what a window's region shows two users is the same where both may read it, or neither may
+pub by_rights : (t : Tables) (user other : UserId) (shown : Shown) (serial : ℕ) (w : model.Window)
+    → shown.window ≡ Some serial → window_at t serial ≡ Some w → (p q : Bool)
+    → p ≡ may_in t user Read (object.Window serial) → q ≡ may_in t other Read (object.Window serial)
+    → (beq p q ≡ true) ↔ (part_shown t user shown ≡ part_shown t other shown)
+by_rights t user other shown serial w at here true true may also =
+    ((λ same. readable t user shown serial w at here (sym may) ∙ sym (readable t other shown serial w at here (sym also))), (λ same. refl))
+by_rights t user other shown serial w at here false false may also =
+    ((λ same. hidden t user shown serial w at here (sym may) ∙ sym (hidden t other shown serial w at here (sym also))), (λ same. refl))
+by_rights t user other shown serial w at here true false may also = (
+  (λ same. absurd (cc (same))),
+  (λ same. absurd (cc (sym (readable t user shown serial w at here (sym may)) ∙ (same ∙ hidden t other shown serial w at here (sym also))))),
+)
+by_rights t user other shown serial w at here false true may also = (
+  (λ same. absurd (cc (same))),
+  (λ same. absurd (cc (sym (hidden t user shown serial w at here (sym may)) ∙ (same ∙ readable t other shown serial w at here (sym also))))),
+)
+
+-- one after another
 pub alike_more : {A B : Type 0} (f g : A → B) (xs : List A) (i : ℕ) (x d : A) → i < length xs → x ≡ get_or xs i d → f x ≡ g x
     → map f (take i xs) ≡ map g (take i xs) → map f (take (i + 1) xs) ≡ map g (take (i + 1) xs)
 alike_more f g [] i x d lt at same before = absurd (omega arith)
@@ -74,3 +90,9 @@ alike_more f g (y ∷ ys) (suc i) x d lt at same before =
     let more = alike_more f g ys i x d (omega arith) at same rest in
     let n : suc i + 1 ≡ suc (i + 1) = omega arith in
     subst (λ k. map f (take k (y ∷ ys)) ≡ map g (take k (y ∷ ys))) (sym n) (ap (λ z. z ∷ map f (take (i + 1) ys)) first ∙ ap (λ zs. g y ∷ zs) more)
+
+pub alike_each : {A B : Type 0} (f g : A → B) (xs : List A) (i : ℕ) (x d : A) → i < length xs → x ≡ get_or xs i d
+    → map f xs ≡ map g xs → f x ≡ g x
+alike_each f g [] i x d lt at all = absurd (omega arith)
+alike_each f g (y ∷ ys) zero x d lt at all = let first : f y ≡ g y = cc (all) in ap f at ∙ (first ∙ sym (ap g at))
+alike_each f g (y ∷ ys) (suc i) x d lt at all = let rest : map f ys ≡ map g ys = cc (all) in alike_each f g ys i x d (omega arith) at rest

@@ -2,12 +2,14 @@
 use Rattle.std.proofs.Common.{◌≡◌, ℕ, Some, ap, sym, ◌∙◌, subst}
 use Rattle.redraw.specs.Shadow.{Knowledge, knowledge_of}
 use Rattle.redraw.specs.Frames.{Made}
+use Rattle.view.specs.View.{HasSize}
 use Rattle.session_model.specs.Tables as model
 use Rattle.session_model.specs.Tables.{Tables, client_at}
 use Rattle.session_model.specs.Granted.{granted_view}
 use Rattle.session_rows.proofs.Matching.{row_there}
 use Rattle.session_clients.specs.Stands.{ClientStands}
-use Rattle.session_clients.specs.Draws.{LeadsFrom}
+use Rattle.session_clients.specs.declared.client.Client.{Client}
+use Rattle.session_clients.specs.Draws.{LeadsFrom, FitsIn}
 use Rattle.session_clients.proofs.Changing.{model_serial, serial_of, serials}
 use Rattle.session_state.specs.declared.state.State.{State}
 use Rattle.session_state.specs.Stands.{Stands}
@@ -55,3 +57,12 @@ module _ (t : Tables) (s : State) (client : ℕ) (l : Lead) (st : Stands t s) (m
         before = sym (leads row.0 row.1) ∙ shadow_is m row.0 row.2;
         granted = subst (IsGranted t m) (sym view) granted_also;
       }
+
+  -- its terminal has the view's size
+  pub fits : FitsIn client s.clients l.frame.view
+  fits = λ c here.
+      let row = row_there ClientStands model_serial serial_of serials t.clients s.clients client m st.clients at in
+      let is : row.0 ≡ c = cc (row.1, here) in
+      subst (λ (y : Client). HasSize y.shadow.rows y.shadow.columns l.frame.view) is
+      (subst (λ r. HasSize r row.0.shadow.columns l.frame.view) (sym row.2.rows_are)
+      (subst (λ k. HasSize m.rows k l.frame.view) (sym row.2.columns_are) granted_also.size))

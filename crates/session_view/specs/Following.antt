@@ -1,6 +1,6 @@
 -- Clients that are drawn what another one is granted to see.
-use Rattle.std.specs.Prelude.{ℕ, ◌≡◌, Bool, true, Option, Some}
-use Rattle.terminal_model.specs.Shows.{View}
+use Rattle.std.specs.Prelude.{ℕ, ◌≡◌, Bool, true, false, Option, Some}
+use Rattle.terminal_model.specs.Shows.{View, NeedsNoDraw}
 use Rattle.session_model.specs.Tables.{Client, Tables, client_at}
 use Rattle.session_model.specs.Granted.{granted_view}
 use Rattle.session_state.specs.declared.state.State.{State}
@@ -8,6 +8,7 @@ use Rattle.session_state.specs.declared.step_output.StepOutput.{StepOutput}
 use Rattle.session_state.specs.Stands.{Stands}
 use Rattle.session_model.specs.Sound.{AreFit}
 use Rattle.session_view.specs.declared.following.Lead.{Lead}
+use Rattle.session_view.specs.Sameness.{AreBothAlike}
 use Rattle.session_view.specs.Viewed.{IsGranted}
 use Rattle.session_view.specs.Drawn.{HasDrawnSo, IsSomething}
 
@@ -30,3 +31,11 @@ DrawsLike client l knows old new before after = (t : Tables) → Stands t old �
     → IsLed t l → (knows ≡ true → Knows t l.frame.before.known client)
     → (c : Client) × (client_at t client ≡ Some c) × (l.frame.view ≡ granted_view t c)
     × HasDrawnSo IsSomething t c new before after
+
+-- where it is known to see the same as the one for which the frame was made, the client of a serial
+-- is left alone only if what is led to was drawn for it already
+abbrev pub IsLeftAlone : ℕ → Lead → Bool → State → Type 0
+IsLeftAlone client l knows old = (t : Tables) → Stands t old → AreFit t → IsLed t l
+    → AreBothAlike client l.client t
+    → (knows ≡ false)
+    × ((c : Client) → client_at t client ≡ Some c → NeedsNoDraw c.drawn l.frame.view)

@@ -1,43 +1,19 @@
 -- Clients that are granted to see the same.
-use Rattle.std.specs.Prelude.{ℕ, ◌≡◌, List, Some, map}
+use Rattle.std.specs.Prelude.{ℕ, ◌≡◌, ◌↔◌, Bool, true, false, List, Some, None, map}
 use Rattle.acl.specs.declared.user_id.UserId.{UserId}
+use Rattle.keys.specs.Grammar.{items, open_line}
+use Rattle.keys.specs.Kept.{rest_of}
 use Rattle.regions.specs.declared.shown.Shown.{Shown}
 use Rattle.session_model.specs.declared.message.Message.{Message}
+use Rattle.session_model.specs.declared.message.Message.TheVariants as message
 use Rattle.session_model.specs.Tables as model
 use Rattle.session_model.specs.Tables.{Tables, client_at}
-use Rattle.session_model.specs.Granted.{part_shown, message_text, status_text, granted_view}
+use Rattle.session_model.specs.Granted.{part_shown, granted_view}
 use Rattle.session_clients.specs.declared.client.Client.{Client}
 use Rattle.session_clients.specs.Stands.{ClientStands}
 use Rattle.session_state.specs.declared.state.State.{State}
 use Rattle.session_state.specs.Stands.{Stands}
 use Rattle.session_model.specs.Sound.{AreFit}
-
--- their terminals have the same size
-abbrev pub HaveSameSize : Client → Client → Type 0
-HaveSameSize a b = (a.shadow.rows ≡ b.shadow.rows) × (a.shadow.columns ≡ b.shadow.columns)
-
--- their regions are the same, and show the same
-abbrev pub HaveSamePage : Client → Client → Type 0
-HaveSamePage a b = a.layout ≡ b.layout
-
--- messages that say the same, whichever clients have them
-abbrev pub SayTheSame : Message → Message → Type 0
-SayTheSame m n = (t : Tables) (c d : model.Client) → message_text t c m ≡ message_text t d n
-
--- their status lines say the same, whichever tables a state stands for
-abbrev pub HaveSameStatus : Client → Client → Type 0
-HaveSameStatus a b = (t : Tables) (m n : model.Client) → ClientStands m a → ClientStands n b
-    → status_text t m ≡ status_text t n
-
--- a region shows two users the same
-abbrev pub ShowsBoth : State → UserId → UserId → Shown → Type 0
-ShowsBoth s user other shown = (t : Tables) → Stands t s → AreFit t
-    → part_shown t user shown ≡ part_shown t other shown
-
--- so do these
-abbrev pub ShowBoth : State → UserId → UserId → List Shown → Type 0
-ShowBoth s user other shown = (t : Tables) → Stands t s → AreFit t
-    → map (part_shown t user) shown ≡ map (part_shown t other) shown
 
 -- one client is granted to see what another one is, on a terminal of the same size
 pub record SeesAlso (t : Tables) (m n : model.Client) : Type 0 where
@@ -45,12 +21,65 @@ pub record SeesAlso (t : Tables) (m n : model.Client) : Type 0 where
   pub rows : m.rows ≡ n.rows
   pub columns : m.columns ≡ n.columns
 
-abbrev pub AreAlike : State → Client → Client → Type 0
-AreAlike s a b = (t : Tables) (m n : model.Client) → Stands t s → AreFit t
-    → ClientStands m a → ClientStands n b → SeesAlso t m n
-
 -- two clients of these serials are there, and are granted to see the same
 abbrev pub SeeTheSame : ℕ → ℕ → State → Type 0
 SeeTheSame client other s = (t : Tables) → Stands t s → AreFit t
     → (m n : model.Client) × (client_at t client ≡ Some m) × (client_at t other ≡ Some n)
     × SeesAlso t m n
+
+-- ---- what tells that
+
+-- regions that show two users the same
+abbrev pub ShowBoth : Tables → UserId → UserId → List Shown → Type 0
+ShowBoth t user other shown = map (part_shown t user) shown ≡ map (part_shown t other) shown
+
+-- a message that says the same to each client
+abbrev pub is_for_all : Message → Bool
+is_for_all message.Silence = true
+is_for_all (message.Text bytes) = true
+is_for_all message.AllWindows = false
+is_for_all message.AllClients = true
+
+-- one message, which says the same to both
+abbrev pub SayTheSame : Message → Message → Type 0
+SayTheSame m n = (m ≡ n) × (is_for_all m ≡ true)
+
+-- Terminals of the same size; the same regions, which show both users the same; no prompt is open,
+-- and the messages say the same.
+pub record AreKnownAlike (t : Tables) (m n : model.Client) : Type 0 where
+  pub rows : m.rows ≡ n.rows
+  pub columns : m.columns ≡ n.columns
+  pub layout : m.layout ≡ n.layout
+  pub shown : ShowBoth t m.user n.user m.layout.shown
+  pub closed : open_line (items m.keys).1 ≡ None
+  pub others_closed : open_line (items n.keys).1 ≡ None
+  pub messages : SayTheSame m.message n.message
+
+-- the clients of two serials are there, and such
+abbrev pub AreBothAlike : ℕ → ℕ → Tables → Type 0
+AreBothAlike client other t =
+    (m n : model.Client) × (client_at t client ≡ Some m) × (client_at t other ≡ Some n)
+    × AreKnownAlike t m n
+
+-- ---- the same of a state
+
+-- an answer, of whichever tables a state stands for
+abbrev pub Tells : State → Bool → (Tables → Type 0) → Type 0
+Tells s answer P = (t : Tables) → Stands t s → AreFit t → (answer ≡ true) ↔ P t
+
+-- of the rows of two clients
+abbrev pub TellsOf : State → Client → Client → Bool → Type 0
+TellsOf s a b answer = (t : Tables) (m n : model.Client) → Stands t s → AreFit t
+    → ClientStands m a → ClientStands n b → (answer ≡ true) ↔ AreKnownAlike t m n
+
+-- their terminals have the same size
+abbrev pub HaveSameSize : Client → Client → Type 0
+HaveSameSize a b = (a.shadow.rows ≡ b.shadow.rows) × (a.shadow.columns ≡ b.shadow.columns)
+
+-- no prompt is open
+abbrev pub IsClosed : Client → Type 0
+IsClosed c = open_line (rest_of c.keys) ≡ None
+
+-- their status lines say the same
+abbrev pub HaveSameStatus : Client → Client → Type 0
+HaveSameStatus a b = IsClosed a × IsClosed b × SayTheSame a.message b.message

@@ -2,7 +2,7 @@
 
 ghost use Rattle.std.specs.Prelude.{◌≡◌, true, false, IfOk, OnErr};
 ghost use Rattle.session_state.specs.Doing.{IsAsBefore};
-ghost use Rattle.session_view.specs.Following.{DrawsLike};
+ghost use Rattle.session_view.specs.Following.{DrawsLike, IsLeftAlone};
 
 use crate::drawing::deliver;
 use crate::sameness::see_the_same;
@@ -49,6 +49,8 @@ pub fn draw_like(
         → DrawsLike client lead.now knows state.old state.new made.old made.new) }
     ensures other { IfOk result (λ same. same ≡ false
         → IsAsBefore state.old state.new made.old made.new) }
+    ensures left { IfOk result (λ same. same ≡ false
+        → IsLeftAlone client lead.now knows state.old) }
     ensures err { OnErr result (IsAsBefore state.old state.new made.old made.new) }
 {
     if !see_the_same(state, client, lead.client) {

@@ -1,8 +1,9 @@
 //! Whether two clients are granted to see the same.
 
-ghost use Rattle.std.specs.Prelude.{◌≡◌, true};
+ghost use Rattle.std.specs.Prelude.{◌≡◌, ◌↔◌, true};
+ghost use Rattle.session_model.specs.Granted.{part_shown};
 ghost use Rattle.session_view.specs.Sameness.{HaveSameSize, SayTheSame, HaveSameStatus};
-ghost use Rattle.session_view.specs.Sameness.{ShowsBoth, ShowBoth, AreAlike, SeeTheSame};
+ghost use Rattle.session_view.specs.Sameness.{ShowBoth, AreBothAlike, SeeTheSame, Tells, TellsOf};
 
 use acl::{Bit, Object, UserId};
 use regions::Shown;
@@ -12,14 +13,14 @@ use session_state::State;
 
 /// Whether the terminals of two clients have the same size.
 fn have_same_size(a: &Client, b: &Client) -> bool
-    ensures { result ≡ true → HaveSameSize a.now b.now }
+    ensures { (result ≡ true) ↔ HaveSameSize a.now b.now }
 {
     a.shadow.rows() == b.shadow.rows() && a.shadow.columns() == b.shadow.columns()
 }
 
 /// Whether two messages say the same, whoever has them.
 fn say_the_same(message: &Message, other: &Message) -> bool
-    ensures { result ≡ true → SayTheSame message.now other.now }
+    ensures { (result ≡ true) ↔ SayTheSame message.now other.now }
 {
     match (message, other) {
         (Message::Silence, Message::Silence) => true,
@@ -31,14 +32,14 @@ fn say_the_same(message: &Message, other: &Message) -> bool
 
 /// Whether the status lines of two clients say the same: no prompt is open, and their messages do.
 fn have_same_status(a: &Client, b: &Client) -> bool
-    ensures { result ≡ true → HaveSameStatus a.now b.now }
+    ensures { (result ≡ true) ↔ HaveSameStatus a.now b.now }
 {
     a.keys.prompt().is_none() && b.keys.prompt().is_none() && say_the_same(&a.message, &b.message)
 }
 
-/// Whether a region shows two users the same: no window, or one that both may read.
+/// Whether a region shows two users the same: no window, or one that both may read or neither may.
 fn shows_both(state: &State, user: UserId, other: UserId, shown: Shown) -> bool
-    ensures { result ≡ true → ShowsBoth state.now user other shown }
+    ensures { Tells state.now result (λ t. part_shown t user shown ≡ part_shown t other shown) }
 {
     let Some(serial) = shown.window else {
         return true;
@@ -47,13 +48,13 @@ fn shows_both(state: &State, user: UserId, other: UserId, shown: Shown) -> bool
         return true;
     };
     let object = Object::Window(serial);
-    state.acl.may(user, Bit::Read, object).is_ok()
-        && state.acl.may(other, Bit::Read, object).is_ok()
+    let may = state.acl.may(user, Bit::Read, object).is_ok();
+    may == state.acl.may(other, Bit::Read, object).is_ok()
 }
 
 /// Whether regions show two users the same.
 fn show_both(state: &State, user: UserId, other: UserId, shown: &[Shown]) -> bool
-    ensures { result ≡ true → ShowBoth state.now user other shown.now }
+    ensures { Tells state.now result (λ t. ShowBoth t user other shown.now) }
 {
     if user == other {
         return true;
@@ -66,9 +67,9 @@ fn show_both(state: &State, user: UserId, other: UserId, shown: &[Shown]) -> boo
     true
 }
 
-/// Whether two clients are known to see the same.
+/// Whether two clients are known to see the same. What is cheap is asked first.
 fn are_alike(state: &State, a: &Client, b: &Client) -> bool
-    ensures { result ≡ true → AreAlike state.now a.now b.now }
+    ensures { TellsOf state.now a.now b.now result }
 {
     have_same_size(a, b)
         && a.layout.is_same(&b.layout)
@@ -78,7 +79,8 @@ fn are_alike(state: &State, a: &Client, b: &Client) -> bool
 
 /// Whether the clients of two serials are there and known to see the same.
 pub fn see_the_same(state: &State, client: u32, other: u32) -> bool
-    ensures { result ≡ true → SeeTheSame client other state.now }
+    ensures exact { Tells state.now result (AreBothAlike client other) }
+    ensures granted { result ≡ true → SeeTheSame client other state.now }
 {
     let Some(a) = state.clients.get(client) else {
         return false;

@@ -1,7 +1,11 @@
 use Rattle.std.proofs.Common.{take}
+use Rattle.session_model.specs.Tables.{Tables}
+use Rattle.session_model.specs.Sound.{AreFit}
+use Rattle.session_state.specs.Stands.{Stands}
 use Rattle.session_view.specs.Sameness.{ShowBoth}
 use Rattle.session_view.proofs.sameness.show_both.Given as goal
 
 -- the regions before this one show both the same
 abbrev pub invariant-loop-region : goal.invariant-loop-region
-invariant-loop-region l = ShowBoth l.state l.user l.other (take l.region-index l.shown)
+invariant-loop-region l = (t : Tables) → Stands t l.state → AreFit t
+    → ShowBoth t l.user l.other (take l.region-index l.shown)
