@@ -1,6 +1,6 @@
 //! A window's second thread, which reads the socket while the writing of the first takes long.
 
-use crate::fault::ClientFault;
+use crate::fault::Fault;
 use crate::showing::pass_on;
 use crate::standing::{Shared, Standing};
 use attach_proto::LONGEST;
@@ -34,23 +34,42 @@ impl Standing {
     }
 }
 
+// What a period came to.
+#[derive(Clone, Copy)]
+enum Seen {
+    /// The writing of this number takes long.
+    Stuck(u64),
+    Nothing,
+    /// The peer ended.
+    End,
+}
+
+// Looks at one period.
+fn look<R: Wait + Clock, I, O>(rt: &R, shared: &Shared<I, O>, idle: &mut u32) -> Seen {
+    let begun = &shared.begun;
+    let standing = begun.wait_while(rt, shared.standing.lock(rt), |s| {
+        !s.is_watched && s.end.is_none()
+    });
+    let seen = standing.writings;
+    let period = Duration::from_millis(PERIOD);
+    let (mut standing, _) = begun.wait_timeout_while(rt, standing, period, |s| s.end.is_none());
+    if standing.end.is_some() {
+        Seen::End
+    } else if standing.goes_on(seen, idle) {
+        Seen::Stuck(seen)
+    } else {
+        Seen::Nothing
+    }
+}
+
 // Waits until a writing takes long: its number. None where the peer ended.
 fn wait_for_stuck<R: Wait + Clock, I, O>(rt: &R, shared: &Shared<I, O>) -> Option<u64> {
-    let begun = &shared.begun;
-    let mut standing = shared.standing.lock(rt);
     let mut idle = 0u32;
     for _ in rt.forever() {
-        standing = begun.wait_while(rt, standing, |s| !s.is_watched && s.end.is_none());
-        let seen = standing.writings;
-        let period = Duration::from_millis(PERIOD);
-        standing = begun
-            .wait_timeout_while(rt, standing, period, |s| s.end.is_none())
-            .0;
-        if standing.end.is_some() {
-            return None;
-        }
-        if standing.goes_on(seen, &mut idle) {
-            return Some(seen);
+        match look(rt, shared, &mut idle) {
+            Seen::Stuck(number) => return Some(number),
+            Seen::Nothing => {}
+            Seen::End => return None,
         }
     }
     None
@@ -72,7 +91,7 @@ fn read_on<
     shared: &Arc<Shared<I, O>, Global>,
     number: u64,
     buffer: &mut [u8],
-) -> Result<bool, ClientFault> {
+) -> Result<bool, Fault> {
     for _ in rt.forever() {
         if !pass_on(rt, shared, buffer)? {
             return Ok(false);
@@ -89,7 +108,7 @@ pub fn stand_in<
     R: Threads + Wait + Clock + AllocGlobal + Copy + Send + 'static,
     I: Read + Send + Drop + 'static,
     O: Write + Send + Drop + 'static,
->(rt: &R, shared: &Arc<Shared<I, O>, Global>) -> Result<(), ClientFault> {
+>(rt: &R, shared: &Arc<Shared<I, O>, Global>) -> Result<(), Fault> {
     let mut buffer = vec![in rt.alloc(); 0; LONGEST]?;
     for _ in rt.forever() {
         let Some(number) = wait_for_stuck(rt, shared) else {
