@@ -1,11 +1,11 @@
 //! `mux`: a client, a window or a command.
 
-use crate::fault::{Fault, gone};
-use crate::opening::{Opened, open, warn_of_token};
+use crate::fault::{Fault, Told, gone};
+use crate::opening::{open, warn_of_token};
 use crate::refusals::explain;
 use crate::showing::show;
 use crate::standing::Shared;
-use crate::watching::stand_in;
+use crate::watching::Turns;
 use crate::words::Words;
 use attach_proto::Why;
 use program_words::{of_client, tell};
@@ -17,40 +17,26 @@ use std::os::fd::AsRawFd;
 use std::sync::{Arc, Wait};
 use std::thread::Threads;
 use std::time::{Clock, Duration};
-use std::{fs, thread};
+use std::{fs, io, thread};
 
 const NO_SIZE: &str = "lines of --sizes were dropped: each is ROWS COLS, 4 to 200 by 20 to 300";
 
 // How long a window's end waits for its standard output, in milliseconds.
 const LAST_WRITING: u64 = 500;
 
-// Reads the socket and writes, or does so only while the writing of another thread takes long.
-fn work<
+// Starts a thread that reads the socket in its turns, and writes.
+fn start_showing<
     R: Threads + Wait + Clock + AllocGlobal + Copy + Send + 'static,
     I: Read + Send + Drop + 'static,
     O: Write + Send + Drop + 'static,
->(rt: &R, shared: &Arc<Shared<I, O>, Global>, stands_in: bool) {
-    let worked = if stands_in {
-        stand_in(rt, shared)
-    } else {
-        show(rt, shared)
-    };
-    if let Err(fault) = worked {
-        shared.end(rt, Err(fault));
-    }
-}
-
-// Starts a thread that does so.
-fn start_working<
-    R: Threads + Wait + Clock + AllocGlobal + Copy + Send + 'static,
-    I: Read + Send + Drop + 'static,
-    O: Write + Send + Drop + 'static,
->(rt: &R, shared: &Arc<Shared<I, O>, Global>, stands_in: bool) -> Result<(), AllocError> {
+>(rt: &R, shared: &Arc<Shared<I, O>, Global>, turns: Turns) -> Result<(), AllocError> {
     let theirs = Arc::try_clone(shared)?;
     let rt_there = *rt;
     let started = thread::spawn(rt, move || {
         let rt = rt_there;
-        work(&rt, &theirs, stands_in);
+        if let Err(fault) = show(&rt, &theirs, turns) {
+            theirs.end(&rt, Err(fault));
+        }
     });
     match started {
         Ok(_) => Ok(()),
@@ -86,7 +72,7 @@ fn wait_for_end<R: Wait + Clock, I, O>(rt: &R, shared: &Shared<I, O>) -> Ending 
 }
 
 // Makes /dev/null of a standard stream that is closed. The answer is whether one was.
-fn fill<R: Files<File = File>>(rt: &R, kept: &mut Vec<File>) -> Result<bool, Fault> {
+fn fill<R: Files<File = File>>(rt: &R, kept: &mut Vec<File>) -> io::Result<bool> {
     let file = fs::open(rt, "/dev/null")?;
     if file.as_raw_fd() > 2 {
         return Ok(false);
@@ -96,22 +82,13 @@ fn fill<R: Files<File = File>>(rt: &R, kept: &mut Vec<File>) -> Result<bool, Fau
 }
 
 // Standard streams that are closed are /dev/null from now on, so that nothing else becomes one.
-fn fill_closed<R: Files<File = File>>(rt: &R, kept: &mut Vec<File>) -> Result<(), Fault> {
+fn fill_closed<R: Files<File = File>>(rt: &R, kept: &mut Vec<File>) -> io::Result<()> {
     for _ in 0..3 {
         if !fill(rt, kept)? {
             break;
         }
     }
     Ok(())
-}
-
-fn begin<R: Net + Files<File = File> + AllocGlobal>(
-    rt: &R,
-    words: &Words<'_>,
-    kept: &mut Vec<File>,
-) -> Result<Opened, Fault> {
-    fill_closed(rt, kept)?;
-    open(rt, words)
 }
 
 // Starts the threads of a peer, and waits for its end.
@@ -122,9 +99,9 @@ fn join<
 >(rt: &R, shared: Shared<I, O>) -> Result<Ending, Fault> {
     let is_window = shared.way.is_window();
     let shared = Arc::new(rt.alloc(), shared)?;
-    start_working(rt, &shared, false)?;
+    start_showing(rt, &shared, Turns::Always)?;
     if is_window {
-        start_working(rt, &shared, true)?;
+        start_showing(rt, &shared, Turns::StandsIn(None))?;
     }
     Ok(wait_for_end(rt, &shared))
 }
@@ -135,10 +112,9 @@ fn run<
     O: Write + Send + Drop + 'static,
 >(rt: &R, words: &Words<'_>, input: I, output: O) -> Result<Ending, Fault> {
     let mut kept = Vec::new(rt.alloc());
-    match begin(rt, words, &mut kept) {
-        Ok(opened) => join(rt, Shared::new(rt.alloc(), words, opened, input, output)),
-        Err(fault) => Err(fault),
-    }
+    fill_closed(rt, &mut kept)?;
+    let opened = open(rt, words)?;
+    join(rt, Shared::new(rt.alloc(), words, opened, input, output))
 }
 
 // Says why a peer ended otherwise than well: the session's own words say it of a fault.
@@ -149,7 +125,7 @@ fn tell_fault<E: Write>(fault: Fault, said: &Option<String>, words: &Words<'_>, 
             let _ = explain(said.as_str(), words, errors);
         }
         _ => {
-            let _ = fault.write(words, errors);
+            let _ = write!(errors, "mux: {}", Told { fault, words });
         }
     }
     let _ = writeln!(errors);
@@ -187,25 +163,6 @@ fn words_of<'a, O: Write, E: Write>(
     }
 }
 
-// A peer of these words. The answer is the status to exit with.
-fn obey<
-    R: Net + Files<File = File> + Clock + Threads + Wait + AllocGlobal + Copy + Send + 'static,
-    I: Read + Send + Drop + 'static,
-    O: Write + Send + Drop + 'static,
-    E: Write,
->(rt: &R, words: &Words<'_>, input: I, output: O, errors: &mut E) -> u8 {
-    warn_of_token(rt, words.token, errors);
-    let ending = match run(rt, words, input, output) {
-        Ok(ending) => ending,
-        Err(fault) => Ending {
-            end: Err(fault),
-            said: None,
-            has_dropped: false,
-        },
-    };
-    tell_end(&ending, words, errors)
-}
-
 /// `mux`: a client of the server. The first word is the program's name. The answer is the status to
 /// exit with: 0; 1 for a fault; 2 where the words aren't understood.
 pub fn client<
@@ -215,8 +172,16 @@ pub fn client<
     E: Write,
 >(rt: &R, words: &[String], input: I, output: O, errors: &mut E) -> u8 {
     let mut output = output;
-    match words_of(rt.alloc(), words, &mut output, errors) {
-        Ok(words) => obey(rt, &words, input, output, errors),
-        Err(status) => status,
+    let words = match words_of(rt.alloc(), words, &mut output, errors) {
+        Ok(words) => words,
+        Err(status) => return status,
+    };
+    warn_of_token(rt, words.token, errors);
+    match run(rt, &words, input, output) {
+        Ok(ending) => tell_end(&ending, &words, errors),
+        Err(fault) => {
+            tell_fault(fault, &None, &words, errors);
+            fault.status()
+        }
     }
 }

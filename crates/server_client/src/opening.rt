@@ -18,9 +18,13 @@ const OTHERS_WRITE: u32 = 0o022;
 
 // What is wrong in the words, whatever the token is.
 fn judge_words(alloc: Global, words: &Words<'_>) -> Result<(), Fault> {
-    let zeros = Token::read(&[b'0'; 64]).ok_or(Fault::NoToken)?;
-    words.first_frame(alloc, zeros)?;
-    Ok(())
+    let Some(zeros) = Token::read(&[b'0'; 64]) else {
+        return Err(Fault::NoToken);
+    };
+    match words.first_frame(alloc, zeros) {
+        Ok(_) => Ok(()),
+        Err(fault) => Err(Fault::from(fault)),
+    }
 }
 
 // Whether others may use a file so. A terminal or a pipe is none.
@@ -79,10 +83,13 @@ fn sizes_of<R: Files<File = File>>(rt: &R, words: &Words<'_>) -> Result<Option<F
 }
 
 fn connect<R: Net>(rt: &R, path: &str) -> Result<UnixStream, Fault> {
-    UnixStream::connect(rt, path).map_err(|error| match error.kind() {
-        ErrorKind::NotFound | ErrorKind::ConnectionRefused => Fault::NoServer,
-        _ => Fault::from(error),
-    })
+    match UnixStream::connect(rt, path) {
+        Ok(stream) => Ok(stream),
+        Err(error) => Err(match error.kind() {
+            ErrorKind::NotFound | ErrorKind::ConnectionRefused => Fault::NoServer,
+            _ => Fault::from(error),
+        }),
+    }
 }
 
 // A connection that begins with this frame.
@@ -120,15 +127,23 @@ impl Opened {
     }
 }
 
+// The first frame, with the token of the file that the words name.
+fn frame_for<R: Files<File = File> + AllocGlobal>(
+    rt: &R,
+    words: &Words<'_>,
+) -> Result<Vec<u8>, Fault> {
+    judge_words(rt.alloc(), words)?;
+    let token = read_token(rt, words.token)?;
+    Ok(words.first_frame(rt.alloc(), token)?)
+}
+
 /// Begins a connection. What is wrong is found in the words first, then in files, then at the socket.
 pub fn open<R: Net + Files<File = File> + AllocGlobal>(
     rt: &R,
     words: &Words<'_>,
 ) -> Result<Opened, Fault> {
-    judge_words(rt.alloc(), words)?;
-    let token = read_token(rt, words.token)?;
+    let frame = frame_for(rt, words)?;
     let sizes = sizes_of(rt, words)?;
-    let frame = words.first_frame(rt.alloc(), token)?;
     let stream = connect_with(rt, words.socket, &frame)?;
     Ok(Opened::of(words.way, stream, sizes))
 }

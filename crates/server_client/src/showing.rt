@@ -1,13 +1,15 @@
 //! What comes from the server: read, and written where it belongs.
 
 use crate::fault::Fault;
-use crate::sending::{start_sending, start_sizes};
+use crate::sending::{Source, start_sending};
 use crate::standing::{Intake, Outlet, Shared, Standing};
+use crate::watching::Turns;
 use attach_proto::{LONGEST, Why};
 use std::alloc::{AllocError, Global};
 use std::io::{Read, Write};
 use std::sync::{Arc, Wait};
 use std::thread::Threads;
+use std::time::Clock;
 use std::{io, mem};
 
 // What a writing takes, and whether it was watched before.
@@ -71,10 +73,10 @@ fn start<
     O: Write + Send + Drop + 'static,
 >(rt: &R, shared: &Arc<Shared<I, O>, Global>, intake: &mut Intake<I>) -> Result<(), AllocError> {
     if let Some(asked) = intake.asked.take() {
-        start_sizes(rt, shared, asked)?;
+        start_sending(rt, shared, Source::Sizes(asked))?;
     }
     match intake.input.take() {
-        Some(input) => start_sending(rt, shared, input),
+        Some(input) => start_sending(rt, shared, Source::Input(input)),
         None => Ok(()),
     }
 }
@@ -160,8 +162,8 @@ fn finish<R: Wait + AllocGlobal, I, O: Write>(
     Ok(())
 }
 
-/// Reads the socket once, and writes what that brings. The answer is whether to go on.
-pub fn pass_on<
+// Reads the socket once, and writes what that brings. The answer is whether to go on.
+fn pass_on<
     R: Threads + Wait + AllocGlobal + Copy + Send + 'static,
     I: Read + Send + Drop + 'static,
     O: Write + Send + Drop + 'static,
@@ -179,15 +181,16 @@ pub fn pass_on<
     }
 }
 
-/// Reads and writes until the peer ends.
+/// Reads and writes in its turns until the peer ends.
 pub fn show<
-    R: Threads + Wait + AllocGlobal + Copy + Send + 'static,
+    R: Threads + Wait + Clock + AllocGlobal + Copy + Send + 'static,
     I: Read + Send + Drop + 'static,
     O: Write + Send + Drop + 'static,
->(rt: &R, shared: &Arc<Shared<I, O>, Global>) -> Result<(), Fault> {
+>(rt: &R, shared: &Arc<Shared<I, O>, Global>, turns: Turns) -> Result<(), Fault> {
+    let mut turns = turns;
     let mut buffer = vec![in rt.alloc(); 0; LONGEST]?;
     for _ in rt.forever() {
-        if !pass_on(rt, shared, buffer.as_mut_slice())? {
+        if !turns.wait(rt, shared) || !pass_on(rt, shared, buffer.as_mut_slice())? {
             break;
         }
     }

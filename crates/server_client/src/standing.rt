@@ -58,6 +58,13 @@ impl Standing {
         }
     }
 
+    // The first cause holds.
+    fn end_by(&mut self, end: Result<Why, Fault>) {
+        if self.end.is_none() {
+            self.end = Some(end);
+        }
+    }
+
     /// How the peer ended: a fault of its input comes before a good end.
     pub fn ending(&self) -> Result<Why, Fault> {
         match (self.end, self.input) {
@@ -151,11 +158,7 @@ impl<I, O> Shared<I, O> {
 
     /// The peer ends: the first cause holds.
     pub fn end<R: Wait>(&self, rt: &R, end: Result<Why, Fault>) {
-        let mut standing = self.standing.lock(rt);
-        if standing.end.is_none() {
-            standing.end = Some(end);
-        }
-        drop(standing);
+        self.standing.lock(rt).end_by(end);
         self.news.notify_all();
         self.begun.notify_all();
     }

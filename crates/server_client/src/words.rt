@@ -2,7 +2,7 @@
 
 use attach_proto::{Bytes, Message, Text, Token, WriteFault, write_message};
 use clap::ArgMatches;
-use std::alloc::{AllocError, Global};
+use std::alloc::Global;
 
 /// What a peer is to the server.
 #[derive(Clone, Copy)]
@@ -84,50 +84,49 @@ impl<'a> Words<'a> {
         Some(Words::of_way(Way::of(name), matches))
     }
 
-    fn attach(&self, alloc: Global, token: Token) -> Result<Message, AllocError> {
+    fn attach(&self, alloc: Global, token: Token) -> Result<Vec<u8>, WriteFault> {
         let name = Text::of(alloc, self.user)?;
-        Ok(Message::Attach {
+        let message = Message::Attach {
             rows: self.rows,
             columns: self.columns,
             token,
             name,
-        })
+        };
+        frame_of(alloc, &message)
     }
 
-    fn window(&self, alloc: Global, token: Token) -> Result<Message, AllocError> {
+    fn window(&self, alloc: Global, token: Token) -> Result<Vec<u8>, WriteFault> {
         let name = Text::of(alloc, self.user)?;
         let title = Text::of(alloc, self.title)?;
-        Ok(Message::Window {
+        let message = Message::Window {
             rows: self.rows,
             columns: self.columns,
             keep: self.keep,
             token,
             name,
             title,
-        })
+        };
+        frame_of(alloc, &message)
     }
 
-    fn command(&self, alloc: Global, token: Token) -> Result<Message, AllocError> {
+    fn command(&self, alloc: Global, token: Token) -> Result<Vec<u8>, WriteFault> {
         let name = Text::of(alloc, self.user)?;
         let line = Bytes::of(alloc, self.line.as_bytes())?;
-        Ok(Message::Command {
+        let message = Message::Command {
             window: self.window,
             token,
             name,
             line,
-        })
+        };
+        frame_of(alloc, &message)
     }
 
     /// The frame of a first message with this token: unspellable where no frame holds the words.
     pub fn first_frame(&self, alloc: Global, token: Token) -> Result<Vec<u8>, WriteFault> {
-        let message = match self.way {
+        match self.way {
             Way::Attach => self.attach(alloc, token),
             Way::Window => self.window(alloc, token),
             Way::Command => self.command(alloc, token),
-        };
-        match message {
-            Ok(message) => frame_of(alloc, &message),
-            Err(_) => Err(WriteFault::NoMemory),
         }
     }
 }
