@@ -5,7 +5,6 @@ use crate::opening::{open, warn_of_token};
 use crate::refusals::explain;
 use crate::showing::show;
 use crate::standing::Shared;
-use crate::watching::Turns;
 use crate::words::Words;
 use attach_proto::Why;
 use program_words::{of_client, tell};
@@ -13,28 +12,28 @@ use std::alloc::{AllocError, Global};
 use std::fs::{File, Files};
 use std::io::{Read, Write};
 use std::net::Net;
-use std::os::fd::AsRawFd;
 use std::sync::{Arc, Wait};
+use std::thread;
 use std::thread::Threads;
 use std::time::{Clock, Duration};
-use std::{fs, io, thread};
 
 const NO_SIZE: &str = "lines of --sizes were dropped: each is ROWS COLS, 4 to 200 by 20 to 300";
 
 // How long a window's end waits for its standard output, in milliseconds.
 const LAST_WRITING: u64 = 500;
 
-// Starts a thread that reads the socket in its turns, and writes.
+// Starts a thread that reads the socket and writes, or one that does so only while the writing of
+// the first takes long.
 fn start_showing<
     R: Threads + Wait + Clock + AllocGlobal + Copy + Send + 'static,
     I: Read + Send + Drop + 'static,
     O: Write + Send + Drop + 'static,
->(rt: &R, shared: &Arc<Shared<I, O>, Global>, turns: Turns) -> Result<(), AllocError> {
+>(rt: &R, shared: &Arc<Shared<I, O>, Global>, stands_in: bool) -> Result<(), AllocError> {
     let theirs = Arc::try_clone(shared)?;
     let rt_there = *rt;
     let started = thread::spawn(rt, move || {
         let rt = rt_there;
-        if let Err(fault) = show(&rt, &theirs, turns) {
+        if let Err(fault) = show(&rt, &theirs, stands_in) {
             theirs.end(&rt, Err(fault));
         }
     });
@@ -71,26 +70,6 @@ fn wait_for_end<R: Wait + Clock, I, O>(rt: &R, shared: &Shared<I, O>) -> Ending 
     }
 }
 
-// Makes /dev/null of a standard stream that is closed. The answer is whether one was.
-fn fill<R: Files<File = File>>(rt: &R, kept: &mut Vec<File>) -> io::Result<bool> {
-    let file = fs::open(rt, "/dev/null")?;
-    if file.as_raw_fd() > 2 {
-        return Ok(false);
-    }
-    kept.push(file)?;
-    Ok(true)
-}
-
-// Standard streams that are closed are /dev/null from now on, so that nothing else becomes one.
-fn fill_closed<R: Files<File = File>>(rt: &R, kept: &mut Vec<File>) -> io::Result<()> {
-    for _ in 0..3 {
-        if !fill(rt, kept)? {
-            break;
-        }
-    }
-    Ok(())
-}
-
 // Starts the threads of a peer, and waits for its end.
 fn join<
     R: Clock + Threads + Wait + AllocGlobal + Copy + Send + 'static,
@@ -99,9 +78,9 @@ fn join<
 >(rt: &R, shared: Shared<I, O>) -> Result<Ending, Fault> {
     let is_window = shared.way.is_window();
     let shared = Arc::new(rt.alloc(), shared)?;
-    start_showing(rt, &shared, Turns::Always)?;
+    start_showing(rt, &shared, false)?;
     if is_window {
-        start_showing(rt, &shared, Turns::StandsIn(None))?;
+        start_showing(rt, &shared, true)?;
     }
     Ok(wait_for_end(rt, &shared))
 }
@@ -112,13 +91,20 @@ fn run<
     O: Write + Send + Drop + 'static,
 >(rt: &R, words: &Words<'_>, input: I, output: O) -> Result<Ending, Fault> {
     let mut kept = Vec::new(rt.alloc());
-    fill_closed(rt, &mut kept)?;
-    let opened = open(rt, words)?;
-    join(rt, Shared::new(rt.alloc(), words, opened, input, output))
+    match open(rt, words, &mut kept) {
+        Ok(opened) => join(rt, Shared::new(rt.alloc(), words, opened, input, output)),
+        Err(fault) => Err(fault),
+    }
 }
 
-// Says why a peer ended otherwise than well: the session's own words say it of a fault.
-fn tell_fault<E: Write>(fault: Fault, said: &Option<String>, words: &Words<'_>, errors: &mut E) {
+// Says why a peer ended otherwise than well: the session's own words say it of a fault. The answer is
+// the status to exit with.
+fn tell_fault<E: Write>(
+    fault: Fault,
+    said: &Option<String>,
+    words: &Words<'_>,
+    errors: &mut E,
+) -> u8 {
     match (fault, said) {
         (Fault::Gone(Why::Fault), Some(said)) => {
             let _ = write!(errors, "mux: {said}");
@@ -129,6 +115,7 @@ fn tell_fault<E: Write>(fault: Fault, said: &Option<String>, words: &Words<'_>, 
         }
     }
     let _ = writeln!(errors);
+    fault.status()
 }
 
 // Says why a peer ended. The answer is the status to exit with.
@@ -137,16 +124,12 @@ fn tell_end<E: Write>(ending: &Ending, words: &Words<'_>, errors: &mut E) -> u8 
         let _ = writeln!(errors, "mux: {NO_SIZE}");
     }
     match ending.end {
-        Ok(why) => {
-            if words.why {
-                let _ = writeln!(errors, "mux: {}", gone(why));
-            }
+        Ok(why) if words.why => {
+            let _ = writeln!(errors, "mux: {}", gone(why));
             0
         }
-        Err(fault) => {
-            tell_fault(fault, &ending.said, words, errors);
-            fault.status()
-        }
+        Ok(_) => 0,
+        Err(fault) => tell_fault(fault, &ending.said, words, errors),
     }
 }
 
@@ -179,9 +162,6 @@ pub fn client<
     warn_of_token(rt, words.token, errors);
     match run(rt, &words, input, output) {
         Ok(ending) => tell_end(&ending, &words, errors),
-        Err(fault) => {
-            tell_fault(fault, &None, &words, errors);
-            fault.status()
-        }
+        Err(fault) => tell_fault(fault, &None, &words, errors),
     }
 }

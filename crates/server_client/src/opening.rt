@@ -7,6 +7,7 @@ use std::alloc::Global;
 use std::fs::{File, Files, OpenOptions};
 use std::io::{ErrorKind, Write};
 use std::net::Net;
+use std::os::fd::AsRawFd;
 use std::os::unix::fs::MetadataExt;
 use std::os::unix::net::UnixStream;
 use std::{fs, io};
@@ -137,11 +138,34 @@ fn frame_for<R: Files<File = File> + AllocGlobal>(
     Ok(words.first_frame(rt.alloc(), token)?)
 }
 
+// Makes /dev/null of a standard stream that is closed. The answer is whether one was.
+fn fill<R: Files<File = File>>(rt: &R, kept: &mut Vec<File>) -> io::Result<bool> {
+    let file = fs::open(rt, "/dev/null")?;
+    if file.as_raw_fd() > 2 {
+        return Ok(false);
+    }
+    kept.push(file)?;
+    Ok(true)
+}
+
+// Standard streams that are closed are /dev/null from now on, so that nothing else becomes one.
+fn fill_closed<R: Files<File = File>>(rt: &R, kept: &mut Vec<File>) -> io::Result<()> {
+    for _ in 0..3 {
+        if !fill(rt, kept)? {
+            break;
+        }
+    }
+    Ok(())
+}
+
 /// Begins a connection. What is wrong is found in the words first, then in files, then at the socket.
+/// What stands for closed streams is put into a list, and stays as long as that.
 pub fn open<R: Net + Files<File = File> + AllocGlobal>(
     rt: &R,
     words: &Words<'_>,
+    kept: &mut Vec<File>,
 ) -> Result<Opened, Fault> {
+    fill_closed(rt, kept)?;
     let frame = frame_for(rt, words)?;
     let sizes = sizes_of(rt, words)?;
     let stream = connect_with(rt, words.socket, &frame)?;

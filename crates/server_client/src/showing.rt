@@ -46,24 +46,26 @@ enum Came {
     Nothing,
 }
 
-// Reads the socket, and puts in order what came. The answer is whether the peer is let in, and how
-// it ended, where it did.
+// Reads the socket, and puts in order what came.
 fn receive<R: Wait + AllocGlobal, I, O>(
     rt: &R,
     shared: &Shared<I, O>,
     intake: &mut Intake<I>,
     buffer: &mut [u8],
-) -> Result<(bool, Came), Fault> {
+) -> Result<Came, Fault> {
+    if intake.is_over {
+        return Ok(Came::Nothing);
+    }
     let mut stream = &shared.stream;
     let count = stream.read(buffer)?;
     let mut standing = shared.standing.lock(rt);
     let end = standing.take_read(rt.alloc(), &mut intake.reader, &buffer[..count])?;
+    intake.is_welcome = standing.is_welcome;
     intake.is_over = end.is_some();
-    let came = match end {
+    Ok(match end {
         Some(end) => Came::End(end),
         None => Came::More,
-    };
-    Ok((standing.is_welcome, came))
+    })
 }
 
 // The peer is let in: its sizes and its input are read from now on.
@@ -87,14 +89,10 @@ fn read_once<
     I: Read + Send + Drop + 'static,
     O: Write + Send + Drop + 'static,
 >(rt: &R, shared: &Arc<Shared<I, O>, Global>, buffer: &mut [u8]) -> Result<Came, Fault> {
-    let mut guard = shared.intake.lock(rt);
-    let intake = &mut *guard;
-    if intake.is_over {
-        return Ok(Came::Nothing);
-    }
-    let (is_welcome, came) = receive(rt, shared, intake, buffer)?;
-    if is_welcome {
-        start(rt, shared, intake)?;
+    let mut intake = shared.intake.lock(rt);
+    let came = receive(rt, shared, &mut intake, buffer)?;
+    if intake.is_welcome {
+        start(rt, shared, &mut intake)?;
     }
     Ok(came)
 }
@@ -131,18 +129,32 @@ impl<O: Write> Outlet<O> {
     }
 }
 
-// Writes what waits, unless another thread does.
+// Writes what waits, unless another thread does. The answer is whether it did.
+fn write_next<R: Wait + AllocGlobal, I, O: Write>(
+    rt: &R,
+    shared: &Shared<I, O>,
+    mine: bool,
+) -> io::Result<bool> {
+    match waiting(rt, shared, mine) {
+        Some(writing) => {
+            shared.outlet.lock(rt).write(&writing)?;
+            Ok(true)
+        }
+        None => Ok(false),
+    }
+}
+
+// Writes until nothing waits, unless another thread does.
 fn write_waiting<R: Wait + AllocGlobal, I, O: Write>(
     rt: &R,
     shared: &Shared<I, O>,
 ) -> io::Result<()> {
     let mut mine = false;
     for _ in rt.forever() {
-        let Some(writing) = waiting(rt, shared, mine) else {
+        if !write_next(rt, shared, mine)? {
             break;
-        };
+        }
         mine = true;
-        shared.outlet.lock(rt).write(&writing)?;
     }
     Ok(())
 }
@@ -181,13 +193,14 @@ fn pass_on<
     }
 }
 
-/// Reads and writes in its turns until the peer ends.
+/// Reads and writes until the peer ends; where it stands in, only while the writing of another thread
+/// takes long.
 pub fn show<
     R: Threads + Wait + Clock + AllocGlobal + Copy + Send + 'static,
     I: Read + Send + Drop + 'static,
     O: Write + Send + Drop + 'static,
->(rt: &R, shared: &Arc<Shared<I, O>, Global>, turns: Turns) -> Result<(), Fault> {
-    let mut turns = turns;
+>(rt: &R, shared: &Arc<Shared<I, O>, Global>, stands_in: bool) -> Result<(), Fault> {
+    let mut turns = Turns::of(stands_in);
     let mut buffer = vec![in rt.alloc(); 0; LONGEST]?;
     for _ in rt.forever() {
         if !turns.wait(rt, shared) || !pass_on(rt, shared, buffer.as_mut_slice())? {

@@ -82,6 +82,7 @@ pub struct Intake<I> {
     /// The input and the sizes that are read once the peer is welcome.
     pub input: Option<I>,
     pub asked: Option<File>,
+    pub is_welcome: bool,
     /// The peer's end was read: nothing behind it counts.
     pub is_over: bool,
 }
@@ -92,6 +93,7 @@ impl<I> Intake<I> {
             reader: Reader::new(alloc, Side::Peer),
             input: Some(input),
             asked,
+            is_welcome: false,
             is_over: false,
         }
     }

@@ -84,6 +84,14 @@ pub enum Turns {
 }
 
 impl Turns {
+    pub fn of(stands_in: bool) -> Turns {
+        if stands_in {
+            Turns::StandsIn(None)
+        } else {
+            Turns::Always
+        }
+    }
+
     /// Waits until the thread may read. The answer is false where the peer ended.
     pub fn wait<R: Wait + Clock, I, O>(&mut self, rt: &R, shared: &Shared<I, O>) -> bool {
         match *self {
