@@ -97,8 +97,8 @@ fn run<
     }
 }
 
-// Says why a peer ended otherwise than well: the session's own words say it of a fault. The answer is
-// the status to exit with.
+// Says why a peer ended otherwise than well: of a fault, in the session's own words. The answer is the
+// status to exit with.
 fn tell_fault<E: Write>(
     fault: Fault,
     said: &Option<String>,

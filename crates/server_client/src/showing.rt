@@ -193,8 +193,7 @@ fn pass_on<
     }
 }
 
-/// Reads and writes until the peer ends; where it stands in, only while the writing of another thread
-/// takes long.
+/// Reads and writes until the peer ends; where it stands in, while another thread's writing takes long.
 pub fn show<
     R: Threads + Wait + Clock + AllocGlobal + Copy + Send + 'static,
     I: Read + Send + Drop + 'static,
