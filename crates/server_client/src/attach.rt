@@ -1,11 +1,10 @@
 //! `mux`: a client, a window or a command.
 
-use crate::fault::{Fault, gone};
-use crate::opening::{Opened, open, warn_of_token};
+use crate::fault::{Fault, Told, gone};
+use crate::opening::{open, warn_of_token};
 use crate::refusals::explain;
 use crate::showing::show;
 use crate::standing::Shared;
-use crate::watching::stand_in;
 use crate::words::Words;
 use attach_proto::Why;
 use program_words::{of_client, tell};
@@ -13,35 +12,19 @@ use std::alloc::{AllocError, Global};
 use std::fs::{File, Files};
 use std::io::{Read, Write};
 use std::net::Net;
-use std::os::fd::AsRawFd;
 use std::sync::{Arc, Wait};
+use std::thread;
 use std::thread::Threads;
 use std::time::{Clock, Duration};
-use std::{fs, thread};
 
 const NO_SIZE: &str = "lines of --sizes were dropped: each is ROWS COLS, 4 to 200 by 20 to 300";
 
 // How long a window's end waits for its standard output, in milliseconds.
 const LAST_WRITING: u64 = 500;
 
-// Reads the socket and writes, or does so only while the writing of another thread takes long.
-fn work<
-    R: Threads + Wait + Clock + AllocGlobal + Copy + Send + 'static,
-    I: Read + Send + Drop + 'static,
-    O: Write + Send + Drop + 'static,
->(rt: &R, shared: &Arc<Shared<I, O>, Global>, stands_in: bool) {
-    let worked = if stands_in {
-        stand_in(rt, shared)
-    } else {
-        show(rt, shared)
-    };
-    if let Err(fault) = worked {
-        shared.end(rt, Err(fault));
-    }
-}
-
-// Starts a thread that does so.
-fn start_working<
+// Starts a thread that reads the socket and writes, or one that does so only while the writing of
+// the first takes long.
+fn start_showing<
     R: Threads + Wait + Clock + AllocGlobal + Copy + Send + 'static,
     I: Read + Send + Drop + 'static,
     O: Write + Send + Drop + 'static,
@@ -50,7 +33,9 @@ fn start_working<
     let rt_there = *rt;
     let started = thread::spawn(rt, move || {
         let rt = rt_there;
-        work(&rt, &theirs, stands_in);
+        if let Err(fault) = show(&rt, &theirs, stands_in) {
+            theirs.end(&rt, Err(fault));
+        }
     });
     match started {
         Ok(_) => Ok(()),
@@ -85,35 +70,6 @@ fn wait_for_end<R: Wait + Clock, I, O>(rt: &R, shared: &Shared<I, O>) -> Ending 
     }
 }
 
-// Makes /dev/null of a standard stream that is closed. The answer is whether one was.
-fn fill<R: Files<File = File>>(rt: &R, kept: &mut Vec<File>) -> Result<bool, Fault> {
-    let file = fs::open(rt, "/dev/null")?;
-    if file.as_raw_fd() > 2 {
-        return Ok(false);
-    }
-    kept.push(file)?;
-    Ok(true)
-}
-
-// Standard streams that are closed are /dev/null from now on, so that nothing else becomes one.
-fn fill_closed<R: Files<File = File>>(rt: &R, kept: &mut Vec<File>) -> Result<(), Fault> {
-    for _ in 0..3 {
-        if !fill(rt, kept)? {
-            break;
-        }
-    }
-    Ok(())
-}
-
-fn begin<R: Net + Files<File = File> + AllocGlobal>(
-    rt: &R,
-    words: &Words<'_>,
-    kept: &mut Vec<File>,
-) -> Result<Opened, Fault> {
-    fill_closed(rt, kept)?;
-    open(rt, words)
-}
-
 // Starts the threads of a peer, and waits for its end.
 fn join<
     R: Clock + Threads + Wait + AllocGlobal + Copy + Send + 'static,
@@ -122,9 +78,9 @@ fn join<
 >(rt: &R, shared: Shared<I, O>) -> Result<Ending, Fault> {
     let is_window = shared.way.is_window();
     let shared = Arc::new(rt.alloc(), shared)?;
-    start_working(rt, &shared, false)?;
+    start_showing(rt, &shared, false)?;
     if is_window {
-        start_working(rt, &shared, true)?;
+        start_showing(rt, &shared, true)?;
     }
     Ok(wait_for_end(rt, &shared))
 }
@@ -135,24 +91,31 @@ fn run<
     O: Write + Send + Drop + 'static,
 >(rt: &R, words: &Words<'_>, input: I, output: O) -> Result<Ending, Fault> {
     let mut kept = Vec::new(rt.alloc());
-    match begin(rt, words, &mut kept) {
+    match open(rt, words, &mut kept) {
         Ok(opened) => join(rt, Shared::new(rt.alloc(), words, opened, input, output)),
         Err(fault) => Err(fault),
     }
 }
 
-// Says why a peer ended otherwise than well: the session's own words say it of a fault.
-fn tell_fault<E: Write>(fault: Fault, said: &Option<String>, words: &Words<'_>, errors: &mut E) {
+// Says why a peer ended otherwise than well: of a fault, in the session's own words. The answer is the
+// status to exit with.
+fn tell_fault<E: Write>(
+    fault: Fault,
+    said: &Option<String>,
+    words: &Words<'_>,
+    errors: &mut E,
+) -> u8 {
     match (fault, said) {
         (Fault::Gone(Why::Fault), Some(said)) => {
             let _ = write!(errors, "mux: {said}");
             let _ = explain(said.as_str(), words, errors);
         }
         _ => {
-            let _ = fault.write(words, errors);
+            let _ = write!(errors, "mux: {}", Told { fault, words });
         }
     }
     let _ = writeln!(errors);
+    fault.status()
 }
 
 // Says why a peer ended. The answer is the status to exit with.
@@ -161,16 +124,12 @@ fn tell_end<E: Write>(ending: &Ending, words: &Words<'_>, errors: &mut E) -> u8 
         let _ = writeln!(errors, "mux: {NO_SIZE}");
     }
     match ending.end {
-        Ok(why) => {
-            if words.why {
-                let _ = writeln!(errors, "mux: {}", gone(why));
-            }
+        Ok(why) if words.why => {
+            let _ = writeln!(errors, "mux: {}", gone(why));
             0
         }
-        Err(fault) => {
-            tell_fault(fault, &ending.said, words, errors);
-            fault.status()
-        }
+        Ok(_) => 0,
+        Err(fault) => tell_fault(fault, &ending.said, words, errors),
     }
 }
 
@@ -187,25 +146,6 @@ fn words_of<'a, O: Write, E: Write>(
     }
 }
 
-// A peer of these words. The answer is the status to exit with.
-fn obey<
-    R: Net + Files<File = File> + Clock + Threads + Wait + AllocGlobal + Copy + Send + 'static,
-    I: Read + Send + Drop + 'static,
-    O: Write + Send + Drop + 'static,
-    E: Write,
->(rt: &R, words: &Words<'_>, input: I, output: O, errors: &mut E) -> u8 {
-    warn_of_token(rt, words.token, errors);
-    let ending = match run(rt, words, input, output) {
-        Ok(ending) => ending,
-        Err(fault) => Ending {
-            end: Err(fault),
-            said: None,
-            has_dropped: false,
-        },
-    };
-    tell_end(&ending, words, errors)
-}
-
 /// `mux`: a client of the server. The first word is the program's name. The answer is the status to
 /// exit with: 0; 1 for a fault; 2 where the words aren't understood.
 pub fn client<
@@ -215,8 +155,13 @@ pub fn client<
     E: Write,
 >(rt: &R, words: &[String], input: I, output: O, errors: &mut E) -> u8 {
     let mut output = output;
-    match words_of(rt.alloc(), words, &mut output, errors) {
-        Ok(words) => obey(rt, &words, input, output, errors),
-        Err(status) => status,
+    let words = match words_of(rt.alloc(), words, &mut output, errors) {
+        Ok(words) => words,
+        Err(status) => return status,
+    };
+    warn_of_token(rt, words.token, errors);
+    match run(rt, &words, input, output) {
+        Ok(ending) => tell_end(&ending, &words, errors),
+        Err(fault) => tell_fault(fault, &None, &words, errors),
     }
 }

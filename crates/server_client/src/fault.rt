@@ -3,8 +3,7 @@
 use crate::words::Words;
 use attach_proto::{Why, WriteFault};
 use std::alloc::{AllocError, AllocFailed};
-use std::io;
-use std::io::Write;
+use std::{fmt, io};
 
 /// Why `mux` ended otherwise than well.
 #[derive(Clone, Copy)]
@@ -60,12 +59,6 @@ pub fn gone(why: Why) -> &'static str {
     }
 }
 
-// A refusal of the system.
-fn write_refused<E: Write>(part: Part, error: io::Error, errors: &mut E) -> io::Result<()> {
-    let (before, behind) = part.texts();
-    write!(errors, "{before}{error}{behind}")
-}
-
 impl Fault {
     /// The status to exit with: 2 where the words are at fault.
     pub fn status(self) -> u8 {
@@ -75,36 +68,48 @@ impl Fault {
         }
     }
 
-    /// Writes it behind the program's name.
-    pub fn write<E: Write>(self, words: &Words<'_>, errors: &mut E) -> io::Result<()> {
-        errors.write_all(b"mux: ")?;
-        let text = match self {
+    // What is said of a fault that names nothing.
+    fn text(self) -> &'static str {
+        match self {
             Fault::TooLong => "the words are too long for the server",
             Fault::NoToken => "the token's file hasn't 64 digits of 0 to 9, a to f",
-            Fault::Writable => return write_writable(words.token, errors),
-            Fault::NoServer => return write_no_server(words.socket, errors),
             Fault::NoServerOfOurs => "the server doesn't speak this protocol",
             Fault::Ended => "the connection ended",
             Fault::Gone(why) => gone(why),
-            Fault::NoMemory => "out of memory",
-            Fault::Refused(part, error) => return write_refused(part, error, errors),
-        };
-        errors.write_all(text.as_bytes())
+            _ => "out of memory",
+        }
     }
 }
 
-fn write_writable<E: Write>(token: &str, errors: &mut E) -> io::Result<()> {
-    write!(
-        errors,
-        "others may write the token's file: chmod go-w {token}"
-    )
+/// A fault of a peer with these words, as it is told.
+#[derive(Clone, Copy)]
+pub struct Told<'a> {
+    pub fault: Fault,
+    pub words: &'a Words<'a>,
 }
 
-fn write_no_server<E: Write>(socket: &str, errors: &mut E) -> io::Result<()> {
-    write!(
-        errors,
-        "no server at {socket}: start it with 'muxd --socket {socket} --users PATH'"
-    )
+impl fmt::Display for Told<'_> {
+    fn fmt<W: fmt::Write>(&self, f: &mut fmt::Formatter<W>) -> fmt::Result {
+        match self.fault {
+            Fault::Writable => write!(
+                f,
+                "others may write the token's file: chmod go-w {}",
+                self.words.token
+            ),
+            Fault::NoServer => {
+                let socket = self.words.socket;
+                write!(
+                    f,
+                    "no server at {socket}: start it with 'muxd --socket {socket} --users PATH'"
+                )
+            }
+            Fault::Refused(part, error) => {
+                let (before, behind) = part.texts();
+                write!(f, "{before}{error}{behind}")
+            }
+            other => f.write_str(other.text()),
+        }
+    }
 }
 
 impl From<WriteFault> for Fault {

@@ -7,6 +7,7 @@ use std::alloc::Global;
 use std::fs::{File, Files, OpenOptions};
 use std::io::{ErrorKind, Write};
 use std::net::Net;
+use std::os::fd::AsRawFd;
 use std::os::unix::fs::MetadataExt;
 use std::os::unix::net::UnixStream;
 use std::{fs, io};
@@ -18,9 +19,13 @@ const OTHERS_WRITE: u32 = 0o022;
 
 // What is wrong in the words, whatever the token is.
 fn judge_words(alloc: Global, words: &Words<'_>) -> Result<(), Fault> {
-    let zeros = Token::read(&[b'0'; 64]).ok_or(Fault::NoToken)?;
-    words.first_frame(alloc, zeros)?;
-    Ok(())
+    let Some(zeros) = Token::read(&[b'0'; 64]) else {
+        return Err(Fault::NoToken);
+    };
+    match words.first_frame(alloc, zeros) {
+        Ok(_) => Ok(()),
+        Err(fault) => Err(Fault::from(fault)),
+    }
 }
 
 // Whether others may use a file so. A terminal or a pipe is none.
@@ -79,10 +84,13 @@ fn sizes_of<R: Files<File = File>>(rt: &R, words: &Words<'_>) -> Result<Option<F
 }
 
 fn connect<R: Net>(rt: &R, path: &str) -> Result<UnixStream, Fault> {
-    UnixStream::connect(rt, path).map_err(|error| match error.kind() {
-        ErrorKind::NotFound | ErrorKind::ConnectionRefused => Fault::NoServer,
-        _ => Fault::from(error),
-    })
+    match UnixStream::connect(rt, path) {
+        Ok(stream) => Ok(stream),
+        Err(error) => Err(match error.kind() {
+            ErrorKind::NotFound | ErrorKind::ConnectionRefused => Fault::NoServer,
+            _ => Fault::from(error),
+        }),
+    }
 }
 
 // A connection that begins with this frame.
@@ -120,15 +128,46 @@ impl Opened {
     }
 }
 
+// The first frame, with the token of the file that the words name.
+fn frame_for<R: Files<File = File> + AllocGlobal>(
+    rt: &R,
+    words: &Words<'_>,
+) -> Result<Vec<u8>, Fault> {
+    judge_words(rt.alloc(), words)?;
+    let token = read_token(rt, words.token)?;
+    Ok(words.first_frame(rt.alloc(), token)?)
+}
+
+// Makes /dev/null of a standard stream that is closed. The answer is whether one was.
+fn fill<R: Files<File = File>>(rt: &R, kept: &mut Vec<File>) -> io::Result<bool> {
+    let file = fs::open(rt, "/dev/null")?;
+    if file.as_raw_fd() > 2 {
+        return Ok(false);
+    }
+    kept.push(file)?;
+    Ok(true)
+}
+
+// Standard streams that are closed are /dev/null from now on, so that nothing else becomes one.
+fn fill_closed<R: Files<File = File>>(rt: &R, kept: &mut Vec<File>) -> io::Result<()> {
+    for _ in 0..3 {
+        if !fill(rt, kept)? {
+            break;
+        }
+    }
+    Ok(())
+}
+
 /// Begins a connection. What is wrong is found in the words first, then in files, then at the socket.
+/// What stands for closed streams is put into a list, and stays as long as that.
 pub fn open<R: Net + Files<File = File> + AllocGlobal>(
     rt: &R,
     words: &Words<'_>,
+    kept: &mut Vec<File>,
 ) -> Result<Opened, Fault> {
-    judge_words(rt.alloc(), words)?;
-    let token = read_token(rt, words.token)?;
+    fill_closed(rt, kept)?;
+    let frame = frame_for(rt, words)?;
     let sizes = sizes_of(rt, words)?;
-    let frame = words.first_frame(rt.alloc(), token)?;
     let stream = connect_with(rt, words.socket, &frame)?;
     Ok(Opened::of(words.way, stream, sizes))
 }

@@ -142,38 +142,39 @@ fn send_sizes<R: Wait + AllocGlobal, I, O>(
     Ok(())
 }
 
-/// Starts a thread that sends the input, and at its end that the peer goes. It isn't joined: it may
-/// wait for its input for good, and the program ends without it.
+/// What a thread sends until it ends.
+#[derive(Drop)]
+pub enum Source<I> {
+    /// The input, and at its end that the peer goes.
+    Input(I),
+    /// The sizes that a file says.
+    Sizes(File),
+}
+
+impl<J: Read> Source<J> {
+    fn send<R: Wait + AllocGlobal, I, O>(&mut self, rt: &R, shared: &Shared<I, O>) {
+        match self {
+            Source::Input(input) => send_to_end(rt, shared, input),
+            Source::Sizes(file) => {
+                let _ = send_sizes(rt, shared, file);
+            }
+        }
+    }
+}
+
+/// Starts a thread that sends. It isn't joined: it may wait for its source for good, and the program
+/// ends without it.
 pub fn start_sending<
     R: Threads + Wait + AllocGlobal + Copy + Send + 'static,
     I: Read + Send + Drop + 'static,
     O: Write + Send + Drop + 'static,
->(rt: &R, shared: &Arc<Shared<I, O>, Global>, input: I) -> Result<(), AllocError> {
+>(rt: &R, shared: &Arc<Shared<I, O>, Global>, source: Source<I>) -> Result<(), AllocError> {
     let theirs = Arc::try_clone(shared)?;
     let rt_there = *rt;
-    let mut input = input;
+    let mut source = source;
     let started = thread::spawn(rt, move || {
         let rt = rt_there;
-        send_to_end(&rt, &theirs, &mut input);
-    });
-    match started {
-        Ok(_) => Ok(()),
-        Err(error) => Err(AllocError::from(error)),
-    }
-}
-
-/// Starts a thread that sends the sizes, likewise.
-pub fn start_sizes<
-    R: Threads + Wait + AllocGlobal + Copy + Send + 'static,
-    I: Read + Send + Drop + 'static,
-    O: Write + Send + Drop + 'static,
->(rt: &R, shared: &Arc<Shared<I, O>, Global>, file: File) -> Result<(), AllocError> {
-    let theirs = Arc::try_clone(shared)?;
-    let rt_there = *rt;
-    let mut file = file;
-    let started = thread::spawn(rt, move || {
-        let rt = rt_there;
-        let _ = send_sizes(&rt, &theirs, &mut file);
+        source.send(&rt, &theirs);
     });
     match started {
         Ok(_) => Ok(()),

@@ -1,13 +1,15 @@
 //! What comes from the server: read, and written where it belongs.
 
 use crate::fault::Fault;
-use crate::sending::{start_sending, start_sizes};
+use crate::sending::{Source, start_sending};
 use crate::standing::{Intake, Outlet, Shared, Standing};
+use crate::watching::Turns;
 use attach_proto::{LONGEST, Why};
 use std::alloc::{AllocError, Global};
 use std::io::{Read, Write};
 use std::sync::{Arc, Wait};
 use std::thread::Threads;
+use std::time::Clock;
 use std::{io, mem};
 
 // What a writing takes, and whether it was watched before.
@@ -44,24 +46,26 @@ enum Came {
     Nothing,
 }
 
-// Reads the socket, and puts in order what came. The answer is whether the peer is let in, and how
-// it ended, where it did.
+// Reads the socket, and puts in order what came.
 fn receive<R: Wait + AllocGlobal, I, O>(
     rt: &R,
     shared: &Shared<I, O>,
     intake: &mut Intake<I>,
     buffer: &mut [u8],
-) -> Result<(bool, Came), Fault> {
+) -> Result<Came, Fault> {
+    if intake.is_over {
+        return Ok(Came::Nothing);
+    }
     let mut stream = &shared.stream;
     let count = stream.read(buffer)?;
     let mut standing = shared.standing.lock(rt);
     let end = standing.take_read(rt.alloc(), &mut intake.reader, &buffer[..count])?;
+    intake.is_welcome = standing.is_welcome;
     intake.is_over = end.is_some();
-    let came = match end {
+    Ok(match end {
         Some(end) => Came::End(end),
         None => Came::More,
-    };
-    Ok((standing.is_welcome, came))
+    })
 }
 
 // The peer is let in: its sizes and its input are read from now on.
@@ -71,10 +75,10 @@ fn start<
     O: Write + Send + Drop + 'static,
 >(rt: &R, shared: &Arc<Shared<I, O>, Global>, intake: &mut Intake<I>) -> Result<(), AllocError> {
     if let Some(asked) = intake.asked.take() {
-        start_sizes(rt, shared, asked)?;
+        start_sending(rt, shared, Source::Sizes(asked))?;
     }
     match intake.input.take() {
-        Some(input) => start_sending(rt, shared, input),
+        Some(input) => start_sending(rt, shared, Source::Input(input)),
         None => Ok(()),
     }
 }
@@ -85,14 +89,10 @@ fn read_once<
     I: Read + Send + Drop + 'static,
     O: Write + Send + Drop + 'static,
 >(rt: &R, shared: &Arc<Shared<I, O>, Global>, buffer: &mut [u8]) -> Result<Came, Fault> {
-    let mut guard = shared.intake.lock(rt);
-    let intake = &mut *guard;
-    if intake.is_over {
-        return Ok(Came::Nothing);
-    }
-    let (is_welcome, came) = receive(rt, shared, intake, buffer)?;
-    if is_welcome {
-        start(rt, shared, intake)?;
+    let mut intake = shared.intake.lock(rt);
+    let came = receive(rt, shared, &mut intake, buffer)?;
+    if intake.is_welcome {
+        start(rt, shared, &mut intake)?;
     }
     Ok(came)
 }
@@ -129,18 +129,32 @@ impl<O: Write> Outlet<O> {
     }
 }
 
-// Writes what waits, unless another thread does.
+// Writes what waits, unless another thread does. The answer is whether it did.
+fn write_next<R: Wait + AllocGlobal, I, O: Write>(
+    rt: &R,
+    shared: &Shared<I, O>,
+    mine: bool,
+) -> io::Result<bool> {
+    match waiting(rt, shared, mine) {
+        Some(writing) => {
+            shared.outlet.lock(rt).write(&writing)?;
+            Ok(true)
+        }
+        None => Ok(false),
+    }
+}
+
+// Writes until nothing waits, unless another thread does.
 fn write_waiting<R: Wait + AllocGlobal, I, O: Write>(
     rt: &R,
     shared: &Shared<I, O>,
 ) -> io::Result<()> {
     let mut mine = false;
     for _ in rt.forever() {
-        let Some(writing) = waiting(rt, shared, mine) else {
+        if !write_next(rt, shared, mine)? {
             break;
-        };
+        }
         mine = true;
-        shared.outlet.lock(rt).write(&writing)?;
     }
     Ok(())
 }
@@ -160,8 +174,8 @@ fn finish<R: Wait + AllocGlobal, I, O: Write>(
     Ok(())
 }
 
-/// Reads the socket once, and writes what that brings. The answer is whether to go on.
-pub fn pass_on<
+// Reads the socket once, and writes what that brings. The answer is whether to go on.
+fn pass_on<
     R: Threads + Wait + AllocGlobal + Copy + Send + 'static,
     I: Read + Send + Drop + 'static,
     O: Write + Send + Drop + 'static,
@@ -179,15 +193,16 @@ pub fn pass_on<
     }
 }
 
-/// Reads and writes until the peer ends.
+/// Reads and writes until the peer ends; where it stands in, while another thread's writing takes long.
 pub fn show<
-    R: Threads + Wait + AllocGlobal + Copy + Send + 'static,
+    R: Threads + Wait + Clock + AllocGlobal + Copy + Send + 'static,
     I: Read + Send + Drop + 'static,
     O: Write + Send + Drop + 'static,
->(rt: &R, shared: &Arc<Shared<I, O>, Global>) -> Result<(), Fault> {
+>(rt: &R, shared: &Arc<Shared<I, O>, Global>, stands_in: bool) -> Result<(), Fault> {
+    let mut turns = Turns::of(stands_in);
     let mut buffer = vec![in rt.alloc(); 0; LONGEST]?;
     for _ in rt.forever() {
-        if !pass_on(rt, shared, buffer.as_mut_slice())? {
+        if !turns.wait(rt, shared) || !pass_on(rt, shared, buffer.as_mut_slice())? {
             break;
         }
     }

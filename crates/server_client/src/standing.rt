@@ -58,6 +58,13 @@ impl Standing {
         }
     }
 
+    // The first cause holds.
+    fn end_by(&mut self, end: Result<Why, Fault>) {
+        if self.end.is_none() {
+            self.end = Some(end);
+        }
+    }
+
     /// How the peer ended: a fault of its input comes before a good end.
     pub fn ending(&self) -> Result<Why, Fault> {
         match (self.end, self.input) {
@@ -75,6 +82,7 @@ pub struct Intake<I> {
     /// The input and the sizes that are read once the peer is welcome.
     pub input: Option<I>,
     pub asked: Option<File>,
+    pub is_welcome: bool,
     /// The peer's end was read: nothing behind it counts.
     pub is_over: bool,
 }
@@ -85,6 +93,7 @@ impl<I> Intake<I> {
             reader: Reader::new(alloc, Side::Peer),
             input: Some(input),
             asked,
+            is_welcome: false,
             is_over: false,
         }
     }
@@ -151,11 +160,7 @@ impl<I, O> Shared<I, O> {
 
     /// The peer ends: the first cause holds.
     pub fn end<R: Wait>(&self, rt: &R, end: Result<Why, Fault>) {
-        let mut standing = self.standing.lock(rt);
-        if standing.end.is_none() {
-            standing.end = Some(end);
-        }
-        drop(standing);
+        self.standing.lock(rt).end_by(end);
         self.news.notify_all();
         self.begun.notify_all();
     }

@@ -38,7 +38,7 @@ impl Standing {
         self.put(b"\n")
     }
 
-    // What was said to a command is its list, unless it is the last thing before a fault: that is why.
+    // What was said to a command is its list; what was said last before a fault is why.
     fn list(&mut self) -> Result<(), Fault> {
         if !self.way.is_command() {
             return Ok(());

@@ -1,13 +1,7 @@
-//! A window's second thread, which reads the socket while the writing of the first takes long.
+//! When a window's second thread reads the socket: while the writing of the first takes long.
 
-use crate::fault::Fault;
-use crate::showing::pass_on;
 use crate::standing::{Shared, Standing};
-use attach_proto::LONGEST;
-use std::alloc::Global;
-use std::io::{Read, Write};
-use std::sync::{Arc, Wait};
-use std::thread::Threads;
+use std::sync::Wait;
 use std::time::{Clock, Duration};
 
 // A writing takes long that doesn't end within so many milliseconds.
@@ -81,42 +75,33 @@ fn is_stuck<R: Wait, I, O>(rt: &R, shared: &Shared<I, O>, number: u64) -> bool {
     standing.is_writing && standing.writings == number
 }
 
-// Reads and writes until the writing of this number ends. The answer is whether to go on.
-fn read_on<
-    R: Threads + Wait + AllocGlobal + Copy + Send + 'static,
-    I: Read + Send + Drop + 'static,
-    O: Write + Send + Drop + 'static,
->(
-    rt: &R,
-    shared: &Arc<Shared<I, O>, Global>,
-    number: u64,
-    buffer: &mut [u8],
-) -> Result<bool, Fault> {
-    for _ in rt.forever() {
-        if !pass_on(rt, shared, buffer)? {
-            return Ok(false);
-        }
-        if !is_stuck(rt, shared, number) {
-            return Ok(true);
-        }
-    }
-    Ok(false)
+/// When a thread may read the socket.
+#[derive(Clone, Copy)]
+pub enum Turns {
+    Always,
+    /// While the writing of another thread takes long: its number, where one was met.
+    StandsIn(Option<u64>),
 }
 
-/// Reads and writes for another thread while its writing takes long, until the peer ends.
-pub fn stand_in<
-    R: Threads + Wait + Clock + AllocGlobal + Copy + Send + 'static,
-    I: Read + Send + Drop + 'static,
-    O: Write + Send + Drop + 'static,
->(rt: &R, shared: &Arc<Shared<I, O>, Global>) -> Result<(), Fault> {
-    let mut buffer = vec![in rt.alloc(); 0; LONGEST]?;
-    for _ in rt.forever() {
-        let Some(number) = wait_for_stuck(rt, shared) else {
-            break;
-        };
-        if !read_on(rt, shared, number, buffer.as_mut_slice())? {
-            break;
+impl Turns {
+    pub fn of(stands_in: bool) -> Turns {
+        if stands_in {
+            Turns::StandsIn(None)
+        } else {
+            Turns::Always
         }
     }
-    Ok(())
+
+    /// Waits until the thread may read. The answer is false where the peer ended.
+    pub fn wait<R: Wait + Clock, I, O>(&mut self, rt: &R, shared: &Shared<I, O>) -> bool {
+        match *self {
+            Turns::Always => true,
+            Turns::StandsIn(Some(number)) if is_stuck(rt, shared, number) => true,
+            Turns::StandsIn(_) => {
+                let met = wait_for_stuck(rt, shared);
+                *self = Turns::StandsIn(met);
+                met.is_some()
+            }
+        }
+    }
 }

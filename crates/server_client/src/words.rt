@@ -84,50 +84,50 @@ impl<'a> Words<'a> {
         Some(Words::of_way(Way::of(name), matches))
     }
 
-    fn attach(&self, alloc: Global, token: Token) -> Result<Message, AllocError> {
-        let name = Text::of(alloc, self.user)?;
-        Ok(Message::Attach {
+    fn attach(&self, token: Token, name: Text) -> Message {
+        Message::Attach {
             rows: self.rows,
             columns: self.columns,
             token,
             name,
-        })
+        }
     }
 
-    fn window(&self, alloc: Global, token: Token) -> Result<Message, AllocError> {
-        let name = Text::of(alloc, self.user)?;
-        let title = Text::of(alloc, self.title)?;
-        Ok(Message::Window {
+    fn window(&self, token: Token, name: Text, title: Text) -> Message {
+        Message::Window {
             rows: self.rows,
             columns: self.columns,
             keep: self.keep,
             token,
             name,
             title,
-        })
+        }
     }
 
-    fn command(&self, alloc: Global, token: Token) -> Result<Message, AllocError> {
-        let name = Text::of(alloc, self.user)?;
-        let line = Bytes::of(alloc, self.line.as_bytes())?;
-        Ok(Message::Command {
+    fn command(&self, token: Token, name: Text, line: Bytes) -> Message {
+        Message::Command {
             window: self.window,
             token,
             name,
             line,
+        }
+    }
+
+    // The first message with this token.
+    fn first(&self, alloc: Global, token: Token) -> Result<Message, AllocError> {
+        let name = Text::of(alloc, self.user)?;
+        Ok(match self.way {
+            Way::Attach => self.attach(token, name),
+            Way::Window => self.window(token, name, Text::of(alloc, self.title)?),
+            Way::Command => self.command(token, name, Bytes::of(alloc, self.line.as_bytes())?),
         })
     }
 
     /// The frame of a first message with this token: unspellable where no frame holds the words.
     pub fn first_frame(&self, alloc: Global, token: Token) -> Result<Vec<u8>, WriteFault> {
-        let message = match self.way {
-            Way::Attach => self.attach(alloc, token),
-            Way::Window => self.window(alloc, token),
-            Way::Command => self.command(alloc, token),
-        };
-        match message {
+        match self.first(alloc, token) {
             Ok(message) => frame_of(alloc, &message),
-            Err(_) => Err(WriteFault::NoMemory),
+            Err(error) => Err(WriteFault::from(error)),
         }
     }
 }
