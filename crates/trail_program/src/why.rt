@@ -1,12 +1,11 @@
 //! Which act decides a user's bit on an object.
 
-use crate::fault::Fault;
 use crate::pass::Pass;
 use crate::show::time_of;
 use crate::texts::text_of;
 use acl::{Act, Bit, CommandName, Object, UserId};
 use command_lang::name_text;
-use std::alloc::Global;
+use std::alloc::{AllocError, Global};
 use std::io::{self, Write};
 use trail_lines::acts::push_act;
 use trail_rights::{Decider, Mark, may};
@@ -23,18 +22,28 @@ impl Question {
     /// The question of three words: a name, `r`, `w` or `x`, and a window's serial or a command's
     /// name.
     pub fn read(user: &[u8], bit: &[u8], object: &[u8]) -> Option<Question> {
-        let user = UserId::of(user)?;
-        let bit = match bit {
-            [b'r'] => Bit::Read,
-            [b'w'] => Bit::Write,
-            [b'x'] => Bit::Execute,
-            _ => return None,
-        };
-        let object = match line_fields::read_u32(object) {
-            Some(window) => Object::Window(window),
-            None => Object::Command(command_of(object)?),
-        };
-        Some(Question { user, bit, object })
+        Some(Question {
+            user: UserId::of(user)?,
+            bit: bit_of(bit)?,
+            object: object_of(object)?,
+        })
+    }
+}
+
+fn bit_of(word: &[u8]) -> Option<Bit> {
+    match word {
+        [b'r'] => Some(Bit::Read),
+        [b'w'] => Some(Bit::Write),
+        [b'x'] => Some(Bit::Execute),
+        _ => None,
+    }
+}
+
+/// The object of a window's serial or a command's name.
+fn object_of(word: &[u8]) -> Option<Object> {
+    match line_fields::read_u32(word) {
+        Some(window) => Some(Object::Window(window)),
+        None => Some(Object::Command(command_of(word)?)),
     }
 }
 
@@ -46,15 +55,10 @@ fn command_of(name: &[u8]) -> Option<CommandName> {
         .copied()
 }
 
-/// Whether an object is there: a command, or a window that is open.
-fn is_there(pass: &Pass, object: Object) -> bool {
+/// Whether an object is there: a command, or one of the windows that are open.
+fn is_there(windows: &[u32], object: Object) -> bool {
     match object {
-        Object::Window(window) => pass
-            .watch
-            .sight()
-            .windows()
-            .iter()
-            .any(|open| *open == window),
+        Object::Window(window) => windows.iter().any(|open| *open == window),
         Object::Command(_) => true,
     }
 }
@@ -71,27 +75,37 @@ fn write_mark<W: Write>(mark: Mark, output: &mut W) -> io::Result<()> {
     output.write_all(b": ")
 }
 
-/// Writes an act, and whence it came.
-fn write_act<W: Write>(alloc: Global, mark: Mark, act: &Act, output: &mut W) -> Result<(), Fault> {
+/// An act's line.
+fn line_of(alloc: Global, act: &Act) -> Result<Vec<u8>, AllocError> {
     let mut text = Vec::new(alloc);
     push_act(act, &mut text)?;
     text.extend_from_slice(b"\n")?;
+    Ok(text)
+}
+
+/// Writes an act, and whence it came.
+fn write_act<W: Write>(alloc: Global, mark: Mark, act: &Act, output: &mut W) -> io::Result<()> {
+    let text = line_of(alloc, act)?;
     write_mark(mark, output)?;
-    output.write_all(text.as_slice())?;
-    Ok(())
+    output.write_all(text.as_slice())
 }
 
 /// Writes what decides a user's bit.
-fn write_decider<W: Write>(alloc: Global, decider: &Decider, output: &mut W) -> Result<(), Fault> {
+fn write_decider<W: Write>(alloc: Global, decider: &Decider, output: &mut W) -> io::Result<()> {
     let user = decider.user();
     write!(output, "{}: ", text_of(&user))?;
     match decider.found() {
         Some((mark, act)) => write_act(alloc, mark, &act, output),
-        None => {
-            writeln!(output, "no act decides")?;
-            Ok(())
-        }
+        None => writeln!(output, "no act decides"),
     }
+}
+
+/// Writes what decides users' bits.
+fn write_deciders<W: Write>(alloc: Global, all: &[Decider], output: &mut W) -> io::Result<()> {
+    for decider in all {
+        write_decider(alloc, decider, output)?;
+    }
+    Ok(())
 }
 
 /// Writes whether the user has the bit, and whether he is the owner.
@@ -111,14 +125,10 @@ pub fn write_reasons<W: Write>(
     pass: &Pass,
     question: Question,
     output: &mut W,
-) -> Result<(), Fault> {
-    if !is_there(pass, question.object) {
-        writeln!(output, "no: the window isn't open")?;
-        return Ok(());
+) -> io::Result<()> {
+    if !is_there(pass.watch.sight().windows(), question.object) {
+        return writeln!(output, "no: the window isn't open");
     }
     write_answer(pass, question, output)?;
-    for decider in pass.watch.sight().deciders() {
-        write_decider(alloc, decider, output)?;
-    }
-    Ok(())
+    write_deciders(alloc, pass.watch.sight().deciders(), output)
 }
