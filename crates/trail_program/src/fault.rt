@@ -16,13 +16,13 @@ pub enum Fault {
 impl Display for Fault {
     fn fmt<W: fmt::Write>(&self, f: &mut Formatter<W>) -> fmt::Result {
         match self {
-            Fault::Io(error) => write!(f, "{error}"),
+            Fault::Io(error) => Display::fmt(error, f),
             Fault::NoHeader(line) => {
                 write!(f, "line {line}: no first line of a trail is spelled so")
             }
             Fault::NoLine(line) => write!(f, "line {line}: no line of a trail is spelled so"),
             Fault::NoPlace(count) => write!(f, "it has {count} entries"),
-            Fault::Changed => write!(f, "it was changed while it was read"),
+            Fault::Changed => f.write_str("it was changed while it was read"),
         }
     }
 }

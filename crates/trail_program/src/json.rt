@@ -22,9 +22,10 @@ fn write_string<W: Write>(bytes: &[u8], output: &mut W) -> io::Result<()> {
     output.write_all(b"\"")
 }
 
-/// Writes a time: milliseconds since 1970, and where it can be the form of RFC 3339.
-fn write_time<W: Write>(ms: u64, output: &mut W) -> io::Result<()> {
-    write!(output, ",\"ms\":{ms}")?;
+/// Writes a number behind what begins an object, and a time: milliseconds since 1970, and where it
+/// can be the form of RFC 3339.
+fn begin<W: Write>(begin: &str, number: u64, ms: u64, output: &mut W) -> io::Result<()> {
+    write!(output, "{begin}{number},\"ms\":{ms}")?;
     match time_of(ms) {
         Some(time) => write!(output, ",\"time\":\"{time}\""),
         None => Ok(()),
@@ -51,8 +52,10 @@ fn write_event<W: Write>(text: &[u8], count: usize, output: &mut W) -> io::Resul
     output.write_all(b"]")
 }
 
-/// Writes the words that begin with a mark as the strings of a list, without their mark.
-fn write_marked<W: Write>(text: &[u8], mark: u8, output: &mut W) -> io::Result<()> {
+/// Writes the words that begin with a mark as a list, without their mark; what stands before the
+/// list begins it.
+fn write_notes<W: Write>(begin: &[u8], text: &[u8], mark: u8, output: &mut W) -> io::Result<()> {
+    output.write_all(begin)?;
     let mut rest = text;
     let mut is_first = true;
     // There are no more words than bytes.
@@ -66,16 +69,6 @@ fn write_marked<W: Write>(text: &[u8], mark: u8, output: &mut W) -> io::Result<(
         }
         rest = behind;
     }
-    Ok(())
-}
-
-/// Writes the checks and acts that stand behind a reply.
-fn write_notes<W: Write>(notes: &[u8], output: &mut W) -> io::Result<()> {
-    output.write_all(b",\"checks\":[")?;
-    write_marked(notes, b'?', output)?;
-    output.write_all(b"]")?;
-    output.write_all(b",\"acts\":[")?;
-    write_marked(notes, b'!', output)?;
     output.write_all(b"]")
 }
 
@@ -84,14 +77,14 @@ fn write_reply<W: Write>(text: &[u8], output: &mut W) -> io::Result<()> {
     let (reply, notes) = first_word(text);
     output.write_all(b",\"reply\":")?;
     write_string(reply, output)?;
-    write_notes(notes, output)
+    write_notes(b",\"checks\":[", notes, b'?', output)?;
+    write_notes(b",\"acts\":[", notes, b'!', output)
 }
 
 /// Writes an entry, whose line this is.
 pub fn write_entry<W: Write>(said: Said, text: &[u8], output: &mut W) -> io::Result<()> {
     let event = behind_words(text, 2);
-    write!(output, "{{\"place\":{}", said.place)?;
-    write_time(said.ms, output)?;
+    begin("{\"place\":", said.place, said.ms, output)?;
     write_event(event, said.words, output)?;
     write_reply(behind_words(event, said.words), output)?;
     output.write_all(b"}\n")
@@ -99,8 +92,7 @@ pub fn write_entry<W: Write>(said: Said, text: &[u8], output: &mut W) -> io::Res
 
 /// Writes a last line.
 pub fn write_end<W: Write>(ended: Ended, output: &mut W) -> io::Result<()> {
-    write!(output, "{{\"end\":{}", ended.entries)?;
-    write_time(ended.ms, output)?;
+    begin("{\"end\":", ended.entries, ended.ms, output)?;
     output.write_all(b",\"why\":")?;
     write_string(ended.cause.word(), output)?;
     output.write_all(b"}\n")

@@ -2,7 +2,7 @@
 
 use crate::check::Finish;
 use crate::heading::Heading;
-use crate::show::time_of;
+use crate::show::When;
 use crate::texts::text_of;
 use acl::UserId;
 use std::alloc::AllocError;
@@ -49,11 +49,11 @@ pub fn tell_wrong<W: Write>(
 /// Writes that a file is whole.
 fn tell_ended<W: Write>(ended: Ended, count: u64, output: &mut W) -> io::Result<()> {
     let why = str::from_utf8(ended.cause.word()).unwrap_or("?");
-    write!(output, "legal: {count} entries\nwhole: it ended ({why})")?;
-    if let Some(time) = time_of(ended.ms) {
-        write!(output, " at {time}")?;
-    }
-    writeln!(output)
+    let when = When(" at ", ended.ms);
+    writeln!(
+        output,
+        "legal: {count} entries\nwhole: it ended ({why}){when}"
+    )
 }
 
 /// Writes that entries are legal, and why the file isn't whole.
@@ -104,9 +104,7 @@ pub fn tell_finish<W: Write>(
 
 /// Writes what a first line says.
 pub fn tell_heading<W: Write>(heading: Heading, output: &mut W) -> io::Result<()> {
-    write!(output, "owner {}", text_of(&heading.owner))?;
-    if let Some(time) = time_of(heading.ms) {
-        write!(output, ", begun at {time}")?;
-    }
-    writeln!(output)
+    let owner = text_of(&heading.owner);
+    let when = When(", begun at ", heading.ms);
+    writeln!(output, "owner {owner}{when}")
 }

@@ -8,7 +8,7 @@ use crate::who::{users_of, write_rights};
 use crate::why::{Question, write_reasons};
 use crate::words::Asked;
 use acl::{Leaders, UserId};
-use std::alloc::{AllocError, Global};
+use std::alloc::Global;
 use std::io::{self, Read, Write};
 use std::rt::Files;
 use std::{fs, slice};
@@ -18,10 +18,10 @@ use trail_audit::Halt;
 #[derive(Drop)]
 struct Found {
     count: u64,
-    /// The leaders of the user who is asked about.
-    leaders: Leaders,
-    /// All users, where none is asked about.
+    /// The users whose leaders the second pass looks for.
     users: Vec<UserId>,
+    /// What is asked, and the leaders of the user who is asked about.
+    reasons: Option<(Question, Leaders)>,
 }
 
 /// The user who is asked about, if one is.
@@ -33,29 +33,23 @@ fn users_asked(question: &Option<Question>) -> &[UserId] {
 }
 
 /// What the entries of a pass say that a second one has to know.
-fn found_of(alloc: Global, asked: Asked<'_>, first: &Pass) -> Result<Found, AllocError> {
-    let users = match asked.question {
-        Some(_) => Vec::new(alloc),
-        None => users_of(alloc, first.watch.audit().replay())?,
+fn found_of(alloc: Global, asked: Asked<'_>, first: &Pass) -> io::Result<Found> {
+    let mut users = Vec::new(alloc);
+    let reasons = match asked.question {
+        Some(question) => {
+            users.push(question.user)?;
+            Some((question, first.leaders()))
+        }
+        None => {
+            users = users_of(alloc, first.watch.audit().replay())?;
+            None
+        }
     };
     Ok(Found {
         count: first.count(),
-        leaders: first.leaders(),
         users,
+        reasons,
     })
-}
-
-/// Whether the first pass has read what is asked about: what is wrong in the file is written.
-fn is_read<W: Write>(asked: Asked<'_>, first: &Pass, output: &mut W) -> Result<bool, Fault> {
-    let count = first.count();
-    if let Halt::Stopped { line, wrong } = first.halt {
-        tell_wrong(line, wrong, count, first.owner, output)?;
-        return Ok(false);
-    }
-    match asked.place {
-        Some(place) if place >= count => Err(Fault::NoPlace(count)),
-        _ => Ok(true),
-    }
 }
 
 /// What a first pass has found, unless something is wrong in the file, which is written.
@@ -65,12 +59,19 @@ fn found_in<W: Write>(
     first: &Pass,
     output: &mut W,
 ) -> Result<Option<Found>, Fault> {
-    if !is_read(asked, first, output)? {
+    let count = first.count();
+    if let Halt::Stopped { line, wrong } = first.halt {
+        tell_wrong(line, wrong, count, first.owner, output)?;
         return Ok(None);
+    }
+    if let Some(place) = asked.place
+        && place >= count
+    {
+        return Err(Fault::NoPlace(count));
     }
     match found_of(alloc, asked, first) {
         Ok(found) => Ok(Some(found)),
-        Err(error) => Err(Fault::Io(io::Error::from(error))),
+        Err(error) => Err(Fault::Io(error)),
     }
 }
 
@@ -105,8 +106,11 @@ fn write_answer<W: Write>(
 }
 
 /// Whether a second pass has found what the first one had.
-fn is_unchanged(asked: Asked<'_>, found: &Found, second: &Pass) -> bool {
-    let same_leaders = asked.question.is_none() || second.leaders() == found.leaders;
+fn is_unchanged(found: &Found, second: &Pass) -> bool {
+    let same_leaders = match found.reasons {
+        Some((_, leaders)) => second.leaders() == leaders,
+        None => true,
+    };
     second.count() == found.count && same_leaders
 }
 
@@ -119,18 +123,12 @@ fn answer<F: Read + Drop, W: Write>(
     output: &mut W,
 ) -> Result<u8, Fault> {
     let search = Search {
-        users: match &asked.question {
-            Some(question) => slice::from_ref(&question.user),
-            None => found.users.as_slice(),
-        },
-        reasons: match asked.question {
-            Some(question) => Some((question, found.leaders)),
-            None => None,
-        },
+        users: found.users.as_slice(),
+        reasons: found.reasons,
         last: found.count.saturating_sub(1),
     };
     let second = read_pass(alloc, asked.owner, file, &search)?;
-    if !is_unchanged(asked, found, &second) {
+    if !is_unchanged(found, &second) {
         return Err(Fault::Changed);
     }
     match write_answer(alloc, asked, &second, output) {

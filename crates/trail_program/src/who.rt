@@ -96,15 +96,6 @@ fn write_window<W: Write>(
     writeln!(output)
 }
 
-/// Writes windows with their holders and the users' rights.
-fn write_windows<W: Write>(pass: &Pass, users: &[UserId], output: &mut W) -> io::Result<()> {
-    let replay = pass.watch.audit().replay();
-    for window in pass.watch.sight().windows() {
-        write_window(replay, pass.owner, users, *window, output)?;
-    }
-    Ok(())
-}
-
 /// Writes a command on which a user has x.
 fn write_command<W: Write>(
     replay: &Replay,
@@ -128,10 +119,12 @@ fn write_commands<W: Write>(replay: &Replay, user: UserId, output: &mut W) -> io
     writeln!(output)
 }
 
-/// Writes windows, and the users' commands.
+/// Writes windows with their holders and the users' rights, and the users' commands.
 fn write_objects<W: Write>(pass: &Pass, users: &[UserId], output: &mut W) -> io::Result<()> {
-    write_windows(pass, users, output)?;
     let replay = pass.watch.audit().replay();
+    for window in pass.watch.sight().windows() {
+        write_window(replay, pass.owner, users, *window, output)?;
+    }
     for user in users {
         write_commands(replay, *user, output)?;
     }

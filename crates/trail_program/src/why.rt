@@ -1,7 +1,7 @@
 //! Which act decides a user's bit on an object.
 
 use crate::pass::Pass;
-use crate::show::time_of;
+use crate::show::When;
 use crate::texts::text_of;
 use acl::{Act, Bit, CommandName, Object, UserId};
 use command_lang::name_text;
@@ -65,14 +65,11 @@ fn is_there(windows: &[u32], object: Object) -> bool {
 
 /// Writes where an act stands, when it was filed and who gave it.
 fn write_mark<W: Write>(mark: Mark, output: &mut W) -> io::Result<()> {
-    write!(output, "entry {}", mark.place)?;
-    if let Some(time) = time_of(mark.ms) {
-        write!(output, " at {time}")?;
+    write!(output, "entry {}{}", mark.place, When(" at ", mark.ms))?;
+    match mark.giver {
+        Some(giver) => write!(output, " by {}: ", text_of(&giver)),
+        None => output.write_all(b": "),
     }
-    if let Some(giver) = mark.giver {
-        write!(output, " by {}", text_of(&giver))?;
-    }
-    output.write_all(b": ")
 }
 
 /// An act's line.
@@ -100,14 +97,6 @@ fn write_decider<W: Write>(alloc: Global, decider: &Decider, output: &mut W) -> 
     }
 }
 
-/// Writes what decides users' bits.
-fn write_deciders<W: Write>(alloc: Global, all: &[Decider], output: &mut W) -> io::Result<()> {
-    for decider in all {
-        write_decider(alloc, decider, output)?;
-    }
-    Ok(())
-}
-
 /// Writes whether the user has the bit, and whether he is the owner.
 fn write_answer<W: Write>(pass: &Pass, question: Question, output: &mut W) -> io::Result<()> {
     let Question { user, bit, object } = question;
@@ -130,5 +119,8 @@ pub fn write_reasons<W: Write>(
         return writeln!(output, "no: the window isn't open");
     }
     write_answer(pass, question, output)?;
-    write_deciders(alloc, pass.watch.sight().deciders(), output)
+    for decider in pass.watch.sight().deciders() {
+        write_decider(alloc, decider, output)?;
+    }
+    Ok(())
 }
