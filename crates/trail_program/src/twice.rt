@@ -91,20 +91,6 @@ fn look<F: Read + Drop, W: Write>(
     found_in(alloc, asked, &first, output)
 }
 
-/// Writes the rights after the entries of a pass, or what decides the bit that is asked about.
-fn write_answer<W: Write>(
-    alloc: Global,
-    asked: Asked<'_>,
-    second: &Pass,
-    output: &mut W,
-) -> io::Result<u8> {
-    match asked.question {
-        Some(question) => write_reasons(alloc, second, question, output)?,
-        None => write_rights(alloc, second, output)?,
-    }
-    Ok(LEGAL)
-}
-
 /// Whether a second pass has found what the first one had.
 fn is_unchanged(found: &Found, second: &Pass) -> bool {
     let same_leaders = match found.reasons {
@@ -112,6 +98,27 @@ fn is_unchanged(found: &Found, second: &Pass) -> bool {
         None => true,
     };
     second.count() == found.count && same_leaders
+}
+
+/// Writes the rights after the entries of a second pass, or what decides the bit that is asked
+/// about.
+fn write_answer<W: Write>(
+    alloc: Global,
+    found: &Found,
+    second: &Pass,
+    output: &mut W,
+) -> Result<u8, Fault> {
+    if !is_unchanged(found, second) {
+        return Err(Fault::Changed);
+    }
+    let written = match found.reasons {
+        Some((question, _)) => write_reasons(alloc, second, question, output),
+        None => write_rights(alloc, second, output),
+    };
+    match written {
+        Ok(()) => Ok(LEGAL),
+        Err(error) => Err(Fault::Io(error)),
+    }
 }
 
 /// Makes the second pass, over what the first one has read: what stands behind that doesn't count.
@@ -128,13 +135,7 @@ fn answer<F: Read + Drop, W: Write>(
         last: found.count.saturating_sub(1),
     };
     let second = read_pass(alloc, asked.owner, file, &search)?;
-    if !is_unchanged(found, &second) {
-        return Err(Fault::Changed);
-    }
-    match write_answer(alloc, asked, &second, output) {
-        Ok(status) => Ok(status),
-        Err(error) => Err(Fault::Io(error)),
-    }
+    write_answer(alloc, found, &second, output)
 }
 
 /// Writes who may do what, or which acts decide the bit that is asked about.

@@ -71,12 +71,16 @@ fn write_bits<W: Write>(
     write!(output, " {name}:{read}{write}{execute}")
 }
 
-/// Writes who holds a window's lock, where somebody does.
-fn write_holder<W: Write>(held: Option<Option<UserId>>, output: &mut W) -> io::Result<()> {
+/// Writes a window, and who holds its lock, where somebody does.
+fn write_holder<W: Write>(
+    window: u32,
+    held: Option<Option<UserId>>,
+    output: &mut W,
+) -> io::Result<()> {
     match held {
-        Some(Some(user)) => write!(output, " held by {}", text_of(&user)),
-        Some(None) => Ok(()),
-        None => write!(output, " held by ?"),
+        Some(Some(user)) => write!(output, "window {window} held by {}", text_of(&user)),
+        Some(None) => write!(output, "window {window}"),
+        None => write!(output, "window {window} held by ?"),
     }
 }
 
@@ -88,8 +92,7 @@ fn write_window<W: Write>(
     window: u32,
     output: &mut W,
 ) -> io::Result<()> {
-    write!(output, "window {window}")?;
-    write_holder(holder(replay, owner, window), output)?;
+    write_holder(window, holder(replay, owner, window), output)?;
     for user in users {
         write_bits(replay, *user, window, output)?;
     }

@@ -5,6 +5,7 @@ use crate::show::When;
 use crate::texts::text_of;
 use acl::{Act, Bit, CommandName, Object, UserId};
 use command_lang::name_text;
+use hub_replay::Replay;
 use std::alloc::{AllocError, Global};
 use std::io::{self, Write};
 use trail_lines::acts::push_act;
@@ -49,16 +50,18 @@ fn object_of(word: &[u8]) -> Option<Object> {
 
 /// The command of this name.
 fn command_of(name: &[u8]) -> Option<CommandName> {
-    CommandName::ALL
-        .iter()
-        .find(|command| name_text(**command).as_bytes() == name)
-        .copied()
+    for command in &CommandName::ALL {
+        if name_text(*command).as_bytes() == name {
+            return Some(*command);
+        }
+    }
+    None
 }
 
 /// Whether an object is there: a command, or one of the windows that are open.
 fn is_there(windows: &[u32], object: Object) -> bool {
     match object {
-        Object::Window(window) => windows.iter().any(|open| *open == window),
+        Object::Window(window) => windows.contains(&window),
         Object::Command(_) => true,
     }
 }
@@ -98,14 +101,20 @@ fn write_decider<W: Write>(alloc: Global, decider: &Decider, output: &mut W) -> 
 }
 
 /// Writes whether the user has the bit, and whether he is the owner.
-fn write_answer<W: Write>(pass: &Pass, question: Question, output: &mut W) -> io::Result<()> {
+fn write_answer<W: Write>(
+    replay: &Replay,
+    owner: UserId,
+    question: Question,
+    output: &mut W,
+) -> io::Result<()> {
     let Question { user, bit, object } = question;
-    let has_bit = may(pass.watch.audit().replay(), user, bit, object);
+    let has_bit = may(replay, user, bit, object);
     writeln!(output, "{}", if has_bit { "yes" } else { "no" })?;
-    if user == pass.owner {
-        writeln!(output, "{}: the owner", text_of(&user))?;
+    if user == owner {
+        writeln!(output, "{}: the owner", text_of(&user))
+    } else {
+        Ok(())
     }
-    Ok(())
 }
 
 /// Writes whether the user has the bit, and the acts that decide it: his own, and his leaders'.
@@ -118,7 +127,7 @@ pub fn write_reasons<W: Write>(
     if !is_there(pass.watch.sight().windows(), question.object) {
         return writeln!(output, "no: the window isn't open");
     }
-    write_answer(pass, question, output)?;
+    write_answer(pass.watch.audit().replay(), pass.owner, question, output)?;
     for decider in pass.watch.sight().deciders() {
         write_decider(alloc, decider, output)?;
     }
