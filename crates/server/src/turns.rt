@@ -199,9 +199,7 @@ fn turn<L: Roll, G: Gate + Drop, R: Clock + Wait>(
         recorder.set_time(rt);
     }
     own.read_all(rt, session);
-    let is_news = watch
-        .pace
-        .note(&watch.shared.busy, now, own.take_read_much());
+    let is_news = watch.pace.note(&watch.shared.busy, now, own.take_much());
     watch.tell_others(own.peers.take_submitted(), is_news)?;
     let holds_draws = watch.pace.holds(&watch.shared.busy, now, own.take_typed());
     own.expire();

@@ -1,69 +1,26 @@
 //! `mux`: a client, a window or a command.
 
-use crate::fault::{ClientFault, Gone};
-use crate::opening::{Opened, Way, open, warn_of_token};
+use crate::fault::{Fault, Told, gone};
+use crate::opening::{open, warn_of_token};
 use crate::refusals::explain;
 use crate::showing::show;
-use crate::standing::{Intake, Outlet, Shared, Standing};
-use crate::watching::stand_in;
-use crate::words::size;
-use attach_proto::{Reader, Side, Why};
-use clap::ArgMatches;
+use crate::standing::Shared;
+use crate::words::Words;
+use attach_proto::Why;
 use program_words::{of_client, tell};
 use std::alloc::{AllocError, Global};
 use std::fs::{File, Files};
 use std::io::{Read, Write};
 use std::net::Net;
-use std::os::fd::AsRawFd;
-use std::sync::{Arc, Condvar, Mutex, Wait};
+use std::sync::{Arc, Wait};
+use std::thread;
 use std::thread::Threads;
 use std::time::{Clock, Duration};
-use std::{fs, thread};
 
 const NO_SIZE: &str = "lines of --sizes were dropped: each is ROWS COLS, 4 to 200 by 20 to 300";
 
 // How long a window's end waits for its standard output, in milliseconds.
 const LAST_WRITING: u64 = 500;
-
-fn shared_of<R: Net + Files<File = File> + AllocGlobal, I: Drop, O: Drop>(
-    rt: &R,
-    way: Way,
-    matches: &ArgMatches,
-    input: I,
-    output: O,
-) -> Result<Shared<I, O>, ClientFault> {
-    let alloc = rt.alloc();
-    let (rows, columns) = match way {
-        Way::Command => (0, 0),
-        Way::Attach | Way::Window => size(matches)?,
-    };
-    let Opened { stream, sizes } = open(rt, way, matches)?;
-    let (asked, told) = match way {
-        Way::Attach => (sizes, None),
-        Way::Window | Way::Command => (None, sizes),
-    };
-    Ok(Shared {
-        way,
-        rows,
-        columns,
-        stream,
-        sending: Mutex::new(()),
-        intake: Mutex::new(Intake {
-            reader: Reader::new(alloc, Side::Peer),
-            input: Some(input),
-            asked,
-            said: None,
-            is_over: false,
-        }),
-        outlet: Mutex::new(Outlet {
-            output,
-            sizes: told,
-        }),
-        standing: Mutex::new(Standing::new(alloc)),
-        news: Condvar::new(),
-        begun: Condvar::new(),
-    })
-}
 
 // Starts a thread that reads the socket and writes, or one that does so only while the writing of
 // the first takes long.
@@ -71,30 +28,27 @@ fn start_showing<
     R: Threads + Wait + Clock + AllocGlobal + Copy + Send + 'static,
     I: Read + Send + Drop + 'static,
     O: Write + Send + Drop + 'static,
->(rt: &R, shared: &Arc<Shared<I, O>, Global>, stands_in: bool) -> Result<(), ClientFault> {
+>(rt: &R, shared: &Arc<Shared<I, O>, Global>, stands_in: bool) -> Result<(), AllocError> {
     let theirs = Arc::try_clone(shared)?;
     let rt_there = *rt;
     let started = thread::spawn(rt, move || {
         let rt = rt_there;
-        let shown = if stands_in {
-            stand_in(&rt, &theirs)
-        } else {
-            show(&rt, &theirs)
-        };
-        if let Err(fault) = shown {
+        if let Err(fault) = show(&rt, &theirs, stands_in) {
             theirs.end(&rt, Err(fault));
         }
     });
     match started {
         Ok(_) => Ok(()),
-        Err(error) => Err(ClientFault::from(AllocError::from(error))),
+        Err(error) => Err(AllocError::from(error)),
     }
 }
 
 /// How a peer ended.
 #[derive(Drop)]
 struct Ending {
-    end: Result<Why, ClientFault>,
+    end: Result<Why, Fault>,
+    /// What the session said last before it let the peer in.
+    said: Option<String>,
     has_dropped: bool,
 }
 
@@ -102,7 +56,7 @@ struct Ending {
 fn wait_for_end<R: Wait + Clock, I, O>(rt: &R, shared: &Shared<I, O>) -> Ending {
     let news = &shared.news;
     let mut standing = news.wait_while(rt, shared.standing.lock(rt), |s| s.end.is_none());
-    if shared.way == Way::Window {
+    if shared.way.is_window() {
         standing = news
             .wait_timeout_while(rt, standing, Duration::from_millis(LAST_WRITING), |s| {
                 s.is_writing || !s.bytes.is_empty()
@@ -111,62 +65,84 @@ fn wait_for_end<R: Wait + Clock, I, O>(rt: &R, shared: &Shared<I, O>) -> Ending 
     }
     Ending {
         end: standing.ending(),
+        said: standing.said.take(),
         has_dropped: standing.has_dropped,
     }
 }
 
-// Standard streams that are closed are /dev/null from now on, so that nothing else becomes one.
-fn fill_closed<R: Files<File = File> + AllocGlobal>(rt: &R) -> Result<Vec<File>, ClientFault> {
-    let mut kept = Vec::new(rt.alloc());
-    for _ in 0..3 {
-        let file = fs::open(rt, "/dev/null")?;
-        if file.as_raw_fd() > 2 {
-            break;
-        }
-        kept.push(file)?;
+// Starts the threads of a peer, and waits for its end.
+fn join<
+    R: Clock + Threads + Wait + AllocGlobal + Copy + Send + 'static,
+    I: Read + Send + Drop + 'static,
+    O: Write + Send + Drop + 'static,
+>(rt: &R, shared: Shared<I, O>) -> Result<Ending, Fault> {
+    let is_window = shared.way.is_window();
+    let shared = Arc::new(rt.alloc(), shared)?;
+    start_showing(rt, &shared, false)?;
+    if is_window {
+        start_showing(rt, &shared, true)?;
     }
-    Ok(kept)
+    Ok(wait_for_end(rt, &shared))
 }
 
 fn run<
     R: Net + Files<File = File> + Clock + Threads + Wait + AllocGlobal + Copy + Send + 'static,
     I: Read + Send + Drop + 'static,
     O: Write + Send + Drop + 'static,
->(rt: &R, way: Way, matches: &ArgMatches, input: I, output: O) -> Result<Ending, ClientFault> {
-    let _kept = fill_closed(rt)?;
-    let shared = Arc::new(rt.alloc(), shared_of(rt, way, matches, input, output)?)?;
-    start_showing(rt, &shared, false)?;
-    if way == Way::Window {
-        start_showing(rt, &shared, true)?;
+>(rt: &R, words: &Words<'_>, input: I, output: O) -> Result<Ending, Fault> {
+    let mut kept = Vec::new(rt.alloc());
+    match open(rt, words, &mut kept) {
+        Ok(opened) => join(rt, Shared::new(rt.alloc(), words, opened, input, output)),
+        Err(fault) => Err(fault),
     }
-    Ok(wait_for_end(rt, &shared))
 }
 
-fn tell_fault<E: Write>(fault: &ClientFault, way: Way, matches: &ArgMatches, errors: &mut E) {
-    let _ = write!(errors, "mux: {fault}");
-    if let ClientFault::Said(said) = fault {
-        let line = matches.get_str("line").unwrap_or("");
-        let _ = explain(said, way, line, errors);
+// Says why a peer ended otherwise than well: of a fault, in the session's own words. The answer is the
+// status to exit with.
+fn tell_fault<E: Write>(
+    fault: Fault,
+    said: &Option<String>,
+    words: &Words<'_>,
+    errors: &mut E,
+) -> u8 {
+    match (fault, said) {
+        (Fault::Gone(Why::Fault), Some(said)) => {
+            let _ = write!(errors, "mux: {said}");
+            let _ = explain(said.as_str(), words, errors);
+        }
+        _ => {
+            let _ = write!(errors, "mux: {}", Told { fault, words });
+        }
     }
     let _ = writeln!(errors);
+    fault.status()
 }
 
 // Says why a peer ended. The answer is the status to exit with.
-fn tell_end<E: Write>(ending: Ending, way: Way, matches: &ArgMatches, errors: &mut E) -> u8 {
+fn tell_end<E: Write>(ending: &Ending, words: &Words<'_>, errors: &mut E) -> u8 {
     if ending.has_dropped {
         let _ = writeln!(errors, "mux: {NO_SIZE}");
     }
     match ending.end {
-        Ok(why) => {
-            if matches.get_flag("why") {
-                let _ = writeln!(errors, "mux: {}", Gone::from(why));
-            }
+        Ok(why) if words.why => {
+            let _ = writeln!(errors, "mux: {}", gone(why));
             0
         }
-        Err(fault) => {
-            tell_fault(&fault, way, matches, errors);
-            fault.status()
-        }
+        Ok(_) => 0,
+        Err(fault) => tell_fault(fault, &ending.said, words, errors),
+    }
+}
+
+// What the words say; where they aren't understood, the status to exit with.
+fn words_of<'a, O: Write, E: Write>(
+    alloc: Global,
+    words: &'a [String],
+    output: &mut O,
+    errors: &mut E,
+) -> Result<Words<'a>, u8> {
+    match of_client(alloc, words) {
+        Ok(matches) => Words::of(&matches).ok_or(2),
+        Err(error) => Err(tell(&error, output, errors)),
     }
 }
 
@@ -179,21 +155,13 @@ pub fn client<
     E: Write,
 >(rt: &R, words: &[String], input: I, output: O, errors: &mut E) -> u8 {
     let mut output = output;
-    let matches = match of_client(rt.alloc(), words) {
-        Ok(matches) => matches,
-        Err(error) => return tell(&error, &mut output, errors),
+    let words = match words_of(rt.alloc(), words, &mut output, errors) {
+        Ok(words) => words,
+        Err(status) => return status,
     };
-    let Some((name, matches)) = matches.subcommand() else {
-        return 2;
-    };
-    let way = Way::of(name);
-    warn_of_token(rt, matches, errors);
-    let ending = match run(rt, way, matches, input, output) {
-        Ok(ending) => ending,
-        Err(fault) => Ending {
-            end: Err(fault),
-            has_dropped: false,
-        },
-    };
-    tell_end(ending, way, matches, errors)
+    warn_of_token(rt, words.token, errors);
+    match run(rt, &words, input, output) {
+        Ok(ending) => tell_end(&ending, &words, errors),
+        Err(fault) => tell_fault(fault, &None, &words, errors),
+    }
 }

@@ -1,123 +1,140 @@
-//! What can be wrong for a peer, and what to do then.
+//! What can be wrong for a peer, and what to say then.
 
-use crate::words::WordsFault;
+use crate::words::Words;
 use attach_proto::{Why, WriteFault};
 use std::alloc::{AllocError, AllocFailed};
-use std::io;
-use thiserror::Error;
+use std::{fmt, io};
 
 /// Why `mux` ended otherwise than well.
-#[derive(Debug, Drop, Error)]
-pub enum ClientFault {
-    #[error("a word is missing: --help shows which are needed")]
-    Words,
-    #[error("the token's file isn't read: {0}: --token names it")]
-    NoFile(io::Error),
-    #[error("others may write the token's file: chmod go-w {0}")]
-    Writable(String),
-    #[error("the sizes' file isn't opened: {0}: --sizes names it")]
-    NoSizes(io::Error),
-    #[error("standard input isn't read: {0}")]
-    Input(io::Error),
-    #[error("the token's file hasn't 64 digits of 0 to 9, a to f")]
-    NoToken,
-    #[error("the words are too long for the server")]
+#[derive(Clone, Copy)]
+pub enum Fault {
+    /// No frame holds the words.
     TooLong,
-    #[error("no server at {0}: start it with 'muxd --socket {0} --users PATH'")]
-    NoServer(String),
-    #[error("the server doesn't speak this protocol")]
+    NoToken,
+    /// Others may write the token's file.
+    Writable,
+    NoServer,
     NoServerOfOurs,
-    #[error("the connection ended")]
     Ended,
-    #[error("{0}")]
-    Said(String),
-    #[error("{0}")]
-    Gone(Gone),
-    #[error("out of memory")]
+    Gone(Why),
     NoMemory,
-    #[error("{0}")]
-    Other(io::Error),
+    Refused(Part, io::Error),
 }
 
-impl ClientFault {
-    /// The status to exit with: 2 where the words are at fault.
-    pub fn status(&self) -> u8 {
+/// What the system refused.
+#[derive(Clone, Copy)]
+pub enum Part {
+    /// To read the token's file.
+    Token,
+    /// To open the sizes' file.
+    Sizes,
+    /// To read standard input.
+    Input,
+    Other,
+}
+
+impl Part {
+    // What stands before the system's words, and behind them.
+    fn texts(self) -> (&'static str, &'static str) {
         match self {
-            ClientFault::Words | ClientFault::TooLong => 2,
+            Part::Token => ("the token's file isn't read: ", ": --token names it"),
+            Part::Sizes => ("the sizes' file isn't opened: ", ": --sizes names it"),
+            Part::Input => ("standard input isn't read: ", ""),
+            Part::Other => ("", ""),
+        }
+    }
+}
+
+/// What is said of a peer that the server let go.
+pub fn gone(why: Why) -> &'static str {
+    match why {
+        Why::Detached => "detached",
+        Why::Removed => "the user isn't known any more",
+        Why::SingleUser => "the session is single-user now",
+        Why::Killed => "the window was killed",
+        Why::Quit => "the session has ended",
+        Why::TooFarBehind => "too far behind: what the server sends is to be read sooner",
+        Why::Fault => "the server found a fault, or had no memory",
+        Why::TrailFull => "the session's trail is full: start another session",
+    }
+}
+
+impl Fault {
+    /// The status to exit with: 2 where the words are at fault.
+    pub fn status(self) -> u8 {
+        match self {
+            Fault::TooLong => 2,
             _ => 1,
         }
     }
-}
 
-/// Why the server let a peer go.
-#[derive(Clone, Copy, Debug, Error)]
-pub enum Gone {
-    #[error("detached")]
-    Detached,
-    #[error("the user isn't known any more")]
-    Removed,
-    #[error("the session is single-user now")]
-    SingleUser,
-    #[error("the window was killed")]
-    Killed,
-    #[error("the session has ended")]
-    Quit,
-    #[error("too far behind: what the server sends is to be read sooner")]
-    TooFarBehind,
-    #[error("the server found a fault, or had no memory")]
-    Fault,
-    #[error("the session's trail is full: start another session")]
-    TrailFull,
-}
-
-impl From<Why> for Gone {
-    fn from(why: Why) -> Gone {
-        match why {
-            Why::Detached => Gone::Detached,
-            Why::Removed => Gone::Removed,
-            Why::SingleUser => Gone::SingleUser,
-            Why::Killed => Gone::Killed,
-            Why::Quit => Gone::Quit,
-            Why::TooFarBehind => Gone::TooFarBehind,
-            Why::Fault => Gone::Fault,
-            Why::TrailFull => Gone::TrailFull,
+    // What is said of a fault that names nothing.
+    fn text(self) -> &'static str {
+        match self {
+            Fault::TooLong => "the words are too long for the server",
+            Fault::NoToken => "the token's file hasn't 64 digits of 0 to 9, a to f",
+            Fault::NoServerOfOurs => "the server doesn't speak this protocol",
+            Fault::Ended => "the connection ended",
+            Fault::Gone(why) => gone(why),
+            _ => "out of memory",
         }
     }
 }
 
-impl From<WriteFault> for ClientFault {
-    fn from(fault: WriteFault) -> ClientFault {
+/// A fault of a peer with these words, as it is told.
+#[derive(Clone, Copy)]
+pub struct Told<'a> {
+    pub fault: Fault,
+    pub words: &'a Words<'a>,
+}
+
+impl fmt::Display for Told<'_> {
+    fn fmt<W: fmt::Write>(&self, f: &mut fmt::Formatter<W>) -> fmt::Result {
+        match self.fault {
+            Fault::Writable => write!(
+                f,
+                "others may write the token's file: chmod go-w {}",
+                self.words.token
+            ),
+            Fault::NoServer => {
+                let socket = self.words.socket;
+                write!(
+                    f,
+                    "no server at {socket}: start it with 'muxd --socket {socket} --users PATH'"
+                )
+            }
+            Fault::Refused(part, error) => {
+                let (before, behind) = part.texts();
+                write!(f, "{before}{error}{behind}")
+            }
+            other => f.write_str(other.text()),
+        }
+    }
+}
+
+impl From<WriteFault> for Fault {
+    fn from(fault: WriteFault) -> Fault {
         match fault {
-            WriteFault::Unspellable => ClientFault::TooLong,
-            WriteFault::NoMemory => ClientFault::NoMemory,
+            WriteFault::Unspellable => Fault::TooLong,
+            WriteFault::NoMemory => Fault::NoMemory,
         }
     }
 }
 
-impl From<WordsFault> for ClientFault {
-    fn from(fault: WordsFault) -> ClientFault {
-        match fault {
-            WordsFault::Missing => ClientFault::Words,
-            WordsFault::TooLong => ClientFault::TooLong,
-            WordsFault::NoMemory => ClientFault::NoMemory,
-        }
+impl From<io::Error> for Fault {
+    fn from(error: io::Error) -> Fault {
+        Fault::Refused(Part::Other, error)
     }
 }
 
-impl From<io::Error> for ClientFault {
-    fn from(error: io::Error) -> ClientFault {
-        ClientFault::Other(error)
+impl From<AllocError> for Fault {
+    fn from(_error: AllocError) -> Fault {
+        Fault::NoMemory
     }
 }
 
-impl From<AllocError> for ClientFault {
-    fn from(_error: AllocError) -> ClientFault {
-        ClientFault::NoMemory
-    }
-}
-
-impl<T: Drop> From<AllocFailed<T>> for ClientFault {
-    fn from(_error: AllocFailed<T>) -> ClientFault {
-        ClientFault::NoMemory
+impl<T: Drop> From<AllocFailed<T>> for Fault {
+    fn from(_error: AllocFailed<T>) -> Fault {
+        Fault::NoMemory
     }
 }

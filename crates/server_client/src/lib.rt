@@ -8,6 +8,7 @@ mod refusals;
 mod sending;
 mod showing;
 mod standing;
+mod taking;
 mod watching;
 mod words;
 

@@ -1,45 +1,31 @@
 //! What a connection begins with, and the files that the words name.
 
-use crate::fault::ClientFault;
-use crate::words::{first_frame, word};
+use crate::fault::{Fault, Part};
+use crate::words::{Way, Words};
 use attach_proto::Token;
-use clap::ArgMatches;
 use std::alloc::Global;
-use std::fs;
 use std::fs::{File, Files, OpenOptions};
 use std::io::{ErrorKind, Write};
 use std::net::Net;
+use std::os::fd::AsRawFd;
 use std::os::unix::fs::MetadataExt;
 use std::os::unix::net::UnixStream;
+use std::{fs, io};
 
 // Modes of a file: those of its group and of all others.
 const OTHERS_READ: u32 = 0o044;
 
 const OTHERS_WRITE: u32 = 0o022;
 
-/// What a peer is to the server.
-#[derive(Clone, Copy, PartialEq, Eq)]
-pub enum Way {
-    Attach,
-    Window,
-    Command,
-}
-
-impl Way {
-    pub fn of(name: &str) -> Way {
-        match name {
-            "attach" => Way::Attach,
-            "window" => Way::Window,
-            _ => Way::Command,
-        }
-    }
-}
-
 // What is wrong in the words, whatever the token is.
-fn judge_words(alloc: Global, way: Way, matches: &ArgMatches) -> Result<(), ClientFault> {
-    let zeros = Token::read(&[b'0'; 64]).ok_or(ClientFault::NoToken)?;
-    first_frame(alloc, way, matches, zeros)?;
-    Ok(())
+fn judge_words(alloc: Global, words: &Words<'_>) -> Result<(), Fault> {
+    let Some(zeros) = Token::read(&[b'0'; 64]) else {
+        return Err(Fault::NoToken);
+    };
+    match words.first_frame(alloc, zeros) {
+        Ok(_) => Ok(()),
+        Err(fault) => Err(Fault::from(fault)),
+    }
 }
 
 // Whether others may use a file so. A terminal or a pipe is none.
@@ -51,81 +37,65 @@ fn is_open<R: Files<File = File>>(rt: &R, path: &str, mode: u32) -> bool {
 }
 
 /// Warns of a token's file that others may read.
-pub fn warn_of_token<R: Files<File = File>, E: Write>(
-    rt: &R,
-    matches: &ArgMatches,
-    errors: &mut E,
-) {
-    if let Ok(path) = word(matches, "token") {
-        if is_open(rt, path, OTHERS_READ) {
-            let _ = writeln!(
-                errors,
-                "mux: others may read the token's file: chmod go-r {path}"
-            );
-        }
+pub fn warn_of_token<R: Files<File = File>, E: Write>(rt: &R, path: &str, errors: &mut E) {
+    if is_open(rt, path, OTHERS_READ) {
+        let _ = writeln!(
+            errors,
+            "mux: others may read the token's file: chmod go-r {path}"
+        );
     }
 }
 
-fn token_of(file: &[u8]) -> Result<Token, ClientFault> {
+fn token_of(file: &[u8]) -> Result<Token, Fault> {
     let digits = file.strip_suffix(b"\n".as_slice()).unwrap_or(file);
-    Token::read(digits).ok_or(ClientFault::NoToken)
+    Token::read(digits).ok_or(Fault::NoToken)
+}
+
+// The token of a file, which nobody else may write.
+fn read_token<R: Files<File = File> + AllocGlobal>(rt: &R, path: &str) -> Result<Token, Fault> {
+    if is_open(rt, path, OTHERS_WRITE) {
+        return Err(Fault::Writable);
+    }
+    match fs::read(rt, path) {
+        Ok(file) => token_of(&file),
+        Err(error) => Err(Fault::Refused(Part::Token, error)),
+    }
 }
 
 // A FIFO is opened for both ways: that waits for nobody, and its last writer's end is none here.
-fn open_sizes<R: Files<File = File>>(
-    rt: &R,
-    way: Way,
-    matches: &ArgMatches,
-) -> Result<Option<File>, ClientFault> {
-    if way == Way::Command {
-        return Ok(None);
-    }
-    let Some(path) = matches.get_str("sizes") else {
-        return Ok(None);
-    };
+fn open_sizes<R: Files<File = File>>(rt: &R, way: Way, path: &str) -> io::Result<File> {
     let mut options = OpenOptions::new();
     match way {
         Way::Attach => options.read(true).write(true),
         Way::Window | Way::Command => options.append(true),
     };
-    match options.open(rt, path) {
-        Ok(file) => Ok(Some(file)),
-        Err(error) => Err(ClientFault::NoSizes(error)),
+    options.open(rt, path)
+}
+
+// The sizes' file, where the words name one.
+fn sizes_of<R: Files<File = File>>(rt: &R, words: &Words<'_>) -> Result<Option<File>, Fault> {
+    match words.sizes {
+        Some(path) => match open_sizes(rt, words.way, path) {
+            Ok(file) => Ok(Some(file)),
+            Err(error) => Err(Fault::Refused(Part::Sizes, error)),
+        },
+        None => Ok(None),
     }
 }
 
-fn connect<R: Net + AllocGlobal>(rt: &R, path: &str) -> Result<UnixStream, ClientFault> {
+fn connect<R: Net>(rt: &R, path: &str) -> Result<UnixStream, Fault> {
     match UnixStream::connect(rt, path) {
         Ok(stream) => Ok(stream),
-        Err(error) => match error.kind() {
-            ErrorKind::NotFound | ErrorKind::ConnectionRefused => Err(ClientFault::NoServer(
-                String::from_str(rt.alloc(), path)?,
-            )),
-            _ => Err(ClientFault::Other(error)),
-        },
+        Err(error) => Err(match error.kind() {
+            ErrorKind::NotFound | ErrorKind::ConnectionRefused => Fault::NoServer,
+            _ => Fault::from(error),
+        }),
     }
-}
-
-// The token of the file that the words name, which nobody else may write.
-fn read_token<R: Files<File = File> + AllocGlobal>(
-    rt: &R,
-    matches: &ArgMatches,
-) -> Result<Token, ClientFault> {
-    let path = word(matches, "token")?;
-    if is_open(rt, path, OTHERS_WRITE) {
-        return Err(ClientFault::Writable(String::from_str(rt.alloc(), path)?));
-    }
-    let file = fs::read(rt, path).map_err(ClientFault::NoFile)?;
-    token_of(&file)
 }
 
 // A connection that begins with this frame.
-fn connect_with<R: Net + AllocGlobal>(
-    rt: &R,
-    matches: &ArgMatches,
-    frame: &[u8],
-) -> Result<UnixStream, ClientFault> {
-    let stream = connect(rt, word(matches, "socket")?)?;
+fn connect_with<R: Net>(rt: &R, path: &str, frame: &[u8]) -> Result<UnixStream, Fault> {
+    let stream = connect(rt, path)?;
     let mut writer = &stream;
     writer.write_all(frame)?;
     Ok(stream)
@@ -135,19 +105,69 @@ fn connect_with<R: Net + AllocGlobal>(
 #[derive(Drop)]
 pub struct Opened {
     pub stream: UnixStream,
-    pub sizes: Option<File>,
+    /// The file that a client's sizes are read from.
+    pub asked: Option<File>,
+    /// The file that a window's sizes are written to.
+    pub told: Option<File>,
+}
+
+impl Opened {
+    fn of(way: Way, stream: UnixStream, sizes: Option<File>) -> Opened {
+        match way {
+            Way::Attach => Opened {
+                stream,
+                asked: sizes,
+                told: None,
+            },
+            Way::Window | Way::Command => Opened {
+                stream,
+                asked: None,
+                told: sizes,
+            },
+        }
+    }
+}
+
+// The first frame, with the token of the file that the words name.
+fn frame_for<R: Files<File = File> + AllocGlobal>(
+    rt: &R,
+    words: &Words<'_>,
+) -> Result<Vec<u8>, Fault> {
+    judge_words(rt.alloc(), words)?;
+    let token = read_token(rt, words.token)?;
+    Ok(words.first_frame(rt.alloc(), token)?)
+}
+
+// Makes /dev/null of a standard stream that is closed. The answer is whether one was.
+fn fill<R: Files<File = File>>(rt: &R, kept: &mut Vec<File>) -> io::Result<bool> {
+    let file = fs::open(rt, "/dev/null")?;
+    if file.as_raw_fd() > 2 {
+        return Ok(false);
+    }
+    kept.push(file)?;
+    Ok(true)
+}
+
+// Standard streams that are closed are /dev/null from now on, so that nothing else becomes one.
+fn fill_closed<R: Files<File = File>>(rt: &R, kept: &mut Vec<File>) -> io::Result<()> {
+    for _ in 0..3 {
+        if !fill(rt, kept)? {
+            break;
+        }
+    }
+    Ok(())
 }
 
 /// Begins a connection. What is wrong is found in the words first, then in files, then at the socket.
+/// What stands for closed streams is put into a list, and stays as long as that.
 pub fn open<R: Net + Files<File = File> + AllocGlobal>(
     rt: &R,
-    way: Way,
-    matches: &ArgMatches,
-) -> Result<Opened, ClientFault> {
-    judge_words(rt.alloc(), way, matches)?;
-    let token = read_token(rt, matches)?;
-    let sizes = open_sizes(rt, way, matches)?;
-    let frame = first_frame(rt.alloc(), way, matches, token)?;
-    let stream = connect_with(rt, matches, &frame)?;
-    Ok(Opened { stream, sizes })
+    words: &Words<'_>,
+    kept: &mut Vec<File>,
+) -> Result<Opened, Fault> {
+    fill_closed(rt, kept)?;
+    let frame = frame_for(rt, words)?;
+    let sizes = sizes_of(rt, words)?;
+    let stream = connect_with(rt, words.socket, &frame)?;
+    Ok(Opened::of(words.way, stream, sizes))
 }

@@ -1,6 +1,6 @@
 //! What the refusals mean that are a number, or a size.
 
-use crate::opening::Way;
+use crate::words::{Way, Words};
 use program_words::explain as explain_number;
 use std::io;
 use std::io::Write;
@@ -12,11 +12,10 @@ fn bounds(way: Way) -> &'static str {
     }
 }
 
-/// Writes what a refusal means, in parentheses behind its text; nothing where the text says it. The
-/// line is that of a command.
-pub fn explain<E: Write>(said: &str, way: Way, line: &str, errors: &mut E) -> io::Result<()> {
+/// Writes what a refusal means, in parentheses behind its text; nothing where the text says it.
+pub fn explain<E: Write>(said: &str, words: &Words<'_>, errors: &mut E) -> io::Result<()> {
     if said == "bad size" {
-        return write!(errors, " ({})", bounds(way));
+        return write!(errors, " ({})", bounds(words.way));
     }
-    explain_number(said, line, errors)
+    explain_number(said, words.line, errors)
 }

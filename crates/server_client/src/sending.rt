@@ -2,11 +2,10 @@
 
 ghost use Rattle.std.specs.Io.{ReadsAtMost};
 
-use crate::fault::ClientFault;
-use crate::opening::Way;
+use crate::fault::{Fault, Part};
 use crate::standing::Shared;
-use crate::words::frame_of;
-use attach_proto::{Bytes, LONGEST, Message, WriteFault};
+use crate::words::{Way, frame_of};
+use attach_proto::{Bytes, Kind, LONGEST, Message, WriteFault, head_of};
 use size_lines::{Size, SizeLines};
 use std::alloc::{AllocError, Global};
 use std::fs::File;
@@ -58,13 +57,13 @@ fn send_all<R: Wait + AllocGlobal, I: Read, J, O>(
     rt: &R,
     shared: &Shared<J, O>,
     input: &mut I,
-) -> Result<(), ClientFault> {
+) -> Result<(), Fault> {
     let mut buffer = vec![in rt.alloc(); 0; LONGEST]?;
     for _ in 0..u64::MAX {
         let count = match read_input(input, buffer.as_mut_slice()) {
             Ok(0) => break,
             Ok(count) => count,
-            Err(error) => return Err(ClientFault::Input(error)),
+            Err(error) => return Err(Fault::Refused(Part::Input, error)),
         };
         if !send_input(rt, shared, &buffer[..count])? {
             break;
@@ -73,14 +72,9 @@ fn send_all<R: Wait + AllocGlobal, I: Read, J, O>(
     Ok(())
 }
 
-// Sends that the peer goes.
-fn send_detach<R: Wait + AllocGlobal, I, O>(
-    rt: &R,
-    shared: &Shared<I, O>,
-) -> Result<(), ClientFault> {
-    let frame = frame_of(rt.alloc(), &Message::Detach)?;
-    shared.send(rt, &frame)?;
-    Ok(())
+// Sends that the peer goes: its frame is a head alone.
+fn send_detach<R: Wait, I, O>(rt: &R, shared: &Shared<I, O>) -> io::Result<()> {
+    shared.send(rt, &head_of(Kind::Detach, &[]))
 }
 
 // Sends the input, and at its end that the peer goes.
@@ -91,22 +85,45 @@ fn send_to_end<R: Wait + AllocGlobal, I: Read, J, O>(rt: &R, shared: &Shared<J, 
     let _ = send_detach(rt, shared);
 }
 
-// Sends the last size of those that these bytes end.
-fn send_size<R: Wait + AllocGlobal, I, O>(
+// Sends a size. The answer is whether to go on.
+fn send_size<R: Wait + AllocGlobal, I, O>(rt: &R, shared: &Shared<I, O>, size: Size) -> bool {
+    match size_frame(rt.alloc(), size) {
+        Ok(frame) => shared.send(rt, &frame).is_ok(),
+        Err(_) => false,
+    }
+}
+
+// Sends the last size of those that these bytes end. The answer is whether to go on.
+fn send_last<R: Wait + AllocGlobal, I, O>(
     rt: &R,
     shared: &Shared<I, O>,
     lines: &mut SizeLines,
     bytes: &[u8],
-) -> Result<(), ClientFault> {
-    let size = lines.feed(bytes)?;
+) -> bool {
+    let Ok(size) = lines.feed(bytes) else {
+        return false;
+    };
     if lines.has_dropped() {
         shared.standing.lock(rt).has_dropped = true;
     }
-    if let Some(size) = size {
-        let frame = size_frame(rt.alloc(), size)?;
-        shared.send(rt, &frame)?;
+    match size {
+        Some(size) => send_size(rt, shared, size),
+        None => true,
     }
-    Ok(())
+}
+
+// Sends the last size of those that a read brings. The answer is whether to go on.
+fn send_read<R: Wait + AllocGlobal, I, O>(
+    rt: &R,
+    shared: &Shared<I, O>,
+    file: &mut File,
+    lines: &mut SizeLines,
+    buffer: &mut [u8],
+) -> bool {
+    match file.read(buffer) {
+        Ok(0) | Err(_) => false,
+        Ok(count) => send_last(rt, shared, lines, &buffer[..count]),
+    }
 }
 
 // Sends the last size of those that came, until the file ends.
@@ -114,54 +131,53 @@ fn send_sizes<R: Wait + AllocGlobal, I, O>(
     rt: &R,
     shared: &Shared<I, O>,
     file: &mut File,
-) -> Result<(), ClientFault> {
+) -> Result<(), AllocError> {
     let mut lines = SizeLines::new(rt.alloc());
     let mut buffer = vec![in rt.alloc(); 0; LONGEST]?;
     for _ in 0..u64::MAX {
-        let count = file.read(buffer.as_mut_slice())?;
-        if count == 0 {
+        if !send_read(rt, shared, file, &mut lines, buffer.as_mut_slice()) {
             break;
         }
-        send_size(rt, shared, &mut lines, &buffer[..count])?;
     }
     Ok(())
 }
 
-/// Starts a thread that sends the input, and at its end that the peer goes. It isn't joined: it may
-/// wait for its input for good, and the program ends without it.
+/// What a thread sends until it ends.
+#[derive(Drop)]
+pub enum Source<I> {
+    /// The input, and at its end that the peer goes.
+    Input(I),
+    /// The sizes that a file says.
+    Sizes(File),
+}
+
+impl<J: Read> Source<J> {
+    fn send<R: Wait + AllocGlobal, I, O>(&mut self, rt: &R, shared: &Shared<I, O>) {
+        match self {
+            Source::Input(input) => send_to_end(rt, shared, input),
+            Source::Sizes(file) => {
+                let _ = send_sizes(rt, shared, file);
+            }
+        }
+    }
+}
+
+/// Starts a thread that sends. It isn't joined: it may wait for its source for good, and the program
+/// ends without it.
 pub fn start_sending<
     R: Threads + Wait + AllocGlobal + Copy + Send + 'static,
     I: Read + Send + Drop + 'static,
     O: Write + Send + Drop + 'static,
->(rt: &R, shared: &Arc<Shared<I, O>, Global>, input: I) -> Result<(), ClientFault> {
+>(rt: &R, shared: &Arc<Shared<I, O>, Global>, source: Source<I>) -> Result<(), AllocError> {
     let theirs = Arc::try_clone(shared)?;
     let rt_there = *rt;
-    let mut input = input;
+    let mut source = source;
     let started = thread::spawn(rt, move || {
         let rt = rt_there;
-        send_to_end(&rt, &theirs, &mut input);
+        source.send(&rt, &theirs);
     });
     match started {
         Ok(_) => Ok(()),
-        Err(error) => Err(ClientFault::from(AllocError::from(error))),
-    }
-}
-
-/// Starts a thread that sends the sizes, likewise.
-pub fn start_sizes<
-    R: Threads + Wait + AllocGlobal + Copy + Send + 'static,
-    I: Read + Send + Drop + 'static,
-    O: Write + Send + Drop + 'static,
->(rt: &R, shared: &Arc<Shared<I, O>, Global>, file: File) -> Result<(), ClientFault> {
-    let theirs = Arc::try_clone(shared)?;
-    let rt_there = *rt;
-    let mut file = file;
-    let started = thread::spawn(rt, move || {
-        let rt = rt_there;
-        let _ = send_sizes(&rt, &theirs, &mut file);
-    });
-    match started {
-        Ok(_) => Ok(()),
-        Err(error) => Err(ClientFault::from(AllocError::from(error))),
+        Err(error) => Err(AllocError::from(error)),
     }
 }

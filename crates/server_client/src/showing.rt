@@ -1,42 +1,26 @@
 //! What comes from the server: read, and written where it belongs.
 
-use crate::fault::{ClientFault, Gone};
-use crate::opening::Way;
-use crate::sending::{start_sending, start_sizes};
+use crate::fault::Fault;
+use crate::sending::{Source, start_sending};
 use crate::standing::{Intake, Outlet, Shared, Standing};
-use attach_proto::{LONGEST, Message, ProtoFault, Why};
-use std::alloc::Global;
+use crate::watching::Turns;
+use attach_proto::{LONGEST, Why};
+use std::alloc::{AllocError, Global};
 use std::io::{Read, Write};
 use std::sync::{Arc, Wait};
 use std::thread::Threads;
+use std::time::Clock;
 use std::{io, mem};
 
-// How much may wait for a window's standard output.
-const MOST_WAITING: usize = 1_048_576;
-
-fn ended(way: Way, why: Why, said: Option<String>) -> Result<Why, ClientFault> {
-    match (why, said) {
-        (Why::Detached | Why::Quit, _) => Ok(why),
-        (Why::Killed, _) if way == Way::Window => Ok(why),
-        (Why::Fault, Some(said)) => Err(ClientFault::Said(said)),
-        (why, _) => Err(ClientFault::Gone(Gone::from(why))),
-    }
+// What a writing takes, and whether it was watched before.
+#[derive(Drop)]
+struct Writing {
+    bytes: Vec<u8>,
+    sizes: Vec<u8>,
+    is_watched: bool,
 }
 
 impl Standing {
-    fn put(&mut self, way: Way, bytes: &[u8]) -> Result<(), ClientFault> {
-        if way == Way::Window && self.bytes.len().saturating_add(bytes.len()) > MOST_WAITING {
-            return Err(ClientFault::Gone(Gone::TooFarBehind));
-        }
-        self.bytes.extend_from_slice(bytes)?;
-        Ok(())
-    }
-
-    fn put_size(&mut self, rows: u16, columns: u16) -> Result<(), ClientFault> {
-        writeln!(self.sizes, "{rows} {columns}")?;
-        Ok(())
-    }
-
     // Takes what waits, for a writing that begins. None where nothing does: then no thread writes.
     fn begin_writing(&mut self, alloc: Global) -> Option<Writing> {
         self.is_writing = !self.bytes.is_empty() || !self.sizes.is_empty();
@@ -52,141 +36,50 @@ impl Standing {
     }
 }
 
-// What a writing takes, and whether it was watched before.
-#[derive(Drop)]
-struct Writing {
-    bytes: Vec<u8>,
-    sizes: Vec<u8>,
-    is_watched: bool,
-}
-
-// The peer is let in: its input is read from now on, and a window's first size is told.
-fn welcome<
-    R: Threads + Wait + AllocGlobal + Copy + Send + 'static,
-    I: Read + Send + Drop + 'static,
-    O: Write + Send + Drop + 'static,
->(rt: &R, shared: &Arc<Shared<I, O>, Global>, intake: &mut Intake<I>) -> Result<(), ClientFault> {
-    if shared.way == Way::Command {
-        return Ok(());
-    }
-    let Some(input) = intake.input.take() else {
-        return Ok(());
-    };
-    if let Some(asked) = intake.asked.take() {
-        start_sizes(rt, shared, asked)?;
-    }
-    if shared.way == Way::Window {
-        let mut standing = shared.standing.lock(rt);
-        standing.put_size(shared.rows, shared.columns)?;
-    }
-    start_sending(rt, shared, input)
-}
-
-// What was said to a command is its list, unless it is the last thing before a fault: that is why.
-fn list<R: Wait, I, O>(
-    rt: &R,
-    shared: &Shared<I, O>,
-    intake: &mut Intake<I>,
-) -> Result<(), ClientFault> {
-    if shared.way == Way::Command
-        && let Some(said) = intake.said.take()
-    {
-        let mut standing = shared.standing.lock(rt);
-        standing.put(shared.way, said.as_bytes())?;
-        standing.put(shared.way, b"\n")?;
-    }
-    Ok(())
-}
-
-// Once a peer is welcome, its status line says what the session says.
-fn hear<R: Wait + AllocGlobal, I, O>(
-    rt: &R,
-    shared: &Shared<I, O>,
-    intake: &mut Intake<I>,
-    text: &str,
-) -> Result<(), ClientFault> {
-    if intake.input.is_some() {
-        list(rt, shared, intake)?;
-        intake.said = Some(String::from_str(rt.alloc(), text)?);
-    }
-    Ok(())
-}
-
-// Puts in order what a message brings. The answer is the end, where it is the last one.
-fn take<
-    R: Threads + Wait + AllocGlobal + Copy + Send + 'static,
-    I: Read + Send + Drop + 'static,
-    O: Write + Send + Drop + 'static,
->(
-    rt: &R,
-    shared: &Arc<Shared<I, O>, Global>,
-    intake: &mut Intake<I>,
-    message: &Message,
-) -> Result<Option<Why>, ClientFault> {
-    let taken = match message {
-        Message::Welcome(_) => welcome(rt, shared, intake),
-        Message::Draw(bytes) | Message::Input(bytes) => {
-            let mut standing = shared.standing.lock(rt);
-            standing.put(shared.way, bytes.as_slice())
-        }
-        Message::Size { rows, columns } => {
-            let mut standing = shared.standing.lock(rt);
-            standing.put_size(*rows, *columns)
-        }
-        Message::Say(text) => hear(rt, shared, intake, text.as_str()),
-        Message::Gone(why) => return leave(rt, shared, intake, *why),
-        _ => Ok(()),
-    };
-    taken?;
-    Ok(None)
-}
-
-// The end that the server told.
-fn leave<R: Wait, I, O>(
-    rt: &R,
-    shared: &Shared<I, O>,
-    intake: &mut Intake<I>,
-    why: Why,
-) -> Result<Option<Why>, ClientFault> {
-    if why != Why::Fault {
-        list(rt, shared, intake)?;
-    }
-    Ok(Some(why))
-}
-
 // What a read of the socket came to.
-#[derive(Drop)]
+#[derive(Clone, Copy)]
 enum Came {
-    Some,
+    More,
     /// The peer ended so.
-    End(Result<Why, ClientFault>),
+    End(Result<Why, Fault>),
     /// Another thread read how it ended.
     Nothing,
 }
 
-// Puts in order what was read.
-fn take_bytes<
+// Reads the socket, and puts in order what came.
+fn receive<R: Wait + AllocGlobal, I, O>(
+    rt: &R,
+    shared: &Shared<I, O>,
+    intake: &mut Intake<I>,
+    buffer: &mut [u8],
+) -> Result<Came, Fault> {
+    if intake.is_over {
+        return Ok(Came::Nothing);
+    }
+    let mut stream = &shared.stream;
+    let count = stream.read(buffer)?;
+    let mut standing = shared.standing.lock(rt);
+    let end = standing.take_read(rt.alloc(), &mut intake.reader, &buffer[..count])?;
+    intake.is_welcome = standing.is_welcome;
+    intake.is_over = end.is_some();
+    Ok(match end {
+        Some(end) => Came::End(end),
+        None => Came::More,
+    })
+}
+
+// The peer is let in: its sizes and its input are read from now on.
+fn start<
     R: Threads + Wait + AllocGlobal + Copy + Send + 'static,
     I: Read + Send + Drop + 'static,
     O: Write + Send + Drop + 'static,
->(
-    rt: &R,
-    shared: &Arc<Shared<I, O>, Global>,
-    intake: &mut Intake<I>,
-    bytes: &[u8],
-) -> Result<Came, ClientFault> {
-    let mut messages = Vec::new(rt.alloc());
-    let fed = intake.reader.feed(bytes, &mut messages);
-    for message in &messages {
-        if let Some(why) = take(rt, shared, intake, message)? {
-            intake.is_over = true;
-            return Ok(Came::End(ended(shared.way, why, intake.said.take())));
-        }
+>(rt: &R, shared: &Arc<Shared<I, O>, Global>, intake: &mut Intake<I>) -> Result<(), AllocError> {
+    if let Some(asked) = intake.asked.take() {
+        start_sending(rt, shared, Source::Sizes(asked))?;
     }
-    match fed {
-        Ok(()) => Ok(Came::Some),
-        Err(ProtoFault::NoMemory) => Err(ClientFault::NoMemory),
-        Err(_) => Err(ClientFault::NoServerOfOurs),
+    match intake.input.take() {
+        Some(input) => start_sending(rt, shared, Source::Input(input)),
+        None => Ok(()),
     }
 }
 
@@ -195,20 +88,13 @@ fn read_once<
     R: Threads + Wait + AllocGlobal + Copy + Send + 'static,
     I: Read + Send + Drop + 'static,
     O: Write + Send + Drop + 'static,
->(rt: &R, shared: &Arc<Shared<I, O>, Global>, buffer: &mut [u8]) -> Result<Came, ClientFault> {
-    let mut guard = shared.intake.lock(rt);
-    let intake = &mut *guard;
-    if intake.is_over {
-        return Ok(Came::Nothing);
+>(rt: &R, shared: &Arc<Shared<I, O>, Global>, buffer: &mut [u8]) -> Result<Came, Fault> {
+    let mut intake = shared.intake.lock(rt);
+    let came = receive(rt, shared, &mut intake, buffer)?;
+    if intake.is_welcome {
+        start(rt, shared, &mut intake)?;
     }
-    let mut stream = &shared.stream;
-    let count = stream.read(buffer)?;
-    if count == 0 {
-        intake.is_over = true;
-        list(rt, shared, intake)?;
-        return Ok(Came::End(Err(ClientFault::Ended)));
-    }
-    take_bytes(rt, shared, intake, &buffer[..count])
+    Ok(came)
 }
 
 // Takes what waits. None where nothing does, or another thread writes.
@@ -233,7 +119,7 @@ fn waiting<R: Wait + AllocGlobal, I, O>(
 }
 
 impl<O: Write> Outlet<O> {
-    fn write(&mut self, writing: &Writing) -> Result<(), io::Error> {
+    fn write(&mut self, writing: &Writing) -> io::Result<()> {
         // A size that nobody takes ends nothing.
         if let Some(file) = &mut self.sizes {
             let _ = file.write_all(&writing.sizes);
@@ -243,18 +129,32 @@ impl<O: Write> Outlet<O> {
     }
 }
 
-// Writes what waits, unless another thread does.
+// Writes what waits, unless another thread does. The answer is whether it did.
+fn write_next<R: Wait + AllocGlobal, I, O: Write>(
+    rt: &R,
+    shared: &Shared<I, O>,
+    mine: bool,
+) -> io::Result<bool> {
+    match waiting(rt, shared, mine) {
+        Some(writing) => {
+            shared.outlet.lock(rt).write(&writing)?;
+            Ok(true)
+        }
+        None => Ok(false),
+    }
+}
+
+// Writes until nothing waits, unless another thread does.
 fn write_waiting<R: Wait + AllocGlobal, I, O: Write>(
     rt: &R,
     shared: &Shared<I, O>,
-) -> Result<(), ClientFault> {
+) -> io::Result<()> {
     let mut mine = false;
     for _ in rt.forever() {
-        let Some(writing) = waiting(rt, shared, mine) else {
+        if !write_next(rt, shared, mine)? {
             break;
-        };
+        }
         mine = true;
-        shared.outlet.lock(rt).write(&writing)?;
     }
     Ok(())
 }
@@ -263,9 +163,9 @@ fn write_waiting<R: Wait + AllocGlobal, I, O: Write>(
 fn finish<R: Wait + AllocGlobal, I, O: Write>(
     rt: &R,
     shared: &Shared<I, O>,
-    end: Result<Why, ClientFault>,
-) -> Result<(), ClientFault> {
-    if shared.way == Way::Window {
+    end: Result<Why, Fault>,
+) -> io::Result<()> {
+    if shared.way.is_window() {
         shared.end(rt, end);
         return write_waiting(rt, shared);
     }
@@ -274,14 +174,14 @@ fn finish<R: Wait + AllocGlobal, I, O: Write>(
     Ok(())
 }
 
-/// Reads the socket once, and writes what that brings. The answer is whether to go on.
-pub fn pass_on<
+// Reads the socket once, and writes what that brings. The answer is whether to go on.
+fn pass_on<
     R: Threads + Wait + AllocGlobal + Copy + Send + 'static,
     I: Read + Send + Drop + 'static,
     O: Write + Send + Drop + 'static,
->(rt: &R, shared: &Arc<Shared<I, O>, Global>, buffer: &mut [u8]) -> Result<bool, ClientFault> {
+>(rt: &R, shared: &Arc<Shared<I, O>, Global>, buffer: &mut [u8]) -> Result<bool, Fault> {
     match read_once(rt, shared, buffer)? {
-        Came::Some => {
+        Came::More => {
             write_waiting(rt, shared)?;
             Ok(true)
         }
@@ -293,15 +193,16 @@ pub fn pass_on<
     }
 }
 
-/// Reads and writes until the peer ends.
+/// Reads and writes until the peer ends; where it stands in, while another thread's writing takes long.
 pub fn show<
-    R: Threads + Wait + AllocGlobal + Copy + Send + 'static,
+    R: Threads + Wait + Clock + AllocGlobal + Copy + Send + 'static,
     I: Read + Send + Drop + 'static,
     O: Write + Send + Drop + 'static,
->(rt: &R, shared: &Arc<Shared<I, O>, Global>) -> Result<(), ClientFault> {
+>(rt: &R, shared: &Arc<Shared<I, O>, Global>, stands_in: bool) -> Result<(), Fault> {
+    let mut turns = Turns::of(stands_in);
     let mut buffer = vec![in rt.alloc(); 0; LONGEST]?;
     for _ in rt.forever() {
-        if !pass_on(rt, shared, buffer.as_mut_slice())? {
+        if !turns.wait(rt, shared) || !pass_on(rt, shared, buffer.as_mut_slice())? {
             break;
         }
     }

@@ -1,13 +1,7 @@
-//! A window's second thread, which reads the socket while the writing of the first takes long.
+//! When a window's second thread reads the socket: while the writing of the first takes long.
 
-use crate::fault::ClientFault;
-use crate::showing::pass_on;
 use crate::standing::{Shared, Standing};
-use attach_proto::LONGEST;
-use std::alloc::Global;
-use std::io::{Read, Write};
-use std::sync::{Arc, Wait};
-use std::thread::Threads;
+use std::sync::Wait;
 use std::time::{Clock, Duration};
 
 // A writing takes long that doesn't end within so many milliseconds.
@@ -34,23 +28,42 @@ impl Standing {
     }
 }
 
+// What a period came to.
+#[derive(Clone, Copy)]
+enum Seen {
+    /// The writing of this number takes long.
+    Stuck(u64),
+    Nothing,
+    /// The peer ended.
+    End,
+}
+
+// Looks at one period.
+fn look<R: Wait + Clock, I, O>(rt: &R, shared: &Shared<I, O>, idle: &mut u32) -> Seen {
+    let begun = &shared.begun;
+    let standing = begun.wait_while(rt, shared.standing.lock(rt), |s| {
+        !s.is_watched && s.end.is_none()
+    });
+    let seen = standing.writings;
+    let period = Duration::from_millis(PERIOD);
+    let (mut standing, _) = begun.wait_timeout_while(rt, standing, period, |s| s.end.is_none());
+    if standing.end.is_some() {
+        Seen::End
+    } else if standing.goes_on(seen, idle) {
+        Seen::Stuck(seen)
+    } else {
+        Seen::Nothing
+    }
+}
+
 // Waits until a writing takes long: its number. None where the peer ended.
 fn wait_for_stuck<R: Wait + Clock, I, O>(rt: &R, shared: &Shared<I, O>) -> Option<u64> {
-    let begun = &shared.begun;
-    let mut standing = shared.standing.lock(rt);
     let mut idle = 0u32;
     for _ in rt.forever() {
-        standing = begun.wait_while(rt, standing, |s| !s.is_watched && s.end.is_none());
-        let seen = standing.writings;
-        let period = Duration::from_millis(PERIOD);
-        standing = begun
-            .wait_timeout_while(rt, standing, period, |s| s.end.is_none())
-            .0;
-        if standing.end.is_some() {
-            return None;
-        }
-        if standing.goes_on(seen, &mut idle) {
-            return Some(seen);
+        match look(rt, shared, &mut idle) {
+            Seen::Stuck(number) => return Some(number),
+            Seen::Nothing => {}
+            Seen::End => return None,
         }
     }
     None
@@ -62,42 +75,33 @@ fn is_stuck<R: Wait, I, O>(rt: &R, shared: &Shared<I, O>, number: u64) -> bool {
     standing.is_writing && standing.writings == number
 }
 
-// Reads and writes until the writing of this number ends. The answer is whether to go on.
-fn read_on<
-    R: Threads + Wait + AllocGlobal + Copy + Send + 'static,
-    I: Read + Send + Drop + 'static,
-    O: Write + Send + Drop + 'static,
->(
-    rt: &R,
-    shared: &Arc<Shared<I, O>, Global>,
-    number: u64,
-    buffer: &mut [u8],
-) -> Result<bool, ClientFault> {
-    for _ in rt.forever() {
-        if !pass_on(rt, shared, buffer)? {
-            return Ok(false);
-        }
-        if !is_stuck(rt, shared, number) {
-            return Ok(true);
-        }
-    }
-    Ok(false)
+/// When a thread may read the socket.
+#[derive(Clone, Copy)]
+pub enum Turns {
+    Always,
+    /// While the writing of another thread takes long: its number, where one was met.
+    StandsIn(Option<u64>),
 }
 
-/// Reads and writes for another thread while its writing takes long, until the peer ends.
-pub fn stand_in<
-    R: Threads + Wait + Clock + AllocGlobal + Copy + Send + 'static,
-    I: Read + Send + Drop + 'static,
-    O: Write + Send + Drop + 'static,
->(rt: &R, shared: &Arc<Shared<I, O>, Global>) -> Result<(), ClientFault> {
-    let mut buffer = vec![in rt.alloc(); 0; LONGEST]?;
-    for _ in rt.forever() {
-        let Some(number) = wait_for_stuck(rt, shared) else {
-            break;
-        };
-        if !read_on(rt, shared, number, buffer.as_mut_slice())? {
-            break;
+impl Turns {
+    pub fn of(stands_in: bool) -> Turns {
+        if stands_in {
+            Turns::StandsIn(None)
+        } else {
+            Turns::Always
         }
     }
-    Ok(())
+
+    /// Waits until the thread may read. The answer is false where the peer ended.
+    pub fn wait<R: Wait + Clock, I, O>(&mut self, rt: &R, shared: &Shared<I, O>) -> bool {
+        match *self {
+            Turns::Always => true,
+            Turns::StandsIn(Some(number)) if is_stuck(rt, shared, number) => true,
+            Turns::StandsIn(_) => {
+                let met = wait_for_stuck(rt, shared);
+                *self = Turns::StandsIn(met);
+                met.is_some()
+            }
+        }
+    }
 }

@@ -4,6 +4,7 @@ use crate::marks::Marks;
 use crate::peer::{Awaits, Peer, Role};
 use slab::Slab;
 use std::alloc::{AllocError, Global};
+use std::ops::Range;
 
 /// Connections by their keys. One with which nothing is to be done rests, until something comes
 /// from it or is to be put into it.
@@ -14,6 +15,8 @@ pub struct Connections<S> {
     awake: Marks,
     // How many were taken in.
     number: u64,
+    // Where one is looked for first: behind the key that was found last.
+    next: usize,
 }
 
 impl<S: Drop> Connections<S> {
@@ -22,6 +25,7 @@ impl<S: Drop> Connections<S> {
             peers: Slab::new(alloc),
             awake: Marks::new(alloc),
             number: 0,
+            next: 0,
         }
     }
 
@@ -65,12 +69,27 @@ impl<S: Drop> Connections<S> {
         self.peers.get_mut(key)
     }
 
-    /// The one that is this to the session, and is still sent what that says.
-    pub fn key_of(&self, role: Role) -> Option<usize> {
-        self.peers
-            .iter()
-            .find(|(_, peer)| peer.role == role && peer.listens())
-            .map(|(key, _)| key)
+    // The one of these keys that is this to the session, and is still sent what that says.
+    fn key_among(&self, keys: Range<usize>, role: Role) -> Option<usize> {
+        for key in keys {
+            let peer = self.peers.get(key);
+            if peer.is_some_and(|peer| peer.role == role && peer.listens()) {
+                return Some(key);
+            }
+        }
+        None
+    }
+
+    /// The one that is this to the session, and is still sent what that says. Effects mostly come
+    /// in the order of the keys, so it is looked for behind the one that was found last.
+    pub fn key_of(&mut self, role: Role) -> Option<usize> {
+        let next = self.next.min(self.end());
+        let key = match self.key_among(next..self.end(), role) {
+            Some(key) => key,
+            None => self.key_among(0..next, role)?,
+        };
+        self.next = key.saturating_add(1);
+        Some(key)
     }
 
     /// Whether one awaits this.

@@ -1,13 +1,14 @@
 //! What peers are sent, as frames.
 
-ghost use Rattle.std.specs.Prelude.{◌≡◌};
+ghost use Rattle.std.specs.Prelude.{◌≡◌, OnOk, OnErr};
 ghost use Rattle.attach_proto.specs.Spelling.{spelling};
 ghost use Rattle.attach_proto.specs.declared.message.Message.TheVariants as message;
+ghost use Rattle.server_connections.specs.Frames.{PutsFrames, PutsFront, PutsMessage, Sends};
 
-use attach_proto::{Bytes, Kind, LONGEST, Message, Text, Why, WriteFault, write_message};
+use attach_proto::{Kind, LONGEST, Message, Text, Why, WriteFault, head_of, write_message};
 use server_turn::Turn;
 use session_model::Reason;
-use std::alloc::Global;
+use std::alloc::{AllocError, Global};
 
 /// A GONE, which takes no memory.
 #[tactic(auto, unfolding(attach_proto::specs::Spelling::spelling))]
@@ -42,36 +43,47 @@ pub enum Sending<'a> {
     Size(u16, u16),
 }
 
-fn put_message(alloc: Global, turn: &mut Turn, message: &Message) -> Result<(), WriteFault> {
+/// Puts a message behind what waits.
+fn put_message(alloc: Global, turn: &mut Turn, message: &Message) -> Result<(), WriteFault>
+    ensures ok { OnOk result (PutsMessage message.now turn.old turn.new) }
+    ensures err { OnErr result (turn.new ≡ turn.old) }
+{
     let mut frame = Vec::new(alloc);
     write_message(alloc, message, &mut frame)?;
     turn.put(&frame)?;
     Ok(())
 }
 
-fn put_text(alloc: Global, turn: &mut Turn, text: &[u8]) -> Result<(), WriteFault> {
+/// Puts a text behind what waits.
+fn put_text(alloc: Global, turn: &mut Turn, text: &[u8]) -> Result<(), WriteFault>
+    ensures ok { OnOk result (PutsMessage (message.Say text.now) turn.old turn.new) }
+    ensures err { OnErr result (turn.new ≡ turn.old) }
+{
     match str::from_utf8(text) {
         Ok(text) => put_message(alloc, turn, &Message::Say(Text::of(alloc, text)?)),
         Err(_) => Err(WriteFault::Unspellable),
     }
 }
 
+/// Puts the bytes behind what waits for a peer, in as many frames of this kind as they take.
+fn put_frames(turn: &mut Turn, kind: Kind, bytes: &[u8]) -> Result<(), AllocError>
+    ensures ok { OnOk result (PutsFrames kind bytes.now turn.old turn.new) }
+    ensures err { OnErr result (PutsFront kind bytes.now turn.old turn.new) }
+{
+    for piece in bytes.chunks(LONGEST) {
+        turn.put_frame(head_of(kind, piece), piece)?;
+    }
+    Ok(())
+}
+
 /// Puts it behind what waits for a peer; what is too long for one frame goes into several.
-pub fn put(alloc: Global, turn: &mut Turn, sending: Sending) -> Result<(), WriteFault> {
+pub fn put(alloc: Global, turn: &mut Turn, sending: Sending) -> Result<(), WriteFault>
+    ensures { OnOk result (Sends sending.entry turn.old turn.new) }
+{
     match sending {
         Sending::Welcome(number) => put_message(alloc, turn, &Message::Welcome(number)),
-        Sending::Draw(bytes) => {
-            for piece in bytes.chunks(LONGEST) {
-                put_message(alloc, turn, &Message::Draw(Bytes::of(alloc, piece)?))?;
-            }
-            Ok(())
-        }
-        Sending::Input(bytes) => {
-            for piece in bytes.chunks(LONGEST) {
-                put_message(alloc, turn, &Message::Input(Bytes::of(alloc, piece)?))?;
-            }
-            Ok(())
-        }
+        Sending::Draw(bytes) => Ok(put_frames(turn, Kind::Draw, bytes)?),
+        Sending::Input(bytes) => Ok(put_frames(turn, Kind::Input, bytes)?),
         Sending::Say(text) => put_text(alloc, turn, text),
         Sending::Size(rows, columns) => put_message(alloc, turn, &Message::Size { rows, columns }),
     }

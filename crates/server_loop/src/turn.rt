@@ -44,7 +44,7 @@ pub struct Loop<S, G, L: Roll> {
     pub now: Duration,
     buffer: Vec<u8>,
     pub(crate) has_typed: bool,
-    has_read_much: bool,
+    has_much: bool,
     // How many bytes of output may be done in this turn.
     pub(crate) output_left: usize,
     // The window that has its turn first.
@@ -63,7 +63,7 @@ impl<S: Drop, G: Drop, L: Roll> Drop for Loop<S, G, L> {
             now: _,
             buffer: _,
             has_typed: _,
-            has_read_much: _,
+            has_much: _,
             output_left: _,
             next: _,
             wrong_tokens: _,
@@ -87,7 +87,7 @@ impl<S: Read + Write + Drop, G: Gate + Drop, L: Roll> Loop<S, G, L> {
             now: Duration::ZERO,
             buffer: vec![in alloc; 0; READ_SIZE]?,
             has_typed: false,
-            has_read_much: false,
+            has_much: false,
             output_left: PIECE,
             next: 0,
             wrong_tokens: 0,
@@ -99,9 +99,10 @@ impl<S: Read + Write + Drop, G: Gate + Drop, L: Roll> Loop<S, G, L> {
         std::mem::replace(&mut self.has_typed, false)
     }
 
-    /// Whether a connection had more than one read takes, since the last call.
-    pub fn take_read_much(&mut self) -> bool {
-        std::mem::replace(&mut self.has_read_much, false)
+    /// Whether a connection had more than one read takes, or a window more output than is done in a
+    /// turn, since the last call.
+    pub fn take_much(&mut self) -> bool {
+        std::mem::replace(&mut self.has_much, false)
     }
 
     /// The seat, once the loop is over.
@@ -114,7 +115,7 @@ impl<S: Read + Write + Drop, G: Gate + Drop, L: Roll> Loop<S, G, L> {
             now: _,
             buffer: _,
             has_typed: _,
-            has_read_much: _,
+            has_much: _,
             output_left: _,
             next: _,
             wrong_tokens: _,
@@ -160,14 +161,18 @@ impl<S: Read + Write + Drop, G: Gate + Drop, L: Roll> Loop<S, G, L> {
             }
             match came {
                 Came::Some => {}
-                Came::Much => self.has_read_much = true,
+                Came::Much => self.has_much = true,
                 Came::Nothing => return,
                 Came::End => {
                     self.peers.lose(rt, shared, key);
                     return;
                 }
             }
-            if !self.obey_some(rt, shared, key) || came == Came::Much {
+            let is_done = self.obey_some(rt, shared, key);
+            if !is_done && self.is_window(key) {
+                self.has_much = true;
+            }
+            if !is_done || came == Came::Much {
                 return;
             }
         }

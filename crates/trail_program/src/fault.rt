@@ -1,34 +1,34 @@
 //! Why a file isn't judged, nor shown.
 
-use std::alloc::{AllocError, AllocFailed};
+use std::fmt::{self, Display, Formatter};
 use std::io;
-use thiserror::Error;
 
 /// Why a file isn't judged, nor shown.
-#[derive(Debug, Drop, Error)]
+#[derive(Clone, Copy)]
 pub enum Fault {
-    #[error("{0}")]
-    Io(#[from] io::Error),
-    #[error("line {0}: no first line of a trail is spelled so")]
+    Io(io::Error),
     NoHeader(u64),
-    #[error("line {0}: no line of a trail is spelled so")]
     NoLine(u64),
-    #[error("it has {0} entries")]
     NoPlace(u64),
-    #[error("it was changed while it was read")]
     Changed,
-    #[error("out of memory")]
-    NoMemory,
 }
 
-impl From<AllocError> for Fault {
-    fn from(_e: AllocError) -> Fault {
-        Fault::NoMemory
+impl Display for Fault {
+    fn fmt<W: fmt::Write>(&self, f: &mut Formatter<W>) -> fmt::Result {
+        match self {
+            Fault::Io(error) => Display::fmt(error, f),
+            Fault::NoHeader(line) => {
+                write!(f, "line {line}: no first line of a trail is spelled so")
+            }
+            Fault::NoLine(line) => write!(f, "line {line}: no line of a trail is spelled so"),
+            Fault::NoPlace(count) => write!(f, "it has {count} entries"),
+            Fault::Changed => f.write_str("it was changed while it was read"),
+        }
     }
 }
 
-impl<T: Drop> From<AllocFailed<T>> for Fault {
-    fn from(_e: AllocFailed<T>) -> Fault {
-        Fault::NoMemory
+impl From<io::Error> for Fault {
+    fn from(error: io::Error) -> Fault {
+        Fault::Io(error)
     }
 }

@@ -1,18 +1,44 @@
 //! The first line of a file.
 
 use crate::fault::Fault;
+use acl::{Edition, UserId};
 use std::alloc::Global;
-use std::io::BufRead;
-use trail_audit::{Came, Header, next_line, read_header};
+use std::io::{BufRead, BufReader, Read};
+use trail_audit::{Came, next_line, read_header};
 
-/// The first line of a file.
-pub fn header_of<R: BufRead>(alloc: Global, reader: &mut R) -> Result<Header, Fault> {
-    let mut line = Vec::new(alloc);
-    let Came::Whole = next_line(reader, &mut line)? else {
-        return Err(Fault::NoHeader(1));
-    };
-    match read_header(alloc, line.as_slice()) {
-        Ok(header) => Ok(header),
+/// What the first line of a file says of its trail.
+#[derive(Clone, Copy)]
+pub struct Heading {
+    pub edition: Edition,
+    pub owner: UserId,
+    /// When it began, in milliseconds since 1970.
+    pub ms: u64,
+}
+
+/// What a first line says.
+fn heading_in(alloc: Global, line: &[u8]) -> Result<Heading, Fault> {
+    match read_header(alloc, line) {
+        Ok(header) => Ok(Heading {
+            edition: header.edition,
+            owner: header.owner,
+            ms: header.ms,
+        }),
         Err(_) => Err(Fault::NoHeader(1)),
     }
+}
+
+/// The first line of a reader.
+fn heading_of<R: BufRead>(alloc: Global, reader: &mut R) -> Result<Heading, Fault> {
+    let mut line = Vec::new(alloc);
+    match next_line(reader, &mut line)? {
+        Came::Whole => heading_in(alloc, line.as_slice()),
+        Came::Torn | Came::Nothing => Err(Fault::NoHeader(1)),
+    }
+}
+
+/// A file's first line, and a reader of those behind it.
+pub fn begin<F: Read + Drop>(alloc: Global, file: F) -> Result<(Heading, BufReader<F>), Fault> {
+    let mut reader = BufReader::new(alloc, file)?;
+    let heading = heading_of(alloc, &mut reader)?;
+    Ok((heading, reader))
 }

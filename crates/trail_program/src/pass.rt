@@ -1,28 +1,23 @@
 //! A pass over a file's entries, as far as one place.
 
 use crate::fault::Fault;
-use crate::heading::header_of;
-use acl::UserId;
+use crate::heading::begin;
+use crate::why::Question;
+use acl::{Edition, Leaders, UserId};
 use std::alloc::{AllocError, Global};
-use std::io::BufRead;
-use trail_audit::{Audit, Halt, Header};
+use std::io::{self, BufRead, Read};
+use trail_audit::{Audit, Halt};
 use trail_rights::{Decider, Led, Sight, Watch, watch_entries};
 
-/// What a pass looks for.
-#[derive(Drop)]
-pub struct Search {
-    pub deciders: Vec<Decider>,
-    pub leds: Vec<Led>,
-}
-
-impl Search {
-    /// Nothing beside rights and locks.
-    pub fn none(alloc: Global) -> Search {
-        Search {
-            deciders: Vec::new(alloc),
-            leds: Vec::new(alloc),
-        }
-    }
+/// What a pass looks for beside rights and locks.
+#[derive(Clone, Copy)]
+pub struct Search<'a> {
+    /// The users whose leaders it looks for.
+    pub users: &'a [UserId],
+    /// What decides a bit of the user and of these leaders of his.
+    pub reasons: Option<(Question, Leaders)>,
+    /// The place of the last entry that it reads.
+    pub last: u64,
 }
 
 /// What a pass has read.
@@ -33,31 +28,88 @@ pub struct Pass {
     pub halt: Halt,
 }
 
-/// A watch that has read nothing behind this first line.
+impl Pass {
+    /// How many entries it has read.
+    pub fn count(&self) -> u64 {
+        self.watch.audit().count()
+    }
+
+    /// The leaders of the first user whose leaders it has looked for.
+    pub fn leaders(&self) -> Leaders {
+        match self.watch.sight().leds() {
+            [led, ..] => led.leaders().unwrap_or(Leaders::none()),
+            [] => Leaders::none(),
+        }
+    }
+}
+
+/// What decides a bit of a user and his leaders, before the first act.
+fn deciders_of(
+    alloc: Global,
+    owner: UserId,
+    question: Question,
+    leaders: Leaders,
+) -> io::Result<Vec<Decider>> {
+    let Question { user, bit, object } = question;
+    let mut deciders = Vec::new(alloc);
+    deciders.push(Decider::new(owner, user, bit, object))?;
+    for leader in leaders.as_slice() {
+        deciders.push(Decider::new(owner, *leader, bit, object))?;
+    }
+    Ok(deciders)
+}
+
+/// A sight that has seen nothing, of what a search looks for.
+fn sight_of(
+    alloc: Global,
+    edition: Edition,
+    owner: UserId,
+    search: &Search<'_>,
+) -> io::Result<Sight> {
+    let deciders = match search.reasons {
+        Some((question, leaders)) => deciders_of(alloc, owner, question, leaders)?,
+        None => Vec::new(alloc),
+    };
+    let mut leds = Vec::new(alloc);
+    for user in search.users {
+        leds.push(Led::new(*user))?;
+    }
+    Ok(Sight::new(alloc, edition, deciders, leds))
+}
+
+/// A watch that has read nothing.
 fn watch_of(
     alloc: Global,
-    header: &Header,
+    edition: Edition,
     owner: UserId,
-    search: Search,
-) -> Result<Watch, AllocError> {
-    let audit = Audit::new(alloc, header.edition, owner)?;
-    let Search { deciders, leds } = search;
-    let sight = Sight::new(alloc, header.edition, deciders, leds);
+    search: &Search<'_>,
+) -> io::Result<Watch> {
+    let sight = sight_of(alloc, edition, owner, search)?;
+    let audit = Audit::new(alloc, edition, owner)?;
     Ok(Watch::new(audit, sight))
 }
 
-/// Reads a file as far as the entry of the place `last`.
-pub fn read_pass<R: BufRead>(
+/// Reads entries as far as the place `last`.
+fn watch_lines<R: BufRead>(
+    alloc: Global,
+    watch: &mut Watch,
+    reader: &mut R,
+    last: u64,
+) -> io::Result<Halt> {
+    let mut line = Vec::new(alloc);
+    watch_entries(watch, reader, &mut line, last)
+}
+
+/// Reads a file, of the owner that its first line names where no other is given.
+pub fn read_pass<F: Read + Drop>(
     alloc: Global,
     owner: Option<UserId>,
-    reader: &mut R,
-    search: Search,
-    last: u64,
+    file: F,
+    search: &Search<'_>,
 ) -> Result<Pass, Fault> {
-    let header = header_of(alloc, reader)?;
-    let owner = owner.unwrap_or(header.owner);
-    let mut watch = watch_of(alloc, &header, owner, search)?;
-    let mut line = Vec::new(alloc);
-    let halt = watch_entries(&mut watch, reader, &mut line, last)?;
+    let (heading, mut reader) = begin(alloc, file)?;
+    let owner = owner.unwrap_or(heading.owner);
+    let mut watch = watch_of(alloc, heading.edition, owner, search)?;
+    let halt = watch_lines(alloc, &mut watch, &mut reader, search.last)?;
     Ok(Pass { owner, watch, halt })
 }

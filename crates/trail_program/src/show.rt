@@ -1,43 +1,88 @@
 //! A trail's lines, with times that are read.
 
-use crate::fault::Fault;
 use crate::json::{write_end, write_entry};
+use crate::texts::behind_words;
+use hub_record::KeptRef;
 use jiff::Timestamp;
-use std::alloc::Global;
+use std::alloc::{AllocError, Global};
+use std::fmt::{self, Display, Formatter};
 use std::io::{self, BufRead, Write};
 use trail_audit::{Came, Ended, next_line, read_end};
-use trail_lines::{Line, Unread, read_line};
+use trail_lines::{Unread, read_line};
 
 /// A time in milliseconds since 1970, in the form of RFC 3339.
 pub fn time_of(ms: u64) -> Option<Timestamp> {
     Timestamp::from_millisecond(i64::try_from(ms).ok()?).ok()
 }
 
-/// Writes a place and a time, and what stands behind them in the line.
-fn show_line<W: Write>(line: &Line, text: &[u8], output: &mut W) -> io::Result<()> {
-    write!(output, "{} ", line.place)?;
-    match time_of(line.ms) {
-        Some(time) => write!(output, "{time} ")?,
-        None => write!(output, "{} ", line.ms)?,
+/// A time behind a text; nothing where it has no such form.
+#[derive(Clone, Copy)]
+pub struct When(pub &'static str, pub u64);
+
+impl Display for When {
+    fn fmt<W: fmt::Write>(&self, f: &mut Formatter<W>) -> fmt::Result {
+        match time_of(self.1) {
+            Some(time) => write!(f, "{}{time}", self.0),
+            None => Ok(()),
+        }
     }
-    output.write_all(behind_times(text))?;
-    output.write_all(b"\n")
 }
 
-/// What stands behind the second blank.
-fn behind_times(text: &[u8]) -> &[u8] {
-    let mut rest = text;
-    for _ in 0..2 {
-        rest = match line_fields::cut(rest, b' ') {
-            Some((_, behind)) => behind,
-            None => &[],
-        };
+/// What an entry's line says that is shown in another form.
+#[derive(Clone, Copy)]
+pub struct Said {
+    pub place: u64,
+    pub ms: u64,
+    /// How many words its event has.
+    pub words: usize,
+}
+
+/// A line behind the first one.
+#[derive(Clone, Copy)]
+enum Told {
+    Entry(Said),
+    End(Ended),
+    /// A line that is spelled as none of a trail.
+    Nothing,
+}
+
+/// How many words an event has.
+fn count_words(event: KeptRef<'_>) -> usize {
+    match event {
+        KeptRef::Attach { .. } | KeptRef::Command { .. } => 4,
+        KeptRef::Open { .. } => 6,
+        KeptRef::Detach { .. } | KeptRef::Keys { .. } | KeptRef::Closed { .. } => 2,
     }
-    rest
+}
+
+/// What an entry's line says.
+fn read_said(alloc: Global, text: &[u8]) -> Result<Said, Unread> {
+    match read_line(alloc, text) {
+        Ok(line) => Ok(Said {
+            place: line.place,
+            ms: line.ms,
+            words: count_words(line.entry.event().get()),
+        }),
+        Err(unread) => Err(unread),
+    }
+}
+
+/// What a line tells.
+fn read_told(alloc: Global, text: &[u8]) -> Result<Told, AllocError> {
+    match read_said(alloc, text) {
+        Ok(said) => return Ok(Told::Entry(said)),
+        Err(Unread::NoMemory) => return Err(AllocError),
+        Err(Unread::Malformed) => {}
+    }
+    match read_end(alloc, text) {
+        Ok(ended) => Ok(Told::End(ended)),
+        Err(Unread::NoMemory) => Err(AllocError),
+        Err(Unread::Malformed) => Ok(Told::Nothing),
+    }
 }
 
 /// How lines are shown.
-#[derive(Clone, Copy, PartialEq, Eq)]
+#[derive(Clone, Copy)]
 pub enum Form {
     /// As the file has them, with times that are read.
     Plain,
@@ -45,80 +90,65 @@ pub enum Form {
     Json,
 }
 
-/// Writes an entry, which stands in `text`.
-fn show_entry<W: Write>(form: Form, line: &Line, text: &[u8], output: &mut W) -> io::Result<()> {
-    match form {
-        Form::Plain => show_line(line, text, output),
-        Form::Json => write_entry(line, text, output),
+/// Writes a place and a time.
+fn write_times<W: Write>(place: u64, ms: u64, output: &mut W) -> io::Result<()> {
+    write!(output, "{place} ")?;
+    match time_of(ms) {
+        Some(time) => write!(output, "{time} "),
+        None => write!(output, "{ms} "),
     }
 }
 
-/// Writes a last line's text.
-fn show_ended<W: Write>(form: Form, ended: &Ended, text: &[u8], output: &mut W) -> io::Result<()> {
-    match form {
-        Form::Json => write_end(ended, output),
-        Form::Plain => {
-            output.write_all(text)?;
-            output.write_all(b"\n")
-        }
+/// Writes an entry with its time, as the file has it otherwise.
+fn show_entry<W: Write>(said: Said, text: &[u8], output: &mut W) -> io::Result<()> {
+    write_times(said.place, said.ms, output)?;
+    output.write_all(behind_words(text, 2))?;
+    output.write_all(b"\n")
+}
+
+/// Writes a last line as the file has it.
+fn show_end<W: Write>(text: &[u8], output: &mut W) -> io::Result<()> {
+    output.write_all(text)?;
+    output.write_all(b"\n")
+}
+
+/// Writes a line that tells this.
+fn show_told<W: Write>(form: Form, told: Told, text: &[u8], output: &mut W) -> io::Result<()> {
+    match (told, form) {
+        (Told::Entry(said), Form::Plain) => show_entry(said, text, output),
+        (Told::Entry(said), Form::Json) => write_entry(said, text, output),
+        (Told::End(_), Form::Plain) => show_end(text, output),
+        (Told::End(ended), Form::Json) => write_end(ended, output),
+        (Told::Nothing, _) => Ok(()),
     }
 }
 
-/// Writes a last line, which stands in `text`. The answer is whether it is one.
-fn show_end<W: Write>(
-    alloc: Global,
-    form: Form,
-    text: &[u8],
-    output: &mut W,
-) -> Result<bool, Fault> {
-    let ended = match read_end(alloc, text) {
-        Ok(ended) => ended,
-        Err(Unread::NoMemory) => return Err(Fault::NoMemory),
-        Err(Unread::Malformed) => return Ok(false),
-    };
-    show_ended(form, &ended, text, output)?;
-    Ok(true)
-}
-
-/// Writes a line's text, whatever line it is. The answer is whether others stand behind it.
-fn show_text<W: Write>(
-    alloc: Global,
-    form: Form,
-    number: u64,
-    text: &[u8],
-    output: &mut W,
-) -> Result<bool, Fault> {
-    match read_line(alloc, text) {
-        Ok(line) => {
-            show_entry(form, &line, text, output)?;
-            Ok(true)
-        }
-        Err(Unread::NoMemory) => Err(Fault::NoMemory),
-        Err(Unread::Malformed) => match show_end(alloc, form, text, output)? {
-            true => Ok(false),
-            false => Err(Fault::NoLine(number)),
-        },
-    }
+/// Writes a line at once, and gives what it tells.
+fn show_text<W: Write>(alloc: Global, form: Form, text: &[u8], output: &mut W) -> io::Result<Told> {
+    let told = read_told(alloc, text)?;
+    show_told(form, told, text, output)?;
+    output.flush()?;
+    Ok(told)
 }
 
 /// Writes the lines of a reader behind the first one, each as soon as it is read, as far as the
-/// last one.
+/// last one. The answer is the number of a line that is spelled as none of a trail.
 pub fn show_lines<R: BufRead, W: Write>(
     alloc: Global,
     form: Form,
     reader: &mut R,
     output: &mut W,
-) -> Result<(), Fault> {
+) -> io::Result<Option<u64>> {
     let mut text = Vec::new(alloc);
     for number in 2..u64::MAX {
         let Came::Whole = next_line(reader, &mut text)? else {
             break;
         };
-        let goes_on = show_text(alloc, form, number, text.as_slice(), output)?;
-        output.flush()?;
-        if !goes_on {
-            break;
+        match show_text(alloc, form, text.as_slice(), output)? {
+            Told::Entry(_) => {}
+            Told::End(_) => break,
+            Told::Nothing => return Ok(Some(number)),
         }
     }
-    Ok(())
+    Ok(None)
 }

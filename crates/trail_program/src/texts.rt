@@ -1,9 +1,27 @@
-//! Names as text.
+//! Names as text, and words of lines.
 
 use acl::UserId;
+use line_fields::cut;
 use std::str;
 
 /// A name as text.
 pub fn text_of(user: &UserId) -> &str {
     str::from_utf8(user.as_bytes()).unwrap_or("?")
+}
+
+/// The first word of a text, and what stands behind its blank.
+pub fn first_word(text: &[u8]) -> (&[u8], &[u8]) {
+    match cut(text, b' ') {
+        Some(parts) => parts,
+        None => (text, &[]),
+    }
+}
+
+/// What stands behind the first words of a text.
+pub fn behind_words(text: &[u8], count: usize) -> &[u8] {
+    let mut rest = text;
+    for _ in 0..count {
+        rest = first_word(rest).1;
+    }
+    rest
 }

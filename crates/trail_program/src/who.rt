@@ -1,9 +1,8 @@
 //! Who may do what after a file's entries.
 
-use crate::fault::Fault;
 use crate::pass::Pass;
 use crate::texts::text_of;
-use acl::{Bit, CommandName, Object, UserId};
+use acl::{Bit, CommandName, Leaders, Object, UserId};
 use command_lang::name_text;
 use hub_replay::Replay;
 use std::alloc::{AllocError, Global};
@@ -21,16 +20,28 @@ pub fn users_of(alloc: Global, replay: &Replay) -> Result<Vec<UserId>, AllocErro
     Ok(users)
 }
 
+/// Writes a user's leaders.
+fn write_leaders<W: Write>(leaders: Leaders, output: &mut W) -> io::Result<()> {
+    for leader in leaders.as_slice() {
+        write!(output, " led by {}", text_of(leader))?;
+    }
+    Ok(())
+}
+
 /// Writes a user and his leaders.
 fn write_user<W: Write>(led: &Led, output: &mut W) -> io::Result<()> {
     let user = led.user();
     write!(output, "user {}", text_of(&user))?;
-    if let Some(leaders) = led.leaders() {
-        for leader in leaders.as_slice() {
-            write!(output, " led by {}", text_of(leader))?;
-        }
-    }
+    write_leaders(led.leaders().unwrap_or(Leaders::none()), output)?;
     writeln!(output)
+}
+
+/// Writes users with their leaders.
+fn write_users<W: Write>(leds: &[Led], output: &mut W) -> io::Result<()> {
+    for led in leds {
+        write_user(led, output)?;
+    }
+    Ok(())
 }
 
 /// The letter of a bit that a user has, or a hyphen.
@@ -60,63 +71,74 @@ fn write_bits<W: Write>(
     write!(output, " {name}:{read}{write}{execute}")
 }
 
+/// Writes a window, and who holds its lock, where somebody does.
+fn write_holder<W: Write>(
+    window: u32,
+    held: Option<Option<UserId>>,
+    output: &mut W,
+) -> io::Result<()> {
+    match held {
+        Some(Some(user)) => write!(output, "window {window} held by {}", text_of(&user)),
+        Some(None) => write!(output, "window {window}"),
+        None => write!(output, "window {window} held by ?"),
+    }
+}
+
 /// Writes a window: who holds its lock, and each user's bits.
 fn write_window<W: Write>(
-    pass: &Pass,
+    replay: &Replay,
+    owner: UserId,
     users: &[UserId],
     window: u32,
     output: &mut W,
 ) -> io::Result<()> {
-    let replay = pass.watch.audit().replay();
-    write!(output, "window {window}")?;
-    match holder(replay, pass.owner, window) {
-        Some(Some(user)) => write!(output, " held by {}", text_of(&user))?,
-        Some(None) => {}
-        None => write!(output, " held by ?")?,
-    }
+    write_holder(window, holder(replay, owner, window), output)?;
     for user in users {
         write_bits(replay, *user, window, output)?;
     }
     writeln!(output)
 }
 
+/// Writes a command on which a user has x.
+fn write_command<W: Write>(
+    replay: &Replay,
+    user: UserId,
+    command: CommandName,
+    output: &mut W,
+) -> io::Result<()> {
+    if may(replay, user, Bit::Execute, Object::Command(command)) {
+        write!(output, " {}", name_text(command))
+    } else {
+        Ok(())
+    }
+}
+
 /// Writes the commands on which a user has x.
 fn write_commands<W: Write>(replay: &Replay, user: UserId, output: &mut W) -> io::Result<()> {
     write!(output, "commands {}", text_of(&user))?;
     for command in &CommandName::ALL {
-        if may(replay, user, Bit::Execute, Object::Command(*command)) {
-            write!(output, " {}", name_text(*command))?;
-        }
+        write_command(replay, user, *command, output)?;
     }
     writeln!(output)
 }
 
-/// Writes how many entries there are, and users with their leaders.
-fn write_users<W: Write>(pass: &Pass, output: &mut W) -> io::Result<()> {
-    let count = pass.watch.audit().count();
-    writeln!(output, "entries {count}")?;
-    for led in pass.watch.sight().leds() {
-        write_user(led, output)?;
-    }
-    Ok(())
-}
-
 /// Writes windows with their holders and the users' rights, and the users' commands.
 fn write_objects<W: Write>(pass: &Pass, users: &[UserId], output: &mut W) -> io::Result<()> {
-    for window in pass.watch.sight().windows() {
-        write_window(pass, users, *window, output)?;
-    }
     let replay = pass.watch.audit().replay();
+    for window in pass.watch.sight().windows() {
+        write_window(replay, pass.owner, users, *window, output)?;
+    }
     for user in users {
         write_commands(replay, *user, output)?;
     }
     Ok(())
 }
 
-/// Writes users with their leaders, windows with their holders and rights, and commands.
-pub fn write_rights<W: Write>(alloc: Global, pass: &Pass, output: &mut W) -> Result<(), Fault> {
-    write_users(pass, output)?;
+/// Writes how many entries there are, users with their leaders, windows with their holders and
+/// rights, and commands.
+pub fn write_rights<W: Write>(alloc: Global, pass: &Pass, output: &mut W) -> io::Result<()> {
+    writeln!(output, "entries {}", pass.count())?;
+    write_users(pass.watch.sight().leds(), output)?;
     let users = users_of(alloc, pass.watch.audit().replay())?;
-    write_objects(pass, users.as_slice(), output)?;
-    Ok(())
+    write_objects(pass, users.as_slice(), output)
 }

@@ -1,12 +1,12 @@
 //! Which act decides a user's bit on an object.
 
-use crate::fault::Fault;
 use crate::pass::Pass;
-use crate::show::time_of;
+use crate::show::When;
 use crate::texts::text_of;
 use acl::{Act, Bit, CommandName, Object, UserId};
 use command_lang::name_text;
-use std::alloc::Global;
+use hub_replay::Replay;
+use std::alloc::{AllocError, Global};
 use std::io::{self, Write};
 use trail_lines::acts::push_act;
 use trail_rights::{Decider, Mark, may};
@@ -23,86 +23,98 @@ impl Question {
     /// The question of three words: a name, `r`, `w` or `x`, and a window's serial or a command's
     /// name.
     pub fn read(user: &[u8], bit: &[u8], object: &[u8]) -> Option<Question> {
-        let user = UserId::of(user)?;
-        let bit = match bit {
-            [b'r'] => Bit::Read,
-            [b'w'] => Bit::Write,
-            [b'x'] => Bit::Execute,
-            _ => return None,
-        };
-        let object = match line_fields::read_u32(object) {
-            Some(window) => Object::Window(window),
-            None => Object::Command(command_of(object)?),
-        };
-        Some(Question { user, bit, object })
+        Some(Question {
+            user: UserId::of(user)?,
+            bit: bit_of(bit)?,
+            object: object_of(object)?,
+        })
+    }
+}
+
+fn bit_of(word: &[u8]) -> Option<Bit> {
+    match word {
+        [b'r'] => Some(Bit::Read),
+        [b'w'] => Some(Bit::Write),
+        [b'x'] => Some(Bit::Execute),
+        _ => None,
+    }
+}
+
+/// The object of a window's serial or a command's name.
+fn object_of(word: &[u8]) -> Option<Object> {
+    match line_fields::read_u32(word) {
+        Some(window) => Some(Object::Window(window)),
+        None => Some(Object::Command(command_of(word)?)),
     }
 }
 
 /// The command of this name.
 fn command_of(name: &[u8]) -> Option<CommandName> {
-    CommandName::ALL
-        .iter()
-        .find(|command| name_text(**command).as_bytes() == name)
-        .copied()
+    for command in &CommandName::ALL {
+        if name_text(*command).as_bytes() == name {
+            return Some(*command);
+        }
+    }
+    None
 }
 
-/// Whether an object is there: a command, or a window that is open.
-fn is_there(pass: &Pass, object: Object) -> bool {
+/// Whether an object is there: a command, or one of the windows that are open.
+fn is_there(windows: &[u32], object: Object) -> bool {
     match object {
-        Object::Window(window) => pass
-            .watch
-            .sight()
-            .windows()
-            .iter()
-            .any(|open| *open == window),
+        Object::Window(window) => windows.contains(&window),
         Object::Command(_) => true,
     }
 }
 
 /// Writes where an act stands, when it was filed and who gave it.
 fn write_mark<W: Write>(mark: Mark, output: &mut W) -> io::Result<()> {
-    write!(output, "entry {}", mark.place)?;
-    if let Some(time) = time_of(mark.ms) {
-        write!(output, " at {time}")?;
+    write!(output, "entry {}{}", mark.place, When(" at ", mark.ms))?;
+    match mark.giver {
+        Some(giver) => write!(output, " by {}: ", text_of(&giver)),
+        None => output.write_all(b": "),
     }
-    if let Some(giver) = mark.giver {
-        write!(output, " by {}", text_of(&giver))?;
-    }
-    output.write_all(b": ")
 }
 
-/// Writes an act, and whence it came.
-fn write_act<W: Write>(alloc: Global, mark: Mark, act: &Act, output: &mut W) -> Result<(), Fault> {
+/// An act's line.
+fn line_of(alloc: Global, act: &Act) -> Result<Vec<u8>, AllocError> {
     let mut text = Vec::new(alloc);
     push_act(act, &mut text)?;
     text.extend_from_slice(b"\n")?;
+    Ok(text)
+}
+
+/// Writes an act, and whence it came.
+fn write_act<W: Write>(alloc: Global, mark: Mark, act: &Act, output: &mut W) -> io::Result<()> {
+    let text = line_of(alloc, act)?;
     write_mark(mark, output)?;
-    output.write_all(text.as_slice())?;
-    Ok(())
+    output.write_all(text.as_slice())
 }
 
 /// Writes what decides a user's bit.
-fn write_decider<W: Write>(alloc: Global, decider: &Decider, output: &mut W) -> Result<(), Fault> {
+fn write_decider<W: Write>(alloc: Global, decider: &Decider, output: &mut W) -> io::Result<()> {
     let user = decider.user();
     write!(output, "{}: ", text_of(&user))?;
     match decider.found() {
         Some((mark, act)) => write_act(alloc, mark, &act, output),
-        None => {
-            writeln!(output, "no act decides")?;
-            Ok(())
-        }
+        None => writeln!(output, "no act decides"),
     }
 }
 
 /// Writes whether the user has the bit, and whether he is the owner.
-fn write_answer<W: Write>(pass: &Pass, question: Question, output: &mut W) -> io::Result<()> {
+fn write_answer<W: Write>(
+    replay: &Replay,
+    owner: UserId,
+    question: Question,
+    output: &mut W,
+) -> io::Result<()> {
     let Question { user, bit, object } = question;
-    let has_bit = may(pass.watch.audit().replay(), user, bit, object);
+    let has_bit = may(replay, user, bit, object);
     writeln!(output, "{}", if has_bit { "yes" } else { "no" })?;
-    if user == pass.owner {
-        writeln!(output, "{}: the owner", text_of(&user))?;
+    if user == owner {
+        writeln!(output, "{}: the owner", text_of(&user))
+    } else {
+        Ok(())
     }
-    Ok(())
 }
 
 /// Writes whether the user has the bit, and the acts that decide it: his own, and his leaders'.
@@ -111,12 +123,11 @@ pub fn write_reasons<W: Write>(
     pass: &Pass,
     question: Question,
     output: &mut W,
-) -> Result<(), Fault> {
-    if !is_there(pass, question.object) {
-        writeln!(output, "no: the window isn't open")?;
-        return Ok(());
+) -> io::Result<()> {
+    if !is_there(pass.watch.sight().windows(), question.object) {
+        return writeln!(output, "no: the window isn't open");
     }
-    write_answer(pass, question, output)?;
+    write_answer(pass.watch.audit().replay(), pass.owner, question, output)?;
     for decider in pass.watch.sight().deciders() {
         write_decider(alloc, decider, output)?;
     }

@@ -3,38 +3,77 @@
 use crate::show::Form;
 use crate::why::Question;
 use acl::UserId;
-use clap::ArgMatches;
+use clap::{ArgMatches, Error};
 use line_fields::read_u64;
+use program_words::of_trail;
+use std::alloc::Global;
+
+/// What is done with a file.
+#[derive(Clone, Copy)]
+pub enum Way {
+    /// It is judged.
+    Check,
+    Show,
+    /// It is shown, and what comes later, until the trail ends.
+    Follow,
+    /// Rights are told, or what decides one.
+    Ask,
+}
 
 /// What the words ask of a file.
 #[derive(Clone, Copy)]
 pub struct Asked<'a> {
+    pub way: Way,
     pub path: &'a str,
     pub owner: Option<UserId>,
     /// The last entry that counts.
     pub place: Option<u64>,
+    /// The question of `why`.
     pub question: Option<Question>,
     pub form: Form,
-    /// What comes later is shown, too, until the trail ends.
-    pub follows: bool,
 }
 
-/// The question of `why`: other ways have none.
-fn question_of(way: &str, matches: &ArgMatches) -> Result<Option<Question>, &'static str> {
-    if way != "why" {
-        return Ok(None);
-    }
-    let user = matches.get_str("user").unwrap_or("");
-    let bit = matches.get_str("bit").unwrap_or("");
-    let object = matches.get_str("object").unwrap_or("");
-    match Question::read(user.as_bytes(), bit.as_bytes(), object.as_bytes()) {
-        Some(question) => Ok(Some(question)),
-        None => Err("this names no user, bit and object"),
+/// The words of a way as they were given.
+#[derive(Clone, Copy)]
+pub struct Given<'a> {
+    way: &'a str,
+    path: &'a str,
+    owner: Option<&'a str>,
+    place: Option<&'a str>,
+    user: &'a str,
+    bit: &'a str,
+    object: &'a str,
+    is_json: bool,
+    follows: bool,
+}
+
+impl<'a> Given<'a> {
+    fn of(way: &'a str, matches: &ArgMatches<'a>) -> Given<'a> {
+        Given {
+            way,
+            path: matches.get_str("file").unwrap_or(""),
+            owner: matches.get_str("owner"),
+            place: matches.get_str("at"),
+            user: matches.get_str("user").unwrap_or(""),
+            bit: matches.get_str("bit").unwrap_or(""),
+            object: matches.get_str("object").unwrap_or(""),
+            is_json: matches.get_flag("json"),
+            follows: matches.get_flag("follow"),
+        }
     }
 }
 
-fn owner_of(matches: &ArgMatches) -> Result<Option<UserId>, &'static str> {
-    match matches.get_str("owner") {
+/// The words of a way, the program's name first.
+pub fn given_in<'a>(alloc: Global, words: &'a [String]) -> Result<Option<Given<'a>>, Error> {
+    let matches = of_trail(alloc, words)?;
+    match matches.subcommand() {
+        Some((way, words)) => Ok(Some(Given::of(way, words))),
+        None => Ok(None),
+    }
+}
+
+fn owner_of(name: Option<&str>) -> Result<Option<UserId>, &'static str> {
+    match name {
         Some(name) => match UserId::of(name.as_bytes()) {
             Some(owner) => Ok(Some(owner)),
             None => Err("the owner is no name"),
@@ -43,8 +82,8 @@ fn owner_of(matches: &ArgMatches) -> Result<Option<UserId>, &'static str> {
     }
 }
 
-fn place_of(matches: &ArgMatches) -> Result<Option<u64>, &'static str> {
-    match matches.get_str("at") {
+fn place_of(place: Option<&str>) -> Result<Option<u64>, &'static str> {
+    match place {
         Some(place) => match read_u64(place.as_bytes()) {
             Some(place) => Ok(Some(place)),
             None => Err("the place is no number"),
@@ -53,25 +92,47 @@ fn place_of(matches: &ArgMatches) -> Result<Option<u64>, &'static str> {
     }
 }
 
-fn form_of(way: &str, matches: &ArgMatches) -> Form {
-    if way == "show" && matches.get_flag("json") {
-        Form::Json
-    } else {
-        Form::Plain
+/// The question of `why`: other ways have none.
+fn question_of(given: Given<'_>) -> Result<Option<Question>, &'static str> {
+    if given.way != "why" {
+        return Ok(None);
+    }
+    let Given {
+        user,
+        bit,
+        object,
+        ..
+    } = given;
+    match Question::read(user.as_bytes(), bit.as_bytes(), object.as_bytes()) {
+        Some(question) => Ok(Some(question)),
+        None => Err("this names no user, bit and object"),
+    }
+}
+
+fn way_of(name: &str, follows: bool) -> Way {
+    match name {
+        "check" => Way::Check,
+        "who" | "why" => Way::Ask,
+        _ if follows => Way::Follow,
+        _ => Way::Show,
     }
 }
 
 /// What the words of a way ask: an error says which word isn't understood.
-pub fn asked_of<'a>(way: &str, matches: &'a ArgMatches) -> Result<Asked<'a>, &'static str> {
-    let owner = owner_of(matches)?;
-    let place = place_of(matches)?;
-    let question = question_of(way, matches)?;
+pub fn asked_of(given: Given<'_>) -> Result<Asked<'_>, &'static str> {
+    let owner = owner_of(given.owner)?;
+    let place = place_of(given.place)?;
+    let question = question_of(given)?;
     Ok(Asked {
-        path: matches.get_str("file").unwrap_or(""),
+        way: way_of(given.way, given.follows),
+        path: given.path,
         owner,
         place,
         question,
-        form: form_of(way, matches),
-        follows: way == "show" && matches.get_flag("follow"),
+        form: if given.is_json {
+            Form::Json
+        } else {
+            Form::Plain
+        },
     })
 }

@@ -1,0 +1,39 @@
+-- What a peer is sent as frames.
+use Rattle.std.specs.Prelude.{◌≡◌, ℕ, ◌<◌, ◌≤◌, List, ◌++◌, length, All}
+use Rattle.std.specs.List.{concat, flat_map}
+use Rattle.attach_proto.specs.Spelling.{frame, spelling}
+use Rattle.attach_proto.specs.declared.kind.Kind.{Kind}
+use Rattle.attach_proto.specs.declared.kind.Kind.TheVariants as kind
+use Rattle.attach_proto.specs.declared.message.Message.{Message}
+use Rattle.attach_proto.specs.declared.message.Message.TheVariants as message
+use Rattle.server_turn.specs.Written.{Waiting}
+use Rattle.server_connections.specs.declared.frames.Sending.{Sending}
+use Rattle.server_connections.specs.declared.frames.Sending.TheVariants as sending
+
+-- what a frame may have
+abbrev pub IsPiece : List ℕ → Type 0
+IsPiece bytes = (0 < length bytes) × (length bytes ≤ 8192)
+
+-- behind what waited stand frames of this kind, of pieces that are these bytes one behind the other
+pub record PutsFrames (kind : Kind) (bytes : List ℕ) (old new : Waiting) : Type 0 where
+  pub pieces : List (List ℕ)
+  pub whole : concat pieces ≡ bytes
+  pub each : All IsPiece pieces
+  pub put : new ≡ record old { unsent = old.unsent ++ flat_map (frame kind) pieces }
+
+-- and so with the front of these bytes
+abbrev pub PutsFront : Kind → List ℕ → Waiting → Waiting → Type 0
+PutsFront kind bytes old new =
+    (front : List ℕ) × (rest : List ℕ) × (bytes ≡ front ++ rest) × PutsFrames kind front old new
+
+-- a message stands behind what waited
+abbrev pub PutsMessage : Message → Waiting → Waiting → Type 0
+PutsMessage m old new = new ≡ record old { unsent = old.unsent ++ spelling m }
+
+-- what a peer is sent: bytes in frames, anything else in a message
+abbrev pub Sends : Sending → Waiting → Waiting → Type 0
+Sends (sending.Welcome number) = PutsMessage (message.Welcome number)
+Sends (sending.Draw bytes) = PutsFrames kind.Draw bytes.now
+Sends (sending.Input bytes) = PutsFrames kind.Input bytes.now
+Sends (sending.Say text) = PutsMessage (message.Say text.now)
+Sends (sending.Size rows columns) = PutsMessage (message.Size rows columns)

@@ -1,0 +1,110 @@
+//! What the program prints of a file that it has read, and the status to exit with.
+
+use crate::check::Finish;
+use crate::heading::Heading;
+use crate::show::When;
+use crate::texts::text_of;
+use acl::UserId;
+use std::alloc::AllocError;
+use std::io::{self, Write};
+use std::str;
+use trail_audit::{Ended, Wrong};
+
+/// The file is legal, and whole.
+pub const LEGAL: u8 = 0;
+
+/// It isn't, or isn't spelled as a trail's file.
+pub const ILLEGAL: u8 = 1;
+
+/// The words aren't understood, or the file can't be read.
+pub const TROUBLE: u8 = 2;
+
+/// The entries are legal, and no last line stands behind them.
+const UNENDED: u8 = 3;
+
+/// Writes that no session of the owner has a trail, where an entry isn't legal.
+fn tell_illegal<W: Write>(wrong: Wrong, owner: UserId, output: &mut W) -> io::Result<()> {
+    if wrong == Wrong::Illegal {
+        write!(output, "; no session of {} has this trail", text_of(&owner))?;
+    }
+    writeln!(output)
+}
+
+/// Writes what is wrong with an entry's line.
+pub fn tell_wrong<W: Write>(
+    line: u64,
+    wrong: Wrong,
+    place: u64,
+    owner: UserId,
+    output: &mut W,
+) -> io::Result<u8> {
+    if wrong == Wrong::NoMemory {
+        return Err(io::Error::from(AllocError));
+    }
+    write!(output, "bad: line {line}, entry {place}: {wrong}")?;
+    tell_illegal(wrong, owner, output)?;
+    Ok(ILLEGAL)
+}
+
+/// Writes that a file is whole.
+fn tell_ended<W: Write>(ended: Ended, count: u64, output: &mut W) -> io::Result<()> {
+    let why = str::from_utf8(ended.cause.word()).unwrap_or("?");
+    let when = When(" at ", ended.ms);
+    writeln!(
+        output,
+        "legal: {count} entries\nwhole: it ended ({why}){when}"
+    )
+}
+
+/// Writes that entries are legal, and why the file isn't whole.
+fn tell_unended<W: Write>(count: u64, why: &str, output: &mut W) -> io::Result<()> {
+    writeln!(output, "legal: {count} entries\n{why}")
+}
+
+/// Writes that a last line counts other entries.
+fn tell_miscounted<W: Write>(line: u64, count: u64, output: &mut W) -> io::Result<()> {
+    writeln!(
+        output,
+        "bad: line {line}: the last line doesn't end {count} entries"
+    )
+}
+
+/// Writes that lines stand behind a last one.
+fn tell_continued<W: Write>(line: u64, output: &mut W) -> io::Result<()> {
+    writeln!(
+        output,
+        "bad: behind line {line}: more stands behind the last line"
+    )
+}
+
+/// Writes how a file ends, and gives the status to exit with.
+pub fn tell_finish<W: Write>(
+    finish: Finish,
+    count: u64,
+    owner: UserId,
+    output: &mut W,
+) -> io::Result<u8> {
+    let (status, told) = match finish {
+        Finish::Stopped { line, wrong } => return tell_wrong(line, wrong, count, owner, output),
+        Finish::Ended { ended } => (LEGAL, tell_ended(ended, count, output)),
+        Finish::Miscounted { line } => (ILLEGAL, tell_miscounted(line, count, output)),
+        Finish::Continued { line } => (ILLEGAL, tell_continued(line, output)),
+        Finish::Torn => (
+            UNENDED,
+            tell_unended(count, "torn: its last line isn't whole", output),
+        ),
+        Finish::Open => (
+            UNENDED,
+            tell_unended(count, "not ended: it has no last line", output),
+        ),
+    };
+    told?;
+    Ok(status)
+}
+
+/// Writes what a first line says.
+pub fn tell_heading<W: Write>(heading: Heading, output: &mut W) -> io::Result<()> {
+    let owner = text_of(&heading.owner);
+    let when = When(", begun at ", heading.ms);
+    writeln!(output, "owner {owner}{when}")
+}
