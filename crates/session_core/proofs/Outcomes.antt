@@ -2,6 +2,8 @@
 use Rattle.std.proofs.Common.{◌≡◌, ◌++◌, List, [], Option, Some, None, Err}
 use Rattle.std.proofs.Common.{refl, ap, sym, subst, ◌∙◌, append-nil, append_assoc, inl, inr}
 use Rattle.std.specs.Prelude.{◌⊎◌}
+use Rattle.acl.specs.History.{followed_by}
+use Rattle.acl.specs.declared.act.Act.{Act}
 use Rattle.session_model.specs.declared.check.Check.{Check}
 use Rattle.session_model.specs.declared.refusal.Refusal.{Refusal}
 use Rattle.session_model.specs.declared.refusal.Refusal.TheVariants.{NoMemory, NoWindow}
@@ -14,7 +16,7 @@ use Rattle.session_model.specs.Outcomes.{Outcome, finished, refused, where_passe
 use Rattle.session_state.specs.declared.step_output.StepOutput.{StepOutput}
 use Rattle.session_state.specs.declared.state.State.{State}
 use Rattle.session_state.specs.Stands.{Stands}
-use Rattle.session_state.specs.Doing.{HasDone, IsAsBefore}
+use Rattle.session_state.specs.Doing.{HasDone, IsAsBefore, did}
 use Rattle.session_checks.specs.Checked.{Failed}
 use Rattle.session_leaving.specs.Leaving.{HasLeft}
 use Rattle.session_core.specs.Stepping.{HasHappened, Stepped}
@@ -54,6 +56,16 @@ was_done t vs d o reply said middle new before first second after past noted is 
       effects = left.effects ∙ done.effects ∙ ap (λ fs. fs ++ d.effects) effects;
       verdicts = told;
     })
+
+-- nobody leaves behind a deed that leaves each client's focus
+pub nobody_leaves : (t : Tables) (d : Deed) (new : State) (made : StepOutput)
+    → left_acts t.clients d.tables.clients ≡ [] → Stands (did t d) new → HasLeft t d new made made
+nobody_leaves t d new made none st = record {
+  stands = subst (λ (acts : List Act). Stands (record d.tables { acts = followed_by t.acts acts }) new)
+      (sym (ap (λ xs. d.acts ++ xs) none ∙ append-nil d.acts)) st;
+  acts = sym (append-nil made.acts.items) ∙ ap (λ xs. made.acts.items ++ xs) (sym none);
+  effects = refl;
+}
 
 -- ---- a row that is there
 

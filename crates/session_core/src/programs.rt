@@ -8,11 +8,10 @@ ghost use Rattle.session_core.specs.Stepping.{Steps};
 
 use crate::coming::made_so;
 use session_events::output;
-use session_leaving::{Focuses, leave};
 use session_model::{Refusal, Reply};
 use session_state::{State, StepOutput};
 
-/// The program of a window writes.
+/// The program of a window writes. No client's page changes, so nobody leaves a window.
 pub(crate) fn write(state: &mut State, window: u32, bytes: &[u8], made: &mut StepOutput) -> Reply
     ensures step { (past : List Verdict) → Steps (Output window bytes.now) state.old result
         state.new made.old made.new past past }
@@ -21,9 +20,7 @@ pub(crate) fn write(state: &mut State, window: u32, bytes: &[u8], made: &mut Ste
     let Some(_window) = state.windows.get(window) else {
         return Err(Refusal::NoWindow);
     };
-    let focuses = Focuses::of(state);
     made.acts.reserve(256)?;
     output(state, window, bytes, made)?;
-    leave(state, &focuses, made);
     Ok(made_so(0, 0))
 }

@@ -8,7 +8,8 @@ use Rattle.session_model.specs.Comings.{outputs}
 use Rattle.session_rows.proofs.Matching.{both_back}
 use Rattle.session_windows.specs.Standing.{WindowStands, at_serial}
 use Rattle.session_state.specs.declared.step_output.StepOutput.{StepOutput}
-use Rattle.session_core.proofs.Outcomes.{was_done, for_there}
+use Rattle.session_laws.proofs.Leaving.{none_left}
+use Rattle.session_core.proofs.Outcomes.{was_done, for_there, nobody_leaves}
 use Rattle.session_core.proofs.programs.write.Goals as goal
 
 pub returns-clause-step : goal.returns-clause-step
@@ -21,9 +22,9 @@ returns-clause-step c = λ past t st fit.
     c.in-Some._window.now (c.get.ensures.finds t.windows st.windows) (ap option_copied c.in-Some.is) in
     let did = c.in_ok-output.ensures.answer t row.0 st fit row.1 in
     was_done t [] (outputs t row.0 bytes) (outcome t (Output window bytes)) done (Ok c.made_so.result)
-    c.output.new.state c.leave.new.state before first c.output.new.made c.leave.new.made past past
+    c.output.new.state c.output.new.state before first c.output.new.made c.output.new.made past past
     (for_there t (λ (w : Window). finished t [] done (outputs t w bytes)) (window_at t window) row.0
     row.1)
     (sym c.made_so.ensures) c.in_ok-reserve.ensures.items refl did.1
-    (c.leave.ensures t (outputs t row.0 bytes) (c.of-focuses.ensures t st fit.sound) did.1.stands)
+    (nobody_leaves t (outputs t row.0 bytes) c.output.new.state c.output.new.made (none_left t.clients) did.1.stands)
     (sym (append-nil past))
