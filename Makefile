@@ -35,9 +35,11 @@ check:
 	@test -n "$(CRATE)" || { echo "make check CRATE=name" >&2; exit 2; }
 	@cd crates/$(CRATE) && $(RT) check
 
-# The gate: every proof from nothing, the must-fail edits, the tests and the programs.
+# The gate: every proof from nothing, the must-fail edits, the tests and the programs.  So many crates at a time as there
+# are processors, each with one job, but no more than four: a proof takes up to 4 GB.  RT_JOBS=2 make test: two.
+LANES = $(shell n=$$(nproc); test $$n -le 4 || n=4; echo $$n)
 test:
-	@RT='$(RT)' RT_JOBS=$${RT_JOBS:-$$(nproc)} tools/rt ci
+	@RT='$(RT)' RT_JOBS=$${RT_JOBS:-$(LANES)} tools/rt ci
 
 # Tries the edits of edits/ in copies of the tree: all, or make edits CRATE=acl.
 edits:
