@@ -7,7 +7,5 @@ mod serving;
 mod turns;
 mod winding;
 
-pub use server_loop::{Gate, Loop, Open};
-pub use server_turn::Turn;
-pub use server_users::{AuthFault, Users, UsersFault, authenticate};
+pub use server_loop::{Gate, Open};
 pub use serving::{Host, serve, serve_through};

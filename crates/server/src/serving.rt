@@ -46,19 +46,6 @@ struct Asked<'a> {
     tells: bool,
 }
 
-// The start of a loop, and how others reach it.
-fn place(alloc: Global, me: usize, poll: Poll) -> io::Result<(LoopStart, LoopHandle)> {
-    let waker = Waker::new(poll.registry(), WAKE)?;
-    let registry = poll.registry().try_clone()?;
-    let start = LoopStart {
-        me,
-        poll,
-        registry,
-        acceptor: None,
-    };
-    Ok((start, LoopHandle::new(waker, VecDeque::new(alloc))))
-}
-
 // The acceptor of a loop that waits at this poll.
 fn acceptor(alloc: Global, mut listener: UnixListener, poll: &Poll) -> io::Result<Acceptor> {
     let registry = poll.registry();
@@ -66,24 +53,40 @@ fn acceptor(alloc: Global, mut listener: UnixListener, poll: &Poll) -> io::Resul
     Ok(Acceptor::new(alloc, listener, registry.try_clone()?)?)
 }
 
-// A place for each loop, of which the first has the listener, and how others reach them.
-fn places<R: Net>(
-    rt: &R,
+/// The starts of the loops, and how others reach them.
+#[derive(Drop)]
+struct Places {
     alloc: Global,
-    loops: usize,
-    listener: UnixListener,
-) -> io::Result<(Vec<LoopStart>, Vec<LoopHandle>)> {
-    let mut starts = Vec::new(alloc);
-    let mut loop_handles = Vec::new(alloc);
-    for me in 0..loops {
-        let (start, loop_handle) = place(alloc, me, Poll::new(rt)?)?;
-        starts.push(start)?;
-        loop_handles.push(loop_handle)?;
+    starts: Vec<LoopStart>,
+    loop_handles: Vec<LoopHandle>,
+}
+
+impl Places {
+    // One more loop, which waits at this poll.
+    fn push(&mut self, poll: Poll) -> io::Result<()> {
+        let waker = Waker::new(poll.registry(), WAKE)?;
+        let registry = poll.registry().try_clone()?;
+        let handed = VecDeque::new(self.alloc);
+        self.loop_handles.push(LoopHandle::new(waker, handed))?;
+        let start = LoopStart {
+            me: self.starts.len(),
+            poll,
+            registry,
+            acceptor: None,
+        };
+        Ok(self.starts.push(start)?)
     }
-    if let Some(first) = starts.first_mut() {
-        first.acceptor = Some(acceptor(alloc, listener, &first.poll)?);
+
+    // So many loops, of which the first has the listener.
+    fn fill<R: Net>(&mut self, rt: &R, loops: usize, listener: UnixListener) -> io::Result<()> {
+        for _ in 0..loops {
+            self.push(Poll::new(rt)?)?;
+        }
+        if let Some(first) = self.starts.first_mut() {
+            first.acceptor = Some(acceptor(self.alloc, listener, &first.poll)?);
+        }
+        Ok(())
     }
-    Ok((starts, loop_handles))
 }
 
 // What is wrong with the trail's file, if there is one.
@@ -138,25 +141,17 @@ where
     }
 }
 
-// What the loops share, and their starts.
-fn shared<R: Net + AllocGlobal>(
-    rt: &R,
-    asked: &Asked,
-    watched: Watched,
-    listener: UnixListener,
-) -> Result<(Shared, Vec<LoopStart>), ServeFault> {
-    let alloc = rt.alloc();
-    let loops = asked.loops.clamp(1, 8);
-    let (starts, loop_handles) = places(rt, alloc, loops, listener)?;
-    let shared = Shared {
+// What the loops share, which others reach so.
+fn shared(alloc: Global, loop_handles: Vec<LoopHandle>, watched: Watched, tells: bool) -> Shared {
+    let log = Log::new(alloc, loop_handles.len());
+    Shared {
         loop_handles,
         over: OnceLock::new(),
         busy: AtomicU64::new(0),
         watched,
-        log: Log::new(alloc, loops),
-        tells: asked.tells,
-    };
-    Ok((shared, starts))
+        log,
+        tells,
+    }
 }
 
 // The new file for the trail, if one is named.
@@ -190,11 +185,16 @@ where
     O: Write,
 {
     let alloc = rt.alloc();
-    let watched = Watched::new(alloc, seen, users.owner());
-    let (shared, places) = shared(rt, asked, watched, listener)?;
+    let mut places = Places {
+        alloc,
+        starts: Vec::new(alloc),
+        loop_handles: Vec::new(alloc),
+    };
+    places.fill(rt, asked.loops.clamp(1, 8), listener)?;
     let journal = journal(host.runtime, alloc, asked.trail, users.owner())?;
+    let watched = Watched::new(alloc, seen, users.owner());
     let server = Server {
-        shared,
+        shared: shared(alloc, places.loop_handles, watched, asked.tells),
         users: UsersFile {
             files: host.runtime,
             alloc,
@@ -208,7 +208,7 @@ where
     let start = Start {
         alloc,
         users,
-        places,
+        places: places.starts,
     };
     serve_on(rt, start, &server, output)
 }

@@ -6,8 +6,8 @@ use crate::winding::wind_up;
 use mio::{Events, Poll, Registry, Token};
 use server_log::Log;
 use server_loop::{
-    End, Gate, LULL, Loop, LoopBody, News, NewsLine, Pace, Pending, Recorder, Seat, SharedSession,
-    Submitted, Trail,
+    End, Gate, LULL, Loop, LoopBody, News, NewsLine, Pace, Peers, Pending, Reads, Recorder, Seat,
+    SharedSession, Submitted, Trail, Writes,
 };
 use server_system::{Setup, UsersSource, Wired};
 use server_trail::{Cause, Journal};
@@ -35,17 +35,47 @@ const LOOK: u64 = 1_000;
 // So many connections at most wait for their first message, by all loops together.
 const MOST_NEW: usize = 256;
 
+/// What a loop tells the others, and whether its draws wait.
+#[derive(Drop)]
+struct Pacing<'a> {
+    shared: &'a Shared,
+    me: usize,
+    pace: Pace,
+}
+
+impl Pacing<'_> {
+    // Wakes the other loops where they may have something to do. While much comes to this one,
+    // draws wait, and so does the news that there is output to draw.
+    fn tell_others(&self, submitted: Submitted, is_news: bool) -> io::Result<()> {
+        if is_news || submitted.has_acted || (submitted.is_some && !self.pace.is_busy()) {
+            self.shared.wake_others(self.me)?;
+        }
+        Ok(())
+    }
+
+    // A turn's reads are done. Whether its draws wait.
+    fn read(&mut self, now: Option<Duration>, reads: Reads) -> io::Result<bool> {
+        let is_news = self.pace.note(&self.shared.busy, now, reads.is_much);
+        self.tell_others(reads.submitted, is_news)?;
+        Ok(self.pace.holds(&self.shared.busy, now, reads.has_typed))
+    }
+
+    // A turn's writes are done.
+    fn written(&mut self, now: Option<Duration>, writes: Writes) -> io::Result<()> {
+        self.pace.draw(now, writes.drawn);
+        self.tell_others(writes.submitted, false)
+    }
+}
+
 /// What a loop minds beside its connections: the events that came, news, and who is to be taken in.
 #[derive(Drop)]
 pub struct Watch<'a> {
     poll: Poll,
     events: Events,
-    shared: &'a Shared,
     loop_handle: &'a LoopHandle,
     registry: &'a Registry,
-    me: usize,
     acceptor: Option<Acceptor>,
-    pace: Pace,
+    pacing: Pacing<'a>,
 }
 
 impl Watch<'_> {
@@ -63,9 +93,9 @@ impl Watch<'_> {
     fn timeout(&self, pending: Pending) -> Option<Duration> {
         if pending == Pending::Work || self.has_more() {
             Some(Duration::ZERO)
-        } else if self.pace.expects_more() {
+        } else if self.pacing.pace.expects_more() {
             Some(Duration::from_millis(LULL))
-        } else if pending == Pending::Retry || self.is_stuck() || self.pace.is_holding() {
+        } else if pending == Pending::Retry || self.is_stuck() || self.pacing.pace.is_holding() {
             Some(Duration::from_millis(PAUSE))
         } else if pending == Pending::Patience {
             Some(Duration::from_millis(LOOK))
@@ -85,15 +115,6 @@ impl Watch<'_> {
         waited
     }
 
-    // Wakes the other loops where they may have something to do. While much comes to this one,
-    // draws wait, and so does the news that there is output to draw.
-    fn tell_others(&self, submitted: Submitted, is_news: bool) -> io::Result<()> {
-        if is_news || submitted.has_acted || (submitted.is_some && !self.pace.is_busy()) {
-            self.shared.wake_others(self.me)?;
-        }
-        Ok(())
-    }
-
     /// Waits for events, at most so long. An interrupted wait has none.
     pub fn wait(&mut self, timeout: Option<Duration>) -> io::Result<()> {
         match self.poll.poll(&mut self.events, timeout) {
@@ -106,28 +127,30 @@ impl Watch<'_> {
     }
 }
 
-// Takes in the connections that were handed to the loop. One that can't be taken in is closed.
+// Takes in the connections that were handed to the loop, of which so many may be new. One that
+// can't be taken in is closed.
 fn admit<'a, L: Roll, G: Gate + Drop>(
     rt: &impl Wait,
-    watch: &Watch<'a>,
-    own: &mut Loop<Wired<'a>, G, L>,
+    loop_handle: &LoopHandle,
+    registry: &'a Registry,
+    share: usize,
+    peers: &mut Peers<Wired<'a>, G, L>,
 ) {
-    let share = MOST_NEW / watch.shared.loop_handles.len().clamp(1, MOST_NEW);
     for _ in 0..u64::MAX {
-        let Some(handed) = watch.loop_handle.handed.lock(rt).pop_front() else {
+        let Some(handed) = loop_handle.handed.lock(rt).pop_front() else {
             return;
         };
         let most = if handed.is_extra { 1 } else { share };
-        own.peers.let_oldest_go(most);
-        let token = Token(own.peers.next_key().saturating_add(FIRST));
-        if let Ok(wired) = Wired::new(watch.registry, token, handed.stream) {
-            let _ = own.peers.admit(wired, handed.is_extra);
+        peers.let_oldest_go(most);
+        let token = Token(peers.next_key().saturating_add(FIRST));
+        if let Ok(wired) = Wired::new(registry, token, handed.stream) {
+            let _ = peers.admit(wired, handed.is_extra);
         }
     }
 }
 
 // Marks the connections that have something to read. Whether somebody may wait to be taken in.
-fn sort<L: Roll, G: Gate + Drop>(events: &Events, own: &mut Loop<Wired, G, L>) -> bool {
+fn sort<L: Roll, G: Gate + Drop>(events: &Events, peers: &mut Peers<Wired, G, L>) -> bool {
     let mut is_asked = false;
     for event in events {
         match event.token() {
@@ -136,8 +159,7 @@ fn sort<L: Roll, G: Gate + Drop>(events: &Events, own: &mut Loop<Wired, G, L>) -
             Token(token) => {
                 let has_hung_up = event.is_read_closed() || event.is_error();
                 if event.is_readable() || has_hung_up {
-                    own.peers
-                        .mark_ready(token.saturating_sub(FIRST), has_hung_up);
+                    peers.mark_ready(token.saturating_sub(FIRST), has_hung_up);
                 }
             }
         }
@@ -150,20 +172,22 @@ fn sort<L: Roll, G: Gate + Drop>(events: &Events, own: &mut Loop<Wired, G, L>) -
 fn take_in<'a, L: Roll, G: Gate + Drop>(
     rt: &impl Wait,
     watch: &mut Watch<'a>,
-    own: &mut Loop<Wired<'a>, G, L>,
+    peers: &mut Peers<Wired<'a>, G, L>,
     is_asked: bool,
 ) -> io::Result<()> {
+    let loop_handles = watch.pacing.shared.loop_handles.as_slice();
     let is_asked = is_asked || watch.has_more() || watch.is_stuck();
     if let Some(acceptor) = &mut watch.acceptor {
         if is_asked {
-            acceptor.accept(rt, watch.shared.loop_handles.as_slice())?;
+            acceptor.accept(rt, loop_handles)?;
         }
     }
     watch.loop_handle.take_news();
     if watch.is_stuck() {
-        own.peers.let_oldest_go(1);
+        peers.let_oldest_go(1);
     }
-    admit(rt, watch, own);
+    let share = MOST_NEW / loop_handles.len().clamp(1, MOST_NEW);
+    admit(rt, watch.loop_handle, watch.registry, share, peers);
     Ok(())
 }
 
@@ -183,34 +207,30 @@ fn begin_turn<'a, L: Roll, G: Gate + Drop, R: Clock + Wait>(
     if let Ok(now) = rt.monotonic() {
         own.now = now;
     }
-    let is_asked = sort(&watch.events, own);
-    take_in(rt, watch, own, is_asked)
+    let is_asked = sort(&watch.events, &mut own.peers);
+    take_in(rt, watch, &mut own.peers, is_asked)
 }
 
 // One turn: what came is read and done, and what comes of it is written.
 fn turn<L: Roll, G: Gate + Drop, R: Clock + Wait>(
     rt: &R,
     session: &SharedSession<L>,
-    watch: &mut Watch,
+    pacing: &mut Pacing,
     own: &mut Loop<Wired, G, L>,
 ) -> io::Result<()> {
     let now = rt.monotonic().ok();
     if let Some(recorder) = &session.recorder {
         recorder.set_time(rt);
     }
-    own.read_all(rt, session);
-    let is_news = watch.pace.note(&watch.shared.busy, now, own.take_much());
-    watch.tell_others(own.peers.take_submitted(), is_news)?;
-    let holds_draws = watch.pace.holds(&watch.shared.busy, now, own.take_typed());
-    own.expire();
-    own.peers.end_turn(rt, session, holds_draws);
-    watch.pace.draw(now, own.peers.take_drawn());
-    watch.tell_others(own.peers.take_submitted(), false)?;
-    tell_news(rt, &watch.shared.log, own.peers.take_news());
-    match own.peers.end() {
-        Some(end) => watch.shared.end(end),
+    let reads = own.read_all(rt, session);
+    let holds_draws = pacing.read(now, reads)?;
+    let writes = own.end_turn(rt, session, holds_draws);
+    pacing.written(now, writes)?;
+    tell_news(rt, &pacing.shared.log, own.peers.take_news());
+    match writes.end {
+        Some(end) => pacing.shared.end(end),
         // Where the trail's file can't go on, the server ends as at a full trail.
-        None if session.has_stopped() => watch.shared.end(End::TrailFull),
+        None if session.has_stopped() => pacing.shared.end(End::TrailFull),
         None => Ok(()),
     }
 }
@@ -235,7 +255,7 @@ fn take_turns<'a, L: Roll, G: Gate + Drop, U: UsersSource, R: Clock + Wait>(
                 own.users = Some(users);
             }
         }
-        turn(rt, session, watch, own)?;
+        turn(rt, session, &mut watch.pacing, own)?;
         if let Some(end) = shared.over.get() {
             watch.acceptor = None;
             wind_up(rt, session, watch, own, *end)?;
@@ -270,12 +290,14 @@ fn run_loop<L: Roll, G: Gate + Copy + Drop, U: UsersSource, R: Clock + Wait>(
     let mut watch = Watch {
         poll,
         events: Events::with_capacity(alloc, 64)?,
-        shared,
         loop_handle,
         registry: &registry,
-        me,
         acceptor,
-        pace: Pace::new(),
+        pacing: Pacing {
+            shared,
+            me,
+            pace: Pace::new(),
+        },
     };
     let loops = shared.loop_handles.len();
     let mut own: Loop<Wired, G, L> = Loop::new(alloc, seat, gate, loops)?;

@@ -13,4 +13,4 @@ pub use server_peers::{
     End, Gate, Guest, Hub, LoopBody, LoopsFault, News, Open, Peers, Pending, Recorder, Seat,
     Session, SharedSession, Start, Submitted, Trail, keep,
 };
-pub use turn::Loop;
+pub use turn::{Loop, Reads, Writes};

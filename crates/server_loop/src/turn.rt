@@ -1,7 +1,7 @@
 //! One loop: what it reads.
 
 use crate::ration::Rations;
-use server_peers::{Came, Gate, Peers, Role, Seat, SharedSession};
+use server_peers::{Came, End, Gate, Peers, Role, Seat, SharedSession, Submitted};
 use server_users::Users;
 use std::alloc::{AllocError, Global};
 use std::io::{Read, Write};
@@ -30,6 +30,26 @@ pub(crate) enum Went {
     Part,
     /// It waits until its user may cause more entries.
     Held,
+}
+
+/// What the reads of a turn brought.
+#[derive(Clone, Copy)]
+pub struct Reads {
+    /// Keys of a client were submitted.
+    pub has_typed: bool,
+    /// A connection had more than one read takes, or a window more output than is done in a turn.
+    pub is_much: bool,
+    pub submitted: Submitted,
+}
+
+/// What the end of a turn brought.
+#[derive(Clone, Copy)]
+pub struct Writes {
+    /// How many clients were drawn.
+    pub drawn: usize,
+    pub submitted: Submitted,
+    /// Why the server is to end, if it is.
+    pub end: Option<End>,
 }
 
 /// One loop and its connections. It is told of each turn's reads and writes, and never waits for a
@@ -92,17 +112,6 @@ impl<S: Read + Write + Drop, G: Gate + Drop, L: Roll> Loop<S, G, L> {
             next: 0,
             wrong_tokens: 0,
         })
-    }
-
-    /// Whether keys of a client were submitted since the last call.
-    pub fn take_typed(&mut self) -> bool {
-        std::mem::replace(&mut self.has_typed, false)
-    }
-
-    /// Whether a connection had more than one read takes, or a window more output than is done in a
-    /// turn, since the last call.
-    pub fn take_much(&mut self) -> bool {
-        std::mem::replace(&mut self.has_much, false)
     }
 
     /// The seat, once the loop is over.
@@ -216,10 +225,9 @@ impl<S: Read + Write + Drop, G: Gate + Drop, L: Roll> Loop<S, G, L> {
         self.peers.expire(self.now);
     }
 
-    /// Reads what is there to be read and does it, at most so much of each connection that others
-    /// have their turn, and keys before output. While a crowd is drawn windows wait, so that all of
-    /// it is drawn the same.
-    pub fn read_all(&mut self, rt: &impl Wait, shared: &SharedSession<L>) {
+    // All connections have their turn, keys before output. While a crowd is drawn windows wait, so
+    // that all of it is drawn the same.
+    fn serve_all(&mut self, rt: &impl Wait, shared: &SharedSession<L>) {
         self.serve_others(rt, shared);
         if self.peers.is_drawing() {
             return;
@@ -228,5 +236,34 @@ impl<S: Read + Write + Drop, G: Gate + Drop, L: Roll> Loop<S, G, L> {
         let first = self.next;
         self.serve_windows(rt, shared, first..usize::MAX);
         self.serve_windows(rt, shared, 0..first);
+    }
+
+    /// Reads what is there to be read and does it, at most so much of each connection that others
+    /// have their turn.
+    pub fn read_all(&mut self, rt: &impl Wait, shared: &SharedSession<L>) -> Reads {
+        self.has_typed = false;
+        self.has_much = false;
+        self.serve_all(rt, shared);
+        Reads {
+            has_typed: self.has_typed,
+            is_much: self.has_much,
+            submitted: self.peers.take_submitted(),
+        }
+    }
+
+    /// Lets those go that were waited for long enough, and ends a turn as `Peers::end_turn` does.
+    pub fn end_turn(
+        &mut self,
+        rt: &impl Wait,
+        shared: &SharedSession<L>,
+        holds_draws: bool,
+    ) -> Writes {
+        self.expire();
+        self.peers.end_turn(rt, shared, holds_draws);
+        Writes {
+            drawn: self.peers.take_drawn(),
+            submitted: self.peers.take_submitted(),
+            end: self.peers.end(),
+        }
     }
 }

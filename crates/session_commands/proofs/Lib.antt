@@ -2,3 +2,8 @@ pub mod Passing
 pub mod Doing
 pub mod Changing
 pub mod Locking
+pub mod Answering
+pub mod Sizes
+pub mod Members
+pub mod Paging
+pub mod Shown

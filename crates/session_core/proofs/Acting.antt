@@ -14,7 +14,7 @@ use Rattle.session_state.specs.declared.caller.Caller.{Caller}
 use Rattle.session_state.specs.declared.step_output.StepOutput.{StepOutput}
 use Rattle.session_state.specs.declared.state.State.{State}
 use Rattle.session_state.specs.Doing.{Does, IsAsBefore, IsSilent, caller_in}
-use Rattle.session_pages.specs.Giving.{NobodyGives}
+use Rattle.session_commands.specs.Giving.{NobodyGives}
 
 -- commands that act on the client that gives them
 abbrev pub acts_on_client : Command → Bool

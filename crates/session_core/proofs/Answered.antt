@@ -27,7 +27,7 @@ use Rattle.session_state.specs.declared.step_output.StepOutput.{StepOutput}
 use Rattle.session_state.specs.declared.state.State.{State}
 use Rattle.session_state.specs.Stands.{Stands}
 use Rattle.session_state.specs.Doing.{HasDone, IsAsBefore, did}
-use Rattle.session_leaving.specs.Leaving.{HasLeft}
+use Rattle.session_events.specs.Leaving.{HasLeft}
 use Rattle.session_core.specs.Reads.{Ruled}
 use Rattle.session_core.specs.Reads.{ReadFor, read_of}
 use Rattle.session_core.specs.Lines.{Parses, line_refusal, refusal_by}

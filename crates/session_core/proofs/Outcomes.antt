@@ -17,8 +17,8 @@ use Rattle.session_state.specs.declared.step_output.StepOutput.{StepOutput}
 use Rattle.session_state.specs.declared.state.State.{State}
 use Rattle.session_state.specs.Stands.{Stands}
 use Rattle.session_state.specs.Doing.{HasDone, IsAsBefore, did}
-use Rattle.session_checks.specs.Checked.{Failed}
-use Rattle.session_leaving.specs.Leaving.{HasLeft}
+use Rattle.session_rights.specs.Checked.{Failed}
+use Rattle.session_events.specs.Leaving.{HasLeft}
 use Rattle.session_core.specs.Stepping.{HasHappened, Stepped}
 
 pub nothing_done : (s : State) (m : StepOutput) → IsAsBefore s s m m

@@ -12,7 +12,7 @@ use Rattle.session_state.specs.declared.step_output.StepOutput.{StepOutput}
 use Rattle.session_state.specs.declared.state.State.{State}
 use Rattle.session_state.specs.Stands.{Stands}
 use Rattle.session_model.specs.Sound.{AreFit}
-use Rattle.session_leaving.specs.Leaving.{ended}
+use Rattle.session_events.specs.Leaving.{ended}
 pub use Rattle.session_core.specs.Ruled.{Ruled}
 
 -- what the keys type behind those before them

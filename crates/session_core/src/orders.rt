@@ -7,16 +7,13 @@ ghost use Rattle.session_model.specs.declared.refusal.Refusal.TheVariants.{NoWin
 ghost use Rattle.session_core.specs.Ruled.{Rules};
 
 use command_lang::Command;
-use session_checks::check_command;
 use session_commands::{
-    clear, defwritelock, encoding, number, reset, stuff, title, wall, writelock,
+    clear, client_of, defwritelock, encoding, fit, focus, next, number, only, other, prev, remove,
+    reset, scrollview, select, split, stuff, title, wall, writelock,
 };
-use session_leaving::{acldel, detach, kill, multiuser, quit};
-use session_lists::{acladd, aclchg, aclgrp, aclumask};
+use session_events::{acldel, detach, kill, multiuser, quit};
 use session_model::{Bytes, Refusal};
-use session_pages::{
-    client_of, fit, focus, next, only, other, prev, remove, scrollview, select, split,
-};
+use session_rights::{acladd, aclchg, aclgrp, aclumask, check_command};
 use session_state::{Caller, State, Step, StepOutput};
 use session_view::{aclgrp_of, displays, screen, windows};
 

@@ -4,3 +4,7 @@ pub mod NewClients
 pub mod NewWindows
 pub mod Feeding
 pub mod Parts
+pub mod Left
+pub mod Parting
+pub mod Answering
+pub mod Ending

@@ -1,0 +1,7 @@
+use Rattle.std.proofs.Common.{◌≡◌, ◌≤◌, length, map, take}
+use Rattle.session_events.specs.Leaving.{focus_now}
+use Rattle.session_events.proofs.focuses.Focuses.of.Given as goal
+
+abbrev pub invariant-loop-client : goal.invariant-loop-client
+invariant-loop-client l =
+    length l.client-items ≤ 64 → l.focuses ≡ map focus_now (take l.client-index l.client-items)

@@ -1,0 +1,19 @@
+use Rattle.std.proofs.Common.{◌≡◌, ◌≤◌, ◌+◌, ◌++◌, drop, List}
+use Rattle.std.specs.Prelude.{vec_len, vec_capacity}
+use Rattle.acl.specs.declared.act.Act.{Act}
+use Rattle.acl.specs.declared.edition.Edition.{Edition}
+use Rattle.acl.specs.declared.user_id.UserId.{UserId}
+use Rattle.acl.specs.History.{History, followed_by}
+use Rattle.writelock.specs.LockTable.{LocksStandFor}
+use Rattle.session_events.specs.Leaving.{all_left}
+use Rattle.session_events.proofs.leaving.note_left.Given as goal
+
+-- those who have left so far, and then those behind
+abbrev pub invariant-loop-i : goal.invariant-loop-i
+invariant-loop-i l =
+    (so_far : List Act) × (so_far ++ all_left (drop l.i l.before) l.clients ≡ all_left l.before l.clients)
+    × (l.acts.items ≡ l.fn.acts.items ++ so_far)
+    × (vec_len l.acts ≤ vec_len l.fn.acts + l.i)
+    × (vec_capacity l.fn.acts ≤ vec_capacity l.acts)
+    × ((edition : Edition) (owner : UserId) (h : History) → LocksStandFor l.fn.locks edition owner h
+    → LocksStandFor l.locks edition owner (followed_by h so_far))

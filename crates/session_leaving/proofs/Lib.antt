@@ -1,4 +1,0 @@
-pub mod Left
-pub mod Parting
-pub mod Answering
-pub mod Ending

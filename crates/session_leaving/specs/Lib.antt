@@ -1,4 +1,0 @@
-pub mod Leaving
-pub mod Going
-pub mod Closing
-pub mod Settling
