@@ -6,7 +6,7 @@ use Rattle.std.proofs.lemmas.Bool.Decides.{nat_tests}
 use Rattle.std.proofs.lemmas.Option.{slice_get_within}
 use Rattle.session_laws.proofs.Lists.{all_weaken}
 use Rattle.hub_trail.specs.Trails.{Entry}
-use Rattle.hub_roll.specs.Receipts.{Receipt}
+use Rattle.hub_record.specs.Receipts.{Receipt}
 use Rattle.hub.specs.Seats.{AllBelow}
 use Rattle.hub.specs.Closing.{AreOf, AreThere, AreTold, IsFirstWrong, IsOf, IsThere, times}
 use Rattle.hub.proofs.Rising.{others_below, times_cons, times_none}

@@ -10,7 +10,7 @@ use Rattle.std.proofs.lemmas.Option.{slice_get_within}
 use Rattle.session_laws.proofs.Lists.{all_append, all_weaken, equal}
 use Rattle.hub.proofs.Queues.{all_at}
 use Rattle.hub_trail.specs.Trails.{Entry}
-use Rattle.hub_roll.specs.Receipts.{Receipt}
+use Rattle.hub_record.specs.Receipts.{Receipt}
 use Rattle.hub.specs.Seats.{AllBelow, Rise}
 use Rattle.hub.specs.Closing.{AreOf, IsOf, before, times}
 

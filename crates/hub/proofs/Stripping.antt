@@ -6,7 +6,7 @@ use Rattle.std.proofs.lemmas.Option.{slice_get_within}
 use Rattle.session_laws.proofs.Lists.{all_append, and_first, and_second, both_true, equal}
 use Rattle.hub.proofs.Places.{slice_get-set_other}
 use Rattle.hub_trail.specs.Trails.{Entry}
-use Rattle.hub_roll.specs.Receipts.{Receipt}
+use Rattle.hub_record.specs.Receipts.{Receipt}
 use Rattle.hub.specs.Seats.{Sitting}
 use Rattle.hub.specs.Closing.{AreOf, IsFirstWrong, IsOf, IsTold, before, receipts_of, times}
 use Rattle.hub.proofs.Rising.{all_parts, are_of_before, before_append, before_are_of, before_before, times_append, times_before}

@@ -4,7 +4,7 @@ use Rattle.std.specs.Prelude.{◌||◌}
 use Rattle.std.specs.List.{list_any}
 use Rattle.std.proofs.lemmas.List.{append-nil, drop_all, take_all}
 use Rattle.std.proofs.lemmas.List.Folds.{list_any-append}
-use Rattle.hub_roll.specs.Receipts.{Receipt}
+use Rattle.hub_record.specs.Receipts.{Receipt}
 use Rattle.hub.specs.Seats.{NoneAsks, Sitting}
 use Rattle.hub.specs.Closing.{receipts_of}
 use Rattle.hub.proofs.Stripping.{receipts_append}

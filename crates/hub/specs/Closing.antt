@@ -3,8 +3,8 @@ use Rattle.std.specs.Prelude.{ℕ, ◌<◌, ◌≤◌, ◌==◌, List, [], ◌�
 use Rattle.std.specs.Prelude.{length, count_by, filter, nat_lt, slice_get}
 use Rattle.std.specs.List.{AllByRecursion}
 use Rattle.hub_trail.specs.Trails.{Entry}
-use Rattle.hub_roll.specs.Receipts.{Receipt}
-pub use Rattle.hub_roll.specs.Receipts.{IsOf}
+use Rattle.hub_record.specs.Receipts.{Receipt}
+pub use Rattle.hub_record.specs.Receipts.{IsOf}
 use Rattle.hub.specs.Seats.{Sitting}
 
 -- all that these seats were told

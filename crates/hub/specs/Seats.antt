@@ -7,7 +7,7 @@ pub use Rattle.hub.specs.States.{StandsFor}
 use Rattle.hub_trail.specs.declared.kept.Kept.{Kept}
 use Rattle.hub_trail.specs.Trails.{Entry}
 use Rattle.hub_trail.specs.Filing.{kept_of, ending_of}
-use Rattle.hub_roll.specs.Receipts.{Receipt}
+use Rattle.hub_record.specs.Receipts.{Receipt}
 
 -- an answer: the event, the reply, the place of the entry if there is one, and this entry if it is
 -- handed out

@@ -8,7 +8,7 @@ ghost use Rattle.hub_trail.specs.Legal.{AreLegal};
 use crate::trail::Trail;
 use acl::{Edition, UserId};
 use hub_check::{CheckFault, Judge};
-use hub_roll::Roll;
+use hub_record::Roll;
 use std::alloc::Global;
 
 /// Judges entries from the first on: each by the acts of those before it.

@@ -5,8 +5,7 @@ ghost use Rattle.hub.specs.Closing.{IsFirstWrong, IsTold, before, receipts_of};
 ghost use Rattle.hub.specs.declared.ledger.TheConstants.{FULL};
 
 use crate::seat::Seat;
-use hub_record::Filed;
-use hub_roll::Roll as Entries;
+use hub_record::{Filed, Roll as Entries};
 use std::sync::ledger::{Book, Ledger as Roll};
 
 /// Takes away the receipts of this place and above from all seats. Whether one of them alone names

@@ -1,14 +1,13 @@
 //! The entries of a trail that grows.
 
 ghost use Rattle.std.specs.Prelude.{◌≡◌, ◌<◌, OnOk, length};
-ghost use Rattle.hub_roll.specs.Rolls.{HasRoom};
+ghost use Rattle.hub_record.specs.Rolls.{HasRoom};
 ghost use Rattle.hub.specs.Slips.{kept_by, with_entries, written};
 ghost use Rattle.hub.specs.States.{trail_in};
 
 use crate::prepared::Prepared;
 use acl::{Edition, UserId};
-use hub_record::KeptReply;
-use hub_roll::{Roll, Slip};
+use hub_record::{KeptReply, Roll, Slip};
 use session_core::Notes;
 use session_model::Reply;
 use std::alloc::AllocError;

@@ -4,8 +4,7 @@ ghost use Rattle.std.specs.Prelude.{◌≡◌, ◌↔◌, ◌≤◌, ◌<◌, �
 ghost use Rattle.hub.specs.Seats.{AllBelow, Rise};
 ghost use Rattle.hub.specs.Closing.{AreOf, before, times};
 
-use hub_record::Filed;
-use hub_roll::Receipts;
+use hub_record::{Filed, Receipts};
 
 /// Whether all places are below this one.
 pub fn are_below(receipts: &Receipts, place: usize) -> bool

@@ -4,8 +4,7 @@ ghost use Rattle.std.specs.Prelude.{◌≡◌, ◌↔◌, ◌+◌, ◌≤◌, �
 ghost use Rattle.hub.specs.Closing.{AreOf, before, times};
 
 use crate::receipt::strip;
-use hub_record::Filed;
-use hub_roll::Receipts;
+use hub_record::{Filed, Receipts};
 use std::marker::Model;
 use std::sync::ledger::{Book, Ledger as Roll, Share};
 

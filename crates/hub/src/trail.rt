@@ -7,8 +7,7 @@ ghost use Rattle.hub.specs.Editions.{number_of_edition};
 
 use crate::entries::Entries;
 use acl::{Edition, UserId};
-use hub_record::Filed;
-use hub_roll::Roll;
+use hub_record::{Filed, Roll};
 use std::marker::Model;
 
 /// The trail of a session: its edition and its owner, and the entries of all its steps, in their

@@ -1,3 +1,6 @@
+pub mod Rows
+pub mod Standing
+pub mod Redoing
 pub mod Folding
 pub mod Judged
 pub mod Taken

@@ -5,7 +5,7 @@ use Rattle.acl.specs.declared.user_id.UserId.{UserId}
 use Rattle.hub_trail.specs.Trails.{Entry}
 use Rattle.hub_trail.specs.Legal.{acts_after}
 use Rattle.hub_trail.specs.Judging.{AreGood, IsBadAt}
-use Rattle.hub_replay.specs.Following.{StandsAfter}
+use Rattle.hub_check.specs.Following.{StandsAfter}
 use Rattle.hub_check.specs.declared.judge.Judge.{Judge}
 
 -- these entries were taken, and all are good

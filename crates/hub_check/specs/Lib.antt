@@ -1,3 +1,5 @@
+pub mod Clients
+pub mod Following
 pub mod Parts
 pub mod Laws
 pub mod Judges

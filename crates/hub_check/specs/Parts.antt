@@ -18,8 +18,8 @@ use Rattle.hub_trail.specs.Trails.{Ending, Entry}
 use Rattle.hub_trail.specs.Legal.{IsTrue, AsksFirst, AsksForCommand, CarriesFailed, IsDenied}
 use Rattle.hub_trail.specs.Legal.{IsLegalEntry, HasItsActs, failed, first_names, has_act_of}
 use Rattle.hub_trail.specs.Judging.{is_on_there, IsGood}
-use Rattle.hub_replay.specs.declared.replay.Replay.{Replay}
-use Rattle.hub_replay.specs.Following.{StandsAfter}
+use Rattle.hub_check.specs.declared.replay.Replay.{Replay}
+use Rattle.hub_check.specs.Following.{StandsAfter}
 
 -- verdicts on objects that are there, which tell the truth
 abbrev pub AreTrue : Edition → UserId → History → List Verdict → Type 0

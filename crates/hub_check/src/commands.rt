@@ -5,18 +5,18 @@ ghost use Rattle.hub_trail.specs.declared.kept.Kept.TheVariants as kept;
 ghost use Rattle.acl.specs.declared.edition.Edition.{Edition};
 ghost use Rattle.acl.specs.declared.user_id.UserId.{UserId};
 ghost use Rattle.acl.specs.History.{History};
-ghost use Rattle.hub_replay.specs.Following.{StandsAfter};
+ghost use Rattle.hub_check.specs.Following.{StandsAfter};
 ghost use Rattle.hub_record.specs.Stored.{kept_lent};
 ghost use Rattle.hub_check.specs.Parts.{IsReading, AsksIfKnown, HaveActsIfDone};
 ghost use Rattle.hub_check.specs.Parts.{FitsCommand, FitsLine};
 
 use crate::acts::{has_closed, has_come, has_gone, has_opened};
 use crate::names::have_acts;
+use crate::replay::Replay;
 use crate::verdicts::asks_first;
 use acl::UserId;
 use command_lang::{Command, FaultKind, parse};
 use hub_record::{Filed, KeptRef};
-use hub_replay::Replay;
 use session_model::Verdict;
 use std::alloc::{AllocError, Global};
 

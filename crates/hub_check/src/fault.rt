@@ -7,7 +7,7 @@ use std::alloc::AllocError;
 use thiserror::Error;
 
 /// Why entries don't pass.
-#[derive(Clone, Copy, Debug, PartialEq, Eq, Error)]
+#[derive(Clone, Copy, Debug, Error)]
 pub enum CheckFault {
     /// The first entry that isn't legal, or that tables can't judge, by its place from 0 on.
     #[error("entry {place} isn't legal")]

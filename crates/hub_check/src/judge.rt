@@ -7,17 +7,17 @@ ghost use Rattle.acl.specs.History.{History};
 ghost use Rattle.hub_trail.specs.Legal.{AreOfUser, acts_after};
 ghost use Rattle.hub_trail.specs.Trails.{Entry};
 ghost use Rattle.hub_record.specs.Stored.{kept_lent};
-ghost use Rattle.hub_replay.specs.Following.{StandsAfter};
+ghost use Rattle.hub_check.specs.Following.{StandsAfter};
 ghost use Rattle.hub_check.specs.Parts.{IsAnswered, IsJudged};
 ghost use Rattle.hub_check.specs.Judges.{HasJudged, Judges};
 
 use crate::acts::are_let;
 use crate::commands::fits_line;
+use crate::replay::Replay;
 use crate::replies::{carries_failed, is_denied};
 use crate::verdicts::{are_of, are_of_client, are_true, failed};
 use acl::{Edition, UserId};
 use hub_record::{Filed, KeptRef};
-use hub_replay::Replay;
 use session_model::Verdict;
 use std::alloc::{AllocError, Global};
 

@@ -9,14 +9,14 @@ ghost use Rattle.acl.specs.History.{History, users_of};
 ghost use Rattle.acl.specs.Names.{named_by};
 ghost use Rattle.acl.specs.Same.{same_user};
 ghost use Rattle.hub_trail.specs.Legal.{has_act_of};
-ghost use Rattle.hub_replay.specs.Following.{StandsAfter};
+ghost use Rattle.hub_check.specs.Following.{StandsAfter};
 ghost use Rattle.command_lang.specs.command.Command.TheVariants as command;
 ghost use Rattle.hub_check.specs.Parts.{HaveActs};
 
 use crate::acts::has_act_of;
+use crate::replay::Replay;
 use acl::{Act, UserId};
 use command_lang::{Command, Text, Users};
-use hub_replay::Replay;
 
 /// Whether the user whom the word names has an act.
 fn has_named(acts: &[Act], word: &Text) -> bool

@@ -7,11 +7,11 @@ ghost use Rattle.acl.specs.declared.user_id.UserId.{UserId};
 ghost use Rattle.acl.specs.History.{History};
 ghost use Rattle.hub_trail.specs.Legal.{passes, failed, user_of, asks_for_command, AsksFirst};
 ghost use Rattle.hub_trail.specs.Legal.{from_command, is_client_of, is_granted, is_of_user};
-ghost use Rattle.hub_replay.specs.Following.{StandsAfter};
+ghost use Rattle.hub_check.specs.Following.{StandsAfter};
 ghost use Rattle.hub_check.specs.Parts.{AreTrue, AsksFor};
 
+use crate::replay::Replay;
 use acl::{Bit, CommandName, Object, UserId};
-use hub_replay::Replay;
 use session_model::Verdict;
 
 /// Whether the verdict lets its user go on.

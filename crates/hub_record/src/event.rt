@@ -13,14 +13,14 @@ use std::alloc::{AllocError, Global};
 use std::marker::Model;
 
 /// How an event is stored.
-#[derive(Debug, Drop)]
+#[derive(Drop)]
 enum Form {
     Keys { client: u32 },
     Other(Box<Kept>),
 }
 
 /// An event that a trail keeps, lent.
-#[derive(Clone, Copy, Debug)]
+#[derive(Clone, Copy)]
 pub enum KeptRef<'a> {
     Attach {
         user: UserId,
@@ -134,7 +134,6 @@ fn copied(alloc: Global, kept: &Kept) -> Result<Kept, AllocError>
 
 /// An event that a trail keeps: 16 bytes, and a block of memory for any but Keys. Contracts see it
 /// as hub_trail's `Kept`.
-#[derive(Debug)]
 pub struct KeptEvent {
     form: Form,
 }

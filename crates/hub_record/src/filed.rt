@@ -13,7 +13,6 @@ use std::mem::size_of;
 
 /// One entry of a trail: an event, what was checked, what was done, and what was answered.
 /// Contracts see it as hub_trail's `Entry`.
-#[derive(Debug)]
 pub struct Filed {
     event: KeptEvent,
     verdicts: Vec<Verdict>,

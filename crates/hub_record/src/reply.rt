@@ -10,7 +10,7 @@ use std::alloc::{AllocError, Global};
 use std::marker::Model;
 
 /// How a reply is stored.
-#[derive(Debug, Drop)]
+#[derive(Drop)]
 enum Form {
     Done(Finished),
     Refused(Box<Refusal>),
@@ -18,7 +18,6 @@ enum Form {
 
 /// A reply without its text: 24 bytes, and a block of memory for a refusal. Contracts see it as
 /// hub_trail's `Ending`.
-#[derive(Debug)]
 pub struct KeptReply {
     form: Form,
 }

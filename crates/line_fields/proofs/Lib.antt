@@ -2,3 +2,4 @@ pub mod Words
 pub mod Digits
 pub mod Spelled
 pub mod ReadBack
+pub mod Again

@@ -2,3 +2,5 @@ pub mod Cutting
 pub mod Numbers
 pub mod Texts
 pub mod Parts
+pub mod Acts
+pub mod Sayable

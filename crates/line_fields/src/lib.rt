@@ -1,10 +1,13 @@
-//! Fields of lines: cut at a byte, numbers in decimal, texts of any bytes in plain ones; users, bits, objects and modes.
+//! Fields of lines: cut at a byte, numbers in decimal, texts of any bytes in plain ones; users, bits,
+//! objects, modes, acts and verdicts.
 #![tactic(auto)]
 
+pub mod acts;
 mod cutting;
 mod numbers;
 pub mod parts;
 mod texts;
+pub mod verdicts;
 
 pub use cutting::{cut, next_word};
 pub use numbers::{read_u8, read_u16, read_u32, read_u64, u8_at, u16_at, u32_at, u64_at};

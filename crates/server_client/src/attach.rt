@@ -1,13 +1,10 @@
 //! `mux`: a client, a window or a command.
 
-use crate::fault::{Fault, Told, gone};
 use crate::opening::{open, warn_of_token};
-use crate::refusals::explain;
 use crate::showing::show;
 use crate::standing::Shared;
-use crate::words::Words;
 use attach_proto::Why;
-use program_words::{of_client, tell};
+use client_words::{Fault, Told, Words, explain, gone, words_of};
 use std::alloc::{AllocError, Global};
 use std::fs::{File, Files};
 use std::io::{Read, Write};
@@ -17,7 +14,8 @@ use std::thread;
 use std::thread::Threads;
 use std::time::{Clock, Duration};
 
-const NO_SIZE: &str = "lines of --sizes were dropped: each is ROWS COLS, 4 to 200 by 20 to 300";
+const NO_SIZE: &[u8] =
+    b"mux: lines of --sizes were dropped: each is ROWS COLS, 4 to 200 by 20 to 300\n";
 
 // How long a window's end waits for its standard output, in milliseconds.
 const LAST_WRITING: u64 = 500;
@@ -121,7 +119,7 @@ fn tell_fault<E: Write>(
 // Says why a peer ended. The answer is the status to exit with.
 fn tell_end<E: Write>(ending: &Ending, words: &Words<'_>, errors: &mut E) -> u8 {
     if ending.has_dropped {
-        let _ = writeln!(errors, "mux: {NO_SIZE}");
+        let _ = errors.write_all(NO_SIZE);
     }
     match ending.end {
         Ok(why) if words.why => {
@@ -130,19 +128,6 @@ fn tell_end<E: Write>(ending: &Ending, words: &Words<'_>, errors: &mut E) -> u8 
         }
         Ok(_) => 0,
         Err(fault) => tell_fault(fault, &ending.said, words, errors),
-    }
-}
-
-// What the words say; where they aren't understood, the status to exit with.
-fn words_of<'a, O: Write, E: Write>(
-    alloc: Global,
-    words: &'a [String],
-    output: &mut O,
-    errors: &mut E,
-) -> Result<Words<'a>, u8> {
-    match of_client(alloc, words) {
-        Ok(matches) => Words::of(&matches).ok_or(2),
-        Err(error) => Err(tell(&error, output, errors)),
     }
 }
 

@@ -2,14 +2,11 @@
 #![tactic(auto)]
 
 mod attach;
-mod fault;
 mod opening;
-mod refusals;
 mod sending;
 mod showing;
 mod standing;
 mod taking;
 mod watching;
-mod words;
 
 pub use attach::client;

@@ -1,8 +1,7 @@
 //! What a connection begins with, and the files that the words name.
 
-use crate::fault::{Fault, Part};
-use crate::words::{Way, Words};
 use attach_proto::Token;
+use client_words::{Fault, Part, Way, Words};
 use std::alloc::Global;
 use std::fs::{File, Files, OpenOptions};
 use std::io::{ErrorKind, Write};

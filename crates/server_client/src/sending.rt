@@ -2,11 +2,9 @@
 
 ghost use Rattle.std.specs.Io.{ReadsAtMost};
 
-use crate::fault::{Fault, Part};
 use crate::standing::Shared;
-use crate::words::{Way, frame_of};
 use attach_proto::{Bytes, Kind, LONGEST, Message, WriteFault, head_of};
-use size_lines::{Size, SizeLines};
+use client_words::{Fault, Part, Size, SizeLines, Way, frame_of};
 use std::alloc::{AllocError, Global};
 use std::fs::File;
 use std::io::{Read, Write};

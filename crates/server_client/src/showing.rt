@@ -1,10 +1,10 @@
 //! What comes from the server: read, and written where it belongs.
 
-use crate::fault::Fault;
 use crate::sending::{Source, start_sending};
 use crate::standing::{Intake, Outlet, Shared, Standing};
 use crate::watching::Turns;
 use attach_proto::{LONGEST, Why};
+use client_words::Fault;
 use std::alloc::{AllocError, Global};
 use std::io::{Read, Write};
 use std::sync::{Arc, Wait};

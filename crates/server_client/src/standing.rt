@@ -1,9 +1,8 @@
 //! What the threads of a peer share.
 
-use crate::fault::Fault;
 use crate::opening::Opened;
-use crate::words::{Way, Words};
 use attach_proto::{Reader, Side, Why};
+use client_words::{Fault, Way, Words};
 use std::alloc::Global;
 use std::fs::File;
 use std::io;

@@ -1,9 +1,8 @@
 //! What comes from the server, put in order.
 
-use crate::fault::Fault;
 use crate::standing::Standing;
-use crate::words::Way;
 use attach_proto::{Message, ProtoFault, Reader, Why};
+use client_words::{Fault, Way};
 use std::alloc::Global;
 use std::io::Write;
 

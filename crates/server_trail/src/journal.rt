@@ -8,7 +8,7 @@ use crate::recorder::Recorder;
 use crate::stop::Stopped;
 use crate::writing::Written;
 use acl::UserId;
-use hub_roll::Roll;
+use hub_record::Roll;
 use std::alloc::Global;
 use std::fs::{File, OpenOptions};
 use std::io::{BufReader, Write};

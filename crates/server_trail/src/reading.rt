@@ -4,8 +4,7 @@ ghost use Rattle.std.specs.Prelude.{◌≡◌, ◌∷◌, ◌++◌, ℕ, List, S
 ghost use Rattle.trail_lines.specs.Entries.{line_of};
 ghost use Rattle.server_trail.specs.Files.{Reads, Cuts, ReadsLines, IsTrailOf, IsLastOf, IsFirst};
 
-use hub_record::Filed;
-use hub_roll::Roll;
+use hub_record::{Filed, Roll};
 use line_fields::u64_at;
 use std::alloc::{AllocError, Global};
 use std::io::{self, BufRead};

@@ -1,8 +1,7 @@
 //! Entries, and a trail of them.
 
 use acl::UserId;
-use hub_record::{Filed, KeptEvent, KeptReply};
-use hub_roll::{Roll, Slip};
+use hub_record::{Filed, KeptEvent, KeptReply, Roll, Slip};
 use session_model::{Done, Event, Refusal, Reply};
 use std::alloc::{AllocError, Global};
 

@@ -11,7 +11,7 @@ use Rattle.line_fields.specs.Cutting.{◌>>=◌, cut}
 use Rattle.line_fields.proofs.Words.{IsFree, first_field}
 use Rattle.line_fields.proofs.Digits.{number_again}
 use Rattle.line_fields.specs.Parts.{blank, field}
-use Rattle.trail_lines.proofs.Again.{apart_blank, most64, number_at_again, user_at_again}
+use Rattle.line_fields.proofs.Again.{apart_blank, most64, number_at_again, user_at_again}
 use Rattle.trail_audit.specs.declared.header.Header.{Header}
 use Rattle.trail_audit.specs.declared.ending.Cause.{Cause}
 use Rattle.trail_audit.specs.declared.ending.Cause.TheVariants as cause

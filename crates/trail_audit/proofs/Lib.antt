@@ -1,1 +1,3 @@
 pub mod Headed
+pub mod Unbroken
+pub mod Cut

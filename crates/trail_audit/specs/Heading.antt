@@ -11,7 +11,7 @@ use Rattle.line_fields.specs.Cutting.{◌>>=◌, cut}
 use Rattle.line_fields.specs.Numbers.{number_below}
 use Rattle.line_fields.specs.Parts.{blank, field, user_at}
 use Rattle.line_fields.specs.Numbers.{number_at}
-use Rattle.trail_lines.specs.Sayable.{IsNamed}
+use Rattle.line_fields.specs.Sayable.{IsNamed}
 use Rattle.trail_audit.specs.declared.header.Header.{Header}
 use Rattle.trail_audit.specs.declared.ending.Cause.{Cause}
 use Rattle.trail_audit.specs.declared.ending.Cause.TheVariants as cause

@@ -5,13 +5,12 @@ ghost use Rattle.acl.specs.declared.edition.Edition.{Edition};
 ghost use Rattle.acl.specs.declared.user_id.UserId.{UserId};
 ghost use Rattle.hub_trail.specs.Trails.{Entry};
 ghost use Rattle.hub_trail.specs.Legal.{acts_after};
-ghost use Rattle.hub_replay.specs.Following.{StandsAfter};
+ghost use Rattle.hub_check.specs.Following.{StandsAfter};
 ghost use Rattle.trail_audit.specs.Reading.{HasRead, Tells};
 
 use crate::fault::Wrong;
 use acl::{Edition, UserId};
-use hub_check::Judge;
-use hub_replay::Replay;
+use hub_check::{Judge, Replay};
 use std::alloc::{AllocError, Global};
 use trail_lines::{Line, Unread, read_line};
 

@@ -11,7 +11,7 @@ use std::alloc::{AllocError, Global};
 use trail_lines::Unread;
 
 /// Why a trail ends.
-#[derive(Clone, Copy, PartialEq, Eq, Debug)]
+#[derive(Clone, Copy)]
 pub enum Cause {
     /// The session was quit.
     Quit,
@@ -26,7 +26,7 @@ pub enum Cause {
 }
 
 /// What the last line says.
-#[derive(Clone, Copy, PartialEq, Eq, Debug)]
+#[derive(Clone, Copy)]
 pub struct Ended {
     /// How many entries stand before it.
     pub entries: u64,

@@ -12,7 +12,7 @@ use crate::lines::{Came, next_line};
 use std::io::{self, BufRead};
 
 /// Where the entries of a file end.
-#[derive(Clone, Copy, PartialEq, Eq, Debug)]
+#[derive(Clone, Copy)]
 pub enum Halt {
     /// The file ends behind a whole line.
     Nothing,

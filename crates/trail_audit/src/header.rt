@@ -13,7 +13,6 @@ use std::alloc::{AllocError, Global};
 use trail_lines::Unread;
 
 /// What the first line says. It is the writer's word: who reads it knows the owner or doesn't.
-#[derive(Debug)]
 pub struct Header {
     pub edition: Edition,
     pub owner: UserId,

@@ -1,5 +1,6 @@
 //! Laws of the definitions. Each function here does nothing; its contract says what holds.
 
+ghost use Rattle.trail_audit.specs.Files.{CutFilesAreRead};
 ghost use Rattle.trail_audit.specs.Heading.{ReadsEnds, ReadsHeaders};
 ghost use Rattle.trail_audit.specs.Reading.{NoRunIsBad, ReadIsLegal};
 
@@ -13,4 +14,10 @@ pub fn headings_are_read()
 pub fn read_is_legal()
     ensures legal { ReadIsLegal }
     ensures runs { NoRunIsBad }
+{}
+
+/// A file of entries' lines, cut behind any of its bytes, reads as the entries whose line is whole,
+/// and as no other.
+pub fn cut_files_are_read()
+    ensures { CutFilesAreRead }
 {}

@@ -1,4 +1,5 @@
-//! A trail's file: its first line, its entries, its last line; whether it is legal.
+//! A trail's file: its first line, its entries, its last line; whether it is legal, and what a cut
+//! leaves of it.
 #![tactic(auto)]
 
 pub mod audit;
@@ -14,5 +15,5 @@ pub use ending::{Cause, Ended, print_end, read_end};
 pub use fault::Wrong;
 pub use halt::{Halt, next_entry, read_entries};
 pub use header::{Header, print_header, read_header};
-pub use laws::{headings_are_read, read_is_legal};
+pub use laws::{cut_files_are_read, headings_are_read, read_is_legal};
 pub use lines::{Came, next_line};

@@ -3,7 +3,7 @@
 use std::io::{self, BufRead};
 
 /// How a line came.
-#[derive(Clone, Copy, PartialEq, Eq, Debug)]
+#[derive(Clone, Copy)]
 pub enum Came {
     /// With its line feed.
     Whole,

@@ -35,8 +35,9 @@ use Rattle.line_fields.proofs.Digits.{number_again}
 use Rattle.line_fields.specs.Parts.{colon, comma, field, user_at, nobody, mark, bit_in}
 use Rattle.line_fields.specs.Numbers.{number_at}
 use Rattle.trail_lines.specs.Replies.{leaders_text, few, with_leader, leaders_of, leaders_in, denied_then, denied_of, denied_at, entry_in, acl_fault, windows_fault, regions_fault, line_fault, small_in, why_text, plain_in, caused_in, or_caused, why_in, reply_text, finished_in, done, refused, reply_by, reply_in}
-use Rattle.trail_lines.specs.Sayable.{IsNamed, IsSerial, AreLeaders, IsDenied, IsRefusal, IsReply}
-use Rattle.trail_lines.proofs.Again.{IsPart, free, apart_colon, apart_comma, name_part, number_part, wide, most64, most32, most8, number_at_again, user_at_again, no_dash_name, object_again, command_part}
+use Rattle.line_fields.specs.Sayable.{IsNamed, IsSerial}
+use Rattle.trail_lines.specs.Sayable.{AreLeaders, IsDenied, IsRefusal, IsReply}
+use Rattle.line_fields.proofs.Again.{IsPart, free, apart_colon, apart_comma, name_part, number_part, wide, most64, most32, most8, number_at_again, user_at_again, no_dash_name, object_again, command_part}
 
 cut_part : (word rest : List ℕ) → IsPart word → cut colon (field colon word rest) ≡ Some (word, rest)
 cut_part word rest is = first_field colon word rest (free colon word apart_colon is)

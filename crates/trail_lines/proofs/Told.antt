@@ -31,12 +31,13 @@ use Rattle.trail_lines.specs.declared.entries.Note.{Note}
 use Rattle.trail_lines.specs.declared.entries.Note.TheVariants as note
 use Rattle.line_fields.specs.Parts.{colon, blank, field, user_at, nobody, mark, user_text, change_text, object_text}
 use Rattle.line_fields.specs.Numbers.{number_at}
-use Rattle.trail_lines.specs.Acts.{act_text, act_in, verdict_text, verdict_in, lock}
+use Rattle.line_fields.specs.Acts.{act_text, act_in, verdict_text, verdict_in, lock}
 use Rattle.trail_lines.specs.Replies.{leaders_text, denied_then, why_text, reply_text, reply_in}
 use Rattle.trail_lines.specs.Events.{text_field, text_in, title_of, title_in, window_text, window_in, event_then, event_by, event_at}
 use Rattle.trail_lines.specs.Entries.{checked_text, done_text, tail_text, Said, line_of, Noted, note_in, noting, notes_of, tail_of, tail_in, said_in, if_spelled, read_line}
-use Rattle.trail_lines.specs.Sayable.{IsNamed, IsNamedIfAny, IsSerial, IsObject, IsAct, IsVerdict, AreLeaders, IsDenied, IsRefusal, IsReply, AreBytes, IsNumberIfAny, IsEvent, IsEntry, IsSayable, ReadsPrinted, IsSpelledSo}
-use Rattle.trail_lines.proofs.Again.{IsPart, free, apart_blank, name_part, number_part, wide, most64, most32, most16, most8, number_at_again, user_at_again, user_part, change_part, object_part, mode_part, preset_part, command_part, kind_part, act_again, verdict_again}
+use Rattle.line_fields.specs.Sayable.{IsNamed, IsNamedIfAny, IsSerial, IsObject, IsAct, IsVerdict}
+use Rattle.trail_lines.specs.Sayable.{AreLeaders, IsDenied, IsRefusal, IsReply, AreBytes, IsNumberIfAny, IsEvent, IsEntry, IsSayable, ReadsPrinted, IsSpelledSo}
+use Rattle.line_fields.proofs.Again.{IsPart, free, apart_blank, name_part, number_part, wide, most64, most32, most16, most8, number_at_again, user_at_again, user_part, change_part, object_part, mode_part, preset_part, command_part, kind_part, act_again, verdict_again}
 use Rattle.trail_lines.proofs.Replied.{mark_part, named_all, all_named, acl_small, windows_small, regions_small, line_small, reply_again}
 
 -- ---- words without blanks

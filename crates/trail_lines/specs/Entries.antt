@@ -14,7 +14,7 @@ use Rattle.trail_lines.specs.declared.entries.Notes.{Notes}
 use Rattle.trail_lines.specs.declared.entries.Line.{Line}
 use Rattle.line_fields.specs.Parts.{blank, field}
 use Rattle.line_fields.specs.Numbers.{number_at}
-use Rattle.trail_lines.specs.Acts.{act_text, act_in, verdict_text, verdict_in}
+use Rattle.line_fields.specs.Acts.{act_text, act_in, verdict_text, verdict_in}
 use Rattle.trail_lines.specs.Events.{event_then, event_at}
 use Rattle.trail_lines.specs.Replies.{reply_text, reply_in}
 

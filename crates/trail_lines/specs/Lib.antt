@@ -1,4 +1,3 @@
-pub mod Acts
 pub mod Replies
 pub mod Events
 pub mod Entries

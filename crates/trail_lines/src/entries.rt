@@ -9,14 +9,14 @@ ghost use Rattle.trail_lines.specs.Entries.{noting, notes_of, tail_in, said_in, 
 ghost use Rattle.trail_lines.specs.Entries.{read_line, noted, said};
 ghost use Rattle.trail_lines.specs.Unreadable.{Gives};
 
-use crate::acts::{push_act, read_act};
 use crate::events::{event_at, push_event};
 use crate::replies::{push_reply, read_reply};
 use crate::unread::Unread;
-use crate::verdicts::{push_verdict, read_verdict};
 use acl::Act;
 use hub_record::{Filed, KeptReply};
 use hub_trail::Ending;
+use line_fields::acts::{push_act, read_act};
+use line_fields::verdicts::{push_verdict, read_verdict};
 use line_fields::{next_word, u64_at};
 use session_model::{Done, Refusal, Reply, Verdict, push_decimal};
 use std::alloc::{AllocError, Global};

@@ -1,12 +1,10 @@
 //! The lines of a trail's file: each entry has one spelling, which is printed and read.
 #![tactic(auto)]
 
-pub mod acts;
 pub mod entries;
 mod events;
 mod replies;
 pub mod unread;
-mod verdicts;
 
 ghost use Rattle.trail_lines.specs.Sayable.{IsSpelledSo, ReadsPrinted};
 

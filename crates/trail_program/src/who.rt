@@ -4,7 +4,7 @@ use crate::pass::Pass;
 use crate::texts::text_of;
 use acl::{Bit, CommandName, Leaders, Object, UserId};
 use command_lang::name_text;
-use hub_replay::Replay;
+use hub_check::Replay;
 use std::alloc::{AllocError, Global};
 use std::io::{self, Write};
 use trail_rights::{Led, holder, may};

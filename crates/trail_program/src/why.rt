@@ -5,10 +5,10 @@ use crate::show::When;
 use crate::texts::text_of;
 use acl::{Act, Bit, CommandName, Object, UserId};
 use command_lang::name_text;
-use hub_replay::Replay;
+use hub_check::Replay;
+use line_fields::acts::push_act;
 use std::alloc::{AllocError, Global};
 use std::io::{self, Write};
-use trail_lines::acts::push_act;
 use trail_rights::{Decider, Mark, may};
 
 /// A user, a bit and an object.

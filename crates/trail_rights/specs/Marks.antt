@@ -5,7 +5,7 @@ use Rattle.acl.specs.declared.act.Act.{Act}
 use Rattle.acl.specs.declared.user_id.UserId.{UserId}
 use Rattle.acl.specs.History.{History}
 use Rattle.writelock.specs.Holding.{clients_of}
-use Rattle.hub_replay.specs.Clients.{user_in}
+use Rattle.hub_check.specs.Clients.{user_in}
 use Rattle.hub_trail.specs.declared.kept.Kept.{Kept}
 use Rattle.hub_trail.specs.declared.kept.Kept.TheVariants as kept
 use Rattle.hub_trail.specs.Trails.{Entry}

@@ -9,7 +9,7 @@ use crate::mark::Mark;
 use acl::{Act, Bit, Object, UserId};
 
 /// Looks for the latest act that decides a user's bit on an object.
-#[derive(Clone, Copy, Debug)]
+#[derive(Clone, Copy)]
 pub struct Decider {
     owner: UserId,
     user: UserId,

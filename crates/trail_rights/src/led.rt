@@ -8,7 +8,7 @@ use acl::{Act, Edition, Leaders, UserId};
 
 /// The leaders of a user by the acts so far; none of it once they were more than eight, which acts
 /// that follow one another never make them.
-#[derive(Clone, Copy, Debug)]
+#[derive(Clone, Copy)]
 pub struct Led {
     user: UserId,
     leaders: Option<Leaders>,

@@ -2,7 +2,7 @@
 
 ghost use Rattle.std.specs.Prelude.{◌≡◌};
 ghost use Rattle.hub_record.specs.Stored.{kept_lent};
-ghost use Rattle.hub_replay.specs.Clients.{user_in};
+ghost use Rattle.hub_check.specs.Clients.{user_in};
 ghost use Rattle.trail_lines.specs.Entries.{said};
 ghost use Rattle.trail_rights.specs.Marks.{giver_among, mark_among};
 
@@ -12,7 +12,7 @@ use trail_lines::Line;
 
 /// The place and the time of an entry, in milliseconds since 1970, and who gave its event: nobody
 /// where a window's program ended.
-#[derive(Clone, Copy, PartialEq, Eq, Debug)]
+#[derive(Clone, Copy)]
 pub struct Mark {
     pub place: u64,
     pub ms: u64,

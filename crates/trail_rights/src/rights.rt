@@ -5,10 +5,10 @@ ghost use Rattle.acl.specs.declared.edition.Edition.{Edition};
 ghost use Rattle.acl.specs.declared.user_id.UserId.{UserId};
 ghost use Rattle.acl.specs.History.{History, may, there};
 ghost use Rattle.writelock.specs.Holding.{holder};
-ghost use Rattle.hub_replay.specs.Following.{StandsAfter};
+ghost use Rattle.hub_check.specs.Following.{StandsAfter};
 
 use acl::{Bit, Object, UserId};
-use hub_replay::Replay;
+use hub_check::Replay;
 use session_model::Verdict;
 
 /// Whether the user has the bit on the object, which is there.

@@ -20,7 +20,7 @@ use std::alloc::{AllocError, Global};
 use trail_lines::Line;
 
 /// Clients, open windows, what decides some bits and who leads some users, by the acts so far.
-#[derive(Debug, Drop)]
+#[derive(Drop)]
 pub struct Sight {
     edition: Edition,
     clients: Vec<(u32, UserId)>,

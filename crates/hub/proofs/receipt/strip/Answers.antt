@@ -1,6 +1,6 @@
 use Rattle.std.proofs.Common.{◌≡◌, ◌∙◌, ◌-◌, ◌∷◌, ◌++◌, [], Some, ap, sym, refl, arith, length}
 use Rattle.std.specs.Prelude.{slice_get}
-use Rattle.hub_roll.specs.Receipts.{Receipt}
+use Rattle.hub_record.specs.Receipts.{Receipt}
 use Rattle.hub.proofs.Rising.{last_one, not_below, some_there, strip_none, strip_one}
 use Rattle.hub.proofs.receipt.strip.Goals as goal
 

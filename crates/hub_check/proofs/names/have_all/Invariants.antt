@@ -4,7 +4,7 @@ use Rattle.acl.specs.declared.edition.Edition.{Edition}
 use Rattle.acl.specs.History.{History, users_of}
 use Rattle.acl.specs.Same.{same_user}
 use Rattle.hub_trail.specs.Legal.{has_act_of}
-use Rattle.hub_replay.specs.Following.{StandsAfter}
+use Rattle.hub_check.specs.Following.{StandsAfter}
 use Rattle.hub_check.proofs.names.have_all.Given as goal
 
 -- what is left decides

@@ -4,7 +4,7 @@ use Rattle.acl.specs.declared.edition.Edition.{Edition}
 use Rattle.acl.specs.declared.user_id.UserId.{UserId}
 use Rattle.acl.specs.History.{History}
 use Rattle.hub_trail.specs.Legal.{is_client_of, user_of}
-use Rattle.hub_replay.specs.Following.{StandsAfter}
+use Rattle.hub_check.specs.Following.{StandsAfter}
 use Rattle.hub_check.proofs.verdicts.are_of_client.Given as goal
 
 -- what is left decides

@@ -3,7 +3,7 @@ use Rattle.std.specs.Prelude.{◌↔◌}
 use Rattle.acl.specs.declared.edition.Edition.{Edition}
 use Rattle.acl.specs.declared.user_id.UserId.{UserId}
 use Rattle.acl.specs.History.{History}
-use Rattle.hub_replay.specs.Following.{StandsAfter}
+use Rattle.hub_check.specs.Following.{StandsAfter}
 use Rattle.hub_check.specs.Parts.{AreTrue}
 use Rattle.hub_check.proofs.verdicts.are_true.Given as goal
 

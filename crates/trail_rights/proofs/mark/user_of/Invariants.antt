@@ -1,5 +1,5 @@
 use Rattle.std.proofs.Common.{◌≡◌, drop}
-use Rattle.hub_replay.specs.Clients.{user_in}
+use Rattle.hub_check.specs.Clients.{user_in}
 use Rattle.trail_rights.proofs.mark.user_of.Given as goal
 
 abbrev pub invariant-loop-row : goal.invariant-loop-row

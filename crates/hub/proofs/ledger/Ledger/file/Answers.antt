@@ -8,7 +8,7 @@ use Rattle.hub_trail.specs.Trails.{Ending}
 use Rattle.hub_trail.specs.Filing.{ending_of, kept_of}
 use Rattle.hub.specs.Slips.{kept_by}
 use Rattle.hub.specs.States.{State, state_of}
-use Rattle.hub_roll.specs.Receipts.{Receipt}
+use Rattle.hub_record.specs.Receipts.{Receipt}
 use Rattle.hub.specs.Seats.{AllBelow, Answers, Sitting, StandsLast, Told}
 use Rattle.hub.proofs.Filing.{answered, handed, one_more, seats_stay, stands_last}
 use Rattle.hub.proofs.Rising.{rise_pushed}

@@ -1,6 +1,6 @@
 use Rattle.std.proofs.Common.{◌≡◌, ◌∙◌, ◌≤◌, List, length, ap, subst, arith, true}
 use Rattle.std.specs.Prelude.{◌↔◌}
-use Rattle.hub_roll.specs.Receipts.{Receipt}
+use Rattle.hub_record.specs.Receipts.{Receipt}
 use Rattle.hub.specs.Seats.{Sitting}
 use Rattle.hub.specs.Closing.{AreOf, before, times}
 use Rattle.hub.proofs.Rising.{before_le}

@@ -6,8 +6,8 @@ use Rattle.acl.specs.declared.edition.Edition.{Edition}
 use Rattle.acl.specs.declared.user_id.UserId.{UserId}
 use Rattle.acl.specs.History.{History}
 use Rattle.hub_trail.specs.Legal.{acts_after}
-use Rattle.hub_replay.specs.declared.replay.Replay.{Replay}
-use Rattle.hub_replay.specs.Following.{StandsAfter, FollowsAll}
+use Rattle.hub_check.specs.declared.replay.Replay.{Replay}
+use Rattle.hub_check.specs.Following.{StandsAfter, FollowsAll}
 use Rattle.hub_check.specs.Parts.{IsJudged}
 use Rattle.hub_check.proofs.Taken.{good_next, acts_next, bad_next}
 use Rattle.hub_check.proofs.judge.Judge.take.Goals as goal

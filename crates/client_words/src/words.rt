@@ -1,0 +1,155 @@
+//! The words of the command line, and the first message that they make.
+
+use attach_proto::{Bytes, Message, Text, Token, WriteFault, write_message};
+use clap::ArgMatches;
+use program_words::{of_client, tell};
+use std::alloc::{AllocError, Global};
+use std::io::Write;
+
+/// What a peer is to the server.
+#[derive(Clone, Copy)]
+pub enum Way {
+    Attach,
+    Window,
+    Command,
+}
+
+impl Way {
+    fn of(name: &str) -> Way {
+        match name {
+            "attach" => Way::Attach,
+            "window" => Way::Window,
+            _ => Way::Command,
+        }
+    }
+
+    pub fn is_window(self) -> bool {
+        matches!(self, Way::Window)
+    }
+
+    pub fn is_command(self) -> bool {
+        matches!(self, Way::Command)
+    }
+}
+
+/// What the words say. What a way doesn't take is 0, empty or none.
+#[derive(Clone, Copy)]
+pub struct Words<'a> {
+    pub way: Way,
+    pub socket: &'a str,
+    /// The user's name.
+    pub user: &'a str,
+    /// The path of the token's file.
+    pub token: &'a str,
+    pub rows: u16,
+    pub columns: u16,
+    /// The path of the sizes' file.
+    pub sizes: Option<&'a str>,
+    /// Whether a good end is told, too.
+    pub why: bool,
+    pub title: &'a str,
+    pub keep: u16,
+    pub window: Option<u8>,
+    pub line: &'a str,
+}
+
+fn text<'a>(matches: &ArgMatches<'a>, name: &str) -> &'a str {
+    matches.get_str(name).unwrap_or("")
+}
+
+fn number(matches: &ArgMatches, name: &str) -> u16 {
+    matches.get_one::<u16>(name).unwrap_or(0)
+}
+
+impl<'a> Words<'a> {
+    // Nothing is missing that its way needs: such words give no matches.
+    fn of_way(way: Way, matches: &ArgMatches<'a>) -> Words<'a> {
+        Words {
+            way,
+            socket: text(matches, "socket"),
+            user: text(matches, "user"),
+            token: text(matches, "token"),
+            rows: number(matches, "rows"),
+            columns: number(matches, "cols"),
+            sizes: matches.get_str("sizes"),
+            why: matches.get_flag("why"),
+            title: text(matches, "title"),
+            keep: number(matches, "keep"),
+            window: matches.get_one::<u8>("window"),
+            line: text(matches, "line"),
+        }
+    }
+
+    /// None where no way is named.
+    fn of(matches: &ArgMatches<'a>) -> Option<Words<'a>> {
+        let (name, matches) = matches.subcommand()?;
+        Some(Words::of_way(Way::of(name), matches))
+    }
+
+    fn attach(&self, token: Token, name: Text) -> Message {
+        Message::Attach {
+            rows: self.rows,
+            columns: self.columns,
+            token,
+            name,
+        }
+    }
+
+    fn window(&self, token: Token, name: Text, title: Text) -> Message {
+        Message::Window {
+            rows: self.rows,
+            columns: self.columns,
+            keep: self.keep,
+            token,
+            name,
+            title,
+        }
+    }
+
+    fn command(&self, token: Token, name: Text, line: Bytes) -> Message {
+        Message::Command {
+            window: self.window,
+            token,
+            name,
+            line,
+        }
+    }
+
+    // The first message with this token.
+    fn first(&self, alloc: Global, token: Token) -> Result<Message, AllocError> {
+        let name = Text::of(alloc, self.user)?;
+        Ok(match self.way {
+            Way::Attach => self.attach(token, name),
+            Way::Window => self.window(token, name, Text::of(alloc, self.title)?),
+            Way::Command => self.command(token, name, Bytes::of(alloc, self.line.as_bytes())?),
+        })
+    }
+
+    /// The frame of a first message with this token: unspellable where no frame holds the words.
+    pub fn first_frame(&self, alloc: Global, token: Token) -> Result<Vec<u8>, WriteFault> {
+        match self.first(alloc, token) {
+            Ok(message) => frame_of(alloc, &message),
+            Err(error) => Err(WriteFault::from(error)),
+        }
+    }
+}
+
+/// The frame of a message.
+pub fn frame_of(alloc: Global, message: &Message) -> Result<Vec<u8>, WriteFault> {
+    let mut frame = Vec::new(alloc);
+    write_message(alloc, message, &mut frame)?;
+    Ok(frame)
+}
+
+/// What the words say, the program's name first; where they aren't understood, the status to exit with.
+pub fn words_of<'a, O: Write, E: Write>(
+    alloc: Global,
+    words: &'a [String],
+    output: &mut O,
+    errors: &mut E,
+) -> Result<Words<'a>, u8> {
+    match of_client(alloc, words) {
+        Ok(matches) => Words::of(&matches).ok_or(2),
+        Err(error) => Err(tell(&error, output, errors)),
+    }
+}

@@ -1,0 +1,16 @@
+use Rattle.std.proofs.Common.{◌≡◌, drop}
+use Rattle.std.specs.Prelude.{◌↔◌}
+use Rattle.acl.specs.declared.edition.Edition.{Edition}
+use Rattle.acl.specs.declared.user_id.UserId.{UserId}
+use Rattle.acl.specs.History.{History, followed_by}
+use Rattle.hub_trail.specs.Judging.{CanFollow}
+use Rattle.hub_check.specs.Following.{StandsAfter}
+use Rattle.hub_check.proofs.replay.Replay.follow_all.Given as goal
+
+-- the acts so far, and what is left to follow
+abbrev pub invariant-loop-act : goal.invariant-loop-act
+invariant-loop-act l =
+    (edition : Edition) (owner : UserId) (h : History) → StandsAfter l.fn.self edition owner h
+    → (past : History) × StandsAfter l.self edition owner past
+    × (CanFollow edition owner h l.acts ↔ CanFollow edition owner past (drop l.act-index l.acts))
+    × (followed_by past (drop l.act-index l.acts) ≡ followed_by h l.acts)

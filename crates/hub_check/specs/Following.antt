@@ -1,0 +1,58 @@
+-- What a replay stands for, and what one act more makes of it.
+use Rattle.std.specs.Prelude.{Bool, true, ◌≡◌, ◌↔◌, List, ◌∷◌, Option, Some, Ok, IfOk}
+use Rattle.std.specs.Prelude.{Result, is_none}
+use Rattle.std.specs.declared.alloc.AllocError.{AllocError}
+use Rattle.acl.specs.declared.act.Act.{Act}
+use Rattle.acl.specs.declared.edition.Edition.{Edition}
+use Rattle.acl.specs.declared.faults.AclFault.{AclFault}
+use Rattle.acl.specs.declared.user_id.UserId.{UserId}
+use Rattle.acl.specs.Commands.{Answers, known_name_fault}
+use Rattle.acl.specs.History.{History, followed_by, open_count, users_of}
+use Rattle.acl.specs.Table.{StandsFor}
+use Rattle.writelock.specs.Holding.{clients_of}
+use Rattle.writelock.specs.LockTable.{LocksStandFor}
+use Rattle.hub_trail.specs.Judging.{can_follow, CanFollow}
+use Rattle.hub_check.specs.declared.replay.Replay.{Replay}
+use Rattle.hub_check.specs.Clients.{Differ}
+
+-- rights, locks, clients and the number of windows are those after these acts
+pub record StandsAfter (r : Replay) (edition : Edition) (owner : UserId) (h : History)
+    : Type 0 where
+  pub rights : StandsFor r.acl edition owner h
+  pub locks : LocksStandFor r.locks edition owner h
+  pub clients : r.clients.items ≡ clients_of h
+  pub differ : Differ r.clients.items
+  pub count : r.windows ≡ open_count h
+
+-- it is told whether the act can follow, and where it can, the replay stands after it
+abbrev pub Follows : Replay → Replay → Bool → Act → Type 0
+Follows old new done act =
+    (edition : Edition) (owner : UserId) (h : History) → StandsAfter old edition owner h
+    → (done ≡ can_follow edition owner h act)
+    × (done ≡ true → StandsAfter new edition owner (act ∷ h))
+
+-- or memory was refused
+abbrev pub Redoes : Replay → Replay → Result Bool AllocError → Act → Type 0
+Redoes old new result act = IfOk result (λ done. Follows old new done act)
+
+-- and so for acts in order
+abbrev pub FollowsAll : Replay → Replay → Bool → List Act → Type 0
+FollowsAll old new done acts =
+    (edition : Edition) (owner : UserId) (h : History) → StandsAfter old edition owner h
+    → ((done ≡ true) ↔ CanFollow edition owner h acts)
+    × (done ≡ true → StandsAfter new edition owner (followed_by h acts))
+
+abbrev pub RedoesAll : Replay → Replay → Result Bool AllocError → List Act → Type 0
+RedoesAll old new result acts = IfOk result (λ done. FollowsAll old new done acts)
+
+-- ---- list commands
+
+-- whether a list command was done, where memory wasn't refused
+abbrev pub Tells : Result (Unit {0}) AclFault → Result Bool AllocError → Type 0
+Tells done result =
+    IfOk result (λ b. (b ≡ true → done ≡ Ok tt)
+    × ((fault : Option AclFault) → Answers done fault → b ≡ is_none fault))
+
+-- whether a list command may name the user: he is known, and not the owner
+abbrev pub is_nameable : UserId → History → UserId → Bool
+is_nameable owner h u = is_none (known_name_fault owner (users_of owner h) (Some u))

@@ -1,0 +1,181 @@
+//! Acts of list commands, each by the list command that does it alone.
+
+ghost use Rattle.std.specs.Prelude.{◌≡◌};
+ghost use Rattle.acl.specs.declared.act.Act.TheVariants.{Known, Gone, Set, Grouped, Masked, Preset};
+ghost use Rattle.acl.specs.declared.edition.Edition.{Edition};
+ghost use Rattle.acl.specs.declared.user_id.UserId.{UserId};
+ghost use Rattle.acl.specs.History.{History};
+ghost use Rattle.hub_check.specs.Following.{Redoes, Tells, StandsAfter, is_nameable};
+ghost use Rattle.hub_trail.specs.Judging.{leader_in};
+
+use crate::replay::Replay;
+use acl::{
+    AclFault, Bit, BitChange, MaskEntry, MaskScope, NewLeader, Object, PresetKind, RightsChange,
+    UserId,
+};
+use std::alloc::AllocError;
+
+/// Whether a list command was done; an error where memory was refused.
+fn redone(done: Result<(), AclFault>) -> Result<bool, AllocError>
+    ensures { Tells done result }
+{
+    match done {
+        Ok(()) => Ok(true),
+        Err(AclFault::NoMemory) => Err(AllocError),
+        Err(_) => Ok(false),
+    }
+}
+
+/// Whether a list command may name the user: he is known, and not the owner.
+fn is_nameable(replay: &Replay, user: UserId) -> bool
+    ensures { (edition : Edition) (owner : UserId) (h : History) →
+        StandsAfter replay.now edition owner h → result ≡ is_nameable owner h user }
+{
+    if replay.acl.owner() == user {
+        return false;
+    }
+    replay.acl.lists().knows(user)
+}
+
+/// A user becomes known.
+pub fn know(replay: &mut Replay, user: UserId) -> Result<bool, AllocError>
+    ensures { Redoes replay.old replay.new result (Known user) }
+{
+    if replay.acl.lists().knows(user) {
+        return Ok(false);
+    }
+    replay.scratch.clear();
+    redone(
+        replay.acl.change(
+            RightsChange {
+                names: &[Some(user)],
+                changes: &[],
+                objects: &[],
+            },
+            &mut replay.scratch,
+            0,
+            &mut replay.locks,
+        ),
+    )
+}
+
+/// A user goes.
+pub fn forget(replay: &mut Replay, user: UserId) -> Result<bool, AllocError>
+    ensures { Redoes replay.old replay.new result (Gone user) }
+{
+    replay.scratch.clear();
+    redone(
+        replay
+            .acl
+            .remove(Some(user), &mut replay.scratch, 0, &mut replay.locks),
+    )
+}
+
+/// A user's bit is set.
+pub fn set(
+    replay: &mut Replay,
+    user: UserId,
+    bit: Bit,
+    object: Object,
+    value: bool,
+) -> Result<bool, AllocError>
+    ensures { Redoes replay.old replay.new result (Set user bit object value) }
+{
+    if !is_nameable(replay, user) {
+        return Ok(false);
+    }
+    if !replay.is_there(object) {
+        return Ok(false);
+    }
+    replay.scratch.clear();
+    redone(
+        replay.acl.change(
+            RightsChange {
+                names: &[Some(user)],
+                changes: &[BitChange { bit, value }],
+                objects: &[object],
+            },
+            &mut replay.scratch,
+            0,
+            &mut replay.locks,
+        ),
+    )
+}
+
+/// Whom a user is to follow, by an act.
+fn leader_in(leader: Option<UserId>) -> NewLeader
+    ensures { result ≡ leader_in leader }
+{
+    match leader {
+        Some(_) => NewLeader::Named(leader),
+        None => NewLeader::Nobody,
+    }
+}
+
+/// A user is given a leader, or none.
+pub fn group(replay: &mut Replay, user: UserId, leader: Option<UserId>) -> Result<bool, AllocError>
+    ensures { Redoes replay.old replay.new result (Grouped user leader) }
+{
+    replay.scratch.clear();
+    redone(
+        replay.acl.group(
+            Some(user),
+            leader_in(leader),
+            &mut replay.scratch,
+            0,
+            &mut replay.locks,
+        ),
+    )
+}
+
+/// A bit of a user's mask is set.
+pub fn mask(
+    replay: &mut Replay,
+    by: UserId,
+    user: UserId,
+    bit: Bit,
+    value: bool,
+) -> Result<bool, AllocError>
+    ensures { Redoes replay.old replay.new result (Masked by user bit value) }
+{
+    replay.scratch.clear();
+    redone(
+        replay.acl.mask(
+            by,
+            &[MaskEntry {
+                scope: MaskScope::User(Some(user)),
+                bit,
+                value,
+            }],
+            &mut replay.scratch,
+            0,
+            &mut replay.locks,
+        ),
+    )
+}
+
+/// A bit of a preset is set.
+pub fn preset(
+    replay: &mut Replay,
+    kind: PresetKind,
+    bit: Bit,
+    value: bool,
+) -> Result<bool, AllocError>
+    ensures { Redoes replay.old replay.new result (Preset kind bit value) }
+{
+    let by = replay.acl.owner();
+    replay.scratch.clear();
+    redone(
+        replay.acl.mask(
+            by,
+            &[MaskEntry {
+                scope: MaskScope::Preset(kind),
+                bit,
+                value,
+            }],
+            &mut replay.scratch,
+            0,
+            &mut replay.locks,
+        ),
+    )
+}

@@ -1,0 +1,170 @@
+//! Rights, locks and clients after the acts of a history.
+
+ghost use Rattle.std.specs.Prelude.{◌≡◌, ◌↔◌, [], true, IfOk, slice_get, length};
+ghost use Rattle.acl.specs.declared.edition.Edition.{Edition};
+ghost use Rattle.acl.specs.declared.user_id.UserId.{UserId};
+ghost use Rattle.acl.specs.declared.act.Object.TheVariants.{Window};
+ghost use Rattle.acl.specs.History.{History, is_known, is_open, may, there, users_of};
+ghost use Rattle.hub_trail.specs.Legal.{IsTrue, is_client_of};
+ghost use Rattle.hub_trail.specs.Judging.{is_on_there};
+ghost use Rattle.hub_check.specs.Following.{Redoes, RedoesAll, StandsAfter};
+
+use crate::clients::is_client_of;
+use crate::lists::{forget, group, know, mask, preset, set};
+use crate::moves::{attach, close, enter, leave, open, part, set_default, set_mode};
+use acl::{Acl, Act, Bit, Edition, Object, UserId};
+use session_model::Verdict;
+use std::alloc::{AllocError, Global};
+use writelock::Locks;
+
+/// Rights, locks, and the clients that are attached, by the acts so far. What a call answers holds
+/// after any history that the value stands for.
+#[derive(Drop)]
+pub struct Replay {
+    pub(crate) acl: Acl,
+    pub(crate) locks: Locks,
+    /// Serials and users, the newest first.
+    pub(crate) clients: Vec<(u32, UserId)>,
+    /// How many windows are open.
+    pub(crate) windows: usize,
+    /// Where list commands put their acts.
+    pub(crate) scratch: Vec<Act>,
+}
+
+impl Replay {
+    /// A session before its first act.
+    pub fn new(alloc: Global, edition: Edition, owner: UserId) -> Result<Replay, AllocError>
+        ensures { IfOk result (λ r. StandsAfter r edition owner []) }
+    {
+        Ok(Replay {
+            acl: Acl::new(alloc, owner, edition)?,
+            locks: Locks::new(),
+            clients: Vec::new(alloc),
+            windows: 0,
+            scratch: Vec::new(alloc),
+        })
+    }
+
+    /// Whether the user is known.
+    pub fn knows(&self, user: UserId) -> bool
+        ensures { (edition : Edition) (owner : UserId) (h : History) →
+            StandsAfter self.now edition owner h → result ≡ is_known owner h user }
+    {
+        self.acl.knows(user)
+    }
+
+    /// How many users are known, the owner among them.
+    pub fn user_count(&self) -> usize
+        ensures { (edition : Edition) (owner : UserId) (h : History) →
+            StandsAfter self.now edition owner h → result ≡ length (users_of owner h) }
+    {
+        self.acl.user_count()
+    }
+
+    /// The known user at this place, in the order in which they became known; the owner is first.
+    pub fn user_at(&self, place: usize) -> Option<UserId>
+        ensures { (edition : Edition) (owner : UserId) (h : History) →
+            StandsAfter self.now edition owner h → result ≡ slice_get (users_of owner h) place }
+    {
+        self.acl.user_at(place)
+    }
+
+    /// Whether a window is open.
+    pub(crate) fn is_open(&self, window: u32) -> bool
+        ensures { (edition : Edition) (owner : UserId) (h : History) →
+            StandsAfter self.now edition owner h → result ≡ is_open h window }
+    {
+        self.locks.mode(window).is_some()
+    }
+
+    /// Whether an object is there: a command, or an open window.
+    pub(crate) fn is_there(&self, object: Object) -> bool
+        ensures { (edition : Edition) (owner : UserId) (h : History) →
+            StandsAfter self.now edition owner h → result ≡ there h object }
+    {
+        match object {
+            Object::Window(window) => self.is_open(window),
+            Object::Command(_) => true,
+        }
+    }
+
+    /// Whether the user has the bit on an object that is there.
+    pub(crate) fn may(&self, user: UserId, bit: Bit, object: Object) -> bool
+        ensures { (edition : Edition) (owner : UserId) (h : History) →
+            StandsAfter self.now edition owner h → there h object ≡ true →
+            result ≡ may edition owner h user bit object }
+    {
+        self.acl.may(user, bit, object).is_ok()
+    }
+
+    /// Whether the client of this serial is attached, and the user's.
+    pub fn is_client_of(&self, client: u32, user: UserId) -> bool
+        ensures { (edition : Edition) (owner : UserId) (h : History) →
+            StandsAfter self.now edition owner h → result ≡ is_client_of h client user }
+    {
+        is_client_of(&self.clients, client, user)
+    }
+
+    /// Whether a verdict is on an object that is there, and tells the truth.
+    pub fn is_true(&self, verdict: Verdict) -> bool
+        ensures { (edition : Edition) (owner : UserId) (h : History) →
+            StandsAfter self.now edition owner h → (result ≡ true)
+            ↔ ((is_on_there h verdict ≡ true) × IsTrue edition owner h verdict) }
+    {
+        match verdict {
+            Verdict::Right {
+                user,
+                bit,
+                object,
+                answer,
+            } => self.is_there(object) && answer == self.may(user, bit, object),
+            Verdict::Lock { window, holder, .. } => holder == self.locks.holder(window),
+        }
+    }
+
+    /// Does an act again, and answers whether it can follow those before it. Where it can't, the
+    /// value stands for nothing more.
+    pub fn follow(&mut self, act: Act) -> Result<bool, AllocError>
+        ensures { Redoes self.old self.new result act }
+    {
+        match act {
+            Act::Known { user } => know(self, user),
+            Act::Gone { user } => forget(self, user),
+            Act::Set {
+                user,
+                bit,
+                object,
+                value,
+            } => set(self, user, bit, object, value),
+            Act::Grouped { user, leader } => group(self, user, leader),
+            Act::Masked {
+                by,
+                user,
+                bit,
+                value,
+            } => mask(self, by, user, bit, value),
+            Act::Preset { kind, bit, value } => preset(self, kind, bit, value),
+            Act::Opened { by, window } => Ok(open(self, by, window)),
+            Act::Closed { window } => Ok(close(self, window)),
+            Act::Attached { client, user } => attach(self, client, user),
+            Act::Parted { client } => Ok(part(self, client)),
+            Act::Entered { user, window } => Ok(enter(self, user, window)),
+            Act::Left { user, window } => Ok(leave(self, user, window)),
+            Act::Mode { by, window, mode } => Ok(set_mode(self, by, window, mode)),
+            Act::Default { mode } => Ok(set_default(self, mode)),
+        }
+    }
+
+    /// Does acts again, and answers whether each can follow those before it. Where one can't, the
+    /// value stands for nothing more.
+    pub fn follow_all(&mut self, acts: &[Act]) -> Result<bool, AllocError>
+        ensures { RedoesAll self.old self.new result acts.now }
+    {
+        for act in acts {
+            if !self.follow(*act)? {
+                return Ok(false);
+            }
+        }
+        Ok(true)
+    }
+}

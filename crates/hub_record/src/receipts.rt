@@ -1,0 +1,231 @@
+//! Receipts in few bytes.
+
+ghost use Rattle.std.specs.Prelude.{◌≡◌, ◌↔◌, ◌∷◌, ◌++◌, ◌<◌, ◌≤◌, [], true, length, slice_get};
+ghost use Rattle.std.specs.Prelude.{IfSome, OnOk, Some, vec_len, vec_capacity};
+ghost use Rattle.hub_record.specs.Rolls.{HasOneMore};
+ghost use Rattle.hub_record.specs.Receipts.{HasRoom, IsOf, LosesLast};
+
+use crate::event::KeptEvent;
+use crate::filed::Filed;
+use crate::reply::KeptReply;
+use crate::search::{KEPT, WAYS, first_by, number_of_event, slot_of};
+use hub_trail::Ending;
+use std::alloc::{AllocError, Global};
+use std::marker::Model;
+use std::mem::size_of;
+
+/// The place of an entry, and the code of a form: 8 bytes.
+#[derive(Clone, Copy)]
+struct Told {
+    place: u32,
+    code: u32,
+}
+
+const _: () = prove!(size_of::<Told>() <= 8);
+
+/// The event and the reply of receipts.
+#[derive(Drop)]
+struct Form {
+    event: KeptEvent,
+    reply: KeptReply,
+}
+
+/// That an entry stands at a place of the trail, with this event and this reply.
+#[derive(Drop)]
+pub struct Receipt<'a> {
+    place: usize,
+    form: &'a Form,
+}
+
+impl<'a> Model for Receipt<'a> {
+    ghost use Rattle.hub_record.specs.Receipts.{Receipt, receipt_of};
+
+    ghost Value = { Receipt };
+
+    ghost view = { λ r. receipt_of r.place r.form.now };
+}
+
+impl<'a> Receipt<'a> {
+    /// The entry's place, counted from 0.
+    pub fn place(&self) -> usize
+        ensures { result ≡ self.now.place }
+    {
+        self.place
+    }
+
+    /// The entry's event.
+    pub fn event(&self) -> &'a KeptEvent
+        ensures { result.now ≡ self.now.event }
+    {
+        &self.form.event
+    }
+
+    /// The entry's reply, without the text.
+    pub fn ending(&self) -> Ending
+        ensures { result ≡ self.now.reply }
+    {
+        self.form.reply.ending()
+    }
+
+    /// Whether it has the event and the reply of the entry.
+    pub fn is_of(&self, entry: &Filed) -> bool
+        ensures { (result ≡ true) ↔ IsOf entry.now self.now }
+    {
+        entry.is_told(&self.form.event, &self.form.reply)
+    }
+}
+
+/// A list of receipts, the oldest first. Receipts of equal events and replies share a form where a
+/// search among few codes finds it.
+pub struct Receipts {
+    told: Vec<Told>,
+    forms: Vec<Form>,
+    kept: Vec<u32>,
+}
+
+impl Drop for Receipts {
+    fn drop(self) {
+        let Receipts {
+            told: _,
+            forms: _,
+            kept: _,
+        } = self;
+    }
+}
+
+impl Model for Receipts {
+    ghost use Rattle.std.specs.Prelude.{◌<◌, length, vec_len, vec_capacity};
+    ghost use Rattle.std.specs.List.{AllByRecursion};
+    ghost use Rattle.hub_record.specs.Receipts.{Receipted, told_by};
+
+    ghost Value = { Receipted };
+
+    ghost view = { λ r. record {
+      receipts = told_by r.forms.items r.told.items;
+      most = vec_capacity r.told;
+      forms = vec_len r.forms;
+      most_forms = vec_capacity r.forms;
+    } };
+
+    ghost invariant = { λ r. AllByRecursion (λ t. t.code < length r.forms.items) r.told.items };
+}
+
+/// Whether the forms are the same.
+fn is_same(form: &Form, other: &Form) -> bool
+    ensures { (result ≡ true) ↔ (form.now ≡ other.now) }
+{
+    form.event.is_same(&other.event) && form.reply.is_same(&other.reply)
+}
+
+/// The code of a form that is this one, among those that are kept from a place on.
+fn find(forms: &[Form], kept: &[u32], first: usize, wanted: &Form) -> Option<u32>
+    requires { first ≤ 4092 }
+    ensures { IfSome result (λ code. slice_get forms.now code ≡ Some wanted.now) }
+{
+    for way in 0..WAYS {
+        if let Some(code) = kept.get(first + way) {
+            if let Some(form) = forms.get(*code as usize) {
+                if is_same(form, wanted) {
+                    return Some(*code);
+                }
+            }
+        }
+    }
+    None
+}
+
+/// The code of the form: of one that is found, or behind the others.
+fn store(forms: &mut Vec<Form>, kept: &mut [u32], form: Form) -> u32
+    requires room { vec_len forms.old < vec_capacity forms.old }
+    requires few { vec_len forms.old < 4294967296 }
+    ensures code { slice_get forms.new.items result ≡ Some form }
+    ensures more { HasOneMore forms.old.items forms.new.items }
+{
+    let first = first_by(number_of_event(form.event.get()), &form.reply);
+    if let Some(code) = find(forms.as_slice(), kept, first, &form) {
+        return code;
+    }
+    let code = forms.len() as u32;
+    forms.push_reserved(form);
+    if let Some(slot) = kept.get_mut(slot_of(first, code)) {
+        *slot = code;
+    }
+    code
+}
+
+/// Makes all codes that are kept, if they aren't there.
+fn fill(kept: &mut Vec<u32>) -> Result<(), AllocError> {
+    for _slot in kept.len()..KEPT {
+        kept.push(0)?;
+    }
+    Ok(())
+}
+
+impl Receipts {
+    /// No receipt.
+    pub fn new(alloc: Global) -> Receipts
+        ensures { result.receipts ≡ [] }
+    {
+        Receipts {
+            told: Vec::new(alloc),
+            forms: Vec::new(alloc),
+            kept: Vec::new(alloc),
+        }
+    }
+
+    /// How many receipts it has.
+    pub fn len(&self) -> usize
+        ensures { result ≡ length self.now.receipts }
+    {
+        self.told.len()
+    }
+
+    /// Makes room for one receipt more. It is refused, too, where no code is left for a form.
+    pub fn reserve(&mut self) -> Result<(), AllocError>
+        ensures same { self.new.receipts ≡ self.old.receipts }
+        ensures room { OnOk result (HasRoom self.new) }
+    {
+        fill(&mut self.kept)?;
+        self.told.reserve(1)?;
+        self.forms.reserve(1)?;
+        if self.forms.len() > u32::MAX as usize {
+            return Err(AllocError);
+        }
+        Ok(())
+    }
+
+    /// Puts a receipt behind the others.
+    pub fn push(&mut self, place: usize, event: KeptEvent, reply: KeptReply)
+        requires room { HasRoom self.old }
+        requires place { place < 4294967296 }
+        ensures { self.new.receipts
+            ≡ self.old.receipts ++ record { place = place; event = event; reply = reply } ∷ [] }
+    {
+        let form = Form { event, reply };
+        let code = store(&mut self.forms, self.kept.as_mut_slice(), form);
+        self.told.push_reserved(Told {
+            place: place as u32,
+            code,
+        });
+    }
+
+    /// A receipt, by its number from 0 on.
+    pub fn at(&self, number: usize) -> Receipt<'_>
+        requires { number < length self.now.receipts }
+        ensures { slice_get self.now.receipts number ≡ Some result }
+    {
+        let told = self.told[number];
+        Receipt {
+            place: told.place as usize,
+            form: &self.forms[told.code as usize],
+        }
+    }
+
+    /// Takes the last one away.
+    pub fn pop(&mut self)
+        requires { 0 < length self.old.receipts }
+        ensures { LosesLast self.old.receipts self.new.receipts }
+    {
+        let _last = self.told.pop();
+    }
+}

@@ -1,0 +1,97 @@
+//! The search for a stored form.
+
+ghost use Rattle.std.specs.Prelude.{◌≡◌, ◌≤◌, Some, IfSome, slice_get};
+ghost use Rattle.hub_record.specs.Rolls.{entry_in};
+
+use crate::event::KeptRef;
+use crate::filed::Filed;
+use crate::reply::KeptReply;
+use crate::slip::Slip;
+use acl::Object;
+use session_model::Verdict;
+
+/// How many codes are tried for an entry or a receipt.
+pub const WAYS: usize = 4;
+
+/// How many codes are kept for the search.
+pub const KEPT: usize = 4096;
+
+/// A number of the bytes.
+fn number_of(bytes: &[u8]) -> u32 {
+    let mut number = 0u32;
+    for byte in bytes {
+        number = number.wrapping_mul(31).wrapping_add(*byte as u32);
+    }
+    number
+}
+
+/// A number of the event: the same for the same event.
+pub fn number_of_event(event: KeptRef<'_>) -> u32 {
+    match event {
+        KeptRef::Keys { client } => client.wrapping_mul(7),
+        KeptRef::Command { line, .. } => number_of(line),
+        KeptRef::Attach { .. } | KeptRef::Detach { .. } | KeptRef::Open { .. } => 1,
+        KeptRef::Closed { .. } => 2,
+    }
+}
+
+/// The serial of the window of which the verdict is, else 0.
+fn window_of(verdict: Verdict) -> u32 {
+    match verdict {
+        Verdict::Lock { window, .. } => window,
+        Verdict::Right {
+            object: Object::Window(window),
+            ..
+        } => window,
+        Verdict::Right { .. } => 0,
+    }
+}
+
+/// Where among the kept codes the search begins, by a number of the event and by the reply.
+pub fn first_by(number: u32, reply: &KeptReply) -> usize
+    ensures { result ≤ 4092 }
+{
+    let mut number = number;
+    if let Ok(finished) = reply.ending() {
+        number = number
+            .wrapping_mul(31)
+            .wrapping_add((finished.taken % 65536) as u32);
+    }
+    number as usize % (KEPT / WAYS) * WAYS
+}
+
+/// Where among the kept codes the search for an entry begins.
+pub fn first_of(slip: &Slip) -> usize
+    ensures { result ≤ 4092 }
+{
+    let mut number = number_of_event(slip.event.get());
+    if let Some(verdict) = slip.verdicts.first() {
+        number = number.wrapping_mul(31).wrapping_add(window_of(*verdict));
+    }
+    first_by(number, &slip.reply)
+}
+
+/// Where among the kept codes the next one goes, where the search began at the first.
+pub fn slot_of(first: usize, code: u32) -> usize
+    requires { first ≤ 4092 }
+    ensures { result ≤ 4095 }
+{
+    first + code as usize % WAYS
+}
+
+/// The code of a form that is the entry, among those that are kept from a place on.
+pub fn find(forms: &[Filed], kept: &[u32], first: usize, slip: &Slip) -> Option<u32>
+    requires { first ≤ 4092 }
+    ensures { IfSome result (λ code. slice_get forms.now code ≡ Some (entry_in slip.now)) }
+{
+    for way in 0..WAYS {
+        if let Some(code) = kept.get(first + way) {
+            if let Some(form) = forms.get(*code as usize) {
+                if slip.is_of(form) {
+                    return Some(*code);
+                }
+            }
+        }
+    }
+    None
+}

@@ -1,0 +1,120 @@
+//! Entries that aren't stored yet.
+
+ghost use Rattle.std.specs.Prelude.{◌≡◌, ◌↔◌, true};
+ghost use Rattle.session_model.specs.declared.verdict.Verdict.TheVariants as made;
+ghost use Rattle.hub_record.specs.Rolls.{entry_in};
+
+use crate::event::KeptEvent;
+use crate::filed::Filed;
+use crate::reply::KeptReply;
+use acl::{Act, Bit, Object, UserId};
+use session_model::Verdict;
+
+/// The parts of an entry that is to be stored.
+#[derive(Drop)]
+pub struct Slip {
+    pub event: KeptEvent,
+    pub verdicts: Vec<Verdict>,
+    pub acts: Vec<Act>,
+    pub reply: KeptReply,
+}
+
+/// Whether what was asked is the same.
+fn is_same_question(asked: (UserId, Bit, Object), other: (UserId, Bit, Object)) -> bool
+    ensures { (result ≡ true) ↔ (asked ≡ other) }
+{
+    asked.0 == other.0 && asked.1 == other.1 && asked.2 == other.2
+}
+
+/// Whether the verdict is this one of a right.
+fn is_right(verdict: Verdict, user: UserId, bit: Bit, object: Object, answer: bool) -> bool
+    ensures { (result ≡ true) ↔ (verdict ≡ made.Right user bit object answer) }
+{
+    match verdict {
+        Verdict::Right {
+            user: named,
+            bit: asked,
+            object: on,
+            answer: given,
+        } => {
+            let is_answer = if given { answer } else { !answer };
+            is_answer && is_same_question((named, asked, on), (user, bit, object))
+        }
+        Verdict::Lock { .. } => false,
+    }
+}
+
+/// Whether the verdict is this one of a lock.
+fn is_lock(verdict: Verdict, user: UserId, window: u32, holder: Option<UserId>) -> bool
+    ensures { (result ≡ true) ↔ (verdict ≡ made.Lock user window holder) }
+{
+    match verdict {
+        Verdict::Lock {
+            user: named,
+            window: on,
+            holder: by,
+        } => named == user && on == window && by == holder,
+        Verdict::Right { .. } => false,
+    }
+}
+
+/// Whether the verdicts are the same.
+fn is_same(verdict: &Verdict, other: &Verdict) -> bool
+    ensures { (result ≡ true) ↔ (verdict.now ≡ other.now) }
+{
+    match *other {
+        Verdict::Right {
+            user,
+            bit,
+            object,
+            answer,
+        } => is_right(*verdict, user, bit, object, answer),
+        Verdict::Lock {
+            user,
+            window,
+            holder,
+        } => is_lock(*verdict, user, window, holder),
+    }
+}
+
+/// Whether the lists of verdicts are the same.
+fn are_same(verdicts: &[Verdict], other: &[Verdict]) -> bool
+    ensures { result ≡ true → verdicts.now ≡ other.now }
+{
+    if verdicts.len() != other.len() {
+        return false;
+    }
+    'places: for i in 0..verdicts.len() {
+        if !is_same(&verdicts[i], &other[i]) {
+            return false;
+        }
+    }
+    true
+}
+
+impl Slip {
+    /// Whether this is the entry, and has no act. One with an act is never found to be the same.
+    pub fn is_of(&self, entry: &Filed) -> bool
+        ensures { result ≡ true → entry.now ≡ entry_in self.now }
+    {
+        self.acts.is_empty()
+            && entry.acts().is_empty()
+            && entry.is_told(&self.event, &self.reply)
+            && are_same(entry.verdicts(), self.verdicts.as_slice())
+    }
+
+    /// The entry, with no more room than it takes.
+    pub fn into_entry(self) -> Filed
+        ensures { result ≡ entry_in self }
+    {
+        let Slip {
+            event,
+            mut verdicts,
+            mut acts,
+            reply,
+        } = self;
+        verdicts.shrink_to_fit();
+        acts.shrink_to_fit();
+        Filed::new(event, verdicts, acts, reply)
+    }
+}

@@ -1,6 +1,0 @@
-use Rattle.std.proofs.Common.{◌≡◌, drop}
-use Rattle.hub_replay.specs.Clients.{user_in}
-use Rattle.hub_replay.proofs.clients.user_of.Given as goal
-
-abbrev pub invariant-loop-row : goal.invariant-loop-row
-invariant-loop-row l = user_in (drop l.row-index l.clients) l.client ≡ user_in l.clients l.client

@@ -1,2 +1,0 @@
-pub mod Rolls
-pub mod Receipts

@@ -1,9 +1,0 @@
--- Which bytes a reader of sizes has taken.
-use Rattle.std.specs.Prelude.{◌≡◌, ℕ, List, take}
-use Rattle.size_lines.specs.declared.SizeLines.{SizeLines}
-use Rattle.size_lines.specs.Lines.{ended, unended, has_other}
-
--- it keeps the beginning of the unended line, up to 64 bytes, and whether a line said no size
-pub record StandsFor (reader : SizeLines) (bytes : List ℕ) : Type 0 where
-  pub line : reader.line.items ≡ take 64 (unended bytes)
-  pub dropped : reader.has_dropped ≡ has_other (ended bytes)

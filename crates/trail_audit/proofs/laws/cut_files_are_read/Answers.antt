@@ -1,0 +1,5 @@
+use Rattle.trail_audit.proofs.Cut.{cut_read}
+use Rattle.trail_audit.proofs.laws.cut_files_are_read.Goals as goal
+
+pub returns : goal.returns
+returns c = cut_read

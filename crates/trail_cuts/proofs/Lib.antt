@@ -1,2 +1,0 @@
-pub mod Unbroken
-pub mod Cut
