@@ -3,7 +3,7 @@
 use crate::fault::Fault;
 use acl::{Edition, UserId};
 use std::alloc::Global;
-use std::io::{BufRead, BufReader, Read};
+use std::io::BufRead;
 use trail_audit::{Came, next_line, read_header};
 
 /// What the first line of a file says of its trail.
@@ -27,18 +27,11 @@ fn heading_in(alloc: Global, line: &[u8]) -> Result<Heading, Fault> {
     }
 }
 
-/// The first line of a reader.
-fn heading_of<R: BufRead>(alloc: Global, reader: &mut R) -> Result<Heading, Fault> {
+/// What the first line of a reader says.
+pub fn heading_of<R: BufRead>(alloc: Global, reader: &mut R) -> Result<Heading, Fault> {
     let mut line = Vec::new(alloc);
     match next_line(reader, &mut line)? {
         Came::Whole => heading_in(alloc, line.as_slice()),
         Came::Torn | Came::Nothing => Err(Fault::NoHeader(1)),
     }
-}
-
-/// A file's first line, and a reader of those behind it.
-pub fn begin<F: Read + Drop>(alloc: Global, file: F) -> Result<(Heading, BufReader<F>), Fault> {
-    let mut reader = BufReader::new(alloc, file)?;
-    let heading = heading_of(alloc, &mut reader)?;
-    Ok((heading, reader))
 }

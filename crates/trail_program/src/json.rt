@@ -1,9 +1,10 @@
 //! Entries as objects of JSON (RFC 8259), one a line.
 
-use crate::show::{Said, time_of};
+use crate::show::Said;
 use crate::texts::{behind_words, first_word};
 use std::io::{self, Write};
 use trail_audit::Ended;
+use trail_rights::time_of;
 
 /// Writes a byte 20 to 7E of a string.
 fn write_byte<W: Write>(byte: u8, output: &mut W) -> io::Result<()> {

@@ -12,8 +12,6 @@ mod show;
 mod tell;
 mod texts;
 mod twice;
-mod who;
-mod why;
 mod words;
 
 pub use program::trail;

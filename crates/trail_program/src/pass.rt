@@ -1,13 +1,12 @@
 //! A pass over a file's entries, as far as one place.
 
 use crate::fault::Fault;
-use crate::heading::begin;
-use crate::why::Question;
+use crate::heading::heading_of;
 use acl::{Edition, Leaders, UserId};
 use std::alloc::{AllocError, Global};
-use std::io::{self, BufRead, Read};
+use std::io::{self, BufRead, BufReader, Read};
 use trail_audit::{Audit, Halt};
-use trail_rights::{Decider, Led, Sight, Watch, watch_entries};
+use trail_rights::{Decider, Led, Question, Sight, Watch, watch_entries};
 
 /// What a pass looks for beside rights and locks.
 #[derive(Clone, Copy)]
@@ -100,6 +99,20 @@ fn watch_lines<R: BufRead>(
     watch_entries(watch, reader, &mut line, last)
 }
 
+/// Reads what a reader has.
+fn pass_over<R: BufRead>(
+    alloc: Global,
+    owner: Option<UserId>,
+    reader: &mut R,
+    search: &Search<'_>,
+) -> Result<Pass, Fault> {
+    let heading = heading_of(alloc, reader)?;
+    let owner = owner.unwrap_or(heading.owner);
+    let mut watch = watch_of(alloc, heading.edition, owner, search)?;
+    let halt = watch_lines(alloc, &mut watch, reader, search.last)?;
+    Ok(Pass { owner, watch, halt })
+}
+
 /// Reads a file, of the owner that its first line names where no other is given.
 pub fn read_pass<F: Read + Drop>(
     alloc: Global,
@@ -107,9 +120,6 @@ pub fn read_pass<F: Read + Drop>(
     file: F,
     search: &Search<'_>,
 ) -> Result<Pass, Fault> {
-    let (heading, mut reader) = begin(alloc, file)?;
-    let owner = owner.unwrap_or(heading.owner);
-    let mut watch = watch_of(alloc, heading.edition, owner, search)?;
-    let halt = watch_lines(alloc, &mut watch, &mut reader, search.last)?;
-    Ok(Pass { owner, watch, halt })
+    let mut reader = BufReader::new(alloc, file)?;
+    pass_over(alloc, owner, &mut reader, search)
 }

@@ -3,7 +3,7 @@
 use crate::check::check_lines;
 use crate::fault::Fault;
 use crate::following::Following;
-use crate::heading::{Heading, begin};
+use crate::heading::{Heading, heading_of};
 use crate::show::{Form, show_lines};
 use crate::tell::{ILLEGAL, LEGAL, TROUBLE, tell_finish, tell_heading};
 use crate::twice::ask;
@@ -12,7 +12,7 @@ use acl::{Edition, UserId};
 use clap::Error;
 use std::alloc::Global;
 use std::fs;
-use std::io::{self, BufRead, Read, Write};
+use std::io::{self, BufRead, BufReader, Read, Write};
 use std::rt::Files;
 use std::time::Clock;
 use trail_audit::Audit;
@@ -30,16 +30,16 @@ fn judge<R: BufRead, W: Write>(
     tell_finish(finish, audit.count(), owner, output)
 }
 
-/// Judges a file.
-fn check<F: Read + Drop, W: Write>(
+/// Judges what a reader has.
+fn check<R: BufRead, W: Write>(
     alloc: Global,
     owner: Option<UserId>,
-    file: F,
+    reader: &mut R,
     output: &mut W,
 ) -> Result<u8, Fault> {
-    let (heading, mut reader) = begin(alloc, file)?;
+    let heading = heading_of(alloc, reader)?;
     let owner = owner.unwrap_or(heading.owner);
-    match judge(alloc, heading.edition, owner, &mut reader, output) {
+    match judge(alloc, heading.edition, owner, reader, output) {
         Ok(status) => Ok(status),
         Err(error) => Err(Fault::Io(error)),
     }
@@ -61,18 +61,33 @@ fn show_all<R: BufRead, W: Write>(
     show_lines(alloc, form, reader, output)
 }
 
-/// Shows a file.
-fn show<F: Read + Drop, W: Write>(
+/// Shows what a reader has.
+fn show<R: BufRead, W: Write>(
     alloc: Global,
     form: Form,
-    file: F,
+    reader: &mut R,
     output: &mut W,
 ) -> Result<u8, Fault> {
-    let (heading, mut reader) = begin(alloc, file)?;
-    match show_all(alloc, form, heading, &mut reader, output) {
+    let heading = heading_of(alloc, reader)?;
+    match show_all(alloc, form, heading, reader, output) {
         Ok(None) => Ok(LEGAL),
         Ok(Some(number)) => Err(Fault::NoLine(number)),
         Err(error) => Err(Fault::Io(error)),
+    }
+}
+
+/// Judges a file, or shows it.
+fn read_file<F: Read + Drop, W: Write>(
+    alloc: Global,
+    asked: Asked<'_>,
+    file: F,
+    output: &mut W,
+) -> Result<u8, Fault> {
+    let mut reader = BufReader::new(alloc, file)?;
+    if let Way::Check = asked.way {
+        check(alloc, asked.owner, &mut reader, output)
+    } else {
+        show(alloc, asked.form, &mut reader, output)
     }
 }
 
@@ -84,9 +99,8 @@ fn run<R: Clock + Files + AllocGlobal, W: Write>(
 ) -> Result<u8, Fault> {
     let file = fs::open(rt, asked.path)?;
     match asked.way {
-        Way::Check => check(rt.alloc(), asked.owner, file, output),
-        Way::Show => show(rt.alloc(), asked.form, file, output),
-        Way::Follow => show(rt.alloc(), asked.form, Following { rt, file }, output),
+        Way::Check | Way::Show => read_file(rt.alloc(), asked, file, output),
+        Way::Follow => read_file(rt.alloc(), asked, Following { rt, file }, output),
         Way::Ask => ask(rt, asked, file, output),
     }
 }

@@ -3,30 +3,11 @@
 use crate::json::{write_end, write_entry};
 use crate::texts::behind_words;
 use hub_record::KeptRef;
-use jiff::Timestamp;
 use std::alloc::{AllocError, Global};
-use std::fmt::{self, Display, Formatter};
 use std::io::{self, BufRead, Write};
 use trail_audit::{Came, Ended, next_line, read_end};
 use trail_lines::{Unread, read_line};
-
-/// A time in milliseconds since 1970, in the form of RFC 3339.
-pub fn time_of(ms: u64) -> Option<Timestamp> {
-    Timestamp::from_millisecond(i64::try_from(ms).ok()?).ok()
-}
-
-/// A time behind a text; nothing where it has no such form.
-#[derive(Clone, Copy)]
-pub struct When(pub &'static str, pub u64);
-
-impl Display for When {
-    fn fmt<W: fmt::Write>(&self, f: &mut Formatter<W>) -> fmt::Result {
-        match time_of(self.1) {
-            Some(time) => write!(f, "{}{time}", self.0),
-            None => Ok(()),
-        }
-    }
-}
+use trail_rights::time_of;
 
 /// What an entry's line says that is shown in another form.
 #[derive(Clone, Copy)]

@@ -2,13 +2,12 @@
 
 use crate::check::Finish;
 use crate::heading::Heading;
-use crate::show::When;
-use crate::texts::text_of;
 use acl::UserId;
 use std::alloc::AllocError;
 use std::io::{self, Write};
 use std::str;
 use trail_audit::{Ended, Wrong};
+use trail_rights::{When, text_of};
 
 /// The file is legal, and whole.
 pub const LEGAL: u8 = 0;

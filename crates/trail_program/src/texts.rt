@@ -1,13 +1,6 @@
-//! Names as text, and words of lines.
+//! Words of lines.
 
-use acl::UserId;
 use line_fields::cut;
-use std::str;
-
-/// A name as text.
-pub fn text_of(user: &UserId) -> &str {
-    str::from_utf8(user.as_bytes()).unwrap_or("?")
-}
 
 /// The first word of a text, and what stands behind its blank.
 pub fn first_word(text: &[u8]) -> (&[u8], &[u8]) {

@@ -4,8 +4,6 @@
 use crate::fault::Fault;
 use crate::pass::{Pass, Search, read_pass};
 use crate::tell::{ILLEGAL, LEGAL, tell_wrong};
-use crate::who::{users_of, write_rights};
-use crate::why::{Question, write_reasons};
 use crate::words::Asked;
 use acl::{Leaders, UserId};
 use std::alloc::Global;
@@ -13,6 +11,7 @@ use std::io::{self, Read, Write};
 use std::rt::Files;
 use std::{fs, slice};
 use trail_audit::Halt;
+use trail_rights::{Question, users_of, write_reasons, write_rights};
 
 /// What a first pass has found.
 #[derive(Drop)]
@@ -32,24 +31,33 @@ fn users_asked(question: &Option<Question>) -> &[UserId] {
     }
 }
 
-/// What the entries of a pass say that a second one has to know.
-fn found_of(alloc: Global, asked: Asked<'_>, first: &Pass) -> io::Result<Found> {
+/// What the entries of a pass say of the user who is asked about.
+fn found_of_one(alloc: Global, question: Question, first: &Pass) -> io::Result<Found> {
     let mut users = Vec::new(alloc);
-    let reasons = match asked.question {
-        Some(question) => {
-            users.push(question.user)?;
-            Some((question, first.leaders()))
-        }
-        None => {
-            users = users_of(alloc, first.watch.audit().replay())?;
-            None
-        }
-    };
+    users.push(question.user)?;
     Ok(Found {
         count: first.count(),
         users,
-        reasons,
+        reasons: Some((question, first.leaders())),
     })
+}
+
+/// What the entries of a pass say of all users.
+fn found_of_all(alloc: Global, first: &Pass) -> io::Result<Found> {
+    let users = users_of(alloc, first.watch.audit().replay())?;
+    Ok(Found {
+        count: first.count(),
+        users,
+        reasons: None,
+    })
+}
+
+/// What the entries of a pass say that a second one has to know.
+fn found_of(alloc: Global, asked: Asked<'_>, first: &Pass) -> io::Result<Found> {
+    match asked.question {
+        Some(question) => found_of_one(alloc, question, first),
+        None => found_of_all(alloc, first),
+    }
 }
 
 /// What a first pass has found, unless something is wrong in the file, which is written.
@@ -112,8 +120,8 @@ fn write_answer<W: Write>(
         return Err(Fault::Changed);
     }
     let written = match found.reasons {
-        Some((question, _)) => write_reasons(alloc, second, question, output),
-        None => write_rights(alloc, second, output),
+        Some((question, _)) => write_reasons(alloc, second.owner, &second.watch, question, output),
+        None => write_rights(alloc, second.owner, &second.watch, output),
     };
     match written {
         Ok(()) => Ok(LEGAL),

@@ -1,12 +1,12 @@
 //! What the words of `mux-trail` ask for.
 
 use crate::show::Form;
-use crate::why::Question;
 use acl::UserId;
 use clap::{ArgMatches, Error};
 use line_fields::read_u64;
 use program_words::of_trail;
 use std::alloc::Global;
+use trail_rights::Question;
 
 /// What is done with a file.
 #[derive(Clone, Copy)]

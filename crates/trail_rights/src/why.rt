@@ -1,15 +1,16 @@
 //! Which act decides a user's bit on an object.
 
-use crate::pass::Pass;
-use crate::show::When;
-use crate::texts::text_of;
+use crate::decider::Decider;
+use crate::mark::Mark;
+use crate::rights::may;
+use crate::texts::{When, text_of};
+use crate::watch::Watch;
 use acl::{Act, Bit, CommandName, Object, UserId};
 use command_lang::name_text;
 use hub_check::Replay;
 use line_fields::acts::push_act;
 use std::alloc::{AllocError, Global};
 use std::io::{self, Write};
-use trail_rights::{Decider, Mark, may};
 
 /// A user, a bit and an object.
 #[derive(Clone, Copy)]
@@ -120,15 +121,16 @@ fn write_answer<W: Write>(
 /// Writes whether the user has the bit, and the acts that decide it: his own, and his leaders'.
 pub fn write_reasons<W: Write>(
     alloc: Global,
-    pass: &Pass,
+    owner: UserId,
+    watch: &Watch,
     question: Question,
     output: &mut W,
 ) -> io::Result<()> {
-    if !is_there(pass.watch.sight().windows(), question.object) {
+    if !is_there(watch.sight().windows(), question.object) {
         return writeln!(output, "no: the window isn't open");
     }
-    write_answer(pass.watch.audit().replay(), pass.owner, question, output)?;
-    for decider in pass.watch.sight().deciders() {
+    write_answer(watch.audit().replay(), owner, question, output)?;
+    for decider in watch.sight().deciders() {
         write_decider(alloc, decider, output)?;
     }
     Ok(())

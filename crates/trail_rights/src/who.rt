@@ -1,13 +1,14 @@
 //! Who may do what after a file's entries.
 
-use crate::pass::Pass;
+use crate::led::Led;
+use crate::rights::{holder, may};
 use crate::texts::text_of;
+use crate::watch::Watch;
 use acl::{Bit, CommandName, Leaders, Object, UserId};
 use command_lang::name_text;
 use hub_check::Replay;
 use std::alloc::{AllocError, Global};
 use std::io::{self, Write};
-use trail_rights::{Led, holder, may};
 
 /// The known users, the owner first.
 pub fn users_of(alloc: Global, replay: &Replay) -> Result<Vec<UserId>, AllocError> {
@@ -123,10 +124,15 @@ fn write_commands<W: Write>(replay: &Replay, user: UserId, output: &mut W) -> io
 }
 
 /// Writes windows with their holders and the users' rights, and the users' commands.
-fn write_objects<W: Write>(pass: &Pass, users: &[UserId], output: &mut W) -> io::Result<()> {
-    let replay = pass.watch.audit().replay();
-    for window in pass.watch.sight().windows() {
-        write_window(replay, pass.owner, users, *window, output)?;
+fn write_objects<W: Write>(
+    owner: UserId,
+    watch: &Watch,
+    users: &[UserId],
+    output: &mut W,
+) -> io::Result<()> {
+    let replay = watch.audit().replay();
+    for window in watch.sight().windows() {
+        write_window(replay, owner, users, *window, output)?;
     }
     for user in users {
         write_commands(replay, *user, output)?;
@@ -134,11 +140,16 @@ fn write_objects<W: Write>(pass: &Pass, users: &[UserId], output: &mut W) -> io:
     Ok(())
 }
 
-/// Writes how many entries there are, users with their leaders, windows with their holders and
+/// Writes what a watch tells of the owner's session: how many entries there are, users with their leaders, windows with their holders and
 /// rights, and commands.
-pub fn write_rights<W: Write>(alloc: Global, pass: &Pass, output: &mut W) -> io::Result<()> {
-    writeln!(output, "entries {}", pass.count())?;
-    write_users(pass.watch.sight().leds(), output)?;
-    let users = users_of(alloc, pass.watch.audit().replay())?;
-    write_objects(pass, users.as_slice(), output)
+pub fn write_rights<W: Write>(
+    alloc: Global,
+    owner: UserId,
+    watch: &Watch,
+    output: &mut W,
+) -> io::Result<()> {
+    writeln!(output, "entries {}", watch.audit().count())?;
+    write_users(watch.sight().leds(), output)?;
+    let users = users_of(alloc, watch.audit().replay())?;
+    write_objects(owner, watch, users.as_slice(), output)
 }

@@ -1,0 +1,29 @@
+//! Names and times as they are told.
+
+use acl::UserId;
+use jiff::Timestamp;
+use std::fmt::{self, Display, Formatter};
+use std::str;
+
+/// A name as text.
+pub fn text_of(user: &UserId) -> &str {
+    str::from_utf8(user.as_bytes()).unwrap_or("?")
+}
+
+/// A time in milliseconds since 1970, in the form of RFC 3339.
+pub fn time_of(ms: u64) -> Option<Timestamp> {
+    Timestamp::from_millisecond(i64::try_from(ms).ok()?).ok()
+}
+
+/// A time behind a text; nothing where it has no such form.
+#[derive(Clone, Copy)]
+pub struct When(pub &'static str, pub u64);
+
+impl Display for When {
+    fn fmt<W: fmt::Write>(&self, f: &mut Formatter<W>) -> fmt::Result {
+        match time_of(self.1) {
+            Some(time) => write!(f, "{}{time}", self.0),
+            None => Ok(()),
+        }
+    }
+}
