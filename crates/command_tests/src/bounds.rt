@@ -67,11 +67,17 @@ fn longest_line(rt: HostRuntime) {
     assert!(rt; is_bounded(rt.alloc()));
 }
 
+fn is_shown(alloc: Global, fault: AclFault, text: &str) -> bool {
+    match fault.to_string(alloc) {
+        Ok(shown) => shown.as_str() == text,
+        Err(_) => false,
+    }
+}
+
 fn are_shown(alloc: Global) -> bool {
     for (fault, text) in &TEXTS {
-        match fault.to_string(alloc) {
-            Ok(shown) if shown.as_str() == *text => {}
-            _ => return false,
+        if !is_shown(alloc, *fault, text) {
+            return false;
         }
     }
     true

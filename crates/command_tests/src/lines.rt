@@ -3,9 +3,11 @@
 use command_lang::{Command, Needs, ParseFault, needs_of, parse, print};
 use std::alloc::{AllocError, Global};
 
-/// A line, `=`, and its fault's number and place. Each command has a line with a word too much, and one
-/// in which a word is missing.
-const FAULTS: &str = r#"zap=1 at 0
+/// A line, `=`, and its fault's number and place; or a line, `=`, its command as it is printed,
+/// `=`, and what the command needs. Each command has a line with a word too much, and one in which
+/// a word is missing. The list commands need multiuser mode, regions and switching a client, and
+/// what concerns one window that window.
+const ROWS: &str = r##"zap=1 at 0
 aclchg bob=2 at 10
 select 1 2=3 at 9
 number 40=4 at 7
@@ -85,11 +87,8 @@ title=2 at 5
 number=2 at 6
 scrollview=2 at 10
 encoding=2 at 8
-stuff=2 at 5"#;
-
-/// A line, `=`, its command as it is printed, `=`, and what the command needs: the list commands
-/// multiuser mode, regions and switching a client, and what concerns one window that window.
-const COMMANDS: &str = r##"title 'a'"\102"=title aB= window
+stuff=2 at 5
+title 'a'"\102"=title aB= window
 title a\"b=title "a\"b"= window
 acladd ann,bob=acladd ann,bob= multiuser
 addacl *=acladd *= multiuser
@@ -143,12 +142,16 @@ fn are(needs: Needs, words: &str) -> bool {
 }
 
 /// Whether a command is printed so, and needs this.
-pub fn is_command(alloc: Global, command: &Command, want: &str) -> Result<bool, AllocError> {
+fn is_printed(alloc: Global, command: &Command, want: &str) -> Result<bool, AllocError> {
+    let Some((line, needs)) = want.split_once('=') else {
+        return Ok(false);
+    };
     let printed = print(alloc, command)?;
-    match want.split_once('=') {
-        Some((line, needs)) => Ok(printed.as_str() == line && are(needs_of(command), needs)),
-        None => Ok(false),
-    }
+    Ok(printed.as_str() == line && are(needs_of(command), needs))
+}
+
+pub fn is_command(alloc: Global, command: Command, want: &str) -> Result<bool, AllocError> {
+    is_printed(alloc, &command, want)
 }
 
 /// Whether a fault has this number and place.
@@ -164,7 +167,7 @@ fn is_fault(alloc: Global, fault: ParseFault, want: &str) -> Result<bool, AllocE
 
 fn is_answered(alloc: Global, line: &[u8], want: &str) -> Result<bool, AllocError> {
     match parse(alloc, line) {
-        Ok(command) => is_command(alloc, &command, want),
+        Ok(command) => is_command(alloc, command, want),
         Err(fault) => is_fault(alloc, fault, want),
     }
 }
@@ -178,22 +181,24 @@ fn is_answered_at_last(alloc: Global, line: &[u8], want: &str) -> bool {
 }
 
 /// The first row whose line has another answer.
-fn first_wrong(alloc: Global, rows: &str) -> Option<usize> {
-    for (number, row) in rows.lines().enumerate() {
-        match row.split_once('=') {
-            Some((line, want)) if is_answered_at_last(alloc, line.as_bytes(), want) => {}
-            _ => return Some(number),
+fn first_wrong(alloc: Global) -> Option<usize> {
+    for (number, row) in ROWS.lines().enumerate() {
+        let Some((line, want)) = row.split_once('=') else {
+            return Some(number);
+        };
+        if !is_answered_at_last(alloc, line.as_bytes(), want) {
+            return Some(number);
         }
     }
     None
 }
 
 /// Each command and alias, and each fault. With each allocation refused in turn (`rt try --test
-/// --fail-alloc N`), a refused call says so, hides no fault, and does its work when it is asked again.
+/// --fail-alloc N`), a refused call says so, hides no fault, and does its work when it is asked
+/// again.
 #[test]
 fn lines(rt: HostRuntime) {
-    assert_eq!(rt; first_wrong(rt.alloc(), FAULTS), None);
-    assert_eq!(rt; first_wrong(rt.alloc(), COMMANDS), None);
+    assert_eq!(rt; first_wrong(rt.alloc()), None);
 }
 
 const CONTROL: &str = "title '\"\\\u{7F}\u{6F22}'";

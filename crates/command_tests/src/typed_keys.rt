@@ -105,8 +105,10 @@ static COMMANDS: [(Binding, &str); 13] = [
 ];
 
 fn gives(alloc: Global, binding: Binding, want: &str) -> Result<bool, AllocError> {
-    let command = binding.command(alloc)?;
-    is_command(alloc, &command, want)
+    match binding.command(alloc) {
+        Ok(command) => is_command(alloc, command, want),
+        Err(fault) => Err(fault),
+    }
 }
 
 /// Whether each gives its command, asked for once more where memory is refused.
