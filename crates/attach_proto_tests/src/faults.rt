@@ -1,8 +1,10 @@
 //! Faults of a stream, and the texts of faults.
 
-use crate::framing::gives;
-use attach_proto::{Bytes, ProtoFault, Side, Text, WriteFault};
-use std::alloc::Global;
+use attach_proto::{ProtoFault, Reader, Side, WriteFault};
+use std::alloc::{AllocError, Global};
+
+/// Who reads some bytes, the bytes, how many messages stand before their fault, and the fault.
+type Row = (Side, &'static [u8], usize, ProtoFault);
 
 // A digit in upper case is none of a token.
 const UPPER_CASE: &[u8] =
@@ -12,36 +14,46 @@ const UPPER_CASE: &[u8] =
 const LATIN: &[u8] =
     b"\x41\x00\x47\x00\x18\x00\x500123456789abcdef0123456789abcdef0123456789abcdef0123456789abcdefbo\xE9";
 
-static FAULTY_TO_THE_SERVER: [(&[u8], ProtoFault); 8] = [
-    (b"\x79", ProtoFault::WrongSide),
-    (b"\x00", ProtoFault::BadKind),
-    (b"\x4B\x00\x00", ProtoFault::BadPayload),
-    (b"\x4B\x20\x01", ProtoFault::TooLong),
-    (b"\x44\x00\x01x", ProtoFault::BadPayload),
-    (b"\x52\x00\x03\x00\x18\x00", ProtoFault::BadPayload),
-    (UPPER_CASE, ProtoFault::BadPayload),
-    (LATIN, ProtoFault::BadPayload),
+static FAULTS: [Row; 12] = [
+    (Side::Server, b"\x79", 0, ProtoFault::WrongSide),
+    (Side::Server, b"\x00", 0, ProtoFault::BadKind),
+    (Side::Server, b"\x4B\x00\x00", 0, ProtoFault::BadPayload),
+    (Side::Server, b"\x4B\x20\x01", 0, ProtoFault::TooLong),
+    (Side::Server, b"\x44\x00\x01x", 0, ProtoFault::BadPayload),
+    (
+        Side::Server,
+        b"\x52\x00\x03\x00\x18\x00",
+        0,
+        ProtoFault::BadPayload,
+    ),
+    (Side::Server, UPPER_CASE, 0, ProtoFault::BadPayload),
+    (Side::Server, LATIN, 0, ProtoFault::BadPayload),
+    (
+        Side::Server,
+        b"\x44\x00\x00\x4B\x20\x01",
+        1,
+        ProtoFault::TooLong,
+    ),
+    (Side::Peer, b"\x4B", 0, ProtoFault::WrongSide),
+    (Side::Peer, b"\x67\x00\x01\x08", 0, ProtoFault::BadPayload),
+    (Side::Peer, b"\x73\x00\x01\xFF", 0, ProtoFault::BadPayload),
 ];
 
-static FAULTY_TO_A_PEER: [(&[u8], ProtoFault); 3] = [
-    (b"\x4B", ProtoFault::WrongSide),
-    (b"\x67\x00\x01\x08", ProtoFault::BadPayload),
-    (b"\x73\x00\x01\xFF", ProtoFault::BadPayload),
-];
-
-/// Whether bytes give no message but this fault, for good, and without their last byte neither.
-fn is_faulty(alloc: Global, side: Side, bytes: &[u8], fault: ProtoFault) -> bool {
-    let Some((_, before)) = bytes.split_last() else {
-        return false;
-    };
-    gives(alloc, side, &[before], b"", Ok(()))
-        && gives(alloc, side, &[bytes], b"", Err(fault))
-        && gives(alloc, side, &[bytes, b"\x44\x00\x00", b""], b"", Err(fault))
+/// Whether the last byte shows the fault, which is answered to what comes then too.
+fn is_faulty(alloc: Global, row: &Row) -> bool {
+    let (side, bytes, count, fault) = *row;
+    let (before, last) = bytes.split_at(bytes.len().saturating_sub(1));
+    let mut reader = Reader::new(alloc, side);
+    let mut messages = Vec::new(alloc);
+    reader.feed(before, &mut messages).is_ok()
+        && reader.feed(last, &mut messages) == Err(fault)
+        && reader.feed(b"\x44\x00\x00", &mut messages) == Err(fault)
+        && messages.len() == count
 }
 
-fn first_wrong(alloc: Global, side: Side, rows: &[(&[u8], ProtoFault)]) -> Option<usize> {
-    for (number, (bytes, fault)) in rows.iter().enumerate() {
-        if !is_faulty(alloc, side, bytes, *fault) {
+fn first_wrong(alloc: Global) -> Option<usize> {
+    for (number, row) in FAULTS.iter().enumerate() {
+        if !is_faulty(alloc, row) {
             return Some(number);
         }
     }
@@ -50,22 +62,7 @@ fn first_wrong(alloc: Global, side: Side, rows: &[(&[u8], ProtoFault)]) -> Optio
 
 #[test]
 fn faults(rt: HostRuntime) {
-    assert_eq!(rt;
-        first_wrong(rt.alloc(), Side::Server, &FAULTY_TO_THE_SERVER),
-        None
-    );
-    assert_eq!(rt;
-        first_wrong(rt.alloc(), Side::Peer, &FAULTY_TO_A_PEER),
-        None
-    );
-}
-
-/// Messages before the fault are given.
-#[test]
-fn messages_before_a_fault(rt: HostRuntime) {
-    let pieces = [b"\x44\x00\x00\x4B\x20\x01".as_slice(), b"\x44\x00\x00"];
-    let fault = Err(ProtoFault::TooLong);
-    assert!(rt; gives(rt.alloc(), Side::Server, &pieces, b"\x44\x00\x00", fault));
+    assert_eq!(rt; first_wrong(rt.alloc()), None);
 }
 
 static TEXTS: [(ProtoFault, &str); 5] = [
@@ -82,39 +79,33 @@ static TEXTS: [(ProtoFault, &str); 5] = [
     (ProtoFault::NoMemory, "out of memory"),
 ];
 
-fn is_shown(alloc: Global, fault: ProtoFault, text: &str) -> bool {
-    match fault.to_string(alloc) {
+static TEXTS_IN_WRITING: [(WriteFault, &str); 2] = [
+    (WriteFault::Unspellable, "no frame spells the message"),
+    (WriteFault::NoMemory, "out of memory"),
+];
+
+fn is_shown(shown: Result<String, AllocError>, text: &str) -> bool {
+    match shown {
         Ok(shown) => shown.as_str() == text,
         Err(_) => false,
     }
 }
 
-fn is_shown_in_writing(alloc: Global, fault: WriteFault, text: &str) -> bool {
-    match fault.to_string(alloc) {
-        Ok(shown) => shown.as_str() == text,
-        Err(_) => false,
+fn are_shown(alloc: Global) -> bool {
+    for (fault, text) in &TEXTS {
+        if !is_shown(fault.to_string(alloc), text) {
+            return false;
+        }
     }
+    for (fault, text) in &TEXTS_IN_WRITING {
+        if !is_shown(fault.to_string(alloc), text) {
+            return false;
+        }
+    }
+    true
 }
-
-const UNSPELLABLE: &str = "no frame spells the message";
 
 #[test]
 fn texts_of_faults(rt: HostRuntime) {
-    for (fault, text) in TEXTS {
-        assert!(rt; is_shown(rt.alloc(), fault, text));
-    }
-    assert!(rt; is_shown_in_writing(rt.alloc(), WriteFault::Unspellable, UNSPELLABLE));
-    assert!(rt; is_shown_in_writing(rt.alloc(), WriteFault::NoMemory, "out of memory"));
-}
-
-/// The parts of a message, with ample memory.
-fn are_made(alloc: Global) -> Option<bool> {
-    let bytes = Bytes::of(alloc, b"ab").ok()?;
-    let text = Text::of(alloc, "ab").ok()?;
-    Some(bytes.as_slice() == text.as_str().as_bytes())
-}
-
-#[test]
-fn parts_of_messages(rt: HostRuntime) {
-    assert_eq!(rt; are_made(rt.alloc()), Some(true));
+    assert!(rt; are_shown(rt.alloc()));
 }

@@ -1,14 +1,11 @@
 //! The longest line, and the texts of faults.
 
-use crate::stage::{Answer, Name, Stage, user};
+use crate::stage::{Name, Stage, Want, user};
 use AclFault::{
     NoMemory, NoSuchGroup, OwnerKept, ReservedName, TooManyGroups, TooManyUsers, UnknownUser,
 };
 use acl::{AclFault, Bit, BitChange, Edition, Object, RightsChange};
 use std::alloc::Global;
-
-/// At most one allocation is refused in a run, so a second try never is.
-const TRIES: usize = 2;
 
 const WINDOW: Object = Object::Window(0);
 
@@ -22,60 +19,52 @@ static TEXTS: [(AclFault, &str); 7] = [
     (TooManyGroups, "the user is in eight groups"),
 ];
 
-/// Sets bob's r of window 0 so often, by a line of 1,024 changes for each of its objects.
+/// Sets bob's r of window 0 so often, by a line of 1,024 changes for each of its objects, once more
+/// where memory is refused.
 fn set_often(stage: &mut Stage, value: bool, objects: &[Object]) -> Result<(), AclFault> {
     let changes = [BitChange {
         bit: Bit::Read,
         value,
     }; 1024];
-    let names = [user(Name::Bob)];
     let change = RightsChange {
-        names: &names,
+        names: &[user(Name::Bob)],
         changes: &changes,
         objects,
     };
-    for _ in 0..TRIES {
-        let done = stage
+    match stage
+        .acl
+        .change(change, &mut stage.acts, 0, &mut stage.locks)
+    {
+        Err(NoMemory) => stage
             .acl
-            .change(change, &mut stage.acts, 0, &mut stage.locks);
-        if done != Err(NoMemory) {
-            return done;
-        }
-    }
-    Err(NoMemory)
-}
-
-fn bob_reads(stage: &Stage) -> bool {
-    match user(Name::Bob) {
-        Some(bob) => stage.answer(bob, Bit::Read, WINDOW) == Answer::Passes,
-        None => false,
+            .change(change, &mut stage.acts, 0, &mut stage.locks),
+        answer => answer,
     }
 }
 
-/// Whether a line of so many acts is refused, and changes nothing.
-fn is_refused(stage: &mut Stage, value: bool, objects: &[Object]) -> bool {
+/// Whether a line of so many acts is refused, and bob's right stays as it was.
+fn is_refused(stage: &mut Stage, value: bool, objects: &[Object], want: Want) -> bool {
     let count = stage.acts.len();
     set_often(stage, value, objects) == Err(NoMemory)
         && stage.acts.len() == count
-        && bob_reads(stage) != value
+        && stage.answers(Name::Bob, Bit::Read, WINDOW, want)
 }
 
 /// Whether a step files 65,536 acts of list commands at most.
-fn is_bounded(stage: &mut Stage) -> bool {
+fn is_bounded(alloc: Global) -> bool {
+    let Some(mut stage) = Stage::new(alloc, Edition::Second) else {
+        return false;
+    };
     stage.acts.clear();
-    is_refused(stage, false, &[WINDOW; 65])
-        && set_often(stage, false, &[WINDOW; 64]).is_ok()
+    is_refused(&mut stage, false, &[WINDOW; 65], Want::Passes)
+        && set_often(&mut stage, false, &[WINDOW; 64]).is_ok()
         && stage.acts.len() == 65_536
-        && !bob_reads(stage)
-        && is_refused(stage, true, &[WINDOW])
+        && is_refused(&mut stage, true, &[WINDOW], Want::NoEntry)
 }
 
 #[test]
 fn longest_line(rt: HostRuntime) {
-    let Some(mut stage) = Stage::new(rt.alloc(), Edition::Second) else {
-        panic!(rt; "a stage")
-    };
-    assert!(rt; is_bounded(&mut stage));
+    assert!(rt; is_bounded(rt.alloc()));
 }
 
 fn is_shown(alloc: Global, fault: AclFault, text: &str) -> bool {
@@ -85,9 +74,16 @@ fn is_shown(alloc: Global, fault: AclFault, text: &str) -> bool {
     }
 }
 
+fn are_shown(alloc: Global) -> bool {
+    for (fault, text) in &TEXTS {
+        if !is_shown(alloc, *fault, text) {
+            return false;
+        }
+    }
+    true
+}
+
 #[test]
 fn texts(rt: HostRuntime) {
-    for (fault, text) in TEXTS {
-        assert!(rt; is_shown(rt.alloc(), fault, text));
-    }
+    assert!(rt; are_shown(rt.alloc()));
 }

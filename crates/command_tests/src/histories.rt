@@ -1,6 +1,6 @@
 //! Histories of calls, with the answer that a check gives behind each.
 
-use crate::stage::{Answer, Call, Name, Stage, user};
+use crate::stage::{Call, Name, Stage, Want};
 use Bit::{Execute, Read, Write};
 use Call::{
     Add, Change, Close, Default, Enter, Group, Leave, Lock, Mask, Nothing, Open, Part, Preset,
@@ -10,20 +10,6 @@ use Name::{Ann, Bob, Eve, Own, Zed};
 use Want::{Leader, Leaders, Locked, NoEntry, Passes};
 use acl::{Bit, CommandName, Edition, LockMode, Object, PresetKind};
 use std::alloc::Global;
-
-/// What a check is to answer.
-#[derive(Clone, Copy)]
-enum Want {
-    Passes,
-    /// Denied, and he has no leader.
-    NoEntry,
-    /// Denied, and his leader, who is named, hasn't it either.
-    Leader(Name),
-    /// Denied, and these two lead him, in this order.
-    Leaders(Name, Name),
-    /// Another user, who is named, holds the lock.
-    Locked(Name),
-}
 
 /// A call, and then a check of a user's bit on an object.
 type Row = (Call, Name, Bit, Object, Want);
@@ -237,42 +223,24 @@ static HISTORIES: [(Edition, &[Row]); 14] = [
     (Edition::Second, &DEFAULTS),
 ];
 
-fn wanted(want: Want) -> Option<Answer> {
-    match want {
-        Passes => Some(Answer::Passes),
-        NoEntry => Some(Answer::NoEntry([None, None])),
-        Leader(name) => Some(Answer::NoEntry([Some(user(name)?), None])),
-        Leaders(name, next) => Some(Answer::NoEntry([Some(user(name)?), Some(user(next)?)])),
-        Locked(name) => Some(Answer::Locked(user(name)?)),
-    }
-}
-
-fn is_answered(stage: &Stage, name: Name, bit: Bit, object: Object, want: Want) -> bool {
-    match user(name) {
-        Some(asker) => wanted(want) == Some(stage.answer(asker, bit, object)),
-        None => false,
-    }
-}
-
-/// Plays the calls of a history in turn, and asks behind each: the place of the first row that has
-/// another answer.
-fn first_wrong(alloc: Global, edition: Edition, rows: &[Row]) -> Option<usize> {
+/// Whether a history's calls are done in turn, and each check behind them is answered so.
+fn is_so(alloc: Global, edition: Edition, rows: &[Row]) -> bool {
     let Some(mut stage) = Stage::new(alloc, edition) else {
-        return Some(0);
+        return false;
     };
-    for (place, (call, name, bit, object, want)) in rows.iter().enumerate() {
-        if stage.play(*call).is_err() || !is_answered(&stage, *name, *bit, *object, *want) {
-            return Some(place);
+    for (call, name, bit, object, want) in rows {
+        if stage.play(*call).is_err() || !stage.answers(*name, *bit, *object, *want) {
+            return false;
         }
     }
-    None
+    true
 }
 
-/// The first history with a row that has another answer, and that row.
-fn first_wrong_history(alloc: Global) -> Option<(usize, usize)> {
+/// The first history that isn't so.
+fn first_wrong(alloc: Global) -> Option<usize> {
     for (number, (edition, rows)) in HISTORIES.iter().enumerate() {
-        if let Some(place) = first_wrong(alloc, *edition, rows) {
-            return Some((number, place));
+        if !is_so(alloc, *edition, rows) {
+            return Some(number);
         }
     }
     None
@@ -280,5 +248,5 @@ fn first_wrong_history(alloc: Global) -> Option<(usize, usize)> {
 
 #[test]
 fn histories(rt: HostRuntime) {
-    assert_eq!(rt; first_wrong_history(rt.alloc()), None);
+    assert_eq!(rt; first_wrong(rt.alloc()), None);
 }

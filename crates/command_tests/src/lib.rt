@@ -4,14 +4,10 @@
 #[cfg(test)]
 mod bounds;
 #[cfg(test)]
-mod client_keys;
-#[cfg(test)]
 mod histories;
 #[cfg(test)]
 mod lines;
 #[cfg(test)]
-mod manual;
-#[cfg(test)]
-mod refused_memory;
-#[cfg(test)]
 mod stage;
+#[cfg(test)]
+mod typed_keys;

@@ -42,12 +42,18 @@ pub enum Call {
     Part(Name),
 }
 
-/// What a check answers, with the leaders, at most two, or the holder whom a denial names.
-#[derive(Clone, Copy, PartialEq, Eq)]
-pub enum Answer {
+/// What a check is to answer.
+#[derive(Clone, Copy)]
+pub enum Want {
     Passes,
-    NoEntry([Option<UserId>; 2]),
-    Locked(UserId),
+    /// Denied, and he has no leader.
+    NoEntry,
+    /// Denied, and his leader, who is named, hasn't it either.
+    Leader(Name),
+    /// Denied, and these two lead him, in this order.
+    Leaders(Name, Name),
+    /// Another user, who is named, holds the lock.
+    Locked(Name),
 }
 
 /// The lists and locks of a session, and the acts of its list commands.
@@ -79,7 +85,7 @@ fn new_acl(alloc: Global, owner: UserId, edition: Edition) -> Option<Acl> {
 }
 
 /// Own adds ann, bob and eve, and opens the windows 0, 1 and 2.
-const BEGINNING: [Call; 4] = [
+static BEGINNING: [Call; 4] = [
     Call::AddAll(Name::Ann, Name::Bob, Name::Eve),
     Call::Open(Name::Own, 0),
     Call::Open(Name::Own, 1),
@@ -94,8 +100,10 @@ impl Stage {
             locks: Locks::new(),
             acts: Vec::new(alloc),
         };
-        for call in BEGINNING {
-            stage.play(call).ok()?;
+        for call in &BEGINNING {
+            if stage.play(*call).is_err() {
+                return None;
+            }
         }
         Some(stage)
     }
@@ -192,49 +200,80 @@ impl Stage {
         )
     }
 
-    /// A call that takes no memory. A name always has a user.
+    /// A name's user: each name has one.
+    fn known(&self, name: Name) -> UserId {
+        match user(name) {
+            Some(user) => user,
+            None => self.acl.owner(),
+        }
+    }
+
+    /// A call that takes no memory.
     fn act(&mut self, call: Call) {
         match call {
-            Call::Open(name, window) => if let Some(by) = user(name) {
+            Call::Open(name, window) => {
+                let by = self.known(name);
                 self.acl.window_opened(by, window);
                 self.locks.opened(by, window);
-            },
+            }
             Call::Close(window) => {
                 self.acl.window_closed(window);
                 self.locks.closed(window);
             }
-            Call::Lock(name, window, mode) => if let Some(by) = user(name) {
+            Call::Lock(name, window, mode) => {
+                let by = self.known(name);
                 self.locks.set_mode(by, window, mode);
-            },
+            }
             Call::Default(mode) => self.locks.set_default(mode),
-            Call::Enter(name, window) => if let Some(user) = user(name) {
-                let may_write = self
-                    .acl
-                    .may(user, Bit::Write, Object::Window(window))
-                    .is_ok();
+            Call::Enter(name, window) => {
+                let user = self.known(name);
+                let object = Object::Window(window);
+                let may_write = self.acl.may(user, Bit::Write, object).is_ok();
                 self.locks.entered(user, window, may_write);
-            },
-            Call::Leave(name, window) => if let Some(user) = user(name) {
+            }
+            Call::Leave(name, window) => {
+                let user = self.known(name);
                 self.locks.left(user, window);
-            },
+            }
             Call::Part(name) => self.locks.parted(user(name)),
             _ => {}
         }
     }
 
-    /// Whether the user has the bit on the object, and for w on a window also whether no lock stops
-    /// him.
-    pub fn answer(&self, user: UserId, bit: Bit, object: Object) -> Answer {
-        if let Err(denial) = self.acl.may(user, bit, object) {
-            let leaders = denial.leaders.as_slice();
-            return Answer::NoEntry([leaders.get(0).copied(), leaders.get(1).copied()]);
-        }
-        match (bit, object) {
-            (Bit::Write, Object::Window(window)) => match self.locks.may_type(user, window) {
-                Err(denial) => Answer::Locked(denial.holder),
-                Ok(()) => Answer::Passes,
-            },
-            _ => Answer::Passes,
+    /// Whether the check of a user's bit on an object, and for w on a window also of its lock, has
+    /// this answer.
+    pub fn answers(&self, name: Name, bit: Bit, object: Object, want: Want) -> bool {
+        let asker = self.known(name);
+        match self.acl.may(asker, bit, object) {
+            Err(denial) => are_named(denial.leaders.as_slice(), want),
+            Ok(()) => self.is_let(asker, bit, object, want),
         }
     }
+
+    /// The same of who has an entry.
+    fn is_let(&self, asker: UserId, bit: Bit, object: Object, want: Want) -> bool {
+        let wanted = match want {
+            Want::Passes => None,
+            Want::Locked(name) => user(name),
+            _ => return false,
+        };
+        match (bit, object) {
+            (Bit::Write, Object::Window(window)) => match self.locks.may_type(asker, window) {
+                Err(denial) => wanted == Some(denial.holder),
+                Ok(()) => wanted.is_none(),
+            },
+            _ => wanted.is_none(),
+        }
+    }
+}
+
+/// Whether these leaders are named where an entry denies.
+fn are_named(leaders: &[UserId], want: Want) -> bool {
+    let (first, second) = match want {
+        Want::NoEntry => (None, None),
+        Want::Leader(name) => (user(name), None),
+        Want::Leaders(name, next) => (user(name), user(next)),
+        _ => return false,
+    };
+    leaders.get(0).copied() == first && leaders.get(1).copied() == second
 }

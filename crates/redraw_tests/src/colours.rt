@@ -1,9 +1,10 @@
 //! A changed colour is drawn alone, in few bytes.
 
-use crate::refusals::view_of;
+use crate::drawing::{Page, put};
 use cells::{Cell, Colour, Rendition};
-use redraw::{Shadow, frame_keeping};
-use std::alloc::{AllocError, Global};
+use redraw::Shadow;
+use std::alloc::Global;
+use std::str;
 
 const RED: Rendition = Rendition {
     fore: Colour::Red,
@@ -35,84 +36,83 @@ const BOLD_RED: Rendition = Rendition {
     ..RED
 };
 
-/// The renditions of two letters, and the bytes that are drawn of them.
-static ROWS: [(Rendition, Rendition, &[u8]); 10] = [
-    (Rendition::PLAIN, RED, b"a\x1b[31mb"),
-    (RED, GREEN, b"a\x1b[32mb"),
-    (RED, Rendition::PLAIN, b"a\x1b[mb"),
-    (RED_ON_BLUE, ON_BLUE, b"a\x1b[39mb"),
-    (RED_ON_BLUE, RED, b"a\x1b[49mb"),
-    (RED_ON_BLUE, Rendition::PLAIN, b"a\x1b[mb"),
-    (RED, RED_ON_BLUE, b"a\x1b[44mb"),
-    (BOLD_RED, BOLD, b"a\x1b[39mb"),
-    (RED, BOLD_RED, b"a\x1b[1mb"),
-    (RED, RED, b"ab"),
+/// Two letters with their renditions.
+type Letters = ((char, Rendition), (char, Rendition));
+
+const BEFORE: Letters = (('x', BOLD), ('y', BOLD));
+
+/// Letters, others in their place, and what the frame between them has once. It has no `x`.
+static ROWS: [(Letters, Letters, &str); 11] = [
+    (BEFORE, (('a', Rendition::PLAIN), ('b', RED)), "a\x1b[31mb"),
+    (BEFORE, (('a', RED), ('b', GREEN)), "a\x1b[32mb"),
+    (BEFORE, (('a', RED), ('b', Rendition::PLAIN)), "a\x1b[mb"),
+    (BEFORE, (('a', RED_ON_BLUE), ('b', ON_BLUE)), "a\x1b[39mb"),
+    (BEFORE, (('a', RED_ON_BLUE), ('b', RED)), "a\x1b[49mb"),
+    (
+        BEFORE,
+        (('a', RED_ON_BLUE), ('b', Rendition::PLAIN)),
+        "a\x1b[mb",
+    ),
+    (BEFORE, (('a', RED), ('b', RED_ON_BLUE)), "a\x1b[44mb"),
+    (BEFORE, (('a', BOLD_RED), ('b', BOLD)), "a\x1b[39mb"),
+    (BEFORE, (('a', RED), ('b', BOLD_RED)), "a\x1b[1mb"),
+    (BEFORE, (('a', RED), ('b', RED)), "ab"),
+    (
+        (('x', RED), ('y', RED)),
+        (('x', RED), ('y', RED_ON_BLUE)),
+        "y",
+    ),
 ];
 
-/// Two letters.
-fn letters(a: char, first: Rendition, b: char, second: Rendition) -> [Cell; 2] {
+fn cells_of(letters: Letters) -> [Cell; 2] {
+    let ((first, look), (second, next)) = letters;
     [
-        Cell::narrow(a, first, false),
-        Cell::narrow(b, second, false),
+        Cell::narrow(first, look, false),
+        Cell::narrow(second, next, false),
     ]
 }
 
-/// The bytes of a frame from two cells to others, none where there is no frame.
-fn frame_between(alloc: Global, from: &[Cell], to: &[Cell]) -> Result<Vec<u8>, AllocError> {
-    let mut shadow = Shadow::unknown(4, 20);
-    let _first = frame_keeping(alloc, &mut shadow, view_of(alloc, from)?)?;
-    match frame_keeping(alloc, &mut shadow, view_of(alloc, to)?)? {
-        Some(bytes) => Ok(bytes),
-        None => Ok(Vec::new(alloc)),
+/// Whether a frame has a part once, and no `x`.
+fn has_once(frame: &[u8], part: &str) -> bool {
+    match str::from_utf8(frame) {
+        Ok(text) => {
+            text.contains(part) && text.find(part) == text.rfind(part) && !text.contains('x')
+        }
+        Err(_) => false,
     }
 }
 
-/// Whether some bytes hold others.
-fn holds(bytes: &[u8], part: &[u8]) -> bool {
-    for start in 0..bytes.len() {
-        if bytes[start..].starts_with(part) {
-            return true;
-        }
+fn is_so(alloc: Global, row: &(Letters, Letters, &str)) -> bool {
+    let (old, new, part) = *row;
+    let old = cells_of(old);
+    let new = cells_of(new);
+    let mut shadow = Shadow::unknown(24, 80);
+    let mut out = Vec::new(alloc);
+    let before = Page {
+        lines: &[&old],
+        cursor: (0, 1),
+    };
+    if put(alloc, &mut shadow, before, &mut out).is_err() {
+        return false;
     }
-    false
+    out.clear();
+    let behind = Page {
+        lines: &[&new],
+        ..before
+    };
+    put(alloc, &mut shadow, behind, &mut out).is_ok() && has_once(&out, part)
 }
 
-/// How often a byte stands among some.
-fn count(bytes: &[u8], byte: u8) -> usize {
-    let mut count = 0usize;
-    for other in bytes {
-        if *other == byte {
-            count = count.saturating_add(1);
+fn first_wrong(alloc: Global) -> Option<usize> {
+    for (number, row) in ROWS.iter().enumerate() {
+        if !is_so(alloc, row) {
+            return Some(number);
         }
     }
-    count
-}
-
-/// The first row whose letters take other bytes.
-fn first_wrong(alloc: Global) -> Result<Option<usize>, AllocError> {
-    let old = letters('x', BOLD, 'y', BOLD);
-    for (number, (first, second, part)) in ROWS.iter().enumerate() {
-        let bytes = frame_between(alloc, &old, &letters('a', *first, 'b', *second))?;
-        if !holds(&bytes, part) {
-            return Ok(Some(number));
-        }
-    }
-    Ok(None)
+    None
 }
 
 #[test]
 fn colours_take_few_bytes(rt: HostRuntime) {
-    assert_eq!(rt; first_wrong(rt.alloc()), Ok(None));
-}
-
-fn is_drawn_alone(alloc: Global) -> Result<bool, AllocError> {
-    let old = letters('x', RED, 'y', RED);
-    let new = letters('x', RED, 'y', RED_ON_BLUE);
-    let bytes = frame_between(alloc, &old, &new)?;
-    Ok(count(&bytes, b'y') == 1 && count(&bytes, b'x') == 0)
-}
-
-#[test]
-fn a_changed_colour_is_drawn_alone(rt: HostRuntime) {
-    assert_eq!(rt; is_drawn_alone(rt.alloc()), Ok(true));
+    assert_eq!(rt; first_wrong(rt.alloc()), None);
 }

@@ -1,6 +1,6 @@
-//! Layouts of regions: worked ones, refused splits, and texts of faults.
+//! Layouts of regions: worked ones, and texts of faults.
 
-use regions::{Layout, Rect, RegionFault, Shown, Way};
+use regions::{Layout, Rect, Rects, RegionFault, Shown, Way};
 use std::alloc::Global;
 
 /// A call on a layout.
@@ -49,9 +49,10 @@ const BELOW: Step = Step::Split(Way::Below);
 
 const RIGHT: Step = Step::Split(Way::Right);
 
-/// Halves over one another, from window 7. Two: regions in rows 0 to 10 and 12 to 21, captions in
-/// rows 11 and 22. Three: rows 0 to 4, 6 to 10, 12 to 21; captions 5, 11, 22.
-static STACKED: [Row; 3] = [
+/// Each row goes on from the layout of the one before, the first from window 7 alone.
+static ROWS: [Row; 13] = [
+    // Halves over one another. Two: regions in rows 0 to 10 and 12 to 21, captions in rows 11 and
+    // 22. Three: rows 0 to 4, 6 to 10, 12 to 21; captions 5, 11, 22.
     Row {
         steps: &[BELOW],
         size: (24, 80),
@@ -76,10 +77,7 @@ static STACKED: [Row; 3] = [
         shown: &[SEVENTH],
         focus: 0,
     },
-];
-
-/// Two halves side by side, with a column between over all their rows, on pages of two sizes.
-static BESIDE: [Row; 2] = [
+    // Two halves side by side, with a column between over all their rows, on pages of two sizes.
     Row {
         steps: &[RIGHT],
         size: (24, 80),
@@ -96,14 +94,36 @@ static BESIDE: [Row; 2] = [
         shown: &[SEVENTH, Shown::EMPTY],
         focus: 0,
     },
-];
-
-/// The focus follows the order of the splits: from 7 (upper), over 2 (lower left) and the new one
-/// (lower right), to 7 again. The upper one goes: its sibling, in two halves, has its room. The
-/// focused region stays where the page is too small.
-static FOCUSED: [Row; 7] = [
+    // Seven regions.
     Row {
-        steps: &[BELOW, Step::Next, Step::Show(SECOND), RIGHT],
+        steps: &[Step::Only, BELOW, BELOW, BELOW, RIGHT, RIGHT, RIGHT],
+        size: (24, 80),
+        boxes: &[
+            (0, 0, 3, 9),
+            (0, 10, 3, 9),
+            (0, 20, 3, 19),
+            (0, 40, 3, 40),
+            (3, 0, 3, 80),
+            (6, 0, 6, 80),
+            (12, 0, 11, 80),
+        ],
+        separators: &[(0, 39, 3, 1), (0, 19, 3, 1), (0, 9, 3, 1)],
+        shown: &[
+            SEVENTH,
+            Shown::EMPTY,
+            Shown::EMPTY,
+            Shown::EMPTY,
+            Shown::EMPTY,
+            Shown::EMPTY,
+            Shown::EMPTY,
+        ],
+        focus: 0,
+    },
+    // The focus follows the order of the splits: from 7 (upper), over 2 (lower left) and the new one
+    // (lower right), to 7 again. The upper one goes: its sibling, in two halves, has its room. The
+    // focused region stays where the page is too small.
+    Row {
+        steps: &[Step::Only, BELOW, Step::Next, Step::Show(SECOND), RIGHT],
         size: (24, 80),
         boxes: &[(0, 0, 12, 80), (12, 0, 11, 39), (12, 40, 11, 40)],
         separators: &[(12, 39, 11, 1)],
@@ -160,17 +180,21 @@ static FOCUSED: [Row; 7] = [
     },
 ];
 
-fn play(alloc: Global, layout: &mut Layout, step: Step) -> Result<(), RegionFault> {
+/// Whether a step is taken, asked for once more where memory is refused.
+fn is_taken(alloc: Global, layout: &mut Layout, step: Step) -> bool {
     match step {
-        Step::Split(way) => layout.split(alloc, way, 24, 80)?,
+        Step::Split(way) => {
+            return layout.split(alloc, way, 24, 80).is_ok()
+                || layout.split(alloc, way, 24, 80).is_ok();
+        }
         Step::Next => layout.focus_next(),
         Step::Show(shown) => layout.set_shown(shown),
-        Step::Remove => layout.remove()?,
+        Step::Remove => return layout.remove().is_ok(),
         Step::Only => layout.only(),
         Step::Close(serial) => layout.close_window(serial),
         Step::Resized(rows, columns) => layout.resized(rows, columns),
     }
-    Ok(())
+    true
 }
 
 fn are(rects: &[Rect], places: &[Place]) -> bool {
@@ -183,48 +207,61 @@ fn are(rects: &[Rect], places: &[Place]) -> bool {
     rects.len() == places.len()
 }
 
-fn is_status(rect: &Rect, rows: u16, columns: u16) -> bool {
-    (rect.line, rect.column, rect.rows, rect.columns) == (rows.saturating_sub(1), 0, 1, columns)
+fn are_placed(rects: &Rects, row: &Row) -> bool {
+    let (rows, columns) = row.size;
+    let status = Rect {
+        line: rows.saturating_sub(1),
+        column: 0,
+        rows: 1,
+        columns,
+    };
+    are(&rects.boxes, row.boxes)
+        && are(&rects.separators, row.separators)
+        && rects.focus == row.focus
+        && rects.status == status
 }
 
-fn shows(layout: &Layout, shown: &[Shown]) -> bool {
-    layout.shown() == shown
-}
-
-/// Whether a layout gives just what a row says, once its steps are played.
-fn gives(alloc: Global, layout: &mut Layout, row: &Row) -> Result<bool, RegionFault> {
-    for step in row.steps {
-        play(alloc, layout, *step)?;
-    }
+fn shows(alloc: Global, layout: &Layout, row: &Row) -> Result<bool, RegionFault> {
     let (rows, columns) = row.size;
     let rects = layout.rects(alloc, rows, columns)?;
-    Ok(
-        are(rects.boxes.as_slice(), row.boxes)
-            && are(rects.separators.as_slice(), row.separators)
-            && rects.focus == row.focus
-            && is_status(&rects.status, rows, columns)
-            && shows(layout, row.shown)
-            && layout.focus() == row.focus
-            && row.shown.get(row.focus).copied() == Some(layout.focused()),
-    )
+    Ok(are_placed(&rects, row) && layout.shown() == row.shown && layout.focus() == row.focus)
 }
 
-/// The first row that a new layout doesn't give behind those before it.
-fn first_wrong(alloc: Global, rows: &[Row]) -> Result<Option<usize>, RegionFault> {
-    let mut layout = Layout::new(alloc, SEVENTH)?;
-    for (number, row) in rows.iter().enumerate() {
-        if !gives(alloc, &mut layout, row)? {
-            return Ok(Some(number));
+/// Whether a layout gives just what a row says, once its steps are taken.
+fn gives(alloc: Global, layout: &mut Layout, row: &Row) -> bool {
+    for step in row.steps {
+        if !is_taken(alloc, layout, *step) {
+            return false;
         }
     }
-    Ok(None)
+    match shows(alloc, layout, row) {
+        Ok(is_so) => is_so,
+        Err(_) => matches!(shows(alloc, layout, row), Ok(true)),
+    }
 }
 
+/// The first row that the layout doesn't give.
+fn first_wrong(alloc: Global) -> Option<usize> {
+    let made = match Layout::new(alloc, SEVENTH) {
+        Ok(layout) => Ok(layout),
+        Err(_) => Layout::new(alloc, SEVENTH),
+    };
+    let Ok(mut layout) = made else {
+        return Some(0);
+    };
+    for (number, row) in ROWS.iter().enumerate() {
+        if !gives(alloc, &mut layout, row) {
+            return Some(number);
+        }
+    }
+    None
+}
+
+/// A refused split is asked for again: with each allocation refused in turn (`rt try --test
+/// --fail-alloc N`), the layout is then as without a refusal.
 #[test]
 fn layouts_give_their_rows(rt: HostRuntime) {
-    assert_eq!(rt; first_wrong(rt.alloc(), &STACKED), Ok(None));
-    assert_eq!(rt; first_wrong(rt.alloc(), &BESIDE), Ok(None));
-    assert_eq!(rt; first_wrong(rt.alloc(), &FOCUSED), Ok(None));
+    assert_eq!(rt; first_wrong(rt.alloc()), None);
 }
 
 static TEXTS: [(RegionFault, &str); 4] = [
@@ -234,56 +271,17 @@ static TEXTS: [(RegionFault, &str); 4] = [
     (RegionFault::NoMemory, "out of memory"),
 ];
 
-fn is_shown(alloc: Global, fault: RegionFault, text: &str) -> bool {
-    match fault.to_string(alloc) {
-        Ok(shown) => shown.as_str() == text,
-        Err(_) => false,
+fn are_shown(alloc: Global) -> bool {
+    for (fault, text) in &TEXTS {
+        match fault.to_string(alloc) {
+            Ok(shown) if shown.as_str() == *text => {}
+            _ => return false,
+        }
     }
+    true
 }
 
 #[test]
 fn texts_of_faults(rt: HostRuntime) {
-    for (fault, text) in TEXTS {
-        assert!(rt; is_shown(rt.alloc(), fault, text));
-    }
-}
-
-/// A split, asked for once more where memory is refused. Whether nothing had changed then.
-fn is_split_at_last(alloc: Global, layout: &mut Layout, way: Way) -> bool {
-    let count = layout.shown().len();
-    match layout.split(alloc, way, 200, 300) {
-        Ok(()) => layout.shown().len() == count.saturating_add(1),
-        Err(fault) => {
-            fault == RegionFault::NoMemory
-                && layout.shown().len() == count
-                && layout.focus() == 0
-                && layout.split(alloc, way, 200, 300).is_ok()
-        }
-    }
-}
-
-fn made_at_last(alloc: Global) -> Option<Layout> {
-    match Layout::new(alloc, SEVENTH) {
-        Ok(layout) => Some(layout),
-        Err(_) => Layout::new(alloc, SEVENTH).ok(),
-    }
-}
-
-/// Splits of which any may be refused for memory at first.
-fn are_split_at_last(alloc: Global) -> bool {
-    let Some(mut layout) = made_at_last(alloc) else {
-        return false;
-    };
-    for step in 0..7u16 {
-        let way = if step < 3 { Way::Below } else { Way::Right };
-        if !is_split_at_last(alloc, &mut layout, way) {
-            return false;
-        }
-    }
-    layout.shown().len() == 8
-}
-
-#[test]
-fn refused_splits(rt: HostRuntime) {
-    assert!(rt; are_split_at_last(rt.alloc()));
+    assert!(rt; are_shown(rt.alloc()));
 }

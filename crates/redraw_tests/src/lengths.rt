@@ -1,14 +1,12 @@
 //! How many bytes frames have at most, at 24 lines by 80 columns.
 
-ghost use Rattle.std.specs.Prelude.{IfOk};
-ghost use Rattle.view.specs.View.{HasSize};
+ghost use Rattle.std.specs.Prelude.{◌≡◌};
 
+use crate::drawing::{Page, put};
 use Text::{Blank, Letters, Scattered};
 use cells::{Cell, Rendition};
-use redraw::{Shadow, frame_keeping};
-use regions::{Rect, Rects};
+use redraw::Shadow;
 use std::alloc::{AllocError, Global};
-use view::{Contents, KeyModes, Pane, View, compose};
 
 /// What stands in the first 23 lines.
 #[derive(Clone, Copy)]
@@ -22,7 +20,7 @@ enum Text {
 
 /// A page and its cursor.
 #[derive(Clone, Copy)]
-struct Page {
+struct Sheet {
     text: Text,
     /// A place with a letter of its own.
     changed: Option<(usize, usize)>,
@@ -31,33 +29,33 @@ struct Page {
 
 /// A frame from a page, or from unknown, to another one.
 struct Draw {
-    from: Option<Page>,
-    to: Page,
+    from: Option<Sheet>,
+    to: Sheet,
     most: usize,
 }
 
 const LINES: usize = 23;
 
-const BLANKS: Page = Page {
+const BLANKS: Sheet = Sheet {
     text: Blank,
     changed: None,
     cursor: (0, 0),
 };
 
-const FULL: Page = Page {
+const FULL: Sheet = Sheet {
     text: Letters(0),
     changed: None,
     cursor: (22, 79),
 };
 
 /// The letter before the cursor, and the cursor behind it.
-const TYPED: Page = Page {
+const TYPED: Sheet = Sheet {
     changed: Some((5, 40)),
     cursor: (5, 41),
     ..FULL
 };
 
-const BEFORE_TYPING: Page = Page {
+const BEFORE_TYPING: Sheet = Sheet {
     cursor: (5, 40),
     ..FULL
 };
@@ -72,7 +70,7 @@ static DRAWS: [Draw; 7] = [
     // a letter away from the cursor
     Draw {
         from: Some(BEFORE_TYPING),
-        to: Page {
+        to: Sheet {
             changed: Some((8, 7)),
             cursor: (8, 8),
             ..FULL
@@ -94,7 +92,7 @@ static DRAWS: [Draw; 7] = [
     // scattered letters
     Draw {
         from: Some(BLANKS),
-        to: Page {
+        to: Sheet {
             text: Scattered,
             ..BLANKS
         },
@@ -103,7 +101,7 @@ static DRAWS: [Draw; 7] = [
     // other text
     Draw {
         from: Some(FULL),
-        to: Page {
+        to: Sheet {
             text: Letters(7),
             ..FULL
         },
@@ -122,89 +120,85 @@ fn letter(steps: usize) -> char {
     (b'a' + (steps % 26) as u8) as char
 }
 
-impl Page {
-    fn character(&self, line: usize, column: usize) -> char {
-        if self.changed == Some((line, column)) {
-            return '#';
-        }
-        match self.text {
-            Letters(first) if column < 79 => letter(line % 26 + column % 26 + first as usize),
-            Scattered if column % 10 == 0 => letter(line % 26),
-            _ => ' ',
-        }
+fn character(sheet: &Sheet, line: usize, column: usize) -> char {
+    if sheet.changed == Some((line, column)) {
+        return '#';
     }
-
-    fn line(&self, alloc: Global, line: usize) -> Result<Vec<Cell>, AllocError> {
-        let mut cells = Vec::with_capacity(alloc, 80)?;
-        for column in 0..80usize {
-            let character = self.character(line, column);
-            cells.push(Cell::narrow(character, Rendition::PLAIN, false))?;
-        }
-        Ok(cells)
-    }
-
-    /// The page as a view: a region over 24 lines, whose caption the blank status line covers.
-    fn view(&self, alloc: Global) -> Result<View, AllocError>
-        ensures { IfOk result (HasSize 24 80) }
-    {
-        let mut lines = Vec::with_capacity(alloc, LINES)?;
-        for line in 0..LINES {
-            lines.push(self.line(alloc, line)?)?;
-        }
-        let mut lent: Vec<&[Cell]> = Vec::with_capacity(alloc, LINES)?;
-        for line in &lines {
-            lent.push(line.as_slice())?;
-        }
-        let pane = Pane::Readable(Contents {
-            number: 0,
-            title: "sh",
-            lines: lent.as_slice(),
-            cursor: Some(self.cursor),
-            shows_cursor: true,
-            is_inverted: false,
-            modes: KeyModes::NORMAL,
-        });
-        let mut boxes = Vec::with_capacity(alloc, 1)?;
-        boxes.push(Rect {
-            line: 0,
-            column: 0,
-            rows: 24,
-            columns: 80,
-        })?;
-        let rects = Rects {
-            boxes,
-            separators: Vec::new(alloc),
-            focus: 0,
-            status: Rect::of_status(24, 80),
-        };
-        compose(alloc, &rects, &[pane], b"")
+    match sheet.text {
+        Letters(first) if column < 79 => letter(line % 26 + column % 26 + first as usize),
+        Scattered if column % 10 == 0 => letter(line % 26),
+        _ => ' ',
     }
 }
 
-/// How many bytes the frame from a page to another has.
-fn count_between(alloc: Global, from: Option<Page>, to: Page) -> Result<usize, AllocError> {
+/// The cells of all lines, one line behind the other.
+fn cells_of(alloc: Global, sheet: &Sheet) -> Result<Vec<Cell>, AllocError> {
+    let mut cells = Vec::new(alloc);
+    for place in 0..LINES * 80 {
+        let character = character(sheet, place / 80, place % 80);
+        cells.push(Cell::narrow(character, Rendition::PLAIN, false))?;
+    }
+    Ok(cells)
+}
+
+fn lines_of(alloc: Global, cells: &[Cell]) -> Result<Vec<&[Cell]>, AllocError> {
+    let mut lines = Vec::new(alloc);
+    for line in cells.chunks_exact(80) {
+        lines.push(line)?;
+    }
+    Ok(lines)
+}
+
+/// Appends the frame of a page.
+fn put_sheet(
+    alloc: Global,
+    shadow: &mut Shadow,
+    sheet: &Sheet,
+    out: &mut Vec<u8>,
+) -> Result<(), AllocError>
+    requires rows { shadow.old.rows ≡ 24 }
+    requires columns { shadow.old.columns ≡ 80 }
+    ensures rows { shadow.new.rows ≡ 24 }
+    ensures columns { shadow.new.columns ≡ 80 }
+{
+    let cells = cells_of(alloc, sheet)?;
+    let lines = lines_of(alloc, &cells)?;
+    let page = Page {
+        lines: &lines,
+        cursor: sheet.cursor,
+    };
+    put(alloc, shadow, page, out)
+}
+
+/// How many bytes a frame has.
+fn count(alloc: Global, draw: &Draw) -> Result<usize, AllocError> {
     let mut shadow = Shadow::unknown(24, 80);
-    if let Some(from) = from {
-        let _first = frame_keeping(alloc, &mut shadow, from.view(alloc)?)?;
+    let mut out = Vec::new(alloc);
+    if let Some(from) = &draw.from {
+        put_sheet(alloc, &mut shadow, from, &mut out)?;
+        out.clear();
     }
-    match frame_keeping(alloc, &mut shadow, to.view(alloc)?)? {
-        Some(bytes) => Ok(bytes.len()),
-        None => Ok(0),
+    put_sheet(alloc, &mut shadow, &draw.to, &mut out)?;
+    Ok(out.len())
+}
+
+fn is_short(alloc: Global, draw: &Draw) -> bool {
+    match count(alloc, draw) {
+        Ok(count) => 0 < count && count <= draw.most,
+        Err(_) => false,
     }
 }
 
-/// The first draw without a byte, or with too many, and how many it has.
-fn first_wrong(alloc: Global) -> Result<Option<(usize, usize)>, AllocError> {
+fn first_wrong(alloc: Global) -> Option<usize> {
     for (number, draw) in DRAWS.iter().enumerate() {
-        let count = count_between(alloc, draw.from, draw.to)?;
-        if count == 0 || draw.most < count {
-            return Ok(Some((number, count)));
+        if !is_short(alloc, draw) {
+            return Some(number);
         }
     }
-    Ok(None)
+    None
 }
 
 #[test]
 fn frames_are_short(rt: HostRuntime) {
-    assert_eq!(rt; first_wrong(rt.alloc()), Ok(None));
+    assert_eq!(rt; first_wrong(rt.alloc()), None);
 }

@@ -1,18 +1,13 @@
-//! Tests of draws: layouts of regions, views that are composed, frames from one to another, and
-//! terminals that read them.
+//! Tests of draws: layouts of regions, and frames from one page to another.
 #![tactic(auto)]
 
 #[cfg(test)]
-mod appended;
+mod calls;
 #[cfg(test)]
 mod colours;
+#[cfg(test)]
+mod drawing;
 #[cfg(test)]
 mod layouts;
 #[cfg(test)]
 mod lengths;
-#[cfg(test)]
-mod refusals;
-#[cfg(test)]
-mod stage;
-#[cfg(test)]
-mod steps;

@@ -1,14 +1,15 @@
-//! Bytes as control functions, cut at every place, and how those are spelled.
+//! Bytes as control functions, and how those are spelled.
 
 use charsets::{Coding, Decoder, Unit, Units};
-use control_parser::{Func, Intermediates, Params, Parser, spell};
-use std::alloc::{AllocError, Global};
+use control_parser::{Parser, spell};
+use std::alloc::Global;
 
 /// Bytes in a coding, and the spellings of the functions that they are, each ended by `|`
 /// (ECMA-48, 5.2 to 5.6; the Unicode core specification, 3.9).
 type Row = (Coding, &'static [u8], &'static [u8]);
 
-static ROWS: [Row; 23] = [
+static ROWS: [Row; 24] = [
+    (Coding::Utf8, b"\x1b[24;1000H", b"\x1b[24;1000H|"),
     (Coding::Utf8, b"a\x1b[1;\n31mb", b"a|\n|\x1b[1;31m|b|"),
     (Coding::Utf8, b"\x1b(0q\x1b(Bq", b"\x1b(0|q|\x1b(B|q|"),
     (Coding::Utf8, b"\xe2\x82\x41", b"\xef\xbf\xbd|A|"),
@@ -83,58 +84,43 @@ static ROWS: [Row; 23] = [
 ];
 
 /// Appends the spelling of the function that a unit ends.
-fn take(parser: &mut Parser, unit: Unit, out: &mut Vec<u8>) -> Result<(), AllocError> {
+fn is_taken(parser: &mut Parser, unit: Unit, out: &mut Vec<u8>) -> bool {
     match parser.push(unit) {
-        Some(func) => {
-            spell(&func, out)?;
-            out.push(b'|')?;
-            Ok(())
-        }
-        None => Ok(()),
+        Some(func) => spell(&func, out).is_ok() && out.push(b'|').is_ok(),
+        None => true,
     }
 }
 
-/// The same of all units of some bytes.
-fn read(
-    decoder: &mut Decoder,
-    parser: &mut Parser,
-    bytes: &[u8],
-    out: &mut Vec<u8>,
-) -> Result<(), AllocError> {
-    for byte in bytes {
-        match decoder.push(*byte) {
-            Units::Nothing => {}
-            Units::One(unit) => take(parser, unit, out)?,
-            Units::Two(first, second) => {
-                take(parser, first, out)?;
-                take(parser, second, out)?;
-            }
+/// The same of all units that a byte ends.
+fn is_read(decoder: &mut Decoder, parser: &mut Parser, byte: u8, out: &mut Vec<u8>) -> bool {
+    match decoder.push(byte) {
+        Units::Nothing => true,
+        Units::One(unit) => is_taken(parser, unit, out),
+        Units::Two(first, second) => {
+            is_taken(parser, first, out) && is_taken(parser, second, out)
         }
     }
-    Ok(())
 }
 
-/// Whether a row's bytes, cut there, are its functions, and nothing is left.
-fn are_read(alloc: Global, row: &Row, cut: usize) -> bool {
+/// Whether a row's bytes are its functions, and nothing is left.
+fn are_read(alloc: Global, row: &Row) -> bool {
     let (coding, bytes, want) = *row;
     let mut decoder = Decoder::new();
     decoder.set_coding(coding);
     let mut parser = Parser::new();
     let mut out = Vec::new(alloc);
-    let (front, rest) = bytes.split_at(cut.min(bytes.len()));
-    read(&mut decoder, &mut parser, front, &mut out).is_ok()
-        && read(&mut decoder, &mut parser, rest, &mut out).is_ok()
-        && out.as_slice() == want
-        && decoder.is_idle()
-        && parser.is_idle()
+    for byte in bytes {
+        if !is_read(&mut decoder, &mut parser, *byte, &mut out) {
+            return false;
+        }
+    }
+    out.as_slice() == want && decoder.is_idle() && parser.is_idle()
 }
 
-fn first_wrong(alloc: Global) -> Option<(usize, usize)> {
+fn first_wrong(alloc: Global) -> Option<usize> {
     for (number, row) in ROWS.iter().enumerate() {
-        for cut in 0..=row.1.len() {
-            if !are_read(alloc, row, cut) {
-                return Some((number, cut));
-            }
+        if !are_read(alloc, row) {
+            return Some(number);
         }
     }
     None
@@ -143,25 +129,4 @@ fn first_wrong(alloc: Global) -> Option<(usize, usize)> {
 #[test]
 fn functions_of_bytes(rt: HostRuntime) {
     assert_eq!(rt; first_wrong(rt.alloc()), None);
-}
-
-/// Whether the spellings of functions are appended (ECMA-48, 5.4.2).
-fn are_spelled(alloc: Global) -> bool {
-    let place = Func::Csi {
-        mark: None,
-        params: Params::from_slice(&[24, 1000]),
-        intermediates: Intermediates::none(),
-        last: b'H',
-    };
-    let mut out = Vec::new(alloc);
-    spell(&Func::Print('A'), &mut out).is_ok()
-        && out.as_slice() == b"A".as_slice()
-        && spell(&place, &mut out).is_ok()
-        && spell(&Func::High(0xA9), &mut out).is_ok()
-        && out.as_slice() == b"A\x1b[24;1000H\xa9".as_slice()
-}
-
-#[test]
-fn spellings(rt: HostRuntime) {
-    assert!(rt; are_spelled(rt.alloc()));
 }

@@ -8,8 +8,6 @@ use emulator::{Emulator, Stopped};
 use std::alloc::Global;
 
 /// At most one allocation is refused in a run, so a second try never is.
-const TRIES: usize = 2;
-
 fn made_at_last(alloc: Global) -> Option<Emulator> {
     match Emulator::new(alloc, 2, 5, 1) {
         Ok(emulator) => Some(emulator),
@@ -19,14 +17,10 @@ fn made_at_last(alloc: Global) -> Option<Emulator> {
 
 /// Reads bytes to their end, from where it stopped.
 fn reads_at_last(emulator: &mut Emulator, bytes: &[u8], answers: &mut Vec<u8>) -> bool {
-    let mut rest = bytes;
-    for _ in 0..TRIES {
-        match emulator.feed_all(rest, answers) {
-            Ok(()) => return true,
-            Err(Stopped { read }) => rest = rest.split_at(read).1,
-        }
+    match emulator.feed_all(bytes, answers) {
+        Ok(()) => true,
+        Err(Stopped { read }) => emulator.feed_all(bytes.split_at(read).1, answers).is_ok(),
     }
-    false
 }
 
 /// Changes the size. Whether it is changed in the end, and all is as it was where it is refused.
@@ -42,22 +36,21 @@ fn is_resized_at_last(emulator: &mut Emulator) -> bool {
     }
 }
 
-fn is_all_left(alloc: Global) -> Option<bool> {
-    let mut emulator = made_at_last(alloc)?;
+fn is_all_left(alloc: Global) -> bool {
+    let Some(mut emulator) = made_at_last(alloc) else {
+        return false;
+    };
     let mut answers = Vec::new(alloc);
     let text = b"a\r\nb\r\nabc\xE6\xBC\xA2\x1B[6n";
-    let is_read = reads_at_last(&mut emulator, text, &mut answers);
-    Some(
-        is_read
-            && answers.as_slice() == b"\x1B[2;5R".as_slice()
-            && is_resized_at_last(&mut emulator)
-            && shows(&emulator.page(0), "b___|abc_|____|")
-            && shows(&emulator.page(1), "a___|b___|abc_|")
-            && emulator.cursor() == (1, 3),
-    )
+    reads_at_last(&mut emulator, text, &mut answers)
+        && answers.as_slice() == b"\x1B[2;5R".as_slice()
+        && is_resized_at_last(&mut emulator)
+        && shows(&emulator.page(0), "b___|abc_|____|")
+        && shows(&emulator.page(1), "a___|b___|abc_|")
+        && emulator.cursor() == (1, 3)
 }
 
 #[test]
 fn refused_growths_leave_all(rt: HostRuntime) {
-    assert_eq!(rt; is_all_left(rt.alloc()), Some(true));
+    assert!(rt; is_all_left(rt.alloc()));
 }

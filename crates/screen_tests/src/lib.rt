@@ -4,8 +4,6 @@
 #[cfg(test)]
 mod colours;
 #[cfg(test)]
-mod cuts;
-#[cfg(test)]
 mod functions;
 #[cfg(test)]
 mod growths;
@@ -13,8 +11,6 @@ mod growths;
 mod judging;
 #[cfg(test)]
 mod pages;
-#[cfg(test)]
-mod runs;
 #[cfg(test)]
 mod sizes;
 #[cfg(test)]

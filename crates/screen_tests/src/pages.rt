@@ -1,6 +1,7 @@
 //! What pages show when they have read some bytes.
 
-use crate::judging::{NEW, Row, Size, is_so_at_each_cut, read, shows};
+use crate::judging::{NEW, Row, Size, is_so, read, shows};
+use emulator::Emulator;
 use std::alloc::Global;
 
 /// A size; by how many kept lines the page is moved back; bytes; its lines, each ended by `|`, where
@@ -9,7 +10,7 @@ type Shown = (Size, usize, &'static [u8], &'static str, (usize, usize));
 
 const SMALL: Size = (2, 5, 0);
 
-static ROWS: [Shown; 31] = [
+static ROWS: [Shown; 35] = [
     // starts blank
     ((3, 3, 0), 0, b"", "___|___|___|", (0, 0)),
     // wraps behind the last column
@@ -156,6 +157,35 @@ static ROWS: [Shown; 31] = [
         "________a_______b___|____________________|",
         (0, 17),
     ),
+    // tab stops (ECMA-48, 8.3.60, 8.3.62 and 8.3.154)
+    (
+        (2, 20, 0),
+        0,
+        b"\ta",
+        "________a___________|____________________|",
+        (0, 9),
+    ),
+    (
+        (2, 20, 0),
+        0,
+        b"\x1B[1;4H\x1BH\r\ta",
+        "___a________________|____________________|",
+        (0, 4),
+    ),
+    (
+        (2, 20, 0),
+        0,
+        b"\x1B[1;9H\x1B[g\r\ta",
+        "________________a___|____________________|",
+        (0, 17),
+    ),
+    (
+        (2, 20, 0),
+        0,
+        b"\x1B[3g\ta",
+        "___________________a|____________________|",
+        (0, 19),
+    ),
 ];
 
 fn first_wrong(alloc: Global) -> Option<usize> {
@@ -169,36 +199,41 @@ fn first_wrong(alloc: Global) -> Option<usize> {
             modes: NEW,
             answer: b"",
         };
-        if !is_so_at_each_cut(alloc, &row) {
+        if !is_so(alloc, &row) {
             return Some(number);
         }
     }
     None
 }
 
-#[test]
-fn pages_show_what_was_read(rt: HostRuntime) {
-    assert_eq!(rt; first_wrong(rt.alloc()), None);
+/// Whether an emulator reads some bytes again and again.
+fn is_read_often(emulator: &mut Emulator, bytes: &[u8], out: &mut Vec<u8>) -> bool {
+    for _ in 0..10_000u32 {
+        if emulator.feed_all(bytes, out).is_err() {
+            return false;
+        }
+    }
+    true
 }
 
 /// Whether a control sequence of 20,000 bytes acts, and a string of a million leaves the page as it
 /// is until it is ended.
-fn are_long_ones_read(alloc: Global) -> Option<bool> {
-    let mut answers = Vec::new(alloc);
-    let mut emulator = read(alloc, SMALL, &[b"ab\x1B["], &mut answers)?;
-    for _ in 0..10_000u32 {
-        emulator.feed_all(b"1;", &mut answers).ok()?;
-    }
-    emulator.feed_all(b"Hc\x1B]", &mut answers).ok()?;
-    for _ in 0..1_000u32 {
-        emulator.feed_all(&[b'x'; 1_000], &mut answers).ok()?;
-    }
-    let is_as_it_was = shows(&emulator.page(0), "cb___|_____|");
-    emulator.feed_all(b"\x07d", &mut answers).ok()?;
-    Some(is_as_it_was && shows(&emulator.page(0), "cd___|_____|") && answers.is_empty())
+fn are_long_ones_read(alloc: Global) -> bool {
+    let mut out = Vec::new(alloc);
+    let Some(mut emulator) = read(alloc, SMALL, b"ab\x1B[", &mut out) else {
+        return false;
+    };
+    is_read_often(&mut emulator, b"1;", &mut out)
+        && emulator.feed_all(b"Hc\x1B]", &mut out).is_ok()
+        && is_read_often(&mut emulator, &[b'x'; 100], &mut out)
+        && shows(&emulator.page(0), "cb___|_____|")
+        && emulator.feed_all(b"\x07d", &mut out).is_ok()
+        && shows(&emulator.page(0), "cd___|_____|")
+        && out.is_empty()
 }
 
 #[test]
-fn long_sequences(rt: HostRuntime) {
-    assert_eq!(rt; are_long_ones_read(rt.alloc()), Some(true));
+fn pages_show_what_was_read(rt: HostRuntime) {
+    assert_eq!(rt; first_wrong(rt.alloc()), None);
+    assert!(rt; are_long_ones_read(rt.alloc()));
 }

@@ -1,18 +1,20 @@
-//! Every row of the screen table: bytes in; page, cursor, modes and answers out, whole and at every
-//! cut.
+//! Every row of the screen table: bytes in; page, cursor, modes and answers out.
 
-use crate::judging::{NEW, Row, Size, is_so_at_each_cut, read};
+use crate::judging::{NEW, Row, Size, is_so, read};
 use std::alloc::Global;
 
 /// Bytes; the lines of the page, each ended by `|`, where a blank is `_`; the cursor's line and
 /// column from 0. The modes are those of a new screen, and nothing is answered.
 type Shows = (&'static [u8], &'static str, (usize, usize));
 
-/// The same, and the letters of the modes that are set (`judging::LETTERS`). Nothing is answered.
-type Sets = (&'static [u8], &'static str, (usize, usize), &'static [u8]);
-
-/// The same, and what is answered. The modes are those of a new screen.
-type Answers = (&'static [u8], &'static str, (usize, usize), &'static [u8]);
+/// The same, the letters of the modes that are set (`judging::has_modes`), and what is answered.
+type Sets = (
+    &'static [u8],
+    &'static str,
+    (usize, usize),
+    &'static [u8],
+    &'static [u8],
+);
 
 /// 3 lines of 5 columns.
 const SMALL: Size = (3, 5, 0);
@@ -20,8 +22,8 @@ const SMALL: Size = (3, 5, 0);
 /// A small page with nothing on it.
 const BLANK: &str = "_____|_____|_____|";
 
-/// Sets and shifts (ECMA-35; VT220 Programmer Reference Manual, chapter 2).
-static SETS: [Shows; 13] = [
+static ROWS: [Shows; 66] = [
+    // Sets and shifts (ECMA-35; VT220 Programmer Reference Manual, chapter 2).
     (b"\x1B)0\x0Eq\x0Fq", "─q___|_____|_____|", (0, 2)),
     (b"\x1B*0\x1Bnq", "─____|_____|_____|", (0, 1)),
     (b"\x1B+0\x1Boq", "─____|_____|_____|", (0, 1)),
@@ -35,11 +37,8 @@ static SETS: [Shows; 13] = [
     (b"\x1B(0q\x1B(Bq", "─q___|_____|_____|", (0, 2)),
     (b"\x1B%@\xA9", ")____|_____|_____|", (0, 1)),
     (b"\x1B%@\x1B%G\xC3\xA9", "é____|_____|_____|", (0, 1)),
-];
-
-/// Controls, and functions that go to another place (ECMA-48, 8.3; VT220 Programmer Reference
-/// Manual, chapter 4).
-static PLACES: [Shows; 31] = [
+    // Controls, and functions that go to another place (ECMA-48, 8.3; VT220 Programmer Reference
+    // Manual, chapter 4).
     (b"\x08a", "a____|_____|_____|", (0, 1)),
     (b"ab\rc", "cb___|_____|_____|", (0, 1)),
     (b"a\nb", "a____|_b___|_____|", (1, 2)),
@@ -71,11 +70,8 @@ static PLACES: [Shows; 31] = [
     (b"ab\x1B[2;3r", "ab___|_____|_____|", (0, 0)),
     (b"\x1B[1;2ra\nb\nc", "_b___|__c__|_____|", (1, 3)),
     (b"abcde\x1B[2;2rf", "abcde|f____|_____|", (1, 1)),
-];
-
-/// Functions that erase, insert and delete (ECMA-48, 8.3; VT220 Programmer Reference Manual,
-/// chapter 4).
-static EDITS: [Shows; 22] = [
+    // Functions that erase, insert and delete (ECMA-48, 8.3; VT220 Programmer Reference Manual,
+    // chapter 4).
     (b"\x1B#8", "EEEEE|EEEEE|EEEEE|", (0, 0)),
     (b"abc\r\ndef\x1B[1;2H\x1B[J", "a____|_____|_____|", (0, 1)),
     (b"abc\r\ndef\x1B[2;2H\x1B[1J", "_____|__f__|_____|", (1, 1)),
@@ -116,82 +112,75 @@ static EDITS: [Shows; 22] = [
     ),
 ];
 
-/// Tab stops (ECMA-48, 8.3.60, 8.3.62 and 8.3.154), on 2 lines of 20 columns.
-static TABS: [Shows; 4] = [
-    (b"\ta", "________a___________|____________________|", (0, 9)),
-    (
-        b"\x1B[1;4H\x1BH\r\ta",
-        "___a________________|____________________|",
-        (0, 4),
-    ),
-    (
-        b"\x1B[1;9H\x1B[g\r\ta",
-        "________________a___|____________________|",
-        (0, 17),
-    ),
-    (
-        b"\x1B[3g\ta",
-        "___________________a|____________________|",
-        (0, 19),
-    ),
-];
-
 /// Modes, places under them, and resets (ECMA-48, 7.2 and 8.3; VT220 Programmer Reference Manual,
 /// chapter 4).
-static MODES: [Sets; 19] = [
+static MODES: [Sets; 29] = [
     (
         b"\xE6\xBC\xA2x\r\x1B[4ha",
         "a漢x_|_____|_____|",
         (0, 1),
         b"iwc",
+        b"",
     ),
-    (b"ab\r\x1B[4hc", "cab__|_____|_____|", (0, 1), b"iwc"),
-    (b"ab\r\x1B[4h\x1B[4lc", "cb___|_____|_____|", (0, 1), b"wc"),
-    (b"\x1B[20ha\nb", "a____|b____|_____|", (1, 1), b"lwc"),
-    (b"\x1B[20h\x1B[20l", BLANK, (0, 0), b"wc"),
-    (b"\x1B[?1h", BLANK, (0, 0), b"awc"),
-    (b"\x1B[?1;5h\x1B[?1l", BLANK, (0, 0), b"vwc"),
-    (b"\x1B[2;3r\x1B[?6h", BLANK, (1, 0), b"owc"),
+    (b"ab\r\x1B[4hc", "cab__|_____|_____|", (0, 1), b"iwc", b""),
+    (
+        b"ab\r\x1B[4h\x1B[4lc",
+        "cb___|_____|_____|",
+        (0, 1),
+        b"wc",
+        b"",
+    ),
+    (b"\x1B[20ha\nb", "a____|b____|_____|", (1, 1), b"lwc", b""),
+    (b"\x1B[20h\x1B[20l", BLANK, (0, 0), b"wc", b""),
+    (b"\x1B[?1h", BLANK, (0, 0), b"awc", b""),
+    (b"\x1B[?1;5h\x1B[?1l", BLANK, (0, 0), b"vwc", b""),
+    (b"\x1B[2;3r\x1B[?6h", BLANK, (1, 0), b"owc", b""),
     (
         b"\x1B[2;3r\x1B[?6h\x1B[1;2Ha",
         "_____|_a___|_____|",
         (1, 2),
         b"owc",
+        b"",
     ),
     (
         b"\x1B[1;2r\x1B[?6h\x1B[9;1Ha",
         "_____|a____|_____|",
         (1, 1),
         b"owc",
+        b"",
     ),
-    (b"\x1B[2;3r\x1B[?6h\x1B[?6l", BLANK, (0, 0), b"wc"),
-    (b"\x1B[?7labcdef", "abcdf|_____|_____|", (0, 4), b"c"),
-    (b"\x1B[?25l", BLANK, (0, 0), b"w"),
-    (b"ab\x1B[?3h", BLANK, (0, 0), b"wc"),
-    (b"ab\x1B[?3l", BLANK, (0, 0), b"wc"),
-    (b"\x1B=", BLANK, (0, 0), b"wck"),
-    (b"\x1B=\x1B>", BLANK, (0, 0), b"wc"),
-    (b"\x1B[4hab\x1Bc", BLANK, (0, 0), b"wc"),
+    (b"\x1B[2;3r\x1B[?6h\x1B[?6l", BLANK, (0, 0), b"wc", b""),
+    (b"\x1B[?7labcdef", "abcdf|_____|_____|", (0, 4), b"c", b""),
+    (b"\x1B[?25l", BLANK, (0, 0), b"w", b""),
+    (b"ab\x1B[?3h", BLANK, (0, 0), b"wc", b""),
+    (b"ab\x1B[?3l", BLANK, (0, 0), b"wc", b""),
+    (b"\x1B=", BLANK, (0, 0), b"wck", b""),
+    (b"\x1B=\x1B>", BLANK, (0, 0), b"wc", b""),
+    (b"\x1B[4hab\x1Bc", BLANK, (0, 0), b"wc", b""),
     (
         b"\x1B[4;20h\x1B[?1;5h\x1B=ab\x1B[!p",
         "ab___|_____|_____|",
         (0, 2),
         b"lvwc",
+        b"",
     ),
-];
-
-/// Reports (ECMA-48, 8.3; VT220 Programmer Reference Manual, chapter 4).
-static REPORTS: [Answers; 10] = [
-    (b"\x1B[5n", BLANK, (0, 0), b"\x1B[0n"),
-    (b"ab\x1B[6n", "ab___|_____|_____|", (0, 2), b"\x1B[1;3R"),
-    (b"\x1B[?15n", BLANK, (0, 0), b"\x1B[?13n"),
-    (b"\x1B[c", BLANK, (0, 0), b"\x1B[?62;6c"),
-    (b"\x1B[0c\x1B[1c", BLANK, (0, 0), b"\x1B[?62;6c"),
-    (b"\x1B[>c", BLANK, (0, 0), b"\x1B[>1;10;0c"),
-    (b"\x1B[>0c", BLANK, (0, 0), b"\x1B[>1;10;0c"),
-    (b"\x1B G\x1B[5n", BLANK, (0, 0), b"\xC2\x9B0n"),
-    (b"\x1B G\x1B F\x1B[5n", BLANK, (0, 0), b"\x1B[0n"),
-    (b"\x1B%@\x1B G\x1B[5n", BLANK, (0, 0), b"\x9B0n"),
+    // Reports (ECMA-48, 8.3; VT220 Programmer Reference Manual, chapter 4).
+    (b"\x1B[5n", BLANK, (0, 0), NEW, b"\x1B[0n"),
+    (
+        b"ab\x1B[6n",
+        "ab___|_____|_____|",
+        (0, 2),
+        NEW,
+        b"\x1B[1;3R",
+    ),
+    (b"\x1B[?15n", BLANK, (0, 0), NEW, b"\x1B[?13n"),
+    (b"\x1B[c", BLANK, (0, 0), NEW, b"\x1B[?62;6c"),
+    (b"\x1B[0c\x1B[1c", BLANK, (0, 0), NEW, b"\x1B[?62;6c"),
+    (b"\x1B[>c", BLANK, (0, 0), NEW, b"\x1B[>1;10;0c"),
+    (b"\x1B[>0c", BLANK, (0, 0), NEW, b"\x1B[>1;10;0c"),
+    (b"\x1B G\x1B[5n", BLANK, (0, 0), NEW, b"\xC2\x9B0n"),
+    (b"\x1B G\x1B F\x1B[5n", BLANK, (0, 0), NEW, b"\x1B[0n"),
+    (b"\x1B%@\x1B G\x1B[5n", BLANK, (0, 0), NEW, b"\x9B0n"),
 ];
 
 /// Reports of a page of 24 lines by 80 columns: the place is counted from the margins, the last
@@ -202,26 +191,18 @@ static LARGE: [(&[u8], &[u8]); 3] = [
     (b"\x1B G\x1B[c", b"\xC2\x9B?62;6c"),
 ];
 
-/// A row of a small page, with the modes of a new screen and without an answer.
-fn row(bytes: &'static [u8], page: &'static str, cursor: (usize, usize)) -> Row {
-    Row {
-        size: SMALL,
-        bytes,
-        back: 0,
-        page,
-        cursor,
-        modes: NEW,
-        answer: b"",
-    }
-}
-
-fn first_wrong(alloc: Global, size: Size, rows: &[Shows]) -> Option<usize> {
-    for (number, (bytes, page, cursor)) in rows.iter().enumerate() {
+fn first_wrong(alloc: Global) -> Option<usize> {
+    for (number, (bytes, page, cursor)) in ROWS.iter().enumerate() {
         let row = Row {
-            size,
-            ..row(bytes, page, *cursor)
+            size: SMALL,
+            bytes,
+            back: 0,
+            page,
+            cursor: *cursor,
+            modes: NEW,
+            answer: b"",
         };
-        if !is_so_at_each_cut(alloc, &row) {
+        if !is_so(alloc, &row) {
             return Some(number);
         }
     }
@@ -229,49 +210,36 @@ fn first_wrong(alloc: Global, size: Size, rows: &[Shows]) -> Option<usize> {
 }
 
 fn first_wrong_mode(alloc: Global) -> Option<usize> {
-    for (number, (bytes, page, cursor, modes)) in MODES.iter().enumerate() {
+    for (number, (bytes, page, cursor, modes, answer)) in MODES.iter().enumerate() {
         let row = Row {
+            size: SMALL,
+            bytes,
+            back: 0,
+            page,
+            cursor: *cursor,
             modes,
-            ..row(bytes, page, *cursor)
-        };
-        if !is_so_at_each_cut(alloc, &row) {
-            return Some(number);
-        }
-    }
-    None
-}
-
-fn first_wrong_report(alloc: Global) -> Option<usize> {
-    for (number, (bytes, page, cursor, answer)) in REPORTS.iter().enumerate() {
-        let row = Row {
             answer,
-            ..row(bytes, page, *cursor)
         };
-        if !is_so_at_each_cut(alloc, &row) {
+        if !is_so(alloc, &row) {
             return Some(number);
         }
     }
     None
 }
 
-fn is_answered(alloc: Global, bytes: &[u8], answer: &[u8]) -> bool {
-    let mut answers = Vec::new(alloc);
-    read(alloc, (24, 80, 0), &[bytes], &mut answers).is_some() && answers.as_slice() == answer
+fn are_answered(alloc: Global) -> bool {
+    for (bytes, answer) in &LARGE {
+        let mut out = Vec::new(alloc);
+        if read(alloc, (24, 80, 0), bytes, &mut out).is_none() || out.as_slice() != *answer {
+            return false;
+        }
+    }
+    true
 }
 
 #[test]
 fn rows_of_the_screen_table(rt: HostRuntime) {
-    assert_eq!(rt; first_wrong(rt.alloc(), SMALL, &SETS), None);
-    assert_eq!(rt; first_wrong(rt.alloc(), SMALL, &PLACES), None);
-    assert_eq!(rt; first_wrong(rt.alloc(), SMALL, &EDITS), None);
-    assert_eq!(rt; first_wrong(rt.alloc(), (2, 20, 0), &TABS), None);
-}
-
-#[test]
-fn modes_and_reports(rt: HostRuntime) {
+    assert_eq!(rt; first_wrong(rt.alloc()), None);
     assert_eq!(rt; first_wrong_mode(rt.alloc()), None);
-    assert_eq!(rt; first_wrong_report(rt.alloc()), None);
-    for (bytes, answer) in LARGE {
-        assert!(rt; is_answered(rt.alloc(), bytes, answer));
-    }
+    assert!(rt; are_answered(rt.alloc()));
 }

@@ -21,14 +21,19 @@ pub fn arguments(alloc: Global, words: &[&str]) -> Result<Vec<String>, AllocErro
     Ok(owned)
 }
 
-/// Plays a script with these words behind the program's name.
-pub fn play(alloc: Global, words: &[&str], script: &[u8]) -> Result<Played, AllocError> {
-    let owned = arguments(alloc, words)?;
+/// Plays a script behind a setup, with these words behind the program's name.
+pub fn play(
+    alloc: Global,
+    words: &[&str],
+    setup: &[u8],
+    script: &[u8],
+) -> Result<Played, AllocError> {
+    let words = arguments(alloc, words)?;
     let mut output = Vec::new(alloc);
     let mut errors = Vec::new(alloc);
     let asked = Asked {
-        words: &owned,
-        setup: b"",
+        words: &words,
+        setup,
     };
     let status = simulate(alloc, asked, script, &mut output, &mut errors);
     Ok(Played {

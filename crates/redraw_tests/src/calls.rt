@@ -1,0 +1,130 @@
+//! The calls that make frames give the same bytes, and a refused one changes nothing. Run as it stands,
+//! the test here meets no refusal; `rt try --test --fail-alloc N` refuses the Nth allocation. At most
+//! one is refused in a run, so a second try never is.
+
+ghost use Rattle.std.specs.Prelude.{◌≡◌};
+
+use crate::drawing::{Page, put, view_of};
+use cells::{Cell, Rendition};
+use redraw::{Shadow, frame_keeping, frame_sparing};
+use std::alloc::{AllocError, Global};
+
+/// A call that makes a frame.
+#[derive(Clone, Copy)]
+enum Call {
+    Appending,
+    Keeping,
+    /// The page is composed over another one.
+    Sparing,
+}
+
+const LETTER: Cell = Cell {
+    character: 'h',
+    ..Cell::BLANK
+};
+
+const BOLD_LETTER: Cell = Cell {
+    character: 'i',
+    rendition: Rendition {
+        is_bold: true,
+        ..Rendition::PLAIN
+    },
+    ..Cell::BLANK
+};
+
+static FIRST: Page<'static> = Page {
+    lines: &[&[Cell::BLANK, LETTER]],
+    cursor: (0, 1),
+};
+
+static SECOND: Page<'static> = Page {
+    lines: &[&[Cell::BLANK, LETTER, BOLD_LETTER], &[BOLD_LETTER]],
+    cursor: (0, 1),
+};
+
+fn keep(alloc: Global, shadow: &mut Shadow, page: Page<'_>) -> Result<Option<Vec<u8>>, AllocError>
+    requires rows { shadow.old.rows ≡ 24 }
+    requires columns { shadow.old.columns ≡ 80 }
+    ensures rows { shadow.new.rows ≡ 24 }
+    ensures columns { shadow.new.columns ≡ 80 }
+{
+    let view = view_of(alloc, None, page)?;
+    frame_keeping(alloc, shadow, view)
+}
+
+fn spare(alloc: Global, shadow: &mut Shadow, page: Page<'_>) -> Result<Option<Vec<u8>>, AllocError>
+    requires rows { shadow.old.rows ≡ 24 }
+    requires columns { shadow.old.columns ≡ 80 }
+    ensures rows { shadow.new.rows ≡ 24 }
+    ensures columns { shadow.new.columns ≡ 80 }
+{
+    let mut other = Some(view_of(alloc, None, SECOND)?);
+    let view = view_of(alloc, other.take(), page)?;
+    frame_sparing(alloc, shadow, view, &mut other)
+}
+
+/// Appends a frame.
+fn draw(
+    alloc: Global,
+    call: Call,
+    shadow: &mut Shadow,
+    page: Page<'_>,
+    out: &mut Vec<u8>,
+) -> Result<(), AllocError>
+    requires rows { shadow.old.rows ≡ 24 }
+    requires columns { shadow.old.columns ≡ 80 }
+    ensures rows { shadow.new.rows ≡ 24 }
+    ensures columns { shadow.new.columns ≡ 80 }
+{
+    let drawn = match call {
+        Call::Appending => return put(alloc, shadow, page, out),
+        Call::Keeping => keep(alloc, shadow, page)?,
+        Call::Sparing => spare(alloc, shadow, page)?,
+    };
+    match drawn {
+        Some(bytes) => out.extend_from_slice(&bytes),
+        None => Ok(()),
+    }
+}
+
+/// Appends a frame, asked for once more where memory is refused.
+fn is_drawn(
+    alloc: Global,
+    call: Call,
+    shadow: &mut Shadow,
+    page: Page<'_>,
+    out: &mut Vec<u8>,
+) -> bool
+    requires rows { shadow.old.rows ≡ 24 }
+    requires columns { shadow.old.columns ≡ 80 }
+    ensures rows { shadow.new.rows ≡ 24 }
+    ensures columns { shadow.new.columns ≡ 80 }
+{
+    draw(alloc, call, shadow, page, out).is_ok() || draw(alloc, call, shadow, page, out).is_ok()
+}
+
+/// The bytes of a frame from unknown, and of one behind it, in a list that has room for them.
+fn has_drawn(alloc: Global, call: Call, out: &mut Vec<u8>) -> bool {
+    let mut shadow = Shadow::unknown(24, 80);
+    (out.reserve(1000).is_ok() || out.reserve(1000).is_ok())
+        && is_drawn(alloc, call, &mut shadow, FIRST, out)
+        && out.starts_with(b"\x18\x1bc\x1b%G\x1b[?7l")
+        && is_drawn(alloc, call, &mut shadow, SECOND, out)
+}
+
+fn are_drawn_so(alloc: Global, call: Call, wanted: &[u8]) -> bool {
+    let mut out = Vec::new(alloc);
+    has_drawn(alloc, call, &mut out) && out.as_slice() == wanted
+}
+
+fn are_alike(alloc: Global) -> bool {
+    let mut appended = Vec::new(alloc);
+    has_drawn(alloc, Call::Appending, &mut appended)
+        && are_drawn_so(alloc, Call::Keeping, &appended)
+        && are_drawn_so(alloc, Call::Sparing, &appended)
+}
+
+#[test]
+fn calls_give_the_same_bytes(rt: HostRuntime) {
+    assert!(rt; are_alike(rt.alloc()));
+}

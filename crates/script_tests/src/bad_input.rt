@@ -1,0 +1,262 @@
+//! Scripts, setups and words that aren't understood, and readers and writers that fail.
+
+use crate::judging::is_wanted;
+use crate::playing::{arguments, play};
+use session::{Asked, simulate};
+use std::alloc::{AllocError, Global};
+use std::io::{Read, Write};
+use std::{io, str};
+
+/// What is asked for, and the status, what is printed and what is told: `..` stands for anything.
+#[derive(Clone, Copy)]
+struct Run<'a> {
+    words: &'a [&'a str],
+    setup: &'a [u8],
+    script: &'a [u8],
+    status: u8,
+    output: &'a str,
+    errors: &'a str,
+}
+
+fn text_of(bytes: &[u8]) -> &str {
+    str::from_utf8(bytes).unwrap_or("not UTF-8")
+}
+
+fn is_so(alloc: Global, run: &Run<'_>) -> bool {
+    match play(alloc, run.words, run.setup, run.script) {
+        Ok(played) => {
+            played.status == run.status
+                && is_wanted(run.output, text_of(&played.output))
+                && is_wanted(run.errors, text_of(&played.errors))
+        }
+        Err(_) => false,
+    }
+}
+
+/// Words that aren't understood.
+static NO_WORDS: [&[&str]; 8] = [
+    &[],
+    &["Own"],
+    &["none"],
+    &["own", "own"],
+    &["--shew", "own"],
+    &["--show"],
+    &["--edition", "0", "own"],
+    &["--edition", "one", "own"],
+];
+
+const UNREAD: Run<'static> = Run {
+    words: &["--edition", "3", "own"],
+    setup: b"",
+    script: b"",
+    status: 2,
+    output: "",
+    errors: "error: invalid value '3' for '--edition <N>'..",
+};
+
+const HELP: Run<'static> = Run {
+    words: &["--help"],
+    status: 0,
+    output: "..",
+    errors: "",
+    ..UNREAD
+};
+
+fn are_words_understood(alloc: Global) -> bool {
+    for words in &NO_WORDS {
+        let run = Run {
+            words,
+            errors: "..",
+            ..UNREAD
+        };
+        if !is_so(alloc, &run) {
+            return false;
+        }
+    }
+    is_so(alloc, &UNREAD) && is_so(alloc, &HELP)
+}
+
+#[test]
+fn words_are_the_owner_the_edition_and_show(rt: HostRuntime) {
+    assert!(rt; are_words_understood(rt.alloc()));
+}
+
+/// Lines that aren't understood, parted by bars.
+const NO_EVENTS: &str =
+    r"zap|open|open own 2 5 0|open own  2 5 0 sh|open Own 2 5 0 sh|open none 2 5 0 sh|
+open own 12345 5 0 sh|open own 2 x 0 sh|open own 2 +5 0 sh|open own 2 5 0 \ff|attach own 4|
+attach own 4 20 |attach own 4 20 9|draw|draw x|keys 0|output 0 \1|output 0 \zz|detach|
+detach 0 0|command own|command own 12345 windows|resize 0 4|closed -";
+
+const REFUSED: Run<'static> = Run {
+    words: &["--show", "own"],
+    setup: b"",
+    script: b"",
+    status: 1,
+    output: "opened 0 0\n",
+    errors: "muxsim: line 3: not understood\n",
+};
+
+/// Whether the lines before this one are played, and no line behind it.
+fn is_refused(alloc: Global, line: &str) -> bool {
+    let Ok(script) = format!(in alloc; "open own 2 5 0 sh\n\n{line}\nattach own 4 20\n") else {
+        return false;
+    };
+    let run = Run {
+        script: script.as_bytes(),
+        ..REFUSED
+    };
+    is_so(alloc, &run)
+}
+
+fn first_understood(alloc: Global) -> Option<&'static str> {
+    for line in NO_EVENTS.split('|') {
+        if !is_refused(alloc, line.trim_start_matches('\n')) {
+            return Some(line);
+        }
+    }
+    None
+}
+
+#[test]
+fn lines_before_the_first_bad_one_are_played(rt: HostRuntime) {
+    assert_eq!(rt; first_understood(rt.alloc()), None);
+}
+
+/// Appends a script with a text of so many bytes.
+fn put_text(count: usize, script: &mut Vec<u8>) -> Result<(), AllocError> {
+    script.extend_from_slice(b"open own 2 5 0 sh\n\noutput 0 ")?;
+    let len = script.len().saturating_add(count);
+    script.resize(len, b'x')
+}
+
+/// Whether a script with such a text ends so.
+fn ends(alloc: Global, count: usize, run: Run<'_>) -> bool {
+    let mut script = Vec::new(alloc);
+    if put_text(count, &mut script).is_err() {
+        return false;
+    }
+    let run = Run {
+        script: &script,
+        ..run
+    };
+    is_so(alloc, &run)
+}
+
+const READ: Run<'static> = Run {
+    status: 0,
+    output: "opened 0 0\nok\n",
+    errors: "",
+    words: &["own"],
+    ..REFUSED
+};
+
+#[test]
+fn texts_have_8192_bytes_at_most(rt: HostRuntime) {
+    assert!(rt; ends(rt.alloc(), 8192, READ) && ends(rt.alloc(), 8193, REFUSED));
+}
+
+const SCRIPT: &[u8] = b"open own 2 5 0 sh\n";
+
+// A setup, and what is told of it: the first line that is refused, and why.
+static SETUPS: [(&[u8], &str); 4] = [
+    (
+        b"multiuser on\n\naclchg bob +q shop\nquit now\n",
+        "muxsim: setup there: line 3: aclchg bob +q shop: line: 5 at 11 (no bits: +q)\n",
+    ),
+    (
+        b"# shop comes later\nmultiuser on\naclchg bob +r shop",
+        "muxsim: setup there: line 3: aclchg bob +r shop: windows: 2 (no such window)\n",
+    ),
+    (
+        b"acladd bob\n",
+        "muxsim: setup there: line 1: acladd bob: not in multiuser mode\n",
+    ),
+    (
+        b"quit now\nwall \xFF\n",
+        "muxsim: setup there: line 2: not UTF-8\n",
+    ),
+];
+
+fn are_setups_refused(alloc: Global) -> bool {
+    for (setup, errors) in &SETUPS {
+        let run = Run {
+            words: &["--setup", "there", "own"],
+            setup,
+            script: SCRIPT,
+            output: "",
+            errors,
+            ..REFUSED
+        };
+        if !is_so(alloc, &run) {
+            return false;
+        }
+    }
+    true
+}
+
+#[test]
+fn refused_setups_are_told(rt: HostRuntime) {
+    assert!(rt; are_setups_refused(rt.alloc()));
+}
+
+/// A reader that fails once its bytes are read.
+#[derive(Drop)]
+struct Torn<'a> {
+    bytes: &'a [u8],
+}
+
+impl Read for Torn<'_> {
+    fn read(&mut self, buf: &mut [u8]) -> io::Result<usize> {
+        if self.bytes.is_empty() {
+            return Err(io::Error::from(io::ErrorKind::BrokenPipe));
+        }
+        self.bytes.read(buf)
+    }
+}
+
+/// A writer that takes nothing.
+#[derive(Drop)]
+struct Full;
+
+impl Write for Full {
+    fn write(&mut self, _bytes: &[u8]) -> io::Result<usize> {
+        Err(io::Error::from(io::ErrorKind::StorageFull))
+    }
+
+    fn flush(&mut self) -> io::Result<()> {
+        Ok(())
+    }
+}
+
+/// Whether a reader that fails behind its lines is told of, and the lines are played.
+fn is_torn(alloc: Global, asked: Asked) -> bool {
+    let mut output = Vec::new(alloc);
+    let mut errors = Vec::new(alloc);
+    let torn = Torn { bytes: SCRIPT };
+    simulate(alloc, asked, torn, &mut output, &mut errors) == 1
+        && output.as_slice() == b"opened 0 0\n".as_slice()
+        && errors.starts_with(b"muxsim: ")
+}
+
+/// Whether a writer that fails is told of.
+fn is_full(alloc: Global, asked: Asked) -> bool {
+    let mut errors = Vec::new(alloc);
+    simulate(alloc, asked, SCRIPT, &mut Full, &mut errors) == 1 && errors.starts_with(b"muxsim: ")
+}
+
+fn are_failures_told(alloc: Global) -> bool {
+    let Ok(words) = arguments(alloc, &["own"]) else {
+        return false;
+    };
+    let asked = Asked {
+        words: &words,
+        setup: b"",
+    };
+    is_torn(alloc, asked) && is_full(alloc, asked)
+}
+
+#[test]
+fn failing_reads_and_writes_are_told(rt: HostRuntime) {
+    assert!(rt; are_failures_told(rt.alloc()));
+}

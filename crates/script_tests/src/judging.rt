@@ -1,0 +1,133 @@
+//! Judges what a script prints.
+//!
+//! A text has a script's events, each with the lines that it must print behind `=>`, parted by `/`;
+//! an event without them prints `ok`. Behind the events stand the views that are printed in the end.
+
+use crate::playing::play;
+use crate::terminals::are_shown;
+use std::alloc::Global;
+use std::str::{self, Lines};
+
+/// The first bytes of a frame for a terminal in an unknown state, as they are printed.
+const RESET: &str = r"\18\1bc\1b%G\1b[?7l";
+
+/// Whether a line is one of a view.
+fn is_of_view(line: &str) -> bool {
+    line.starts_with('|') || line.starts_with("client ") || line.starts_with("cursor ")
+}
+
+/// Appends the events of a text.
+fn put_events(text: &str, script: &mut String) -> bool {
+    for line in text.lines() {
+        let event = match line.split_once(" => ") {
+            Some((event, _)) => event,
+            None => line,
+        };
+        if !is_of_view(line) && (script.push_str(event).is_err() || script.push('\n').is_err()) {
+            return false;
+        }
+    }
+    true
+}
+
+/// Whether a line is the one that is wanted. `deliver C ..` stands for any draw, and `deliver C
+/// reset ..` for one that begins with the reset.
+pub fn is_wanted(want: &str, line: &str) -> bool {
+    let Some(begin) = want.strip_suffix("..") else {
+        return line == want;
+    };
+    match begin.strip_suffix("reset ") {
+        Some(begin) => match line.strip_prefix(begin) {
+            Some(bytes) => bytes.starts_with(RESET),
+            None => false,
+        },
+        None => line.starts_with(begin) && line.len() > begin.len(),
+    }
+}
+
+/// Whether what is printed goes on with what a line of a text wants.
+fn goes_on(printed: &mut Lines<'_>, line: &str) -> bool {
+    let wanted = match line.split_once(" => ") {
+        Some((_, wanted)) => wanted,
+        None if is_of_view(line) => line,
+        None => "ok",
+    };
+    for want in wanted.split(" / ") {
+        match printed.next() {
+            Some(found) if is_wanted(want, found) => {}
+            _ => return false,
+        }
+    }
+    true
+}
+
+/// Whether just that is printed which a text wants.
+pub fn are_lines(text: &str, printed: &str) -> bool {
+    let mut printed = printed.lines();
+    for line in text.lines() {
+        if !goes_on(&mut printed, line) {
+            return false;
+        }
+    }
+    printed.next().is_none()
+}
+
+/// Whether a script ends well and prints what its text wants, and terminals that read what was
+/// delivered to a client show what is printed of it.
+pub fn is_so(alloc: Global, words: &[&str], text: &str) -> bool {
+    let mut script = String::new(alloc);
+    if !put_events(text, &mut script) {
+        return false;
+    }
+    let Ok(played) = play(alloc, words, b"", script.as_bytes()) else {
+        return false;
+    };
+    match str::from_utf8(&played.output) {
+        Ok(printed) => {
+            played.status == 0
+                && played.errors.is_empty()
+                && are_lines(text, printed)
+                && are_shown(alloc, printed)
+        }
+        Err(_) => false,
+    }
+}
+
+/// Texts, what is printed, and whether that is what they want.
+static JUDGED: [(&str, &str, bool); 9] = [
+    ("e => a / b\n", "a\nb\n", true),
+    ("e => a / c\n", "a\nb\n", false),
+    ("e => a\n", "a\nb\n", false),
+    ("e => a / b\n", "a\n", false),
+    ("e => d 0 ..\n", "d 0 x\n", true),
+    ("e => d 0 ..\n", "d 0 \n", false),
+    ("e => d 0 ..\n", "d 1 x\n", false),
+    ("e => d 0 reset ..\n", "d 0 \\18\\1bc\\1b%G\\1b[?7l\n", true),
+    ("e => d 0 reset ..\n", "d 0 x\n", false),
+];
+
+/// A client that isn't drawn behind the last output: its terminal shows no `hi`.
+const STALE: &str = r"open own 2 5 0 sh => opened 0 0
+attach own 4 20 => attached 0
+draw 0 => deliver 0 reset .. / ok
+output 0 hi
+client 0
+|hi                  |
+|                    |
+|0 sh                |
+|                    | / cursor 1 3
+";
+
+fn are_judged(alloc: Global) -> bool {
+    for (text, printed, is_so) in &JUDGED {
+        if are_lines(text, printed) != *is_so {
+            return false;
+        }
+    }
+    !is_so(alloc, &["--show", "own"], STALE) && !is_so(alloc, &["own"], "zap => ok\n")
+}
+
+#[test]
+fn what_differs_is_found(rt: HostRuntime) {
+    assert!(rt; are_judged(rt.alloc()));
+}

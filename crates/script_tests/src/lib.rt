@@ -1,0 +1,24 @@
+//! Tests that cross crates, by scripts: one owner, several users, what each client sees, how pages
+//! are split, draws, and what isn't understood.
+#![tactic(auto)]
+
+#[cfg(test)]
+mod bad_input;
+#[cfg(test)]
+mod draws;
+#[cfg(test)]
+mod judging;
+#[cfg(test)]
+mod one_owner;
+#[cfg(test)]
+mod playing;
+#[cfg(test)]
+mod rows;
+#[cfg(test)]
+mod several_users;
+#[cfg(test)]
+mod splits;
+#[cfg(test)]
+mod terminals;
+#[cfg(test)]
+mod views;
