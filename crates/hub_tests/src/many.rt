@@ -19,6 +19,15 @@ const TURNS: u32 = 50;
 /// How many steps a turn has.
 const STEPS: u32 = 23;
 
+/// A line of a user.
+fn told(user: UserId, line: &'static [u8]) -> Event<'static> {
+    Event::Command {
+        user,
+        window: None,
+        line,
+    }
+}
+
 /// A step of a turn. Its window has the turn's serial, and its clients have twice that and one
 /// more.
 fn event_at(turn: u32, step: u32, owner: UserId, bob: UserId) -> Event<'static>
@@ -27,14 +36,9 @@ fn event_at(turn: u32, step: u32, owner: UserId, bob: UserId) -> Event<'static>
     let window = turn;
     let client = turn * 2;
     let other = client + 1;
-    let told = |line| Event::Command {
-        user: owner,
-        window: None,
-        line,
-    };
     match step {
-        0 => told(b"multiuser on"),
-        1 => told(b"acladd bob"),
+        0 => told(owner, b"multiuser on"),
+        1 => told(owner, b"acladd bob"),
         2 => Event::Open {
             user: owner,
             rows: 24,
@@ -71,13 +75,13 @@ fn event_at(turn: u32, step: u32, owner: UserId, bob: UserId) -> Event<'static>
             client: other,
             bytes: b"x\x01:version\r",
         },
-        11 => told(b"wall hi"),
-        12 => told(b"aclchg bob -w 0"),
+        11 => told(owner, b"wall hi"),
+        12 => told(owner, b"aclchg bob -w 0"),
         13 => Event::Keys {
             client: other,
             bytes: b"y",
         },
-        16 => told(b"aclchg bob +w 0"),
+        16 => told(owner, b"aclchg bob +w 0"),
         17 => Event::Output {
             window: 0,
             bytes: b"there",

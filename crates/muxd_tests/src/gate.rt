@@ -14,7 +14,21 @@ pub struct Calls {
     /// How many were begun.
     pub begun: AtomicU64,
     /// The loops of the first six that were answered: a digit for each, behind a 1.
-    pub answered: AtomicU64,
+    answered: AtomicU64,
+}
+
+impl Calls {
+    pub fn new() -> Calls {
+        Calls {
+            begun: AtomicU64::new(0),
+            answered: AtomicU64::new(1),
+        }
+    }
+
+    /// The loops that answered.
+    pub fn loops(&self) -> u64 {
+        self.answered.load(Ordering::SeqCst)
+    }
 }
 
 /// Waits until a number isn't this one any more. Whether that came.
@@ -48,7 +62,7 @@ impl Gate for Latch<'_> {
     }
 
     fn after(&mut self) {
-        let answered = self.calls.answered.load(Ordering::SeqCst);
+        let answered = self.calls.loops();
         if answered < 1_000_000 {
             let more = answered.wrapping_mul(10).wrapping_add(self.digit);
             self.calls.answered.store(more, Ordering::SeqCst);

@@ -5,13 +5,12 @@ use crate::gate::{Calls, Latch};
 use crate::peer::{SOCKET, has};
 use crate::turns::first_wrong;
 use server::{Host, serve_through};
+use std::alloc::{AllocError, Global};
 use std::fs::{File, Files, OpenOptions};
 use std::io::Write;
 use std::net::Net;
 use std::os::unix::fs::OpenOptionsExt;
 use std::sync::Wait;
-use std::sync::atomic::{AtomicU64, Ordering};
-use std::test::Fail;
 use std::thread::Threads;
 use std::time::Clock;
 use std::{fs, io, thread};
@@ -37,13 +36,13 @@ fn write_users(rt: &impl Files) -> io::Result<()> {
     file.write_all(USERS)
 }
 
-// The trail's file. It goes, and so does what else the server leaves.
-fn taken<R: Files + AllocGlobal>(rt: &R) -> io::Result<Vec<u8>> {
-    let trail = fs::read(rt, TRAIL)?;
-    for path in [TRAIL, FILE, LOCK] {
-        fs::remove_file(rt, path)?;
+// The words of the server.
+fn words(alloc: Global) -> Result<Vec<String>, AllocError> {
+    let mut words = Vec::new(alloc);
+    for word in WORDS {
+        words.push(String::from_str(alloc, word)?)?;
     }
-    Ok(trail)
+    Ok(words)
 }
 
 // Serves until somebody gives `quit`. Nothing that the server would print is looked at.
@@ -70,33 +69,33 @@ fn is_whole(trail: &[u8]) -> bool {
         && trail.ends_with(b" quit\n")
 }
 
+// Whether the trail's file is whole. It goes, and so does what else the server leaves.
+fn has_whole_trail<R: Files + AllocGlobal>(rt: &R) -> io::Result<bool> {
+    let trail = fs::read(rt, TRAIL)?;
+    for path in [TRAIL, FILE, LOCK] {
+        fs::remove_file(rt, path)?;
+    }
+    Ok(is_whole(&trail))
+}
+
 /// Refused here are, beside a server that doesn't do what its peers ask for: one that hands all
 /// connections to one loop, and loops that hold a lock over a whole turn. The call that is held
 /// then waits for one that can't come, and is answered before it.
 #[test]
-fn a_server_and_its_peers(rt: HostRuntime) -> Result<(), Fail> {
+fn a_server_and_its_peers(rt: HostRuntime) {
     let alloc = rt.alloc();
-    let calls = Calls {
-        begun: AtomicU64::new(0),
-        answered: AtomicU64::new(1),
+    let (Ok(words), Ok(())) = (words(alloc), write_users(&rt)) else {
+        panic!(rt; "the server can't begin")
     };
-    let mut words = Vec::new(alloc);
-    for word in WORDS {
-        words.push(String::from_str(alloc, word)?)?;
-    }
-    write_users(&rt)?;
-    let shared = &rt;
-    let (seen, given) = (&calls, words.as_slice());
+    let calls = Calls::new();
+    let (shared, given, seen) = (&rt, words.as_slice(), &calls);
     let (status, wrong) = thread::join(
         shared,
         || serve(shared, rt, given, seen),
         || first_wrong(shared, alloc, seen),
     );
-    let trail = taken(&rt)?;
     assert_eq!(rt; wrong, None);
     assert_eq!(rt; status, 0);
-    assert!(rt; is_whole(&trail));
-    let answered = calls.answered.load(Ordering::SeqCst);
-    assert_eq!(rt; answered, 1_012_012, "loops 0, 1, 2, and so on");
-    Ok(())
+    assert!(rt; has_whole_trail(&rt).unwrap_or(false));
+    assert_eq!(rt; calls.loops(), 1_012_012);
 }

@@ -144,7 +144,7 @@ pub fn first_wrong<R: Net + Clock>(rt: &R, alloc: Global, calls: &Calls) -> Opti
         return Some(turn);
     }
     match wrong_peer(&mut peers) {
-        Some(who) => Some(TURNS.len() + who),
+        Some(who) => Some(who.saturating_add(TURNS.len())),
         None => None,
     }
 }
