@@ -94,8 +94,9 @@ fn a_server_and_its_peers(rt: HostRuntime) {
         || serve(shared, rt, given, seen),
         || first_wrong(shared, alloc, seen),
     );
+    let has_whole_trail = has_whole_trail(&rt).unwrap_or(false);
     assert_eq!(rt; wrong, None);
     assert_eq!(rt; status, 0);
-    assert!(rt; has_whole_trail(&rt).unwrap_or(false));
+    assert!(rt; has_whole_trail);
     assert_eq!(rt; calls.loops(), 1_012_012);
 }
