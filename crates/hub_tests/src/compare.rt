@@ -1,24 +1,68 @@
 //! Whether what two sessions made is the same.
 
-use session_model::{Bytes, Effect, Reply};
+use session_model::{Bytes, Effect, Reason, Reply};
+
+/// What an effect is.
+#[derive(Clone, Copy)]
+pub(crate) struct Parts<'a> {
+    /// Its kind, a bit for each of the six.
+    pub kind: u8,
+    /// The serial of the peer that it is for.
+    pub peer: u32,
+    bytes: &'a [u8],
+    size: (u16, u16),
+    why: Option<Reason>,
+}
+
+const NONE: Parts<'static> = Parts {
+    kind: 0,
+    peer: 0,
+    bytes: &[],
+    size: (0, 0),
+    why: None,
+};
+
+fn with_bytes(kind: u8, peer: u32, bytes: &Bytes) -> Parts<'_> {
+    Parts {
+        kind,
+        peer,
+        bytes: bytes.as_slice(),
+        ..NONE
+    }
+}
+
+fn with_why(kind: u8, peer: u32, why: Reason) -> Parts<'static> {
+    Parts {
+        kind,
+        peer,
+        why: Some(why),
+        ..NONE
+    }
+}
+
+pub(crate) fn parts_of(effect: &Effect) -> Parts<'_> {
+    match effect {
+        Effect::Input(window, bytes) => with_bytes(1, *window, bytes),
+        Effect::Deliver(client, bytes) => with_bytes(2, *client, bytes),
+        Effect::Say(client, text) => with_bytes(4, *client, text),
+        Effect::Size(window, rows, columns) => Parts {
+            kind: 8,
+            peer: *window,
+            size: (*rows, *columns),
+            ..NONE
+        },
+        Effect::GoneWindow(window, why) => with_why(16, *window, *why),
+        Effect::GoneClient(client, why) => with_why(32, *client, *why),
+    }
+}
 
 /// Whether two effects are the same.
-pub(crate) fn are_same(effect: &Effect, other: &Effect) -> bool {
-    match (effect, other) {
-        (Effect::Input(to, bytes), Effect::Input(at, text))
-        | (Effect::Deliver(to, bytes), Effect::Deliver(at, text))
-        | (Effect::Say(to, bytes), Effect::Say(at, text)) => {
-            to == at && bytes.as_slice() == text.as_slice()
-        }
-        (Effect::Size(to, rows, columns), Effect::Size(at, other_rows, other_columns)) => {
-            to == at && rows == other_rows && columns == other_columns
-        }
-        (Effect::GoneWindow(to, why), Effect::GoneWindow(at, reason))
-        | (Effect::GoneClient(to, why), Effect::GoneClient(at, reason)) => {
-            to == at && why == reason
-        }
-        _ => false,
-    }
+pub(crate) fn are_same(effect: Parts<'_>, other: Parts<'_>) -> bool {
+    effect.kind == other.kind
+        && effect.peer == other.peer
+        && effect.bytes == other.bytes
+        && effect.size == other.size
+        && effect.why == other.why
 }
 
 // Whether both have no text, or the same.

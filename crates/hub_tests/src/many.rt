@@ -4,7 +4,7 @@
 
 ghost use Rattle.std.specs.Prelude.{◌≡◌, ◌≤◌};
 
-use crate::compare::{are_same, is_same_reply};
+use crate::compare::{are_same, is_same_reply, parts_of};
 use acl::{Edition, UserId};
 use hub::{Hub, Seat, Session};
 use session_model::{Effect, Event, Reply};
@@ -107,31 +107,18 @@ fn seat_of(turn: u32, step: u32) -> usize {
     if is_second { 1 } else { 0 }
 }
 
-/// The seat that an effect is for, by its peer's serial; and its kind, a bit for each.
-fn place_of(effect: &Effect) -> (u32, u8) {
-    match effect {
-        Effect::Input(window, _) => (*window % 2, 1),
-        Effect::Deliver(client, _) => (*client % 2, 2),
-        Effect::Say(client, _) => (*client % 2, 4),
-        Effect::Size(window, _, _) => (*window % 2, 8),
-        Effect::GoneWindow(window, _) => (*window % 2, 16),
-        Effect::GoneClient(client, _) => (*client % 2, 32),
-    }
-}
-
-/// The kinds of effects that a seat took, if they are those that the session made for it, in their
-/// order.
+/// The kinds of effects that a seat took, if they are those that the session made for its peers, in
+/// their order: the second seat's have odd serials.
 fn kinds_of(taken: &[Effect], made: &[Effect], seat: u32) -> Option<u8> {
     let mut kinds = 0u8;
     let mut next = 0;
     for effect in made {
-        let (whose, kind) = place_of(effect);
-        if whose == seat {
-            let other = taken.get(next)?;
-            if !are_same(effect, other) {
+        let effect = parts_of(effect);
+        if effect.peer % 2 == seat {
+            if !are_same(effect, parts_of(taken.get(next)?)) {
                 return None;
             }
-            kinds |= kind;
+            kinds |= effect.kind;
             next += 1;
         }
     }
