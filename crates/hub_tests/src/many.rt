@@ -109,12 +109,12 @@ fn seat_of(turn: u32, step: u32) -> usize {
 
 /// The kinds of effects that a seat took, if they are those that the session made for its peers, in
 /// their order: the second seat's have odd serials.
-fn kinds_of(taken: &[Effect], made: &[Effect], seat: u32) -> Option<u8> {
+fn kinds_of(taken: &[Effect], made: &[Effect], is_second: bool) -> Option<u8> {
     let mut kinds = 0u8;
     let mut next = 0;
     for effect in made {
         let effect = parts_of(effect);
-        if effect.peer % 2 == seat {
+        if (effect.peer % 2 == 1) == is_second {
             if !are_same(effect, parts_of(taken.get(next)?)) {
                 return None;
             }
@@ -140,12 +140,12 @@ fn taken<L: Roll, R: Wait>(
 ) -> Option<u8> {
     let mut kinds = 0u8;
     for seat in seats.iter_mut() {
-        let number = seat.number() as u32;
+        let is_second = seat.number() == 1;
         let (effects, is_marked) = hub.take(rt, seat);
         if is_marked != marks {
             return None;
         }
-        kinds |= kinds_of(effects.as_slice(), made, number)?;
+        kinds |= kinds_of(effects.as_slice(), made, is_second)?;
     }
     Some(kinds)
 }

@@ -59,10 +59,10 @@ fn stopped<R: Wait + Clock>(rt: &R, alloc: Global, disk: &mut Disk<'_, R>) -> Op
 fn is_stopped<R: Wait + Clock>(rt: &R, alloc: Global) -> Option<bool> {
     let mut disk = Disk::new(rt, alloc);
     let is_two = stopped(rt, alloc, &mut disk)?;
-    let mut lines = 0usize;
+    let mut lines = 0u32;
     for byte in &disk.text {
         if *byte == b'\n' {
-            lines += 1;
+            lines = lines.saturating_add(1);
         }
     }
     Some(is_two && lines == 3)

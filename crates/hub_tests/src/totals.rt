@@ -8,44 +8,45 @@ use session_model::Event;
 use std::alloc::Global;
 use std::marker::Brand;
 use std::sync::Wait;
-use std::sync::atomic::{AtomicUsize, Ordering};
 use std::sync::ledger::{Blank, Ledger as Roll};
-use std::thread::{Threads, for_each_mut};
+use std::thread::{Threads, join};
 
 /// How many commands each thread submits.
 const EACH: usize = 500;
 
-/// Submits so many commands, and takes what waits. How many were answered as they should.
-fn work<L: Roll, R: Wait>(rt: &R, hub: &Hub<L>, seat: &mut Seat<L>, user: UserId) -> usize {
-    let mut answered = 0;
-    for _ in 0..EACH {
+/// Submits so many commands, and takes what waits. Whether each was answered as it should.
+fn work<L: Roll, R: Wait>(rt: &R, hub: &Hub<L>, seat: &mut Seat<L>, user: UserId) -> bool {
+    for i in 0..EACH {
         let event = Event::Command {
             user,
             window: None,
             line: b"wall hi",
         };
-        let is_right = match hub.submit(rt, seat, event) {
-            Ok(answer) => answer.place().is_some() && answer.reply().is_ok(),
-            Err(_fault) => false,
+        let Ok(answer) = hub.submit(rt, seat, event) else {
+            return false;
         };
-        let (effects, _is_marked) = hub.take(rt, seat);
-        if is_right && effects.is_empty() {
-            answered += 1;
+        if answer.place().is_none() || answer.reply().is_err() {
+            return false;
+        }
+        if i % 16 == 0 {
+            let (effects, _marked) = hub.take(rt, seat);
+            if !effects.is_empty() {
+                return false;
+            }
         }
     }
-    answered
+    true
 }
 
-/// How many commands were answered by four threads, and how many entries the trail has, if each has
-/// its receipt.
+/// How many entries the trail has, if each has its receipt and all were answered.
 fn four<L: Roll + Send + Sync, R: Threads + Wait + Sync>(
     rt: &R,
     alloc: Global,
     blank: Blank,
-) -> Option<(usize, usize)>
+    owner: UserId,
+) -> Option<usize>
     requires { (blank.name ≡ L.name) × (blank.parts ≡ L.parts) × (blank.parts ≡ 4) }
 {
-    let owner = UserId::of(b"root")?;
     let Ok(session) = Session::new(alloc, owner) else {
         return None;
     };
@@ -53,25 +54,42 @@ fn four<L: Roll + Send + Sync, R: Threads + Wait + Sync>(
     else {
         return None;
     };
-    let answered = AtomicUsize::new(0);
-    let (shared, sum) = (&hub, &answered);
-    for_each_mut(
+    let (Some(mut a), Some(mut b)) = (seats.pop(), seats.pop()) else {
+        return None;
+    };
+    let (Some(mut c), Some(mut d)) = (seats.pop(), seats.pop()) else {
+        return None;
+    };
+    let shared = &hub;
+    let ((wa, wb), (wc, wd)) = join(
         rt,
-        &mut seats,
-        4,
-        &|_, seat| {
-            sum.fetch_add(work(rt, shared, seat, owner), Ordering::SeqCst);
-        },
+        || join(
+            rt,
+            || work(rt, shared, &mut a, owner),
+            || work(rt, shared, &mut b, owner),
+        ),
+        || join(
+            rt,
+            || work(rt, shared, &mut c, owner),
+            || work(rt, shared, &mut d, owner),
+        ),
     );
+    let is_answered = wa && wb && wc && wd;
+    for seat in [a, b, c, d] {
+        seats.push(seat).ok()?;
+    }
     let (trail, wrong) = hub.close(seats);
-    if wrong.is_some() {
+    if !is_answered || wrong.is_some() {
         return None;
     }
-    Some((answered.load(Ordering::SeqCst), trail.len()))
+    Some(trail.len())
 }
 
 #[test]
 fn each_entry_has_its_receipt(rt: HostRuntime) {
-    let counted = four::<Brand, _>(&rt, rt.alloc(), Blank::new(4));
-    assert!(rt; counted == Some((4 * EACH, 4 * EACH)));
+    let Some(owner) = UserId::of(b"root") else {
+        panic!(rt; "a name")
+    };
+    let entries = four::<Brand, _>(&rt, rt.alloc(), Blank::new(4), owner);
+    assert_eq!(rt; entries, Some(4 * EACH));
 }
