@@ -241,7 +241,7 @@ fn all_steps<L: Roll, R: Wait>(
     Some(counted)
 }
 
-/// Whether the seats take what the session made, over all steps, effects of all kinds, and the trail
+/// Whether the seats take what the session made over all steps, effects of all kinds, and the trail
 /// has the entries that were written.
 fn is_thousand_right<L: Roll, R: Wait>(rt: &R, alloc: Global, blank: Blank) -> Option<bool>
     requires { (blank.name ≡ L.name) × (blank.parts ≡ L.parts) × (blank.parts ≡ 2) }
