@@ -15,8 +15,8 @@ pub const ADD_BOB: &[u8] =
 pub const WALL: &[u8] =
     b"C\0K\xff0000000000000000000000000000000000000000000000000000000000000000\x03ownwall a";
 
-pub const HIDE: &[u8] =
-    b"C\0T\xff0000000000000000000000000000000000000000000000000000000000000000\x03ownaclchg bob -r 0";
+pub const HIDE: &[u8] = b"C\0T\xff0000000000000000000000000000000000000000000000000000000000000000\
+      \x03ownaclchg bob -r 0";
 
 /// Commands of the owner for window 0.
 pub const LOCK: &[u8] =

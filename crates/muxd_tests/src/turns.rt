@@ -136,7 +136,7 @@ fn quit<R: Net + Clock>(rt: &R, alloc: Global) -> io::Result<bool> {
 }
 
 /// Takes all turns, and ends the server whatever comes. The number of the first turn that goes
-/// wrong; else that of the first peer that wasn't sent what it has to be, behind those of the turns.
+/// wrong; else, behind those of the turns, of the first peer that wasn't sent what it has to be.
 pub fn first_wrong<R: Net + Clock>(rt: &R, alloc: Global, calls: &Calls) -> Option<usize> {
     let mut peers = Vec::new(alloc);
     if let Some(turn) = wrong_turn(rt, alloc, calls, &mut peers) {
