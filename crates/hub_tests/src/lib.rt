@@ -1,20 +1,19 @@
-//! Tests of the hub: threads that share one, what a seat takes, trails, and growths of hub and
-//! session that are refused.
+//! Tests of the hub and of a trail's file: threads that share a hub, what a seat is answered and
+//! takes; a file that is slow, one that refuses writes, how much may wait, and files that aren't
+//! the trail's.
 #![tactic(auto)]
 
 #[cfg(test)]
 mod compare;
 #[cfg(test)]
+mod disk;
+#[cfg(test)]
 mod entries;
 #[cfg(test)]
-mod events;
+mod files;
 #[cfg(test)]
 mod many;
 #[cfg(test)]
-mod refusals;
-#[cfg(test)]
-mod runs;
-#[cfg(test)]
-mod side;
+mod stops;
 #[cfg(test)]
 mod totals;

@@ -4,314 +4,262 @@
 
 ghost use Rattle.std.specs.Prelude.{◌≡◌, ◌≤◌};
 
-use crate::compare::{are_same, is_same_reply};
-use crate::side::read_by;
+use crate::compare::{are_same, is_same_reply, parts_of};
 use acl::{Edition, UserId};
-use hub::{Answer, Hub, Seat, Session};
+use hub::{Hub, Seat, Session};
 use session_model::{Effect, Event, Reply};
 use std::alloc::Global;
 use std::marker::Brand;
 use std::sync::Wait;
 use std::sync::ledger::{Blank, Ledger as Roll};
 
-/// How many turns of twenty steps.
+/// How many turns there are.
 const TURNS: u32 = 50;
 
 /// How many steps a turn has.
-const STEPS: u32 = 20;
+const STEPS: u32 = 23;
+
+/// A line of a user.
+fn told(user: UserId, line: &'static [u8]) -> Event<'static> {
+    Event::Command {
+        user,
+        window: None,
+        line,
+    }
+}
 
 /// A step of a turn. Its window has the turn's serial, and its clients have twice that and one
 /// more.
 fn event_at(turn: u32, step: u32, owner: UserId, bob: UserId) -> Event<'static>
     requires { turn ≤ 50 }
 {
-    let client = turn * 2;
     let window = turn;
+    let client = turn * 2;
+    let other = client + 1;
     match step {
-        0 => Event::Open {
+        0 => told(owner, b"multiuser on"),
+        1 => told(owner, b"acladd bob"),
+        2 => Event::Open {
             user: owner,
             rows: 24,
             columns: 80,
             keep: 10,
             title: "sh",
         },
-        1 => Event::Attach {
+        3 => Event::Attach {
             user: owner,
             rows: 24,
             columns: 80,
         },
-        2 => Event::Attach {
+        4 => Event::Attach {
             user: bob,
             rows: 10,
             columns: 40,
         },
-        3 => Event::Output {
+        5 => Event::Output {
             window,
             bytes: b"hi\r\n\x1b[6n",
         },
-        4 => Event::Keys {
+        6 => Event::Keys {
             client,
-            bytes: b"a\x01nb",
+            bytes: b"a\x01n",
         },
-        5 | 12 | 16 => Event::Draw { client },
-        6 | 13 => Event::Draw { client: client + 1 },
-        7 => Event::Resize {
-            client: client + 1,
+        7 | 14 | 18 => Event::Draw { client },
+        8 | 15 => Event::Draw { client: other },
+        9 => Event::Resize {
+            client: other,
             rows: 12,
             columns: 50,
         },
-        8 => Event::Keys {
-            client: client + 1,
+        10 => Event::Keys {
+            client: other,
             bytes: b"x\x01:version\r",
         },
-        9 => Event::Command {
-            user: owner,
-            window: None,
-            line: b"wall hi",
-        },
-        10 => Event::Command {
-            user: owner,
-            window: Some(0),
-            line: b"aclchg bob -w 0",
-        },
-        11 => Event::Keys {
-            client: client + 1,
+        11 => told(owner, b"wall hi"),
+        12 => told(owner, b"aclchg bob -w 0"),
+        13 => Event::Keys {
+            client: other,
             bytes: b"y",
         },
-        14 => Event::Command {
-            user: owner,
-            window: Some(0),
-            line: b"aclchg bob +w 0",
-        },
-        15 => Event::Output {
+        16 => told(owner, b"aclchg bob +w 0"),
+        17 => Event::Output {
             window: 0,
             bytes: b"there",
         },
-        17 => Event::Closed { window },
-        18 => Event::Detach { client },
-        _ => Event::Detach { client: client + 1 },
+        19 => Event::Keys {
+            client,
+            bytes: b"\x01:fit\r",
+        },
+        20 => Event::Closed { window },
+        21 => Event::Detach { client },
+        _ => Event::Detach { client: other },
     }
 }
 
 /// The seat that submits a step: the second attaches bob, and opens the windows of odd serials.
-fn second_submits(turn: u32, step: u32) -> bool {
-    match step {
-        0 => turn % 2 == 1,
-        1 => false,
-        2 => true,
+fn seat_of(turn: u32, step: u32) -> usize {
+    let is_second = match step {
+        2 => turn % 2 == 1,
+        3 => false,
+        4 => true,
         _ => step % 3 == 0,
-    }
-}
-
-/// Whether an effect is for a peer of the second seat.
-fn is_for_second(effect: &Effect) -> bool {
-    let serial = match effect {
-        Effect::Input(window, _) => *window,
-        Effect::Deliver(client, _) => *client,
-        Effect::Say(client, _) => *client,
-        Effect::Size(window, _, _) => *window,
-        Effect::GoneWindow(window, _) => *window,
-        Effect::GoneClient(client, _) => *client,
     };
-    serial % 2 == 1
+    if is_second { 1 } else { 0 }
 }
 
-/// Whether a seat took the effects that the session made for it, in their order.
-fn took(taken: &[Effect], made: &[Effect], second: bool) -> bool {
+/// The kinds of effects that a seat took, if they are those that the session made for its peers, in
+/// their order: the second seat's have odd serials.
+fn kinds_of(taken: &[Effect], made: &[Effect], is_second: bool) -> Option<u8> {
+    let mut kinds = 0u8;
     let mut next = 0;
     for effect in made {
-        if is_for_second(effect) == second {
-            match taken.get(next) {
-                Some(other) if are_same(effect, other) => next += 1,
-                _ => return false,
+        let effect = parts_of(effect);
+        if (effect.peer % 2 == 1) == is_second {
+            if !are_same(effect, parts_of(taken.get(next)?)) {
+                return None;
             }
+            kinds |= effect.kind;
+            next += 1;
         }
     }
-    next == taken.len()
+    if next == taken.len() {
+        Some(kinds)
+    } else {
+        None
+    }
+}
+
+/// The kinds of effects that both seats take, if these are what the session made for each, and both
+/// are marked or neither is.
+fn taken<L: Roll, R: Wait>(
+    rt: &R,
+    hub: &Hub<L>,
+    seats: &mut [Seat<L>],
+    made: &[Effect],
+    marks: bool,
+) -> Option<u8> {
+    let mut kinds = 0u8;
+    for seat in seats.iter_mut() {
+        let is_second = seat.number() == 1;
+        let (effects, is_marked) = hub.take(rt, seat);
+        if is_marked != marks {
+            return None;
+        }
+        kinds |= kinds_of(effects.as_slice(), made, is_second)?;
+    }
+    Some(kinds)
+}
+
+/// How many entries an event writes, none or one, if it is answered by this reply. Where the seat
+/// asks for its entry the answer has it.
+fn entries_of<L: Roll, R: Wait>(
+    rt: &R,
+    hub: &Hub<L>,
+    seat: &mut Seat<L>,
+    event: Event<'_>,
+    reply: &Reply,
+) -> Option<usize> {
+    let answer = hub.submit(rt, seat, event).ok()?;
+    let wrote = answer.place().is_some();
+    let asks = seat.number() == 1;
+    if answer.entry().is_some() != (wrote && asks) || !is_same_reply(answer.reply(), reply) {
+        return None;
+    }
+    Some(if wrote { 1 } else { 0 })
 }
 
 /// A hub with two seats, and a session that runs what they submit.
 #[derive(Drop)]
 struct Pair<L: Roll> {
     hub: Hub<L>,
-    first: Seat<L>,
-    second: Seat<L>,
-    rest: Vec<Seat<L>>,
+    seats: Vec<Seat<L>>,
     twin: Session,
 }
 
+/// The second seat asks for its entries.
 fn begin<L: Roll>(alloc: Global, blank: Blank, owner: UserId) -> Option<Pair<L>>
     requires { (blank.name ≡ L.name) × (blank.parts ≡ L.parts) × (blank.parts ≡ 2) }
 {
     let Ok(session) = Session::new(alloc, owner) else {
         return None;
     };
-    let Ok((hub, mut rest)) = Hub::<L>::new(alloc, blank, Edition::Second, owner, session, 2) else {
+    let Ok((hub, mut seats)) = Hub::<L>::new(alloc, blank, Edition::Second, owner, session, 2)
+    else {
         return None;
     };
-    let second = rest.pop()?;
-    let first = rest.pop()?;
+    seats.get_mut(1)?.ask_for_entries();
     let twin = Session::new(alloc, owner).ok()?;
-    Some(Pair {
-        hub,
-        first,
-        second,
-        rest,
-        twin,
-    })
+    Some(Pair { hub, seats, twin })
 }
 
-/// Submits an event by one of the seats.
-fn submit<'a, L: Roll, R: Wait>(
-    rt: &R,
-    pair: &mut Pair<L>,
-    event: Event<'a>,
-    is_second: bool,
-) -> Option<Answer<'a>> {
-    if is_second {
-        pair.hub.submit(rt, &mut pair.second, event).ok()
-    } else {
-        pair.hub.submit(rt, &mut pair.first, event).ok()
-    }
+/// What was counted: entries, and the kinds of effects.
+#[derive(Clone, Copy)]
+struct Counted {
+    entries: usize,
+    kinds: u8,
 }
 
-/// Submits an event, and keys again until all are read. How many entries it wrote; `None` where the
-/// last answer hasn't this reply.
-fn submit_all<L: Roll, R: Wait>(
-    rt: &R,
-    pair: &mut Pair<L>,
-    event: Event<'static>,
-    is_second: bool,
-    reply: &Reply,
-) -> Option<usize> {
-    let Event::Keys { client, bytes } = event else {
-        let answer = submit(rt, pair, event, is_second)?;
-        if !is_same_reply(answer.reply(), reply) {
-            return None;
-        }
-        return Some(if answer.place().is_some() { 1 } else { 0 });
-    };
-    let mut rest = bytes;
-    for count in 1..100usize {
-        let keys = Event::Keys {
-            client,
-            bytes: rest,
-        };
-        let answer = submit(rt, pair, keys, is_second)?;
-        let read = read_by(answer.reply());
-        if read == 0 || rest.len() <= read {
-            return if is_same_reply(answer.reply(), reply) {
-                Some(count)
-            } else {
-                None
-            };
-        }
-        rest = &rest[read..];
-    }
-    None
-}
-
-/// Whether both seats take what the session made, and are marked so.
-fn take_same<L: Roll, R: Wait>(rt: &R, pair: &mut Pair<L>, made: &[Effect], marks: bool) -> bool {
-    let (firsts, marked) = pair.hub.take(rt, &mut pair.first);
-    let (seconds, other) = pair.hub.take(rt, &mut pair.second);
-    took(firsts.as_slice(), made, false)
-        && took(seconds.as_slice(), made, true)
-        && marked == marks
-        && other == marks
-}
-
-/// Submits one step by its seat, and lets the session run it; then compares what both seats take.
-/// How many entries it wrote.
+/// A step by one of the seats, which the session does beside it.
 fn step<L: Roll, R: Wait>(
     rt: &R,
     alloc: Global,
     pair: &mut Pair<L>,
-    event: Event<'static>,
-    is_second: bool,
-) -> Option<usize> {
+    event: Event<'_>,
+    number: usize,
+) -> Option<Counted> {
     let mut made = Vec::new(alloc);
     let mut replies = Vec::new(alloc);
-    if pair.twin.run(&[event], &mut made, &mut replies).stopped {
-        return None;
-    }
+    let _ = pair.twin.run(&[event], &mut made, &mut replies);
     let reply = replies.as_slice().last()?;
-    let wrote = submit_all(rt, pair, event, is_second, reply)?;
+    let seat = pair.seats.get_mut(number)?;
+    let entries = entries_of(rt, &pair.hub, seat, event, reply)?;
     let marks = !matches!(event, Event::Draw { .. });
-    if take_same(rt, pair, made.as_slice(), marks) {
-        Some(wrote)
-    } else {
-        None
-    }
+    let kinds = taken(rt, &pair.hub, &mut pair.seats, made.as_slice(), marks)?;
+    Some(Counted { entries, kinds })
 }
 
-/// Does all steps: how many entries they wrote.
+/// All steps.
 fn all_steps<L: Roll, R: Wait>(
     rt: &R,
     alloc: Global,
     pair: &mut Pair<L>,
     owner: UserId,
     bob: UserId,
-) -> Option<usize> {
-    let mut entries = 0usize;
-    for line in [b"multiuser on".as_slice(), b"acladd bob".as_slice()] {
-        let command = Event::Command {
-            user: owner,
-            window: None,
-            line,
-        };
-        entries = entries.saturating_add(step(rt, alloc, pair, command, false)?);
-    }
+) -> Option<Counted> {
+    let mut counted = Counted {
+        entries: 0,
+        kinds: 0,
+    };
     for turn in 0..TURNS {
-        for number in 0..STEPS {
-            let event = event_at(turn, number, owner, bob);
-            let is_second = second_submits(turn, number);
-            entries = entries.saturating_add(step(rt, alloc, pair, event, is_second)?);
+        for place in 0..STEPS {
+            let event = event_at(turn, place, owner, bob);
+            let more = step(rt, alloc, pair, event, seat_of(turn, place))?;
+            counted.entries = counted.entries.checked_add(more.entries)?;
+            counted.kinds |= more.kinds;
         }
     }
-    Some(entries)
+    Some(counted)
 }
 
-/// How many entries the trail has, if each has its receipt.
-fn close<L: Roll>(pair: Pair<L>) -> Option<usize> {
-    let Pair {
-        hub,
-        first,
-        second,
-        rest,
-        twin: _,
-    } = pair;
-    let mut seats = rest;
-    seats.push(first).ok()?;
-    seats.push(second).ok()?;
-    let (trail, wrong) = hub.close(seats);
-    if wrong.is_some() {
-        return None;
-    }
-    Some(trail.len())
-}
-
-/// Whether the seats take what the session made, over all steps, and the trail has the entries that
-/// were written.
-fn thousand<L: Roll, R: Wait>(
-    rt: &R,
-    alloc: Global,
-    blank: Blank,
-    owner: UserId,
-    bob: UserId,
-) -> Option<bool>
+/// Whether the seats take what the session made over all steps, effects of all kinds, and the trail
+/// has the entries that were written.
+fn is_thousand_right<L: Roll, R: Wait>(rt: &R, alloc: Global, blank: Blank) -> Option<bool>
     requires { (blank.name ≡ L.name) × (blank.parts ≡ L.parts) × (blank.parts ≡ 2) }
 {
+    let (owner, bob) = (UserId::of(b"root")?, UserId::of(b"bob")?);
     let mut pair = begin::<L>(alloc, blank, owner)?;
-    let entries = all_steps(rt, alloc, &mut pair, owner, bob)?;
-    Some(close(pair)? == entries)
+    let counted = all_steps(rt, alloc, &mut pair, owner, bob)?;
+    let Pair {
+        hub,
+        seats,
+        twin: _,
+    } = pair;
+    let (trail, wrong) = hub.close(seats);
+    Some(wrong.is_none() && trail.len() == counted.entries && counted.kinds == 63)
 }
 
 #[test]
 fn seats_take_what_the_session_made(rt: HostRuntime) {
-    let (Some(owner), Some(bob)) = (UserId::of(b"root"), UserId::of(b"bob")) else {
-        panic!(rt; "names")
-    };
-    let took = thousand::<Brand, _>(&rt, rt.alloc(), Blank::new(2), owner, bob);
-    assert_eq!(rt; took, Some(true));
+    let is_right = is_thousand_right::<Brand, _>(&rt, rt.alloc(), Blank::new(2));
+    assert!(rt; is_right == Some(true));
 }

@@ -2,8 +2,12 @@
 #![tactic(auto)]
 
 #[cfg(test)]
-mod gates;
+mod frames;
 #[cfg(test)]
-mod line;
+mod gate;
+#[cfg(test)]
+mod peer;
 #[cfg(test)]
 mod together;
+#[cfg(test)]
+mod turns;

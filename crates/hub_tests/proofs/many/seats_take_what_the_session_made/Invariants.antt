@@ -1,4 +1,4 @@
 use Rattle.hub_tests.proofs.many.seats_take_what_the_session_made.Given as goal
 
-abbrev pub ghosts-thousand : goal.ghosts-thousand
-ghosts-thousand g a = record { name = a.blank.name; parts = a.blank.parts }
+abbrev pub ghosts-is_thousand_right : goal.ghosts-is_thousand_right
+ghosts-is_thousand_right g a = record { name = a.blank.name; parts = a.blank.parts }

@@ -11,12 +11,12 @@ use std::time::{Clock, Duration};
 pub struct Disk<'r, R: Clock> {
     rt: &'r R,
     pub text: Vec<u8>,
-    /// How many bytes a write takes.
-    most: usize,
+    /// How many bytes a write takes at most.
+    pub most: usize,
     /// How long each write takes, in milliseconds.
-    pause: u64,
-    /// How many writes are refused, each behind one that took some.
-    refused: u32,
+    pub pause: u64,
+    /// How many writes are refused from now on, each behind one that took some.
+    pub refused: u32,
     /// The last write took some.
     has_taken: bool,
     pub syncs: u32,
@@ -33,20 +33,6 @@ impl<'r, R: Clock> Disk<'r, R> {
             has_taken: false,
             syncs: 0,
         }
-    }
-
-    /// Each write takes this long, in milliseconds, and takes at most so many bytes.
-    pub fn slow(self, pause: u64, most: usize) -> Disk<'r, R> {
-        Disk {
-            pause,
-            most,
-            ..self
-        }
-    }
-
-    /// So many writes are refused from now on, each behind one that takes some.
-    pub fn refuse(&mut self, count: u32) {
-        self.refused = count;
     }
 }
 

@@ -1,5 +1,5 @@
 use Rattle.std.proofs.Common.{◌≡◌, length}
-use Rattle.server_trail_tests.proofs.entries.trail.Given as goal
+use Rattle.hub_tests.proofs.entries.trail.Given as goal
 
 abbrev pub invariant-loop-place : goal.invariant-loop-place
 invariant-loop-place l = length l.roll.entries ≡ l.place

@@ -1,0 +1,80 @@
+//! One peer's connection.
+
+use std::alloc::Global;
+use std::io::{ErrorKind, Read, Write};
+use std::net::Net;
+use std::os::unix::net::UnixStream;
+use std::time::{Clock, Duration};
+use std::{io, thread};
+
+const TRIES: usize = 1000;
+
+pub const SOCKET: &str = "muxd_tests.socket";
+
+/// A peer's connection, and all that it was sent.
+#[derive(Drop)]
+pub struct Peer {
+    stream: UnixStream,
+    pub came: Vec<u8>,
+}
+
+/// Whether these bytes stand somewhere in a text.
+pub fn has(text: &[u8], bytes: &[u8]) -> bool {
+    for (start, _) in text.iter().enumerate() {
+        let (_, rest) = text.split_at(start);
+        if rest.starts_with(bytes) {
+            return true;
+        }
+    }
+    bytes.is_empty()
+}
+
+impl Peer {
+    /// A connection to a server that may not listen yet.
+    pub fn new<R: Net + Clock>(rt: &R, alloc: Global) -> io::Result<Peer> {
+        for _ in 0..TRIES {
+            if let Ok(stream) = UnixStream::connect(rt, SOCKET) {
+                stream.set_read_timeout(Some(Duration::from_secs(10)))?;
+                let came = Vec::new(alloc);
+                return Ok(Peer { stream, came });
+            }
+            thread::sleep(rt, Duration::from_millis(10));
+        }
+        Err(io::Error::from(ErrorKind::NotFound))
+    }
+
+    pub fn send(&mut self, bytes: &[u8]) -> io::Result<()> {
+        self.stream.write_all(bytes)
+    }
+
+    // Reads once: how many bytes came.
+    fn read(&mut self) -> io::Result<usize> {
+        let mut buffer = [0; 1024];
+        let count = self.stream.read(&mut buffer)?;
+        self.came.extend_from_slice(&buffer[..count])?;
+        Ok(count)
+    }
+
+    /// Reads until these bytes came, or the connection's end: whether they came.
+    pub fn is_sent(&mut self, bytes: &[u8]) -> io::Result<bool> {
+        for _ in 0..TRIES {
+            if has(&self.came, bytes) {
+                return Ok(true);
+            }
+            if self.read()? == 0 {
+                break;
+            }
+        }
+        Ok(false)
+    }
+
+    /// Reads to the connection's end: whether it came.
+    pub fn is_over(&mut self) -> io::Result<bool> {
+        for _ in 0..TRIES {
+            if self.read()? == 0 {
+                return Ok(true);
+            }
+        }
+        Ok(false)
+    }
+}

@@ -1,0 +1,150 @@
+//! What peers do in turn.
+
+use crate::frames::{
+    ADD_BOB, ALL_INPUT, ATTACH, ATTACH_BOB, DENIED, DONE, FREE, GONE_QUIT, HIDE, LOCK, MULTIUSER,
+    QUIT, WALL, WELCOME, WINDOW,
+};
+use crate::gate::{Calls, wait};
+use crate::peer::{Peer, has};
+use std::alloc::Global;
+use std::io;
+use std::net::Net;
+use std::time::Clock;
+
+/// What a turn waits for.
+#[derive(Clone, Copy)]
+enum Until {
+    /// A loop holds the first call.
+    Held,
+    /// This peer was sent these bytes.
+    Sent(usize, &'static [u8]),
+}
+
+/// A peer, by the number of its connection, what it sends, and what is waited for then. A peer that
+/// isn't there yet connects.
+type Turn = (usize, &'static [u8], Until);
+
+// The connections that aren't commands.
+const SHELL: usize = 6;
+
+const OWN: usize = 7;
+
+const BOB: usize = 8;
+
+// The second loop's call is the one that is held: were it the first loop's, nobody would take the
+// third connection in.
+static TURNS: [Turn; 22] = [
+    (0, b"", Until::Sent(0, b"")),
+    (1, ADD_BOB, Until::Held),
+    (0, MULTIUSER, Until::Sent(0, DONE)),
+    (1, b"", Until::Sent(1, DONE)),
+    (2, WALL, Until::Sent(2, DONE)),
+    (3, WALL, Until::Sent(3, DONE)),
+    (4, WALL, Until::Sent(4, DONE)),
+    (5, WALL, Until::Sent(5, DONE)),
+    (SHELL, WINDOW, Until::Sent(SHELL, WELCOME)),
+    (OWN, ATTACH, Until::Sent(OWN, WELCOME)),
+    (BOB, ATTACH_BOB, Until::Sent(BOB, WELCOME)),
+    (OWN, b"K\0\x01o", Until::Sent(SHELL, b"i\0\x01o")),
+    (BOB, b"K\0\x01x", Until::Sent(SHELL, b"i\0\x01x")),
+    (SHELL, b"O\0\x06public", Until::Sent(OWN, b"public")),
+    (BOB, b"", Until::Sent(BOB, b"public")),
+    (9, HIDE, Until::Sent(9, DONE)),
+    (SHELL, b"O\0\x08\r\nsecret", Until::Sent(OWN, b"secret")),
+    (10, LOCK, Until::Sent(10, DONE)),
+    (BOB, b"K\0\x01y", Until::Sent(BOB, DENIED)),
+    (11, FREE, Until::Sent(11, DONE)),
+    (BOB, b"K\0\x01z", Until::Sent(SHELL, b"i\0\x01z")),
+    (12, QUIT, Until::Sent(12, DONE)),
+];
+
+// Whether a peer is sent these bytes.
+fn is_sent(peers: &mut [Peer], who: usize, bytes: &[u8]) -> io::Result<bool> {
+    match peers.get_mut(who) {
+        Some(peer) => peer.is_sent(bytes),
+        None => Ok(false),
+    }
+}
+
+// Whether what a turn waits for comes.
+fn take<R: Net + Clock>(
+    rt: &R,
+    alloc: Global,
+    calls: &Calls,
+    peers: &mut Vec<Peer>,
+    (who, bytes, until): Turn,
+) -> io::Result<bool> {
+    if who == peers.len() {
+        peers.push(Peer::new(rt, alloc)?)?;
+    }
+    if let Some(peer) = peers.get_mut(who) {
+        peer.send(bytes)?;
+    }
+    match until {
+        Until::Held => Ok(wait(rt, &calls.begun, 0)),
+        Until::Sent(whom, bytes) => is_sent(peers, whom, bytes),
+    }
+}
+
+// The first turn in which what it waits for doesn't come.
+fn wrong_turn<R: Net + Clock>(
+    rt: &R,
+    alloc: Global,
+    calls: &Calls,
+    peers: &mut Vec<Peer>,
+) -> Option<usize> {
+    for (place, turn) in TURNS.iter().enumerate() {
+        match take(rt, alloc, calls, peers, *turn) {
+            Ok(true) => {}
+            _ => return Some(place),
+        }
+    }
+    None
+}
+
+// Whether a peer, behind `quit`, was sent what it has to be in all. Without r bob gets nothing of
+// what the window prints.
+fn is_right(who: usize, peer: &mut Peer) -> io::Result<bool> {
+    let is_over = peer.is_over()?;
+    let came = peer.came.as_slice();
+    let is_client = came.starts_with(WELCOME) && came.ends_with(GONE_QUIT);
+    let is_right = match who {
+        SHELL => came == ALL_INPUT,
+        OWN => is_client,
+        BOB => is_client && !has(came, b"secret"),
+        _ => came == DONE,
+    };
+    Ok(is_over && is_right)
+}
+
+// The first peer that wasn't sent what it has to be.
+fn wrong_peer(peers: &mut [Peer]) -> Option<usize> {
+    for (who, peer) in peers.iter_mut().enumerate() {
+        match is_right(who, peer) {
+            Ok(true) => {}
+            _ => return Some(who),
+        }
+    }
+    None
+}
+
+// Ends the server.
+fn quit<R: Net + Clock>(rt: &R, alloc: Global) -> io::Result<bool> {
+    let mut peer = Peer::new(rt, alloc)?;
+    peer.send(QUIT)?;
+    peer.is_over()
+}
+
+/// Takes all turns, and ends the server whatever comes. The number of the first turn that goes
+/// wrong; else, behind those of the turns, of the first peer that wasn't sent what it has to be.
+pub fn first_wrong<R: Net + Clock>(rt: &R, alloc: Global, calls: &Calls) -> Option<usize> {
+    let mut peers = Vec::new(alloc);
+    if let Some(turn) = wrong_turn(rt, alloc, calls, &mut peers) {
+        let _ = quit(rt, alloc);
+        return Some(turn);
+    }
+    match wrong_peer(&mut peers) {
+        Some(who) => Some(who.saturating_add(TURNS.len())),
+        None => None,
+    }
+}
