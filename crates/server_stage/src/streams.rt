@@ -13,7 +13,7 @@ use std::rc::Rc;
 const ROOM: usize = 16_384;
 
 /// How a stream behaves.
-#[derive(Clone, Copy, Debug)]
+#[derive(Clone, Copy)]
 pub enum Habit {
     /// As many bytes a call as there are.
     Whole,

@@ -1,7 +1,7 @@
 //! A client whose writes stop inside its first draw, and the same user's next one.
 
 use crate::rows::play;
-use server_stage::{Act, Habit, Message, Received, Stop, System, WINDOW, are_alike, shows};
+use server_stage::{Act, Habit, Message, Received, Seen, Stop, System, WINDOW, are_alike, shows};
 use std::alloc::Global;
 
 /// The size of the clients' terminals.
@@ -34,38 +34,52 @@ fn draw_of(alloc: Global, whole: &[u8]) -> Result<Vec<u8>, Stop> {
     }
 }
 
-// Whether the first takes so many bytes of the whole, and the second is sent all of it. A terminal
+// Whether the first took so many bytes of the whole, and the second was sent all of it. A terminal
 // that had read the first ones shows the same behind it.
-fn is_anew(rt: &impl System, whole: &[u8], draw: &[u8], most: usize) -> bool {
-    let Some(seen) = play(rt, &broken(most)) else {
-        return false;
-    };
-    let (first, second) = (seen.bytes(0, 1), seen.bytes(0, 2));
+fn is_same(alloc: Global, seen: &Seen, whole: &[u8], draw: &[u8], most: usize) -> bool {
     // A WELCOME takes four bytes, and what stands before a draw's bytes three.
     let read = draw.get(..most.saturating_sub(7)).unwrap_or(draw);
-    let alike = are_alike(rt.alloc(), SIZE, &[draw], &[read, draw]);
-    whole.get(..most) == Some(first) && second == whole && alike == Ok(true)
+    let Some(first) = whole.get(..most) else {
+        return false;
+    };
+    let is_taken = seen.bytes(0, 1) == first && seen.bytes(0, 2) == whole;
+    is_taken && matches!(are_alike(alloc, SIZE, &[draw], &[read, draw]), Ok(true))
 }
 
-// The first number of bytes behind which the next client isn't drawn anew.
-fn first_wrong(rt: &impl System) -> Result<Option<usize>, Stop> {
-    let Some(seen) = play(rt, &broken(usize::MAX)) else {
-        return Err(Stop::Other("nothing is played"));
-    };
-    let whole = seen.bytes(0, 1);
-    let draw = draw_of(rt.alloc(), whole)?;
-    if !shows(rt.alloc(), SIZE, &draw, "hi", "")? {
-        return Err(Stop::Other("it is another page"));
+fn is_anew(rt: &impl System, whole: &[u8], draw: &[u8], most: usize) -> bool {
+    match play(rt, &broken(most)) {
+        Some(seen) => is_same(rt.alloc(), &seen, whole, draw, most),
+        None => false,
     }
+}
+
+// The first number of bytes of the whole behind which the next client isn't drawn anew.
+fn first_wrong(rt: &impl System, whole: &[u8], draw: &[u8]) -> Option<usize> {
     for most in 0..whole.len() {
-        if !is_anew(rt, whole, &draw, most) {
-            return Ok(Some(most));
+        if !is_anew(rt, whole, draw, most) {
+            return Some(most);
         }
     }
-    Ok(None)
+    None
+}
+
+// Whether a client that takes all is drawn the page, and each next one is drawn anew.
+fn are_anew(rt: &impl System, whole: &[u8]) -> bool {
+    let Ok(draw) = draw_of(rt.alloc(), whole) else {
+        return false;
+    };
+    let is_page = shows(rt.alloc(), SIZE, &draw, "hi", "");
+    matches!(is_page, Ok(true)) && first_wrong(rt, whole, &draw).is_none()
+}
+
+fn is_drawn_anew(rt: &impl System) -> bool {
+    match play(rt, &broken(usize::MAX)) {
+        Some(seen) => are_anew(rt, seen.bytes(0, 1)),
+        None => false,
+    }
 }
 
 #[test]
 fn a_second_attachment_is_drawn_anew(rt: HostRuntime) {
-    assert_eq!(rt; first_wrong(&rt), Ok(None));
+    assert!(rt; is_drawn_anew(&rt));
 }

@@ -70,20 +70,25 @@ fn shows_all(alloc: Global, bytes: &[u8]) -> Option<bool> {
     shows(alloc, (4, 20), &drawn, "hithere", "").ok()
 }
 
-// Whether a client that nothing stops is welcome, and it and bob are drawn all.
-fn passes_all(rt: &impl System, habit: Habit) -> Option<bool> {
-    let alloc = rt.alloc();
-    let seen = play(rt, &beside(habit, 400))?;
+// Whether a client that nothing stops was welcome, and it and bob were drawn all.
+fn is_passed(alloc: Global, seen: &Seen) -> Option<bool> {
     let client = seen.sent(1, CLIENT)?;
     let bytes = client.bytes.as_slice();
     let is_whole = client.read == 79 && bytes.starts_with(b"y\0\x01\0d");
     let is_shown = shows_all(alloc, bytes)? && shows_all(alloc, seen.bytes(1, BOB))?;
-    Some(is_whole && is_shown && is_done(alloc, &seen, client, false))
+    Some(is_whole && is_shown && is_done(alloc, seen, client, false))
+}
+
+fn passes_all(rt: &impl System, habit: Habit) -> bool {
+    match play(rt, &beside(habit, 400)) {
+        Some(seen) => is_passed(rt.alloc(), &seen) == Some(true),
+        None => false,
+    }
 }
 
 fn slow_streams_pass(rt: &impl System) -> bool {
     for habit in [Habit::Whole, Habit::Steady, Habit::Slow] {
-        if passes_all(rt, habit) != Some(true) {
+        if !passes_all(rt, habit) {
             return false;
         }
     }
@@ -116,11 +121,9 @@ static FAILING: [Failing; 4] = [
     },
 ];
 
-// Whether what waits is done later, or a fault closes that connection alone: it isn't called again,
-// and was sent a beginning of what it is sent else. Bob is sent what he is sent else.
-fn is_as_due(rt: &impl System, calm: &Seen, failing: Failing, at: usize) -> Option<bool> {
-    let alloc = rt.alloc();
-    let seen = play(rt, &beside(Habit::Once(at, failing.kind), 60))?;
+// Whether what waits was done later, or a fault closed that connection alone: it wasn't called
+// again, and was sent a beginning of what it is sent else. Bob was sent what he is sent else.
+fn is_served(alloc: Global, calm: &Seen, seen: &Seen, failing: Failing, at: usize) -> Option<bool> {
     let client = seen.sent(1, CLIENT)?;
     let bytes = client.bytes.as_slice();
     let is_served = if failing.is_lost {
@@ -129,7 +132,14 @@ fn is_as_due(rt: &impl System, calm: &Seen, failing: Failing, at: usize) -> Opti
         client.read == 79 && shows_all(alloc, bytes)?
     };
     let is_alone = seen.bytes(1, BOB) == calm.bytes(1, BOB);
-    Some(is_served && is_alone && is_done(alloc, &seen, client, failing.is_lost))
+    Some(is_served && is_alone && is_done(alloc, seen, client, failing.is_lost))
+}
+
+fn is_as_due(rt: &impl System, calm: &Seen, failing: Failing, at: usize) -> bool {
+    match play(rt, &beside(Habit::Once(at, failing.kind), 60)) {
+        Some(seen) => is_served(rt.alloc(), calm, &seen, failing, at) == Some(true),
+        None => false,
+    }
 }
 
 // How often the client's stream is called before bob types, where it is read whole.
@@ -147,7 +157,7 @@ fn first_wrong(rt: &impl System, calm: &Seen) -> Option<(usize, usize)> {
     };
     for (number, failing) in FAILING.iter().enumerate() {
         for at in 0..places {
-            if is_as_due(rt, calm, *failing, at) != Some(true) {
+            if !is_as_due(rt, calm, *failing, at) {
                 return Some((number, at));
             }
         }

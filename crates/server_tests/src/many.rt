@@ -1,7 +1,7 @@
 //! Much at once: a peer that falls too far behind, who has his turn when, and a crowd.
 
 use crate::rows::{Row, Wanted, first_wrong, is_played, play};
-use server_stage::{ATTACH, Act, Habit, System, WELCOME, WINDOW, Why};
+use server_stage::{ATTACH, Act, Habit, Seen, System, WELCOME, WINDOW, Why};
 use std::alloc::{AllocError, Global};
 
 // What begins so and goes on with so many of these pieces.
@@ -41,11 +41,12 @@ fn flood<'a>(alloc: Global, frame: &'a [u8], rest: &[Act<'a>]) -> Result<Vec<Act
 }
 
 // A frame of 8,192 bytes takes 8,195: 127 of them are 1,040,765, and 128 are 1,048,960. Up to
-// 1,048,576 wait; behind them it is sent all, and let go.
-static TOO_FAR: [Row; 3] = [
+// 1,048,576 wait; behind them it is sent all, and let go, and its window is closed.
+static TOO_FAR: [Row; 4] = [
     (0, Wanted::Sent(0, WELCOME)),
     (1, Wanted::TypedLen(0, 128 * 8_192)),
     (1, Wanted::Gone(0, Some(Why::TooFarBehind))),
+    (1, Wanted::LastEntries(b"KX")),
 ];
 
 // In the last frame's turn nothing is taken before the third write.
@@ -59,17 +60,22 @@ fn goes_too_far(rt: &impl System) -> Result<bool, AllocError> {
         Act::Note(0),
     ];
     let acts = flood(rt.alloc(), &frame, &rest)?;
-    // Its window is closed.
-    Ok(is_played(rt, &acts, &TOO_FAR, b"KX"))
+    Ok(is_played(rt, &acts, &TOO_FAR))
 }
 
 // The loop has something to do, though nothing comes, behind the turn in which the window is given
 // up, and neither before it nor behind the next one.
-static GIVEN_UP: [Row; 3] = [
+static GIVEN_UP: [Row; 4] = [
     (0, Wanted::IsDue(false)),
     (1, Wanted::IsDue(true)),
     (2, Wanted::IsDue(false)),
+    (2, Wanted::LastEntries(b"KX")),
 ];
+
+// Whether the client is drawn between the last two notes.
+fn is_drawn(seen: &Seen) -> bool {
+    seen.bytes(1, 1).len() < seen.bytes(2, 1).len()
+}
 
 // The window's program reads no more. The window is closed when all else of the turn is done, so
 // nobody would tell the loop of it; in the next turn its client is drawn.
@@ -85,12 +91,10 @@ fn sees_its_last_step(rt: &impl System) -> Result<bool, AllocError> {
         Act::Note(0),
     ];
     let acts = flood(alloc, &frame, &rest)?;
-    let Some(seen) = play(rt, &acts) else {
-        return Ok(false);
-    };
-    let is_drawn = seen.bytes(1, 1).len() < seen.bytes(2, 1).len();
-    let is_closed = seen.entries.ends_with(b"KX");
-    Ok(is_drawn && is_closed && first_wrong(alloc, &seen, &GIVEN_UP).is_none())
+    Ok(match play(rt, &acts) {
+        Some(seen) => is_drawn(&seen) && first_wrong(alloc, &seen, &GIVEN_UP).is_none(),
+        None => false,
+    })
 }
 
 // A window asks for its state, as output.
@@ -106,22 +110,19 @@ static SHARES: [Row; 4] = [
     (3, Wanted::HasTyped(0, b'a', true)),
 ];
 
-// A window prints 8,000 bytes between two questions for its state, and a client types 1,000
-// commands in one frame and then a letter; another client types a letter.
-fn nobody_waits(rt: &impl System) -> Result<bool, AllocError> {
-    let alloc = rt.alloc();
-    let output = often(alloc, b"O\x1F\x40", b"y", 8_000)?;
-    let commands = often(alloc, b"K\x07\xD0", b"\x01n", 1_000)?;
-    let acts = [
+// A window prints this between two questions for its state, and a client types these commands in
+// one frame and then a letter; another client types a letter.
+fn busy<'a>(output: &'a [u8], commands: &'a [u8]) -> [Act<'a>; 19] {
+    [
         Act::Connect(Habit::Whole, WINDOW),
         Act::Turns(2),
         Act::Connect(Habit::Whole, ATTACH),
         Act::Connect(Habit::Whole, ATTACH),
         Act::Turns(2),
         Act::Send(0, ASK),
-        Act::Send(0, &output),
+        Act::Send(0, output),
         Act::Send(0, ASK),
-        Act::Send(1, &commands),
+        Act::Send(1, commands),
         Act::Send(1, b"K\0\x01a"),
         Act::Send(2, b"K\0\x01b"),
         Act::Turns(1),
@@ -132,8 +133,15 @@ fn nobody_waits(rt: &impl System) -> Result<bool, AllocError> {
         Act::Note(0),
         Act::QuietTurns(1),
         Act::Note(0),
-    ];
-    Ok(is_played(rt, &acts, &SHARES, b""))
+    ]
+}
+
+// 8,000 bytes, and 1,000 commands.
+fn nobody_waits(rt: &impl System) -> Result<bool, AllocError> {
+    let alloc = rt.alloc();
+    let output = often(alloc, b"O\x1F\x40", b"y", 8_000)?;
+    let commands = often(alloc, b"K\x07\xD0", b"\x01n", 1_000)?;
+    Ok(is_played(rt, &busy(&output, &commands), &SHARES))
 }
 
 // 8,192 at once, of which attaching and opening are two, each a second before; and 1,000 a second.
@@ -162,7 +170,17 @@ fn has_a_rate(rt: &impl System) -> Result<bool, AllocError> {
         Act::Turns(200),
         Act::Note(0),
     ];
-    Ok(is_played(rt, &acts, &RATE, b""))
+    Ok(is_played(rt, &acts, &RATE))
+}
+
+// Whether twenty clients show all that the window printed.
+fn are_drawn(alloc: Global, seen: &Seen) -> bool {
+    for client in 1..=20 {
+        if first_wrong(alloc, seen, &[(0, Wanted::Shows(client, "ab"))]).is_some() {
+            return false;
+        }
+    }
+    true
 }
 
 // Twenty clients of a window that prints again while the first sixteen of them are drawn: all of
@@ -182,15 +200,10 @@ fn is_drawn_to_its_end(rt: &impl System) -> Result<bool, AllocError> {
         Act::QuietTurns(10),
         Act::Note(0),
     ])?;
-    let Some(seen) = play(rt, &acts) else {
-        return Ok(false);
-    };
-    for client in 1..=20 {
-        if first_wrong(alloc, &seen, &[(0, Wanted::Shows(client, "ab"))]).is_some() {
-            return Ok(false);
-        }
-    }
-    Ok(true)
+    Ok(match play(rt, &acts) {
+        Some(seen) => are_drawn(alloc, &seen),
+        None => false,
+    })
 }
 
 #[test]

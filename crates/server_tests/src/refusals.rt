@@ -135,21 +135,31 @@ fn is_over(seen: &Seen, note: usize) -> bool {
     }
 }
 
-// Whether two scenes are as due, one of them at least as without a refusal.
-fn attempt(rt: &impl System) -> Result<bool, Stop> {
-    let alloc = rt.alloc();
+fn acts(alloc: Global) -> Result<Vec<Act<'static>>, Stop> {
     let mut acts = Vec::from_slice(alloc, &BEGINNING)?;
     acts.extend_from_slice(&scene(ONE))?;
     acts.extend_from_slice(&scene(OTHER))?;
+    Ok(acts)
+}
+
+// Whether each command was done, and all ended behind each scene.
+fn are_done(seen: &Seen) -> bool {
+    let is_begun = is_done(seen, 0, 0) && is_done(seen, 0, 2);
+    let are_told = is_done(seen, 0, ONE + 3) && is_done(seen, 2, OTHER + 3);
+    is_begun && are_told && is_over(seen, 1) && is_over(seen, 3)
+}
+
+// Whether both scenes are as due, one of them at least as without a refusal.
+fn are_as_due(alloc: Global, seen: &Seen) -> Result<bool, Stop> {
+    let first = left_by(alloc, seen, 0, ONE)?;
+    let second = left_by(alloc, seen, 2, OTHER)?;
+    Ok(is_as_due(first) && is_as_due(second) && (first == ALL || second == ALL))
+}
+
+fn attempt(rt: &impl System) -> Result<bool, Stop> {
+    let acts = acts(rt.alloc())?;
     let seen = perform(rt, 1, &acts)?;
-    let first = left_by(alloc, &seen, 0, ONE)?;
-    let second = left_by(alloc, &seen, 2, OTHER)?;
-    let are_done = is_done(&seen, 0, 0)
-        && is_done(&seen, 0, 2)
-        && is_done(&seen, 0, ONE + 3)
-        && is_done(&seen, 2, OTHER + 3);
-    let are_due = is_as_due(first) && is_as_due(second) && (first == ALL || second == ALL);
-    Ok(are_done && are_due && is_over(&seen, 1) && is_over(&seen, 3))
+    Ok(are_done(&seen) && are_as_due(rt.alloc(), &seen)?)
 }
 
 #[test]
