@@ -4,11 +4,9 @@ use crate::stop::Stop;
 use attach_proto::{Message, ProtoFault, Reader, Side, Why};
 use std::alloc::Global;
 
-/// The owner's token.
-pub const TOKEN: &[u8] = b"0000000000000000000000000000000000000000000000000000000000000000";
-
 /// The users' file.
-pub const USERS: &[u8] = b"own 0000000000000000000000000000000000000000000000000000000000000000
+pub(crate) const USERS: &[u8] =
+    b"own 0000000000000000000000000000000000000000000000000000000000000000
 bob 000000000000000000000000000000000000000000000000000000000000000b
 ";
 
@@ -27,6 +25,20 @@ pub const WINDOW: &[u8] =
 /// A command of the owner, `wall hi`: 79 bytes.
 pub const WALL: &[u8] =
     b"C\0L\xff0000000000000000000000000000000000000000000000000000000000000000\x03ownwall hi";
+
+/// A command of the owner, `multiuser on`.
+pub const MULTIUSER: &[u8] =
+    b"C\0\x51\xff0000000000000000000000000000000000000000000000000000000000000000\
+    \x03ownmultiuser on";
+
+/// A command of the owner, `acladd bob`.
+pub const ACLADD: &[u8] =
+    b"C\0\x4F\xff0000000000000000000000000000000000000000000000000000000000000000\
+    \x03ownacladd bob";
+
+/// A command of the owner, `quit`.
+pub const QUIT: &[u8] =
+    b"C\0\x49\xff0000000000000000000000000000000000000000000000000000000000000000\x03ownquit";
 
 /// What ends a client or a window.
 pub const DETACH: &[u8] = b"D\0\0";

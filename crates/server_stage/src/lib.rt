@@ -1,19 +1,26 @@
-//! A stage for tests of the server: one loop over a new session, or two that run at once. They are
-//! made and taken down here, so that a test proves nothing of what a session holds. Their streams
-//! are of memory: how they pass bytes, what peers send byte by byte, and what a client's terminal
-//! shows.
+//! A stage for tests of the server: one loop over a new session, or two that run at once. What
+//! happens on it is a list of acts, and what is seen of it is bytes and numbers, so that a test
+//! proves nothing of what a loop holds. Streams are of memory: how they pass bytes, what peers send
+//! byte by byte, and what a client's terminal shows.
 #![tactic(auto)]
 
+mod acts;
 mod frames;
-mod latched;
+mod latch;
+mod outside;
 mod pages;
 mod stage;
 mod stop;
 mod streams;
 
-pub use frames::{ATTACH, ATTACH_BOB, DETACH, GONE_FAULT, Received, WALL, WELCOME, WINDOW};
-pub use latched::both_are_answered;
+pub use acts::{Act, Note, Seen, Standing};
+pub use attach_proto::{Message, Why};
+pub use frames::{
+    ACLADD, ATTACH, ATTACH_BOB, DETACH, GONE_FAULT, MULTIUSER, QUIT, Received, WALL, WELCOME,
+    WINDOW,
+};
 pub use pages::{are_alike, shows};
-pub use stage::{Play, Stage, perform};
+pub use server_loop::End;
+pub use stage::{System, perform};
 pub use stop::Stop;
-pub use streams::{Far, Habit};
+pub use streams::{Habit, Sent};

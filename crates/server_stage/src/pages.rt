@@ -29,6 +29,24 @@ fn is_line(cells: &[Cell], text: &str) -> bool {
     true
 }
 
+// Whether a terminal shows just these, as `shows` says.
+fn has(emulator: &Emulator, text: &str, message: &str) -> bool {
+    let page = emulator.page(0);
+    let rows = page.rows();
+    for line in 0..rows {
+        let wanted = match rows - line {
+            1 => message,
+            2 => "0 w",
+            _ if line == 0 => text,
+            _ => "",
+        };
+        if !is_line(page.line(line), wanted) {
+            return false;
+        }
+    }
+    emulator.cursor() == (0, text.len()) && emulator.modes().shows_cursor
+}
+
 /// Whether a terminal of this size that has read these bytes has this text in its first line and
 /// the cursor behind it, the caption of the window 0 named `w` in the last line but one, this
 /// message in the last, and nothing else.
@@ -40,20 +58,21 @@ pub fn shows(
     message: &str,
 ) -> Result<bool, Stop> {
     let emulator = terminal(alloc, size, &[bytes])?;
-    let page = emulator.page(0);
-    let rows = page.rows();
-    for line in 0..rows {
-        let wanted = match rows - line {
-            1 => message,
-            2 => "0 w",
-            _ if line == 0 => text,
-            _ => "",
-        };
-        if !is_line(page.line(line), wanted) {
-            return Ok(false);
+    Ok(has(&emulator, text, message))
+}
+
+// Whether two terminals show the same.
+fn is_same(one: &Emulator, other: &Emulator) -> bool {
+    let (page, beside) = (one.page(0), other.page(0));
+    if page.rows() != beside.rows() {
+        return false;
+    }
+    for line in 0..page.rows() {
+        if page.line(line) != beside.line(line) {
+            return false;
         }
     }
-    Ok(emulator.cursor() == (0, text.len()) && emulator.modes().shows_cursor)
+    one.cursor() == other.cursor() && one.modes().shows_cursor == other.modes().shows_cursor
 }
 
 /// Whether two terminals of this size show the same, each after what it has read.
@@ -63,15 +82,7 @@ pub fn are_alike(
     one: &[&[u8]],
     other: &[&[u8]],
 ) -> Result<bool, Stop> {
-    let (one, other) = (terminal(alloc, size, one)?, terminal(alloc, size, other)?);
-    let (page, beside) = (one.page(0), other.page(0));
-    if page.rows() != beside.rows() {
-        return Ok(false);
-    }
-    for line in 0..page.rows() {
-        if page.line(line) != beside.line(line) {
-            return Ok(false);
-        }
-    }
-    Ok(one.cursor() == other.cursor() && one.modes().shows_cursor == other.modes().shows_cursor)
+    let one = terminal(alloc, size, one)?;
+    let other = terminal(alloc, size, other)?;
+    Ok(is_same(&one, &other))
 }

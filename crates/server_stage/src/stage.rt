@@ -1,22 +1,25 @@
-//! One loop over a new session, and its peers.
+//! Loops over a new session, on which acts are played.
 
-ghost use Rattle.std.specs.Prelude.{◌≡◌, ◌<◌};
-
-use crate::frames::{TOKEN, USERS};
+use crate::acts::{Act, Note, Seen, Standing};
+use crate::frames::USERS;
+use crate::latch::{Calls, Latch};
+use crate::outside::Outside;
 use crate::stop::Stop;
-use crate::streams::{Far, Habit, Near, ends};
-use acl::Edition;
+use crate::streams::{Habit, Near};
 use hub_record::{Filed, KeptRef};
-use server_loop::{Hub, Loop, Open, Seat, Session, SharedSession};
+use server_loop::{Gate, Loop, LoopBody, LoopsFault, Seat, SharedSession, Start, Trail, keep};
 use server_users::{Users, UsersFault};
 use std::alloc::Global;
-use std::marker::Brand;
-use std::sync::Wait;
-use std::sync::ledger::{Blank, Ledger as Roll};
-use std::time::Duration;
+use std::sync::ledger::Ledger as Roll;
+use std::sync::{Mutex, Wait};
+use std::thread::Threads;
+use std::time::{Clock, Duration};
 
-/// The users own and bob.
-pub(crate) fn users(alloc: Global) -> Result<Users, Stop> {
+// How many connections are ready in a turn at most.
+const KEYS: usize = 8;
+
+// The users own and bob.
+fn users(alloc: Global) -> Result<Users, Stop> {
     match Users::read(alloc, USERS) {
         Ok(users) => Ok(users),
         Err(UsersFault::NoMemory) => Err(Stop::Memory),
@@ -24,41 +27,103 @@ pub(crate) fn users(alloc: Global) -> Result<Users, Stop> {
     }
 }
 
-// A shared of a new session of these users, and its seat.
-fn new_session<L: Roll>(
-    alloc: Global,
-    blank: Blank,
-) -> Result<(SharedSession<L>, Vec<Seat<L>>), Stop>
-    requires { (blank.name ≡ L.name) × (blank.parts ≡ L.parts) × (blank.parts ≡ 1) }
-{
-    let users = users(alloc)?;
-    let owner = users.owner();
-    let Ok(session) = Session::new(alloc, owner) else {
-        return Err(Stop::Memory);
-    };
-    let Ok((hub, seats)) = Hub::<L>::new(alloc, blank, Edition::Second, owner, session, 1) else {
-        return Err(Stop::Memory);
-    };
-    let shared = SharedSession {
-        hub,
-        users,
-        recorder: None,
-    };
-    Ok((shared, seats))
+// So many turns at most.
+#[derive(Clone, Copy)]
+struct Turns {
+    most: usize,
+    // Nothing comes, and they end where nothing is to be done.
+    are_quiet: bool,
 }
 
-/// One loop over a new session.
-#[derive(Drop)]
-pub struct Stage<L: Roll> {
-    pub alloc: Global,
-    pub shared: SharedSession<L>,
-    pub own: Loop<Near, Open, L>,
-    /// So much time passes before each turn.
-    pub tick: Duration,
+impl Turns {
+    fn ready(most: usize) -> Turns {
+        Turns {
+            most,
+            are_quiet: false,
+        }
+    }
+
+    fn quiet(most: usize) -> Turns {
+        Turns {
+            most,
+            are_quiet: true,
+        }
+    }
 }
 
-// How many connections a stage has at most.
-const KEYS: usize = 8;
+fn take<G: Gate + Drop, L: Roll>(
+    rt: &impl Wait,
+    shared: &SharedSession<L>,
+    own: &mut Loop<Near, G, L>,
+    tick: Duration,
+    turns: Turns,
+) {
+    let keys = if turns.are_quiet { 0 } else { KEYS };
+    for _ in 0..turns.most {
+        if turns.are_quiet && !own.peers.is_due() {
+            return;
+        }
+        for key in 0..keys {
+            own.peers.mark_ready(key, true);
+        }
+        own.now = own.now.saturating_add(tick);
+        own.read_all(rt, shared);
+        own.peers.end_turn(rt, shared, false);
+    }
+}
+
+fn standing<G: Gate + Drop, L: Roll>(own: &Loop<Near, G, L>) -> Standing {
+    Standing {
+        len: own.peers.len(),
+        is_due: own.peers.is_due(),
+        has_waiting: own.peers.has_waiting(),
+        end: own.peers.end(),
+    }
+}
+
+fn perform_one<G: Gate + Drop, L: Roll>(
+    rt: &impl Wait,
+    shared: &SharedSession<L>,
+    own: &mut Loop<Near, G, L>,
+    outside: &mut Outside,
+    act: Act,
+) -> Result<(), Stop> {
+    match act {
+        Act::Connect(habit, bytes) => {
+            let near = outside.connect(habit, bytes)?;
+            let _ = own.peers.admit(near, false);
+        }
+        Act::ConnectExtra(bytes) => {
+            let near = outside.connect(Habit::Whole, bytes)?;
+            let _ = own.peers.admit(near, true);
+        }
+        Act::Turns(most) => take(rt, shared, own, outside.tick, Turns::ready(most)),
+        Act::QuietTurns(most) => take(rt, shared, own, outside.tick, Turns::quiet(most)),
+        Act::SetTime(second, millis) => {
+            outside.tick = Duration::from_millis(millis);
+            own.now = Duration::from_secs(second);
+            own.expire();
+        }
+        Act::LetOldestGo(most) => own.peers.let_oldest_go(most),
+        Act::Finish(end) => own.peers.finish(rt, shared, end),
+        Act::Note(first) => outside.note(standing(own), first)?,
+        _ => outside.perform(act)?,
+    }
+    Ok(())
+}
+
+fn perform_all<G: Gate + Drop, L: Roll>(
+    rt: &impl Wait,
+    shared: &SharedSession<L>,
+    own: &mut Loop<Near, G, L>,
+    outside: &mut Outside,
+    acts: &[Act],
+) -> Result<(), Stop> {
+    for act in acts {
+        perform_one(rt, shared, own, outside, *act)?;
+    }
+    Ok(())
+}
 
 fn letter(entry: &Filed) -> u8 {
     match entry.event().get() {
@@ -71,119 +136,139 @@ fn letter(entry: &Filed) -> u8 {
     }
 }
 
-impl<L: Roll> Stage<L> {
-    fn new(alloc: Global, blank: Blank) -> Result<Stage<L>, Stop>
-        requires { (blank.name ≡ L.name) × (blank.parts ≡ L.parts) × (blank.parts ≡ 1) }
-    {
-        let (shared, mut seats) = new_session::<L>(alloc, blank)?;
-        let Some(seat) = seats.pop() else {
-            return Err(Stop::Other("no seat"));
+// What the loops left, and why one of them stopped short.
+#[derive(Drop)]
+struct Left {
+    seen: Seen,
+    // How many loops came to their end.
+    ended: usize,
+    stop: Option<Stop>,
+}
+
+impl Left {
+    fn new(alloc: Global) -> Left {
+        let seen = Seen {
+            notes: Vec::new(alloc),
+            entries: Vec::new(alloc),
         };
-        Ok(Stage {
-            alloc,
-            shared,
-            own: Loop::new(alloc, seat, Open, 1)?,
-            tick: Duration::from_millis(20),
-        })
-    }
-
-    /// A connection that sends these bytes. Without memory the loop closes it.
-    pub fn connect(&mut self, habit: Habit, bytes: &[u8]) -> Result<Far, Stop> {
-        let (near, far) = ends(self.alloc, habit)?;
-        far.send(bytes)?;
-        let _ = self.own.peers.admit(near, false);
-        Ok(far)
-    }
-
-    /// A connection that is taken in though no more are to stay.
-    pub fn connect_extra(&mut self, bytes: &[u8]) -> Result<Far, Stop> {
-        let (near, far) = ends(self.alloc, Habit::Whole)?;
-        far.send(bytes)?;
-        let _ = self.own.peers.admit(near, true);
-        Ok(far)
-    }
-
-    /// So many turns, in each of which all connections are ready.
-    pub fn turns<R: Wait>(&mut self, rt: &R, count: usize) {
-        for _ in 0..count {
-            for key in 0..KEYS {
-                self.own.peers.mark_ready(key, true);
-            }
-            self.quiet_turn(rt);
+        Left {
+            seen,
+            ended: 0,
+            stop: None,
         }
     }
 
-    /// A turn in which nothing comes.
-    pub fn quiet_turn<R: Wait>(&mut self, rt: &R) {
-        self.own.now = self.own.now.saturating_add(self.tick);
-        self.own.read_all(rt, &self.shared);
-        self.own.peers.end_turn(rt, &self.shared, false);
-    }
-
-    /// A connection that gives a command of the owner: what it is sent.
-    pub fn command<R: Wait>(&mut self, rt: &R, line: &str) -> Result<Vec<u8>, Stop> {
-        let far = self.connect(Habit::Whole, b"C\0")?;
-        let Ok(len) = u8::try_from(line.len().saturating_add(69)) else {
-            return Err(Stop::Other("a line that is too long"));
-        };
-        far.send(&[len, 0xFF])?;
-        far.send(TOKEN)?;
-        far.send(b"\x03own")?;
-        far.send(line.as_bytes())?;
-        self.turns(rt, 2);
-        Ok(far.taken(self.alloc)?)
-    }
-
-    // The entries of the trail, a letter for each, once the loop is over.
-    fn entries(self) -> Result<Vec<u8>, Stop> {
-        let Stage {
-            alloc,
-            shared,
-            own,
-            ..
-        } = self;
-        let mut seats = Vec::new(alloc);
-        seats.push(own.into_seat())?;
-        let SharedSession { hub, .. } = shared;
-        let (trail, wrong) = hub.close(seats);
-        if wrong.is_some() {
-            return Err(Stop::Other("an answer isn't in the trail"));
+    // A loop has ended.
+    fn put(&mut self, notes: Vec<Note>, played: Result<(), Stop>) -> Result<(), Stop> {
+        played?;
+        for note in notes {
+            self.seen.notes.push(note)?;
         }
-        let mut letters = Vec::new(alloc);
+        self.ended = self.ended.saturating_add(1);
+        Ok(())
+    }
+
+    fn put_entries(&mut self, trail: &Trail) -> Result<(), Stop> {
         for place in 0..trail.len() {
-            letters.push(letter(trail.at(place)))?;
+            self.seen.entries.push(letter(trail.at(place)))?;
         }
-        Ok(letters)
+        Ok(())
     }
 }
 
-/// What is played on a stage.
-pub trait Play {
-    /// What it leaves.
-    type Left: Drop;
-
-    fn play<L: Roll, R: Wait>(&mut self, rt: &R, stage: &mut Stage<L>) -> Result<Self::Left, Stop>;
+// Each loop performs the acts.
+#[derive(Drop)]
+struct Playing<'a> {
+    acts: &'a [Act<'a>],
+    loops: usize,
+    calls: Calls,
+    left: Mutex<Left>,
 }
 
-fn run<L: Roll, P: Play, R: Wait>(
-    rt: &R,
-    alloc: Global,
-    blank: Blank,
-    play: &mut P,
-) -> Result<(P::Left, Vec<u8>), Stop>
-    requires { (blank.name ≡ L.name) × (blank.parts ≡ L.parts) × (blank.parts ≡ 1) }
-{
-    let mut stage = Stage::<L>::new(alloc, blank)?;
-    let left = play.play(rt, &mut stage)?;
-    let entries = stage.entries()?;
-    Ok((left, entries))
+impl<R: Clock + Wait> LoopBody<usize, R> for Playing<'_> {
+    fn run<L: Roll>(
+        &self,
+        rt: &R,
+        alloc: Global,
+        shared: &SharedSession<L>,
+        seat: Seat<L>,
+        place: usize,
+    ) -> Option<Seat<L>> {
+        let latch = self.calls.latch(rt, place == 0);
+        let mut own: Loop<Near, Latch<R>, L> = Loop::new(alloc, seat, latch, self.loops).ok()?;
+        let mut outside = Outside::new(alloc);
+        let played = perform_all(rt, shared, &mut own, &mut outside, self.acts);
+        let mut left = self.left.lock(rt);
+        if let Err(stop) = left.put(outside.into_notes(), played) {
+            left.stop = Some(stop);
+        }
+        drop(left);
+        Some(own.into_seat())
+    }
+
+    fn fail(&self, _rt: &R) {}
+
+    fn compare(&self, rt: &R, trail: &Trail) {
+        let mut left = self.left.lock(rt);
+        if let Err(stop) = left.put_entries(trail) {
+            left.stop = Some(stop);
+        }
+    }
 }
 
-/// Plays on a new stage: what the play leaves, and the trail's entries, a letter for each.
-pub fn perform<P: Play, R: Wait>(
-    rt: &R,
-    alloc: Global,
-    play: &mut P,
-) -> Result<(P::Left, Vec<u8>), Stop> {
-    run::<Brand, P, R>(rt, alloc, Blank::new(1), play)
+// What is seen of those who played, of whose answers the trail has all, or not.
+fn seen_of(playing: Playing, agrees: bool) -> Result<Seen, Stop> {
+    let Playing {
+        loops,
+        calls,
+        left,
+        ..
+    } = playing;
+    let Left { seen, ended, stop } = left.into_inner();
+    if let Some(stop) = stop {
+        return Err(stop);
+    }
+    // A loop takes memory before it begins.
+    if ended != loops {
+        return Err(Stop::Memory);
+    }
+    if calls.has_missed() {
+        return Err(Stop::Other("a loop waited for the other"));
+    }
+    if !agrees {
+        return Err(Stop::Other("an answer isn't in the trail"));
+    }
+    Ok(seen)
+}
+
+/// What a stage takes of the system.
+pub trait System: AllocGlobal + Clock + Threads + Wait + Sync {}
+
+impl<R: AllocGlobal + Clock + Threads + Wait + Sync> System for R {}
+
+/// Performs the acts on a loop over a new session, or on each of two that run at once, where the
+/// call that comes first is held until one of the other loop was answered: what is seen of one
+/// loop, or of both one behind the other.
+pub fn perform(rt: &impl System, loops: usize, acts: &[Act]) -> Result<Seen, Stop> {
+    let alloc = rt.alloc();
+    let mut places = Vec::new(alloc);
+    for place in 0..loops {
+        places.push(place)?;
+    }
+    let start = Start {
+        alloc,
+        users: users(alloc)?,
+        places,
+    };
+    let playing = Playing {
+        acts,
+        loops,
+        calls: Calls::new(loops),
+        left: Mutex::new(Left::new(alloc)),
+    };
+    match keep(rt, start, &playing, || Ok(())) {
+        Ok(agrees) => seen_of(playing, agrees),
+        Err(LoopsFault::NoMemory) => Err(Stop::Memory),
+        Err(_) => Err(Stop::Other("begun")),
+    }
 }

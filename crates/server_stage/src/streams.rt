@@ -2,6 +2,7 @@
 
 ghost use Rattle.std.specs.Io.{ReadsAtMost, WritesAtMost};
 
+use crate::stop::Stop;
 use std::alloc::{AllocError, Global};
 use std::cell::RefCell;
 use std::io;
@@ -12,7 +13,7 @@ use std::rc::Rc;
 const ROOM: usize = 16_384;
 
 /// How a stream behaves.
-#[derive(Clone, Copy, Debug)]
+#[derive(Clone, Copy)]
 pub enum Habit {
     /// As many bytes a call as there are.
     Whole,
@@ -26,6 +27,17 @@ pub enum Habit {
     Takes(usize),
     /// Takes nothing at so many writes, and then all. All that is there is read.
     Later(usize),
+}
+
+/// What became of a stream.
+#[derive(Drop)]
+pub struct Sent {
+    /// What the loop wrote, as far as it was taken.
+    pub bytes: Vec<u8>,
+    /// How many calls the loop made.
+    pub calls: usize,
+    /// How many bytes the loop read.
+    pub read: usize,
 }
 
 #[derive(Drop)]
@@ -95,27 +107,11 @@ impl Far {
         }
     }
 
-    /// What the loop wrote, as far as it was taken.
-    pub fn taken(&self, alloc: Global) -> Result<Vec<u8>, AllocError> {
+    /// What became of it.
+    pub fn sent(&self, alloc: Global) -> Result<Sent, Stop> {
         match self.passing.try_borrow() {
-            Ok(passing) => Vec::from_slice(alloc, passing.taken.as_slice()),
-            Err(_) => Ok(Vec::new(alloc)),
-        }
-    }
-
-    /// How many calls the loop made.
-    pub fn calls(&self) -> usize {
-        match self.passing.try_borrow() {
-            Ok(passing) => passing.calls(),
-            Err(_) => 0,
-        }
-    }
-
-    /// How many bytes the loop read.
-    pub fn read(&self) -> usize {
-        match self.passing.try_borrow() {
-            Ok(passing) => passing.read,
-            Err(_) => 0,
+            Ok(passing) => Ok(passing.sent(alloc)?),
+            Err(_) => Err(Stop::Other("a stream is in use")),
         }
     }
 }
@@ -127,6 +123,14 @@ fn would_wait() -> io::Error {
 impl Passing {
     fn calls(&self) -> usize {
         self.reads.saturating_add(self.writes)
+    }
+
+    fn sent(&self, alloc: Global) -> Result<Sent, AllocError> {
+        Ok(Sent {
+            bytes: Vec::from_slice(alloc, self.taken.as_slice())?,
+            calls: self.calls(),
+            read: self.read,
+        })
     }
 
     // How many bytes may pass at the call of this number, whose way was called so often.

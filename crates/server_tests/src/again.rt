@@ -1,10 +1,8 @@
 //! A client whose writes stop inside its first draw, and the same user's next one.
 
-use attach_proto::Message;
-use server_stage::{Habit, Play, Received, Stage, Stop, WINDOW, are_alike, perform, shows};
-use std::sync::Wait;
-use std::sync::ledger::Ledger as Roll;
-use std::test::Fail;
+use crate::rows::play;
+use server_stage::{Act, Habit, Message, Received, Seen, Stop, System, WINDOW, are_alike, shows};
+use std::alloc::Global;
 
 /// The size of the clients' terminals.
 const SIZE: (usize, usize) = (24, 80);
@@ -13,54 +11,75 @@ const SIZE: (usize, usize) = (24, 80);
 const ATTACH: &[u8] =
     b"A\0G\0\x18\0P0000000000000000000000000000000000000000000000000000000000000000own";
 
-/// Of two clients of the owner the first takes so many bytes.
-#[derive(Drop)]
-struct Broken {
-    most: usize,
+// Of two clients of the owner the first takes so many bytes.
+fn broken(most: usize) -> [Act<'static>; 8] {
+    [
+        Act::Connect(Habit::Whole, WINDOW),
+        Act::Send(0, b"O\0\x02hi"),
+        Act::Turns(3),
+        Act::Connect(Habit::Takes(most), ATTACH),
+        Act::Turns(3),
+        Act::Connect(Habit::Whole, ATTACH),
+        Act::Turns(3),
+        Act::Note(0),
+    ]
 }
 
-impl Play for Broken {
-    /// What both were sent.
-    type Left = (Vec<u8>, Vec<u8>);
+// What draws the page, of all that a client was sent: it is welcome, and drawn once.
+fn draw_of(alloc: Global, whole: &[u8]) -> Result<Vec<u8>, Stop> {
+    let received = Received::of(alloc, whole)?;
+    match received.messages.as_slice() {
+        [Message::Welcome(0), Message::Draw(_)] => received.drawn(alloc),
+        _ => Err(Stop::Other("it isn't drawn once")),
+    }
+}
 
-    fn play<L: Roll, R: Wait>(
-        &mut self,
-        rt: &R,
-        stage: &mut Stage<L>,
-    ) -> Result<(Vec<u8>, Vec<u8>), Stop> {
-        let window = stage.connect(Habit::Whole, WINDOW)?;
-        window.send(b"O\0\x02hi")?;
-        stage.turns(rt, 3);
-        let first = stage.connect(Habit::Takes(self.most), ATTACH)?;
-        stage.turns(rt, 3);
-        let second = stage.connect(Habit::Whole, ATTACH)?;
-        stage.turns(rt, 3);
-        Ok((first.taken(stage.alloc)?, second.taken(stage.alloc)?))
+// Whether the first took so many bytes of the whole, and the second was sent all of it. A terminal
+// that had read the first ones shows the same behind it.
+fn is_same(alloc: Global, seen: &Seen, whole: &[u8], draw: &[u8], most: usize) -> bool {
+    // A WELCOME takes four bytes, and what stands before a draw's bytes three.
+    let read = draw.get(..most.saturating_sub(7)).unwrap_or(draw);
+    let Some(first) = whole.get(..most) else {
+        return false;
+    };
+    let is_taken = seen.bytes(0, 1) == first && seen.bytes(0, 2) == whole;
+    is_taken && matches!(are_alike(alloc, SIZE, &[draw], &[read, draw]), Ok(true))
+}
+
+fn is_anew(rt: &impl System, whole: &[u8], draw: &[u8], most: usize) -> bool {
+    match play(rt, &broken(most)) {
+        Some(seen) => is_same(rt.alloc(), &seen, whole, draw, most),
+        None => false,
+    }
+}
+
+// The first number of bytes of the whole behind which the next client isn't drawn anew.
+fn first_wrong(rt: &impl System, whole: &[u8], draw: &[u8]) -> Option<usize> {
+    for most in 0..whole.len() {
+        if !is_anew(rt, whole, draw, most) {
+            return Some(most);
+        }
+    }
+    None
+}
+
+// Whether a client that takes all is drawn the page, and each next one is drawn anew.
+fn are_anew(rt: &impl System, whole: &[u8]) -> bool {
+    let Ok(draw) = draw_of(rt.alloc(), whole) else {
+        return false;
+    };
+    let is_page = shows(rt.alloc(), SIZE, &draw, "hi", "");
+    matches!(is_page, Ok(true)) && first_wrong(rt, whole, &draw).is_none()
+}
+
+fn is_drawn_anew(rt: &impl System) -> bool {
+    match play(rt, &broken(usize::MAX)) {
+        Some(seen) => are_anew(rt, seen.bytes(0, 1)),
+        None => false,
     }
 }
 
 #[test]
-fn a_second_attachment_is_drawn_anew(rt: HostRuntime) -> Result<(), Fail> {
-    let alloc = rt.alloc();
-    let ((whole, _), _) = perform(&rt, alloc, &mut Broken { most: usize::MAX })?;
-    let received = Received::of(alloc, &whole)?;
-    let is_one_draw = matches!(
-        received.messages.as_slice(),
-        [Message::Welcome(0), Message::Draw(_)]
-    );
-    assert!(rt; is_one_draw, "it is welcome, and drawn once");
-    let draw = received.drawn(alloc)?;
-    assert!(rt; shows(alloc, SIZE, &draw, "hi", "")?, "the page");
-    for most in 0..whole.len() {
-        let ((first, second), _) = perform(&rt, alloc, &mut Broken { most })?;
-        assert_eq!(rt; first.as_slice(), &whole[..most], "at {most}");
-        assert_eq!(rt; second.as_slice(), whole.as_slice(), "at {most}");
-        // A WELCOME takes four bytes, and what stands before a draw's bytes three.
-        let read = draw.get(..most.saturating_sub(7)).unwrap_or(&draw);
-        assert!(rt;
-            are_alike(alloc, SIZE, &[&draw], &[read, &draw])?,
-            "at {most}"
-        );
-    }
-    Ok(())
+fn a_second_attachment_is_drawn_anew(rt: HostRuntime) {
+    assert!(rt; is_drawn_anew(&rt));
 }

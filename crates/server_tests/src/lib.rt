@@ -1,14 +1,21 @@
 //! Tests of a server's loops: how they end, what refused memory does, an attachment after a broken
-//! one, two of them side by side, and who has his turn when.
+//! one, two of them side by side, who has his turn when, streams that are slow, wait, fail or end
+//! at each place, and made-up bytes.
 #![tactic(auto)]
 
 #[cfg(test)]
 mod again;
 #[cfg(test)]
-mod ends;
+mod cut_short;
 #[cfg(test)]
-mod gates;
+mod failing;
+#[cfg(test)]
+mod made_up;
+#[cfg(test)]
+mod many;
+#[cfg(test)]
+mod plays;
 #[cfg(test)]
 mod refusals;
 #[cfg(test)]
-mod turns;
+mod rows;

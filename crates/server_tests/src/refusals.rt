@@ -2,16 +2,63 @@
 //! most one peer is let go, and all is as without a refusal once it is tried again.
 
 use server_stage::{
-    ATTACH, ATTACH_BOB, Far, GONE_FAULT, Habit, Play, Received, Stage, Stop, WINDOW, perform, shows,
+    ACLADD, ATTACH, ATTACH_BOB, Act, GONE_FAULT, Habit, MULTIUSER, Received, Seen, Stop, System,
+    WINDOW, perform, shows,
 };
 use std::alloc::Global;
-use std::process::Abort;
-use std::sync::Wait;
-use std::sync::ledger::Ledger as Roll;
-use std::test::Fail;
 
-/// At most one allocation is refused in a run, so a second try never is.
-const TRIES: usize = 2;
+// A command of the owner, `wall hello`.
+const WALL: &[u8] =
+    b"C\0\x4F\xff0000000000000000000000000000000000000000000000000000000000000000\x03ownwall hello";
+
+// Each command is given twice. At most one allocation is refused in a run, so one of the two is
+// done.
+static BEGINNING: [Act; 8] = [
+    Act::Connect(Habit::Whole, MULTIUSER),
+    Act::Turns(2),
+    Act::Connect(Habit::Whole, MULTIUSER),
+    Act::Turns(2),
+    Act::Connect(Habit::Whole, ACLADD),
+    Act::Turns(2),
+    Act::Connect(Habit::Whole, ACLADD),
+    Act::Turns(2),
+];
+
+// The numbers of the windows' connections of the first scene and of the second. Behind one come the
+// owner's client, bob's, and the two that give the scene's command.
+const ONE: usize = 4;
+
+const OTHER: usize = 9;
+
+// A window whose program writes, the owner's client and bob's, which type, and a command. All
+// peers end behind it. Connections have numbers from this one on.
+fn scene(window: usize) -> [Act<'static>; 22] {
+    let (client, bob) = (window.saturating_add(1), window.saturating_add(2));
+    [
+        Act::Connect(Habit::Whole, WINDOW),
+        Act::Send(window, b"O\0\x02hi"),
+        Act::Turns(3),
+        Act::Connect(Habit::Whole, ATTACH),
+        Act::Send(client, b"K\0\x02xy"),
+        Act::Turns(3),
+        Act::Connect(Habit::Whole, ATTACH_BOB),
+        Act::Send(bob, b"R\0\x04\0\x04\0\x14"),
+        Act::Send(bob, b"K\0\x01z"),
+        Act::Turns(3),
+        Act::Send(window, b"O\0\x09there\x1b[6n"),
+        Act::Turns(3),
+        Act::Connect(Habit::Whole, WALL),
+        Act::Turns(2),
+        Act::Connect(Habit::Whole, WALL),
+        Act::Turns(5),
+        Act::Note(0),
+        Act::End(window),
+        Act::End(client),
+        Act::End(bob),
+        Act::Turns(3),
+        Act::Note(0),
+    ]
+}
 
 /// What a scene left: whether the window, the owner's client and bob's stayed, and whether each has
 /// all that it is due.
@@ -26,70 +73,37 @@ const ALL: Left = Left {
     is_whole: [true, true, true],
 };
 
-// Gives a command until it is done.
-fn command_at_last<L: Roll, R: Wait>(rt: &R, stage: &mut Stage<L>, line: &str) -> Result<(), Stop> {
-    for _ in 0..TRIES {
-        if stage.command(rt, line)?.ends_with(b"g\0\x01\0") {
-            return Ok(());
-        }
-    }
-    Err(Stop::Other("a command isn't done"))
+// Whether a peer was neither let go for a fault nor refused at the door.
+fn has_stayed(bytes: &[u8]) -> bool {
+    !bytes.is_empty() && !bytes.ends_with(GONE_FAULT)
 }
 
-// Whether a peer was neither let go for a fault nor refused at the door.
-fn has_stayed(alloc: Global, far: &Far) -> Result<bool, Stop> {
-    let taken = far.taken(alloc)?;
-    Ok(!taken.is_empty() && !taken.ends_with(GONE_FAULT))
+// Whether a window's program has all that was typed, and an answer.
+fn is_typed(alloc: Global, bytes: &[u8]) -> Result<bool, Stop> {
+    let typed = Received::of(alloc, bytes)?.input(alloc)?;
+    Ok(typed.as_slice() == b"xyz\x1b[1;8R".as_slice())
 }
 
 // Whether a client's terminal shows its page, and it was told by `wall`.
-fn is_shown(alloc: Global, far: &Far) -> Result<bool, Stop> {
-    let received = Received::of(alloc, &far.taken(alloc)?)?;
+fn is_shown(alloc: Global, bytes: &[u8]) -> Result<bool, Stop> {
+    let received = Received::of(alloc, bytes)?;
     let drawn = received.drawn(alloc)?;
     Ok(received.says("own: hello") && shows(alloc, (4, 20), &drawn, "hithere", "own: hello")?)
 }
 
-fn collect(alloc: Global, window: &Far, client: &Far, bob: &Far) -> Result<Left, Stop> {
-    let typed = Received::of(alloc, &window.taken(alloc)?)?.input(alloc)?;
+// What the scene left at this note whose window is that connection.
+fn left_by(alloc: Global, seen: &Seen, note: usize, window: usize) -> Result<Left, Stop> {
+    let typed = seen.bytes(note, window);
+    let client = seen.bytes(note, window.saturating_add(1));
+    let bob = seen.bytes(note, window.saturating_add(2));
     Ok(Left {
-        stayed: [
-            has_stayed(alloc, window)?,
-            has_stayed(alloc, client)?,
-            has_stayed(alloc, bob)?,
-        ],
+        stayed: [has_stayed(typed), has_stayed(client), has_stayed(bob)],
         is_whole: [
-            typed.as_slice() == b"xyz\x1b[1;8R".as_slice(),
+            is_typed(alloc, typed)?,
             is_shown(alloc, client)?,
             is_shown(alloc, bob)?,
         ],
     })
-}
-
-// A window whose program writes, the owner's client and bob's, which type, and some commands. All
-// peers end behind it.
-fn scene<L: Roll, R: Wait>(rt: &R, stage: &mut Stage<L>) -> Result<Left, Stop> {
-    command_at_last(rt, stage, "multiuser on")?;
-    command_at_last(rt, stage, "acladd bob")?;
-    let window = stage.connect(Habit::Whole, WINDOW)?;
-    window.send(b"O\0\x02hi")?;
-    stage.turns(rt, 3);
-    let client = stage.connect(Habit::Whole, ATTACH)?;
-    client.send(b"K\0\x02xy")?;
-    stage.turns(rt, 3);
-    let bob = stage.connect(Habit::Whole, ATTACH_BOB)?;
-    bob.send(b"R\0\x04\0\x04\0\x14")?;
-    bob.send(b"K\0\x01z")?;
-    stage.turns(rt, 3);
-    window.send(b"O\0\x09there\x1b[6n")?;
-    stage.turns(rt, 3);
-    command_at_last(rt, stage, "wall hello")?;
-    stage.turns(rt, 3);
-    let left = collect(stage.alloc, &window, &client, &bob)?;
-    for far in [window, client, bob] {
-        far.end();
-    }
-    stage.turns(rt, 3);
-    Ok(left)
 }
 
 // Where all stayed each has all. Where one was let go the clients that stayed have all of a window
@@ -106,52 +120,54 @@ fn is_as_due(left: Left) -> bool {
     }
 }
 
-/// The scene, and once more where a peer was let go.
-#[derive(Drop)]
-struct Scenes;
-
-/// What the scenes left, and whether all ended behind the first and the loop goes on.
-#[derive(Clone, Copy)]
-struct Played {
-    first: Left,
-    has_ended: bool,
-    second: Option<Left>,
+// Whether a command was done that this connection gave, and the next one.
+fn is_done(seen: &Seen, note: usize, connection: usize) -> bool {
+    let first = seen.bytes(note, connection);
+    let second = seen.bytes(note, connection.saturating_add(1));
+    first.ends_with(b"g\0\x01\0") || second.ends_with(b"g\0\x01\0")
 }
 
-impl Play for Scenes {
-    type Left = Played;
-
-    fn play<L: Roll, R: Wait>(&mut self, rt: &R, stage: &mut Stage<L>) -> Result<Played, Stop> {
-        let first = scene(rt, stage)?;
-        let has_ended = stage.own.peers.is_empty() && stage.own.peers.end().is_none();
-        let second = if first == ALL {
-            None
-        } else {
-            Some(scene(rt, stage)?)
-        };
-        Ok(Played {
-            first,
-            has_ended,
-            second,
-        })
+// Whether all have ended at this note, and the loop goes on.
+fn is_over(seen: &Seen, note: usize) -> bool {
+    match seen.standing(note) {
+        Some(standing) => standing.len == 0 && standing.end.is_none(),
+        None => false,
     }
 }
 
-fn attempt<R: Wait + Abort>(rt: &R, alloc: Global) -> Result<(), Stop> {
-    let (played, _) = perform(rt, alloc, &mut Scenes)?;
-    let first = played.first;
-    assert!(rt; is_as_due(first), "{first:?}");
-    assert!(rt; played.has_ended, "all ended, and it goes on");
-    assert_eq!(rt; played.second.unwrap_or(ALL), ALL, "tried again");
-    Ok(())
+fn acts(alloc: Global) -> Result<Vec<Act<'static>>, Stop> {
+    let mut acts = Vec::from_slice(alloc, &BEGINNING)?;
+    acts.extend_from_slice(&scene(ONE))?;
+    acts.extend_from_slice(&scene(OTHER))?;
+    Ok(acts)
+}
+
+// Whether each command was done, and all ended behind each scene.
+fn are_done(seen: &Seen) -> bool {
+    let is_begun = is_done(seen, 0, 0) && is_done(seen, 0, 2);
+    let are_told = is_done(seen, 0, ONE + 3) && is_done(seen, 2, OTHER + 3);
+    is_begun && are_told && is_over(seen, 1) && is_over(seen, 3)
+}
+
+// Whether both scenes are as due, one of them at least as without a refusal.
+fn are_as_due(alloc: Global, seen: &Seen) -> Result<bool, Stop> {
+    let first = left_by(alloc, seen, 0, ONE)?;
+    let second = left_by(alloc, seen, 2, OTHER)?;
+    Ok(is_as_due(first) && is_as_due(second) && (first == ALL || second == ALL))
+}
+
+fn attempt(rt: &impl System) -> Result<bool, Stop> {
+    let acts = acts(rt.alloc())?;
+    let seen = perform(rt, 1, &acts)?;
+    Ok(are_done(&seen) && are_as_due(rt.alloc(), &seen)?)
 }
 
 #[test]
-fn a_refusal_ends_one_peer_at_most(rt: HostRuntime) -> Result<(), Fail> {
-    match attempt(&rt, rt.alloc()) {
-        Ok(()) => Ok(()),
+fn a_refusal_ends_one_peer_at_most(rt: HostRuntime) {
+    let attempted = match attempt(&rt) {
         // What was refused is the test's own.
-        Err(Stop::Memory) => Ok(attempt(&rt, rt.alloc())?),
-        Err(stop) => Err(stop.into()),
-    }
+        Err(Stop::Memory) => attempt(&rt),
+        attempted => attempted,
+    };
+    assert_eq!(rt; attempted, Ok(true));
 }

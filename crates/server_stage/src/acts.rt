@@ -1,0 +1,86 @@
+//! What happens on a stage, and what is seen of it.
+
+use crate::streams::{Habit, Sent};
+use server_loop::End;
+
+/// What happens. Connections count from 0, in the order in which they came.
+#[derive(Clone, Copy)]
+pub enum Act<'a> {
+    /// A connection comes, and sends these bytes. Without memory the loop closes it.
+    Connect(Habit, &'a [u8]),
+    /// One that is taken in though no more are to stay.
+    ConnectExtra(&'a [u8]),
+    Send(usize, &'a [u8]),
+    /// A connection ends behind what it sent.
+    End(usize),
+    /// The one that came last ends, and its number is free.
+    Leave,
+    SetHabit(usize, Habit),
+    /// So many turns, in each of which all connections are ready.
+    Turns(usize),
+    /// So many turns at most in which nothing comes, while the loop has something to do.
+    QuietTurns(usize),
+    /// It is this second, and so many milliseconds pass before each turn. Those that were waited
+    /// for long enough go.
+    SetTime(u64, u64),
+    /// Of those whose first message isn't done the oldest goes, if they are so many or more.
+    LetOldestGo(usize),
+    /// The server ends so.
+    Finish(End),
+    /// How the loop stands is noted, and what is seen of the connections from this one on.
+    Note(usize),
+}
+
+/// How a loop stands.
+#[derive(Clone, Copy)]
+pub struct Standing {
+    /// How many connections it has.
+    pub len: usize,
+    /// Whether it has something to do, though nothing comes.
+    pub is_due: bool,
+    /// Whether it is to try something again soon.
+    pub has_waiting: bool,
+    pub end: Option<End>,
+}
+
+/// What is seen at a moment.
+#[derive(Drop)]
+pub struct Note {
+    pub standing: Standing,
+    /// The first connection of which something was noted.
+    pub first: usize,
+    pub sent: Vec<Sent>,
+}
+
+/// What is seen of a play.
+#[derive(Drop)]
+pub struct Seen {
+    pub notes: Vec<Note>,
+    /// The trail's entries, a letter for each.
+    pub entries: Vec<u8>,
+}
+
+impl Seen {
+    /// How the loop stood at a note.
+    pub fn standing(&self, note: usize) -> Option<Standing> {
+        match self.notes.get(note) {
+            Some(note) => Some(note.standing),
+            None => None,
+        }
+    }
+
+    /// What a connection had at a note.
+    pub fn sent(&self, note: usize, connection: usize) -> Option<&Sent> {
+        let note = self.notes.get(note)?;
+        note.sent.get(connection.checked_sub(note.first)?)
+    }
+
+    /// What a connection had been sent at a note. Where there is no such note or connection it is
+    /// no frame.
+    pub fn bytes(&self, note: usize, connection: usize) -> &[u8] {
+        match self.sent(note, connection) {
+            Some(sent) => sent.bytes.as_slice(),
+            None => b"?",
+        }
+    }
+}

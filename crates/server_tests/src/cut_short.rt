@@ -1,0 +1,159 @@
+//! Connections that stop or end at each byte.
+
+use crate::rows::{play, typed};
+use server_stage::{ATTACH, Act, DETACH, Habit, Received, Seen, System, WALL, WINDOW, Why};
+use std::alloc::{AllocError, Global};
+
+/// What a connection sends, and the trail's entries once so many of its frames came whole: while
+/// the connection stays, and where it ends there.
+struct Case {
+    frames: &'static [&'static [u8]],
+    stays: &'static [&'static [u8]],
+    ends: &'static [&'static [u8]],
+}
+
+static CASES: [Case; 3] = [
+    Case {
+        frames: &[ATTACH, b"K\0\x02xy", DETACH],
+        stays: &[b"", b"A", b"AK", b"AKD"],
+        ends: &[b"", b"AD", b"AKD", b"AKD"],
+    },
+    Case {
+        frames: &[WINDOW, b"O\0\x02ho", DETACH],
+        stays: &[b"", b"O", b"O", b"OX"],
+        ends: &[b"", b"OX", b"OX", b"OX"],
+    },
+    Case {
+        frames: &[WALL],
+        stays: &[b"", b"C"],
+        ends: &[b"", b"C"],
+    },
+];
+
+/// What a connection sends of a case's frames.
+#[derive(Drop)]
+struct Cut {
+    bytes: Vec<u8>,
+    /// How many frames are whole.
+    wholes: usize,
+    /// Whether nothing is cut off.
+    is_all: bool,
+    /// Whether the connection ends behind it.
+    ends: bool,
+}
+
+// The first bytes of the frames, so many.
+fn beginning(alloc: Global, frames: &[&[u8]], count: usize, ends: bool) -> Result<Cut, AllocError> {
+    let mut bytes = Vec::new(alloc);
+    let mut wholes = 0usize;
+    for frame in frames {
+        bytes.extend_from_slice(frame)?;
+        if bytes.len() <= count {
+            wholes = wholes.saturating_add(1);
+        }
+    }
+    let is_all = bytes.len() <= count;
+    bytes.truncate(count);
+    Ok(Cut {
+        bytes,
+        wholes,
+        is_all,
+        ends,
+    })
+}
+
+// A connection that sends it, beside a window of the owner and his client, which types `k` at
+// last.
+fn seen_of(rt: &impl System, cut: &Cut) -> Option<Seen> {
+    let acts = [
+        Act::Connect(Habit::Whole, WINDOW),
+        Act::Turns(2),
+        Act::Connect(Habit::Whole, ATTACH),
+        Act::Turns(2),
+        Act::Connect(Habit::Whole, &cut.bytes),
+        if cut.ends { Act::End(2) } else { Act::Turns(0) },
+        Act::Turns(3),
+        Act::Note(0),
+        Act::Send(1, b"K\0\x01k"),
+        Act::Turns(3),
+        Act::Note(0),
+    ];
+    play(rt, &acts)
+}
+
+// Whether the trail has these entries between those of the window and its client, and all that
+// was typed came.
+fn is_done(alloc: Global, seen: &Seen, wanted: &[u8]) -> bool {
+    let typed_wanted = if wanted.contains(&b'K') {
+        b"xyk".as_slice()
+    } else {
+        b"k".as_slice()
+    };
+    let rest = seen.entries.strip_prefix(b"OA".as_slice()).unwrap_or(b"?");
+    let own = rest.strip_suffix(b"K".as_slice()).unwrap_or(b"?");
+    let Some(typed) = typed(alloc, seen.bytes(1, 0)) else {
+        return false;
+    };
+    own == wanted && typed.as_slice() == typed_wanted
+}
+
+// Whether a connection of which all came is let go, and another one that doesn't end stays; and
+// nothing is sent to one of which no frame is whole.
+fn is_answered(alloc: Global, seen: &Seen, cut: &Cut) -> bool {
+    let bytes = seen.bytes(1, 2);
+    let (Ok(received), Some(standing)) = (Received::of(alloc, bytes), seen.standing(0)) else {
+        return false;
+    };
+    let why = if cut.is_all {
+        Some(Why::Detached)
+    } else {
+        None
+    };
+    let len = if cut.is_all || cut.ends { 2 } else { 3 };
+    let may_be_told = cut.wholes > 0 || bytes.is_empty();
+    let is_told = cut.ends || received.gone() == why;
+    standing.len == len && may_be_told && is_told
+}
+
+// Whether what is whole of so many bytes is done, and a beginning asks for nothing. One that ends
+// is as if it had ended before what isn't whole.
+fn is_as_due(rt: &impl System, case: &Case, count: usize, ends: bool) -> bool {
+    let Ok(cut) = beginning(rt.alloc(), case.frames, count, ends) else {
+        return false;
+    };
+    let entries = if ends { case.ends } else { case.stays };
+    let (Some(wanted), Some(seen)) = (entries.get(cut.wholes), seen_of(rt, &cut)) else {
+        return false;
+    };
+    is_done(rt.alloc(), &seen, wanted) && is_answered(rt.alloc(), &seen, &cut)
+}
+
+fn len_of(frames: &[&[u8]]) -> usize {
+    let mut len = 0usize;
+    for frame in frames {
+        len = len.saturating_add(frame.len());
+    }
+    len
+}
+
+// The first case, and the number of bytes, after which it isn't as due.
+fn first_wrong(rt: &impl System, ends: bool) -> Option<(usize, usize)> {
+    for (place, case) in CASES.iter().enumerate() {
+        for count in 0..=len_of(case.frames) {
+            if !is_as_due(rt, case, count, ends) {
+                return Some((place, count));
+            }
+        }
+    }
+    None
+}
+
+#[test]
+fn what_is_whole_is_done(rt: HostRuntime) {
+    assert_eq!(rt; first_wrong(&rt, false), None);
+}
+
+#[test]
+fn an_end_inside_a_frame(rt: HostRuntime) {
+    assert_eq!(rt; first_wrong(&rt, true), None);
+}

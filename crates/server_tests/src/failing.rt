@@ -1,0 +1,179 @@
+//! Streams that are slow, and calls that would wait, are interrupted or fail at each place in turn.
+
+use crate::rows::{play, typed};
+use server_stage::{
+    ACLADD, ATTACH, ATTACH_BOB, Act, Habit, MULTIUSER, Received, Seen, Sent, System, WINDOW, shows,
+};
+use std::alloc::Global;
+use std::io::ErrorKind;
+
+// The numbers of a window's connection, of bob's and of the client's.
+const WINDOW_AT: usize = 2;
+
+const BOB: usize = 3;
+
+const CLIENT: usize = 4;
+
+// A client of the owner, which types `xy` and whose stream has the habit, beside a window whose
+// program writes meanwhile, and bob, who types `z` behind so many turns.
+fn beside(habit: Habit, turns: usize) -> [Act<'static>; 18] {
+    [
+        Act::Connect(Habit::Whole, MULTIUSER),
+        Act::Turns(2),
+        Act::Connect(Habit::Whole, ACLADD),
+        Act::Turns(2),
+        Act::Connect(Habit::Whole, WINDOW),
+        Act::Send(WINDOW_AT, b"O\0\x02hi"),
+        Act::Connect(Habit::Whole, ATTACH_BOB),
+        Act::Turns(4),
+        Act::SetHabit(WINDOW_AT, Habit::Slow),
+        Act::SetHabit(BOB, Habit::Slow),
+        Act::Connect(habit, ATTACH),
+        Act::Send(CLIENT, b"K\0\x02xy"),
+        Act::Send(WINDOW_AT, b"O\0\x05there"),
+        Act::Turns(turns),
+        Act::Note(0),
+        Act::Send(BOB, b"K\0\x01z"),
+        Act::Turns(20),
+        Act::Note(0),
+    ]
+}
+
+// The first entries are those of two commands, the window and bob, the last is that of what he
+// types. Between them stand the client's, of whose stream so many bytes were read.
+fn entries_by(read: usize, is_lost: bool) -> &'static [u8] {
+    match (read < 74, read < 79, is_lost) {
+        (true, _, _) => b"CCOAK",
+        (false, true, true) => b"CCOAADK",
+        (false, true, false) => b"CCOAAK",
+        (false, false, true) => b"CCOAAKDK",
+        (false, false, false) => b"CCOAAKK",
+    }
+}
+
+fn typed_by(read: usize) -> &'static [u8] {
+    if read < 79 { b"z" } else { b"xyz" }
+}
+
+// What holds of each run: what was read was done, and a client that is lost was detached.
+fn is_done(alloc: Global, seen: &Seen, client: &Sent, is_lost: bool) -> bool {
+    let Some(typed) = typed(alloc, seen.bytes(1, WINDOW_AT)) else {
+        return false;
+    };
+    let entries = seen.entries.as_slice();
+    entries == entries_by(client.read, is_lost) && typed.as_slice() == typed_by(client.read)
+}
+
+// Whether a client's terminal shows all that the window's program wrote.
+fn shows_all(alloc: Global, bytes: &[u8]) -> Option<bool> {
+    let drawn = Received::of(alloc, bytes).ok()?.drawn(alloc).ok()?;
+    shows(alloc, (4, 20), &drawn, "hithere", "").ok()
+}
+
+// Whether a client that nothing stops was welcome, and it and bob were drawn all.
+fn is_passed(alloc: Global, seen: &Seen) -> Option<bool> {
+    let client = seen.sent(1, CLIENT)?;
+    let bytes = client.bytes.as_slice();
+    let is_whole = client.read == 79 && bytes.starts_with(b"y\0\x01\0d");
+    let is_shown = shows_all(alloc, bytes)? && shows_all(alloc, seen.bytes(1, BOB))?;
+    Some(is_whole && is_shown && is_done(alloc, seen, client, false))
+}
+
+fn passes_all(rt: &impl System, habit: Habit) -> bool {
+    match play(rt, &beside(habit, 400)) {
+        Some(seen) => is_passed(rt.alloc(), &seen) == Some(true),
+        None => false,
+    }
+}
+
+fn slow_streams_pass(rt: &impl System) -> bool {
+    for habit in [Habit::Whole, Habit::Steady, Habit::Slow] {
+        if !passes_all(rt, habit) {
+            return false;
+        }
+    }
+    true
+}
+
+// A way for a call to fail, and whether the client is lost by it.
+#[derive(Clone, Copy)]
+struct Failing {
+    kind: ErrorKind,
+    is_lost: bool,
+}
+
+static FAILING: [Failing; 4] = [
+    Failing {
+        kind: ErrorKind::WouldBlock,
+        is_lost: false,
+    },
+    Failing {
+        kind: ErrorKind::Interrupted,
+        is_lost: false,
+    },
+    Failing {
+        kind: ErrorKind::ConnectionReset,
+        is_lost: true,
+    },
+    Failing {
+        kind: ErrorKind::BrokenPipe,
+        is_lost: true,
+    },
+];
+
+// Whether what waits was done later, or a fault closed that connection alone: it wasn't called
+// again, and was sent a beginning of what it is sent else. Bob was sent what he is sent else.
+fn is_served(alloc: Global, calm: &Seen, seen: &Seen, failing: Failing, at: usize) -> Option<bool> {
+    let client = seen.sent(1, CLIENT)?;
+    let bytes = client.bytes.as_slice();
+    let is_served = if failing.is_lost {
+        client.calls == at.saturating_add(1) && calm.bytes(1, CLIENT).starts_with(bytes)
+    } else {
+        client.read == 79 && shows_all(alloc, bytes)?
+    };
+    let is_alone = seen.bytes(1, BOB) == calm.bytes(1, BOB);
+    Some(is_served && is_alone && is_done(alloc, seen, client, failing.is_lost))
+}
+
+fn is_as_due(rt: &impl System, calm: &Seen, failing: Failing, at: usize) -> bool {
+    match play(rt, &beside(Habit::Once(at, failing.kind), 60)) {
+        Some(seen) => is_served(rt.alloc(), calm, &seen, failing, at) == Some(true),
+        None => false,
+    }
+}
+
+// How often the client's stream is called before bob types, where it is read whole.
+fn places(calm: &Seen) -> Option<usize> {
+    match calm.sent(0, CLIENT) {
+        Some(client) if client.read == 79 => Some(client.calls),
+        _ => None,
+    }
+}
+
+// The first of these ways, by its number, and the call at which it does something else.
+fn first_wrong(rt: &impl System, calm: &Seen) -> Option<(usize, usize)> {
+    let Some(places) = places(calm) else {
+        return Some((usize::MAX, 0));
+    };
+    for (number, failing) in FAILING.iter().enumerate() {
+        for at in 0..places {
+            if !is_as_due(rt, calm, *failing, at) {
+                return Some((number, at));
+            }
+        }
+    }
+    None
+}
+
+#[test]
+fn slow_streams_pass_all(rt: HostRuntime) {
+    assert!(rt; slow_streams_pass(&rt));
+}
+
+#[test]
+fn each_call_waits_or_fails(rt: HostRuntime) {
+    let Some(calm) = play(&rt, &beside(Habit::Steady, 60)) else {
+        panic!(rt; "nothing is played")
+    };
+    assert_eq!(rt; first_wrong(&rt, &calm), None);
+}

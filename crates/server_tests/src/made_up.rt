@@ -1,0 +1,203 @@
+//! Made-up bytes as what a connection sends.
+
+use crate::rows::{play, typed};
+use server_stage::{ATTACH, Act, Habit, Received, Seen, System, WINDOW, Why};
+use std::alloc::{AllocError, Global};
+
+const LISTS: usize = 10_000;
+
+// The kinds that the server reads; the others are bad, or the server's own.
+const KINDS: &[u8] = b"AWCKROD";
+
+const OTHERS: &[u8] = b"ydiszg\0\xFF";
+
+// A number below 256 as a byte.
+fn byte_of(number: usize) -> u8 {
+    match u8::try_from(number) {
+        Ok(byte) => byte,
+        Err(_) => 0,
+    }
+}
+
+/// Numbers of a linear congruence.
+#[derive(Drop)]
+struct Numbers {
+    state: u32,
+}
+
+impl Numbers {
+    // A number below this one.
+    fn below(&mut self, bound: usize) -> usize {
+        self.state = self
+            .state
+            .wrapping_mul(1_664_525)
+            .wrapping_add(1_013_904_223);
+        let number = (self.state >> 16) as usize;
+        number.checked_rem(bound).unwrap_or(0)
+    }
+
+    fn one_of(&mut self, bytes: &[u8]) -> u8 {
+        let place = self.below(bytes.len());
+        bytes.get(place).copied().unwrap_or(0)
+    }
+
+    // Something like a frame: its kind and its length may be wrong, and some bytes may lack. No
+    // byte is C-a, behind which a client's keys would be commands.
+    fn push_frame(&mut self, out: &mut Vec<u8>) -> Result<(), AllocError> {
+        let kinds = if self.below(6) == 0 { OTHERS } else { KINDS };
+        out.push(self.one_of(kinds))?;
+        out.push(if self.below(12) == 0 { 0x20 } else { 0 })?;
+        let len = if self.below(3) == 0 { 4 } else { self.below(9) };
+        out.push(byte_of(len))?;
+        let lacking = if self.below(4) == 0 { self.below(3) } else { 0 };
+        for _ in 0..len.saturating_sub(lacking) {
+            let byte = byte_of(self.below(256));
+            out.push(if byte == 1 { 0 } else { byte })?;
+        }
+        Ok(())
+    }
+
+    fn list(&mut self, alloc: Global, begin: &[u8]) -> Result<Vec<u8>, AllocError> {
+        let mut list = Vec::from_slice(alloc, begin)?;
+        for _ in 0..self.below(4) {
+            self.push_frame(&mut list)?;
+        }
+        Ok(list)
+    }
+}
+
+// What a connection is due, at the frame that these bytes begin with: how many bytes it takes where
+// more may come, or else why it is let go, if it is.
+fn due_at(is_client: bool, bytes: &[u8]) -> Result<usize, Option<Why>> {
+    match bytes {
+        [kind, ..] if !KINDS.contains(kind) => Err(Some(Why::Fault)),
+        [kind, high, low, rest @ ..] => {
+            let len = *high as usize * 256 + *low as usize;
+            match (is_client, *kind, len) {
+                (_, _, 8193..) => Err(Some(Why::Fault)),
+                _ if rest.len() < len => Err(None),
+                (true, b'K', 1..) | (true, b'R', 4) => Ok(len + 3),
+                (true, b'D', 0) => Err(Some(Why::Detached)),
+                _ => Err(Some(Why::Fault)),
+            }
+        }
+        _ => Err(None),
+    }
+}
+
+// Why a connection that sent these bytes is let go, if it is.
+fn due(is_client: bool, bytes: &[u8]) -> Option<Why> {
+    let mut rest = bytes;
+    for _ in 0..bytes.len() {
+        match due_at(is_client, rest) {
+            Ok(taken) => rest = rest.get(taken..).unwrap_or(b""),
+            Err(why) => return why,
+        }
+    }
+    None
+}
+
+// Whether a connection that sent these bytes, and was sent those, got what it is due.
+fn is_due(alloc: Global, is_client: bool, bytes: &[u8], sent: &[u8]) -> bool {
+    let Ok(received) = Received::of(alloc, sent) else {
+        return false;
+    };
+    let wanted = due(is_client, bytes);
+    let count = if wanted.is_some() { 1 } else { 0 };
+    received.gone() == wanted && (is_client || received.messages.len() == count)
+}
+
+// What each list begins with: those of even numbers come of clients, the others of strangers.
+fn beginning(number: usize) -> &'static [u8] {
+    if number % 2 == 0 { ATTACH } else { b"" }
+}
+
+fn lists(alloc: Global) -> Result<Vec<Vec<u8>>, AllocError> {
+    let mut numbers = Numbers { state: 1 };
+    let mut lists = Vec::new(alloc);
+    for number in 0..LISTS {
+        lists.push(numbers.list(alloc, beginning(number))?)?;
+    }
+    Ok(lists)
+}
+
+// A window and its client, which types at last; and meanwhile connections that send the lists, each
+// in two cuts.
+fn acts(alloc: Global, lists: &[Vec<u8>]) -> Result<Vec<Act<'_>>, AllocError> {
+    let mut acts = Vec::with_capacity(alloc, lists.len().saturating_mul(11).saturating_add(7))?;
+    acts.extend_from_slice(&[
+        Act::Connect(Habit::Whole, WINDOW),
+        Act::Turns(2),
+        Act::Connect(Habit::Whole, ATTACH),
+        Act::Turns(2),
+    ])?;
+    for list in lists {
+        acts.extend_from_slice(&[
+            Act::Connect(Habit::Whole, list),
+            Act::Turns(2),
+            Act::Note(2),
+            Act::Leave,
+            Act::Turns(1),
+            Act::Connect(Habit::Steady, list),
+            Act::Turns(8),
+            Act::Note(2),
+            Act::Leave,
+            Act::Turns(1),
+            Act::Note(2),
+        ])?;
+    }
+    acts.extend_from_slice(&[Act::Send(1, b"K\0\x05still"), Act::Turns(2), Act::Note(0)])?;
+    Ok(acts)
+}
+
+// Whether a list is answered as it is due in both cuts, beside two peers that stay.
+fn is_answered(alloc: Global, seen: &Seen, number: usize, list: &[u8]) -> bool {
+    let begin = beginning(number);
+    let bytes = list.strip_prefix(begin).unwrap_or(b"?");
+    let is_client = !begin.is_empty();
+    let note = number.saturating_mul(3);
+    let whole = seen.bytes(note, 2);
+    let steady = seen.bytes(note.saturating_add(1), 2);
+    let stay = match seen.standing(note.saturating_add(2)) {
+        Some(standing) => standing.len == 2,
+        None => false,
+    };
+    stay && is_due(alloc, is_client, bytes, whole) && is_due(alloc, is_client, bytes, steady)
+}
+
+// Whether the client's keys are typed into its window, and it stays.
+fn go_on(alloc: Global, seen: &Seen) -> bool {
+    let last = LISTS * 3;
+    let (Some(typed), Ok(client)) = (
+        typed(alloc, seen.bytes(last, 0)),
+        Received::of(alloc, seen.bytes(last, 1)),
+    ) else {
+        return false;
+    };
+    typed.ends_with(b"still") && client.gone().is_none()
+}
+
+// The first list that isn't answered as it is due.
+fn first_wrong(alloc: Global, seen: &Seen, lists: &[Vec<u8>]) -> Option<usize> {
+    for (number, list) in lists.iter().enumerate() {
+        if !is_answered(alloc, seen, number, list) {
+            return Some(number);
+        }
+    }
+    None
+}
+
+fn are_answered(rt: &impl System) -> Result<bool, AllocError> {
+    let alloc = rt.alloc();
+    let lists = lists(alloc)?;
+    let acts = acts(alloc, &lists)?;
+    Ok(match play(rt, &acts) {
+        Some(seen) => first_wrong(alloc, &seen, &lists).is_none() && go_on(alloc, &seen),
+        None => false,
+    })
+}
+
+#[test]
+fn made_up_lists_stop_nothing(rt: HostRuntime) {
+    assert!(rt; matches!(are_answered(&rt), Ok(true)));
+}

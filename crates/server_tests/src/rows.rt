@@ -1,0 +1,122 @@
+//! Plays and what is to be seen of them, in rows.
+
+use server_stage::{Act, End, Received, Seen, Standing, System, Why, perform, shows};
+use std::alloc::Global;
+
+/// What is to be seen at a note. Connections count from 0, in the order in which they came.
+#[derive(Clone, Copy)]
+pub enum Wanted {
+    /// A connection was sent just this.
+    Sent(usize, &'static [u8]),
+    /// A window's program has just this.
+    Typed(usize, &'static [u8]),
+    /// A window's program has so many bytes.
+    TypedLen(usize, usize),
+    /// Whether a window's program has this byte.
+    HasTyped(usize, u8, bool),
+    /// A connection is let go for this, or stays.
+    Gone(usize, Option<Why>),
+    /// A client's terminal of 4 lines by 20 columns shows this.
+    Shows(usize, &'static str),
+    /// So many connections are there.
+    Len(usize),
+    /// Whether the loop has something to do, though nothing comes.
+    IsDue(bool),
+    /// Whether the loop is to try something again soon.
+    HasWaiting(bool),
+    /// How the server is to end, if it is.
+    End(Option<End>),
+    /// The trail's entries at last, a letter for each.
+    Entries(&'static [u8]),
+    /// The last of them.
+    LastEntries(&'static [u8]),
+}
+
+/// A note's number, and what is to be seen at it.
+pub type Row = (usize, Wanted);
+
+/// What the program of a window that was sent these bytes has.
+pub fn typed(alloc: Global, bytes: &[u8]) -> Option<Vec<u8>> {
+    Received::of(alloc, bytes).ok()?.input(alloc).ok()
+}
+
+// Whether a client that was sent these bytes shows this text.
+fn is_shown(alloc: Global, bytes: &[u8], text: &str) -> Option<bool> {
+    let drawn = Received::of(alloc, bytes).ok()?.drawn(alloc).ok()?;
+    shows(alloc, (4, 20), &drawn, text, "").ok()
+}
+
+// Whether a window's program that was sent these bytes has what it is to have.
+fn has_typed(alloc: Global, bytes: &[u8], wanted: Wanted) -> bool {
+    let Some(typed) = typed(alloc, bytes) else {
+        return false;
+    };
+    match wanted {
+        Wanted::Typed(_, bytes) => typed.as_slice() == bytes,
+        Wanted::TypedLen(_, len) => typed.len() == len,
+        Wanted::HasTyped(_, byte, has) => typed.contains(&byte) == has,
+        _ => false,
+    }
+}
+
+// Whether a connection that was sent these bytes is let go for this, or stays.
+fn is_gone(alloc: Global, bytes: &[u8], why: Option<Why>) -> bool {
+    match Received::of(alloc, bytes) {
+        Ok(received) => received.gone() == why,
+        Err(_) => false,
+    }
+}
+
+// Whether the loop stands as it is to stand.
+fn stands(standing: Standing, wanted: Wanted) -> bool {
+    match wanted {
+        Wanted::Len(len) => standing.len == len,
+        Wanted::IsDue(is_due) => standing.is_due == is_due,
+        Wanted::HasWaiting(has_waiting) => standing.has_waiting == has_waiting,
+        Wanted::End(end) => standing.end == end,
+        _ => false,
+    }
+}
+
+// Whether a row says what is seen.
+fn is_so(alloc: Global, seen: &Seen, (note, wanted): Row) -> bool {
+    match wanted {
+        Wanted::Sent(place, bytes) => seen.bytes(note, place) == bytes,
+        Wanted::Typed(place, _) | Wanted::TypedLen(place, _) | Wanted::HasTyped(place, _, _) => {
+            has_typed(alloc, seen.bytes(note, place), wanted)
+        }
+        Wanted::Gone(place, why) => is_gone(alloc, seen.bytes(note, place), why),
+        Wanted::Shows(place, text) => {
+            is_shown(alloc, seen.bytes(note, place), text) == Some(true)
+        }
+        Wanted::Entries(entries) => seen.entries.as_slice() == entries,
+        Wanted::LastEntries(entries) => seen.entries.ends_with(entries),
+        _ => match seen.standing(note) {
+            Some(standing) => stands(standing, wanted),
+            None => false,
+        },
+    }
+}
+
+/// The first of the rows that doesn't say what is seen.
+pub fn first_wrong(alloc: Global, seen: &Seen, rows: &[Row]) -> Option<usize> {
+    for (place, row) in rows.iter().enumerate() {
+        if !is_so(alloc, seen, *row) {
+            return Some(place);
+        }
+    }
+    None
+}
+
+/// What is seen of a loop over a new session.
+pub fn play(rt: &impl System, acts: &[Act]) -> Option<Seen> {
+    perform(rt, 1, acts).ok()
+}
+
+/// Whether of these acts all is seen that the rows say.
+pub fn is_played(rt: &impl System, acts: &[Act], rows: &[Row]) -> bool {
+    match play(rt, acts) {
+        Some(seen) => first_wrong(rt.alloc(), &seen, rows).is_none(),
+        None => false,
+    }
+}
