@@ -1,4 +1,4 @@
-//! Who may do what after the entries of a trail's file, and which act decides it; how both are told.
+//! Who may do what after the entries of a trail's file, and which act decides it; how it is told.
 #![tactic(auto)]
 
 mod decider;

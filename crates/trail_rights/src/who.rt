@@ -140,7 +140,7 @@ fn write_objects<W: Write>(
     Ok(())
 }
 
-/// Writes what a watch tells of the owner's session: how many entries there are, users with their leaders, windows with their holders and
+/// Writes how many entries there are, users with their leaders, windows with their holders and
 /// rights, and commands.
 pub fn write_rights<W: Write>(
     alloc: Global,
