@@ -105,6 +105,19 @@ impl<'a> Answer<'a> {
         &self.reply
     }
 
+    /// What the session answered, where nothing else of the answer is asked for any more.
+    pub fn into_reply(self) -> Reply
+        ensures { result ≡ self.reply }
+    {
+        let Answer {
+            event: _,
+            reply,
+            place: _,
+            entry: _,
+        } = self;
+        reply
+    }
+
     /// The place of the entry in the trail, if the event writes one.
     pub fn place(&self) -> Option<usize>
         ensures { result ≡ self.now.place }

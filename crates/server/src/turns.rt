@@ -6,9 +6,10 @@ use crate::winding::wind_up;
 use mio::{Events, Poll, Registry, Token};
 use server_log::Log;
 use server_loop::{
-    End, Gate, LULL, Loop, LoopBody, News, NewsLine, Pace, Peers, Pending, Reads, Recorder, Seat,
-    SharedSession, Submitted, Trail, Writes,
+    End, Gate, LULL, Loop, News, NewsLine, Pace, Peers, Pending, Reads, SessionSeat, Submitted,
+    Writes,
 };
+use server_session::{LoopBody, Recorder, Seat, Seated, SharedSession, Trail};
 use server_system::{Setup, UsersSource, Wired};
 use server_trail::{Cause, Journal};
 use std::alloc::Global;
@@ -129,12 +130,12 @@ impl Watch<'_> {
 
 // Takes in the connections that were handed to the loop, of which so many may be new. One that
 // can't be taken in is closed.
-fn admit<'a, L: Roll, G: Gate + Drop>(
+fn admit<'a, J: SessionSeat + Drop, G: Gate + Drop>(
     rt: &impl Wait,
     loop_handle: &LoopHandle,
     registry: &'a Registry,
     share: usize,
-    peers: &mut Peers<Wired<'a>, G, L>,
+    peers: &mut Peers<Wired<'a>, G, J>,
 ) {
     for _ in 0..u64::MAX {
         let Some(handed) = loop_handle.handed.lock(rt).pop_front() else {
@@ -150,7 +151,10 @@ fn admit<'a, L: Roll, G: Gate + Drop>(
 }
 
 // Marks the connections that have something to read. Whether somebody may wait to be taken in.
-fn sort<L: Roll, G: Gate + Drop>(events: &Events, peers: &mut Peers<Wired, G, L>) -> bool {
+fn sort<J: SessionSeat + Drop, G: Gate + Drop>(
+    events: &Events,
+    peers: &mut Peers<Wired, G, J>,
+) -> bool {
     let mut is_asked = false;
     for event in events {
         match event.token() {
@@ -169,10 +173,10 @@ fn sort<L: Roll, G: Gate + Drop>(events: &Events, peers: &mut Peers<Wired, G, L>
 
 // Takes in connections. Where the system grants no more, the one that waits for its first message
 // longest makes room.
-fn take_in<'a, L: Roll, G: Gate + Drop>(
+fn take_in<'a, J: SessionSeat + Drop, G: Gate + Drop>(
     rt: &impl Wait,
     watch: &mut Watch<'a>,
-    peers: &mut Peers<Wired<'a>, G, L>,
+    peers: &mut Peers<Wired<'a>, G, J>,
     is_asked: bool,
 ) -> io::Result<()> {
     let loop_handles = watch.pacing.shared.loop_handles.as_slice();
@@ -199,10 +203,10 @@ fn tell_news<R: Clock + Wait>(rt: &R, log: &Log, happened: Vec<News>) {
 }
 
 // A turn begins: who has something to say, and who is new.
-fn begin_turn<'a, L: Roll, G: Gate + Drop, R: Clock + Wait>(
+fn begin_turn<'a, J: SessionSeat + Drop, G: Gate + Drop, R: Clock + Wait>(
     rt: &R,
     watch: &mut Watch<'a>,
-    own: &mut Loop<Wired<'a>, G, L>,
+    own: &mut Loop<Wired<'a>, G, J>,
 ) -> io::Result<()> {
     if let Ok(now) = rt.monotonic() {
         own.now = now;
@@ -212,36 +216,30 @@ fn begin_turn<'a, L: Roll, G: Gate + Drop, R: Clock + Wait>(
 }
 
 // One turn: what came is read and done, and what comes of it is written.
-fn turn<L: Roll, G: Gate + Drop, R: Clock + Wait>(
+fn turn<J: SessionSeat + Drop, G: Gate + Drop, R: Clock + Wait>(
     rt: &R,
-    session: &SharedSession<L>,
     pacing: &mut Pacing,
-    own: &mut Loop<Wired, G, L>,
+    own: &mut Loop<Wired, G, J>,
 ) -> io::Result<()> {
     let now = rt.monotonic().ok();
-    if let Some(recorder) = &session.recorder {
-        recorder.set_time(rt);
-    }
-    let reads = own.read_all(rt, session);
+    own.peers.set_time(rt);
+    let reads = own.read_all(rt);
     let holds_draws = pacing.read(now, reads)?;
-    let writes = own.end_turn(rt, session, holds_draws);
+    let writes = own.end_turn(rt, holds_draws);
     pacing.written(now, writes)?;
     tell_news(rt, &pacing.shared.log, own.peers.take_news());
     match writes.end {
         Some(end) => pacing.shared.end(end),
-        // Where the trail's file can't go on, the server ends as at a full trail.
-        None if session.has_stopped() => pacing.shared.end(End::TrailFull),
         None => Ok(()),
     }
 }
 
 // Turns until the server ends.
-fn take_turns<'a, L: Roll, G: Gate + Drop, U: UsersSource, R: Clock + Wait>(
+fn take_turns<'a, J: SessionSeat + Drop, G: Gate + Drop, U: UsersSource, R: Clock + Wait>(
     rt: &R,
     server: &Server<G, U>,
-    session: &SharedSession<L>,
     watch: &mut Watch<'a>,
-    own: &mut Loop<Wired<'a>, G, L>,
+    own: &mut Loop<Wired<'a>, G, J>,
 ) -> io::Result<()> {
     let shared = &server.shared;
     let mut count = 0;
@@ -255,10 +253,10 @@ fn take_turns<'a, L: Roll, G: Gate + Drop, U: UsersSource, R: Clock + Wait>(
                 own.users = Some(users);
             }
         }
-        turn(rt, session, &mut watch.pacing, own)?;
+        turn(rt, &mut watch.pacing, own)?;
         if let Some(end) = shared.over.get() {
             watch.acceptor = None;
-            wind_up(rt, session, watch, own, *end)?;
+            wind_up(rt, watch, own, *end)?;
             tell_news(rt, &shared.log, own.peers.take_news());
             break;
         }
@@ -267,14 +265,13 @@ fn take_turns<'a, L: Roll, G: Gate + Drop, U: UsersSource, R: Clock + Wait>(
 }
 
 // One loop, until the server ends: its seat.
-fn run_loop<L: Roll, G: Gate + Copy + Drop, U: UsersSource, R: Clock + Wait>(
+fn run_loop<J: SessionSeat + Drop, G: Gate + Copy + Drop, U: UsersSource, R: Clock + Wait>(
     rt: &R,
     alloc: Global,
     server: &Server<G, U>,
-    session: &SharedSession<L>,
-    seat: Seat<L>,
+    seat: J,
     start: LoopStart,
-) -> io::Result<Seat<L>> {
+) -> io::Result<J> {
     let LoopStart {
         me,
         poll,
@@ -300,9 +297,9 @@ fn run_loop<L: Roll, G: Gate + Copy + Drop, U: UsersSource, R: Clock + Wait>(
         },
     };
     let loops = shared.loop_handles.len();
-    let mut own: Loop<Wired, G, L> = Loop::new(alloc, seat, gate, loops)?;
+    let mut own: Loop<Wired, G, J> = Loop::new(alloc, seat, gate, loops)?;
     own.peers.tells = shared.tells;
-    take_turns(rt, server, session, &mut watch, &mut own)?;
+    take_turns(rt, server, &mut watch, &mut own)?;
     Ok(own.into_seat())
 }
 
@@ -345,7 +342,10 @@ where
         seat: Seat<L>,
         start: LoopStart,
     ) -> Option<Seat<L>> {
-        let seat = run_loop(rt, alloc, self, session, seat, start).ok();
+        let seat = match run_loop(rt, alloc, self, Seated::new(session, seat), start) {
+            Ok(seated) => Some(seated.into_inner()),
+            Err(_) => None,
+        };
         if seat.is_none() {
             let _ = self.shared.end(End::Fault);
         }

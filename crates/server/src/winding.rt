@@ -1,11 +1,10 @@
 //! How a loop ends.
 
 use crate::turns::Watch;
-use server_loop::{End, Gate, Loop, SharedSession};
+use server_loop::{End, Gate, Loop, SessionSeat};
 use server_system::Wired;
 use std::io;
 use std::sync::Wait;
-use std::sync::ledger::Ledger as Roll;
 use std::time::{Clock, Duration};
 
 // The peers have so many milliseconds to read that the server ends.
@@ -25,21 +24,20 @@ fn is_late<R: Clock>(rt: &R, began: Option<Duration>, pauses: u64) -> bool {
 }
 
 /// The peers are told of the end, and get some time to read it, whatever comes meanwhile.
-pub fn wind_up<L: Roll, G: Gate + Drop, R: Clock + Wait>(
+pub fn wind_up<J: SessionSeat + Drop, G: Gate + Drop, R: Clock + Wait>(
     rt: &R,
-    session: &SharedSession<L>,
     watch: &mut Watch,
-    own: &mut Loop<Wired, G, L>,
+    own: &mut Loop<Wired, G, J>,
     end: End,
 ) -> io::Result<()> {
     let began = rt.monotonic().ok();
-    own.peers.finish(rt, session, end);
+    own.peers.finish(rt, end);
     for pauses in 0..u64::MAX {
         if own.peers.is_empty() || is_late(rt, began, pauses) {
             return Ok(());
         }
         watch.wait(Some(Duration::from_millis(PAUSE)))?;
-        own.peers.finish(rt, session, end);
+        own.peers.finish(rt, end);
     }
     Ok(())
 }

@@ -8,6 +8,7 @@ mod inbox;
 mod marks;
 mod news;
 mod peer;
+mod seat;
 mod stream;
 
 pub use connections::Connections;
@@ -15,4 +16,5 @@ pub use frames::{Sending, put, why_of};
 pub use inbox::Asked;
 pub use news::{Guest, News};
 pub use peer::{Awaits, Peer, Role, Stage};
+pub use seat::{Answer, SeatFault, SessionSeat};
 pub use stream::Came;

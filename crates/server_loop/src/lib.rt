@@ -10,7 +10,6 @@ mod turn;
 pub use news_line::NewsLine;
 pub use pace::{LULL, Pace};
 pub use server_peers::{
-    End, Gate, Guest, Hub, LoopBody, LoopsFault, News, Open, Peers, Pending, Recorder, Seat,
-    Session, SharedSession, Start, Submitted, Trail, keep,
+    Answer, End, Gate, Guest, News, Open, Peers, Pending, SeatFault, SessionSeat, Submitted,
 };
 pub use turn::{Loop, Reads, Writes};

@@ -1,13 +1,12 @@
 //! One loop: what it reads.
 
 use crate::ration::Rations;
-use server_peers::{Came, End, Gate, Peers, Role, Seat, SharedSession, Submitted};
+use server_peers::{Came, End, Gate, Peers, Role, SessionSeat, Submitted};
 use server_users::Users;
 use std::alloc::{AllocError, Global};
 use std::io::{Read, Write};
 use std::ops::Range;
 use std::sync::Wait;
-use std::sync::ledger::Ledger as Roll;
 use std::time::Duration;
 
 // A connection whose reads are short is read so often at most before the others have their turn.
@@ -54,9 +53,9 @@ pub struct Writes {
 
 /// One loop and its connections. It is told of each turn's reads and writes, and never waits for a
 /// peer.
-pub struct Loop<S, G, L: Roll> {
+pub struct Loop<S, G, J> {
     pub(crate) alloc: Global,
-    pub peers: Peers<S, G, L>,
+    pub peers: Peers<S, G, J>,
     /// Who may connect, where that isn't who might at first.
     pub users: Option<Users>,
     pub(crate) rations: Rations,
@@ -73,7 +72,7 @@ pub struct Loop<S, G, L: Roll> {
     pub(crate) wrong_tokens: u64,
 }
 
-impl<S: Drop, G: Drop, L: Roll> Drop for Loop<S, G, L> {
+impl<S: Drop, G: Drop, J: Drop> Drop for Loop<S, G, J> {
     fn drop(self) {
         let Loop {
             alloc: _,
@@ -91,14 +90,9 @@ impl<S: Drop, G: Drop, L: Roll> Drop for Loop<S, G, L> {
     }
 }
 
-impl<S: Read + Write + Drop, G: Gate + Drop, L: Roll> Loop<S, G, L> {
+impl<S: Read + Write + Drop, G: Gate + Drop, J: SessionSeat + Drop> Loop<S, G, J> {
     /// One of so many loops.
-    pub fn new(
-        alloc: Global,
-        seat: Seat<L>,
-        gate: G,
-        loops: usize,
-    ) -> Result<Loop<S, G, L>, AllocError> {
+    pub fn new(alloc: Global, seat: J, gate: G, loops: usize) -> Result<Loop<S, G, J>, AllocError> {
         Ok(Loop {
             alloc,
             peers: Peers::new(alloc, seat, gate),
@@ -115,7 +109,7 @@ impl<S: Read + Write + Drop, G: Gate + Drop, L: Roll> Loop<S, G, L> {
     }
 
     /// The seat, once the loop is over.
-    pub fn into_seat(self) -> Seat<L> {
+    pub fn into_seat(self) -> J {
         let Loop {
             alloc: _,
             peers,
@@ -137,7 +131,7 @@ impl<S: Read + Write + Drop, G: Gate + Drop, L: Roll> Loop<S, G, L> {
     }
 
     // Does some of what a connection asked for. Whether all of it is done.
-    fn obey_some(&mut self, rt: &impl Wait, shared: &SharedSession<L>, key: usize) -> bool {
+    fn obey_some(&mut self, rt: &impl Wait, key: usize) -> bool {
         for _ in 0..STEPS {
             if self.output_left == 0 && self.is_window(key) {
                 break;
@@ -145,7 +139,7 @@ impl<S: Read + Write + Drop, G: Gate + Drop, L: Roll> Loop<S, G, L> {
             let Some(mut asked) = self.peers.next_asked(key) else {
                 break;
             };
-            match self.obey(rt, shared, key, &mut asked) {
+            match self.obey(rt, key, &mut asked) {
                 Went::Done => {}
                 Went::Part => self.peers.put_back(key, asked, false),
                 Went::Held => {
@@ -155,14 +149,14 @@ impl<S: Read + Write + Drop, G: Gate + Drop, L: Roll> Loop<S, G, L> {
             }
         }
         if self.peers.is_faulty(key) {
-            self.peers.fault(rt, shared, key);
+            self.peers.fault(rt, key);
         }
         !self.peers.has_asked(key)
     }
 
     // Reads what a connection sent, where all that it asked for before is done, and does some of
     // it.
-    fn serve(&mut self, rt: &impl Wait, shared: &SharedSession<L>, key: usize) {
+    fn serve(&mut self, rt: &impl Wait, key: usize) {
         for _ in 0..READS {
             let mut came = Came::Some;
             if !self.peers.has_asked(key) {
@@ -173,11 +167,11 @@ impl<S: Read + Write + Drop, G: Gate + Drop, L: Roll> Loop<S, G, L> {
                 Came::Much => self.has_much = true,
                 Came::Nothing => return,
                 Came::End => {
-                    self.peers.lose(rt, shared, key);
+                    self.peers.lose(rt, key);
                     return;
                 }
             }
-            let is_done = self.obey_some(rt, shared, key);
+            let is_done = self.obey_some(rt, key);
             if !is_done && self.is_window(key) {
                 self.has_much = true;
             }
@@ -189,7 +183,7 @@ impl<S: Read + Write + Drop, G: Gate + Drop, L: Roll> Loop<S, G, L> {
 
     // Windows whose keys are in this range have their turn one after the other, as far as output
     // may be done in this turn.
-    fn serve_windows(&mut self, rt: &impl Wait, shared: &SharedSession<L>, keys: Range<usize>) {
+    fn serve_windows(&mut self, rt: &impl Wait, keys: Range<usize>) {
         let mut from = keys.start;
         for _ in 0..self.peers.keys_end() {
             let Some(key) = self.peers.next_awake(from) else {
@@ -200,21 +194,21 @@ impl<S: Read + Write + Drop, G: Gate + Drop, L: Roll> Loop<S, G, L> {
             }
             if self.is_window(key) && self.peers.is_due_at(key) {
                 self.next = key.saturating_add(1);
-                self.serve(rt, shared, key);
+                self.serve(rt, key);
             }
             from = key.saturating_add(1);
         }
     }
 
     // Clients and strangers have their turn.
-    fn serve_others(&mut self, rt: &impl Wait, shared: &SharedSession<L>) {
+    fn serve_others(&mut self, rt: &impl Wait) {
         let mut from = 0;
         for _ in 0..self.peers.keys_end() {
             let Some(key) = self.peers.next_awake(from) else {
                 return;
             };
             if !self.is_window(key) && self.peers.is_due_at(key) {
-                self.serve(rt, shared, key);
+                self.serve(rt, key);
             }
             from = key.saturating_add(1);
         }
@@ -227,23 +221,23 @@ impl<S: Read + Write + Drop, G: Gate + Drop, L: Roll> Loop<S, G, L> {
 
     // All connections have their turn, keys before output. While a crowd is drawn windows wait, so
     // that all of it is drawn the same.
-    fn serve_all(&mut self, rt: &impl Wait, shared: &SharedSession<L>) {
-        self.serve_others(rt, shared);
+    fn serve_all(&mut self, rt: &impl Wait) {
+        self.serve_others(rt);
         if self.peers.is_drawing() {
             return;
         }
         self.output_left = PIECE;
         let first = self.next;
-        self.serve_windows(rt, shared, first..usize::MAX);
-        self.serve_windows(rt, shared, 0..first);
+        self.serve_windows(rt, first..usize::MAX);
+        self.serve_windows(rt, 0..first);
     }
 
     /// Reads what is there to be read and does it, at most so much of each connection that others
     /// have their turn.
-    pub fn read_all(&mut self, rt: &impl Wait, shared: &SharedSession<L>) -> Reads {
+    pub fn read_all(&mut self, rt: &impl Wait) -> Reads {
         self.has_typed = false;
         self.has_much = false;
-        self.serve_all(rt, shared);
+        self.serve_all(rt);
         Reads {
             has_typed: self.has_typed,
             is_much: self.has_much,
@@ -252,14 +246,9 @@ impl<S: Read + Write + Drop, G: Gate + Drop, L: Roll> Loop<S, G, L> {
     }
 
     /// Lets those go that were waited for long enough, and ends a turn as `Peers::end_turn` does.
-    pub fn end_turn(
-        &mut self,
-        rt: &impl Wait,
-        shared: &SharedSession<L>,
-        holds_draws: bool,
-    ) -> Writes {
+    pub fn end_turn(&mut self, rt: &impl Wait, holds_draws: bool) -> Writes {
         self.expire();
-        self.peers.end_turn(rt, shared, holds_draws);
+        self.peers.end_turn(rt, holds_draws);
         Writes {
             drawn: self.peers.take_drawn(),
             submitted: self.peers.take_submitted(),

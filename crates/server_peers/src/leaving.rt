@@ -4,28 +4,21 @@ use crate::end::End;
 use crate::gate::Gate;
 use crate::peers::{Peers, Unanswered};
 use attach_proto::Why;
-use server_connections::{News, Role, Stage};
-use server_session::SharedSession;
+use server_connections::{News, Role, SessionSeat, Stage};
 use std::io::{Read, Write};
 use std::sync::Wait;
-use std::sync::ledger::Ledger as Roll;
 use std::time::Duration;
 
-impl<S: Read + Write + Drop, G: Gate + Drop, L: Roll> Peers<S, G, L> {
+impl<S: Read + Write + Drop, G: Gate + Drop, J: SessionSeat + Drop> Peers<S, G, J> {
     // Tells the session that the connection left it. Without memory it is told in a later turn.
-    pub(crate) fn tell_leaving(
-        &mut self,
-        rt: &impl Wait,
-        shared: &SharedSession<L>,
-        key: usize,
-    ) -> Result<(), Unanswered> {
+    pub(crate) fn tell_leaving(&mut self, rt: &impl Wait, key: usize) -> Result<(), Unanswered> {
         let Some(peer) = self.peers.get(key) else {
             return Ok(());
         };
         let Some(event) = peer.leaves.parting() else {
             return Ok(());
         };
-        match self.submit(rt, shared, event) {
+        match self.submit(rt, event) {
             Err(Unanswered::NoMemory) => {
                 self.has_waiting = true;
                 return Err(Unanswered::NoMemory);
@@ -38,30 +31,24 @@ impl<S: Read + Write + Drop, G: Gate + Drop, L: Roll> Peers<S, G, L> {
         Ok(())
     }
 
-    pub(crate) fn tell_all_leaving(&mut self, rt: &impl Wait, shared: &SharedSession<L>) {
+    pub(crate) fn tell_all_leaving(&mut self, rt: &impl Wait) {
         let mut from = 0;
         for _ in 0..self.peers.end() {
             let Some(key) = self.peers.next_awake(from) else {
                 return;
             };
-            let _ = self.tell_leaving(rt, shared, key);
+            let _ = self.tell_leaving(rt, key);
             from = key.saturating_add(1);
         }
     }
 
     // The connection is told to go, behind all that was put into it.
-    pub(crate) fn expel(
-        &mut self,
-        rt: &impl Wait,
-        shared: &SharedSession<L>,
-        key: usize,
-        why: Why,
-    ) {
+    pub(crate) fn expel(&mut self, rt: &impl Wait, key: usize, why: Why) {
         if let Some(peer) = self.peers.touch(key) {
             peer.end(why);
             peer.leave();
         }
-        let _ = self.tell_leaving(rt, shared, key);
+        let _ = self.tell_leaving(rt, key);
     }
 
     /// A connection that is nobody's is told to go, unless it was.
@@ -75,33 +62,33 @@ impl<S: Read + Write + Drop, G: Gate + Drop, L: Roll> Peers<S, G, L> {
 
     /// The connection sent what it mustn't: it is told to go, behind all that came of what it sent
     /// before.
-    pub fn fault(&mut self, rt: &impl Wait, shared: &SharedSession<L>, key: usize) {
-        self.hand_out(rt, shared);
+    pub fn fault(&mut self, rt: &impl Wait, key: usize) {
+        self.hand_out(rt);
         if self.is_open(key) {
             if self.role_of(key) == Role::Stranger {
                 self.tell(News::Misfit);
             }
-            self.expel(rt, shared, key, Why::Fault);
+            self.expel(rt, key, Why::Fault);
         }
     }
 
     /// The connection asked to go: its GONE comes from the session.
-    pub fn detach(&mut self, rt: &impl Wait, shared: &SharedSession<L>, key: usize) {
+    pub fn detach(&mut self, rt: &impl Wait, key: usize) {
         if let Some(peer) = self.peers.touch(key) {
             peer.stage = Stage::Leaving;
             peer.leaves = peer.role;
         }
-        if self.tell_leaving(rt, shared, key).is_err() {
-            self.expel(rt, shared, key, Why::Fault);
+        if self.tell_leaving(rt, key).is_err() {
+            self.expel(rt, key, Why::Fault);
         }
     }
 
     /// The connection ended or failed: what it wasn't sent is given up.
-    pub fn lose(&mut self, rt: &impl Wait, shared: &SharedSession<L>, key: usize) {
+    pub fn lose(&mut self, rt: &impl Wait, key: usize) {
         if let Some(peer) = self.peers.touch(key) {
             peer.close();
         }
-        let _ = self.tell_leaving(rt, shared, key);
+        let _ = self.tell_leaving(rt, key);
     }
 
     /// Of the connections whose first message isn't done, the one that came first is told to go, if
@@ -172,8 +159,8 @@ impl<S: Read + Write + Drop, G: Gate + Drop, L: Roll> Peers<S, G, L> {
     }
 
     /// The server ends: all peers are told so, and those that were nobody's are closed.
-    pub fn finish(&mut self, rt: &impl Wait, shared: &SharedSession<L>, end: End) {
-        self.hand_out(rt, shared);
+    pub fn finish(&mut self, rt: &impl Wait, end: End) {
+        self.hand_out(rt);
         for key in 0..self.peers.end() {
             if let Some(peer) = self.peers.touch(key) {
                 match peer.role {

@@ -11,7 +11,6 @@ mod sending;
 pub use end::End;
 pub use gate::{Gate, Open};
 pub use peers::{Peers, Pending, Submitted, Unanswered};
-pub use server_connections::{Asked, Came, Guest, News, Role, Sending};
-pub use server_session::{
-    Hub, LoopBody, LoopsFault, Recorder, Seat, Session, SharedSession, Start, Trail, keep,
+pub use server_connections::{
+    Answer, Asked, Came, Guest, News, Role, SeatFault, Sending, SessionSeat,
 };

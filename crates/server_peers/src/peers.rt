@@ -3,21 +3,18 @@
 use crate::end::End;
 use crate::gate::Gate;
 use acl::UserId;
-use hub::{Answer, FULL, HubFault, Seat};
-use server_connections::{Asked, Awaits, Came, Connections, Guest, News, Role, Stage};
-use server_session::SharedSession;
+use server_connections::{
+    Answer, Asked, Awaits, Came, Connections, Guest, News, Role, SeatFault, SessionSeat, Stage,
+};
+use server_users::Users;
 use session_model::Event;
 use std::alloc::{AllocError, Global};
 use std::io::{Read, Write};
 use std::sync::Wait;
-use std::sync::ledger::Ledger as Roll;
-use std::time::Duration;
+use std::time::{Clock, Duration};
 
 // So much news waits at most until it is taken.
 const MOST_NEWS: usize = 1_024;
-
-// At so many hundredths of the trail's most entries there is news.
-const MARKS: [u8; 4] = [50, 75, 90, 99];
 
 /// Why a submitted event has no answer.
 #[derive(Clone, Copy, Debug, PartialEq, Eq)]
@@ -50,9 +47,9 @@ pub struct Submitted {
 
 /// The connections of one loop.
 #[derive(Drop)]
-pub struct Peers<S, G, L: Roll> {
+pub struct Peers<S, G, J> {
     pub(crate) alloc: Global,
-    pub(crate) seat: Seat<L>,
+    pub(crate) seat: J,
     gate: G,
     pub(crate) peers: Connections<S>,
     has_submitted: bool,
@@ -74,8 +71,8 @@ pub struct Peers<S, G, L: Roll> {
     news: Vec<News>,
 }
 
-impl<S: Read + Write + Drop, G: Gate + Drop, L: Roll> Peers<S, G, L> {
-    pub fn new(alloc: Global, seat: Seat<L>, gate: G) -> Peers<S, G, L> {
+impl<S: Read + Write + Drop, G: Gate + Drop, J: SessionSeat + Drop> Peers<S, G, J> {
+    pub fn new(alloc: Global, seat: J, gate: G) -> Peers<S, G, J> {
         Peers {
             alloc,
             seat,
@@ -103,6 +100,11 @@ impl<S: Read + Write + Drop, G: Gate + Drop, L: Roll> Peers<S, G, L> {
     /// though no more are to stay is extra.
     pub fn admit(&mut self, stream: S, is_extra: bool) -> Result<(), AllocError> {
         self.peers.admit(self.alloc, stream, is_extra)
+    }
+
+    /// Who may connect at first.
+    pub fn users(&self) -> &Users {
+        self.seat.users()
     }
 
     /// How many connections there are.
@@ -171,9 +173,18 @@ impl<S: Read + Write + Drop, G: Gate + Drop, L: Roll> Peers<S, G, L> {
         std::mem::replace(&mut self.drawn, 0)
     }
 
-    /// Why the server is to end, if it is.
+    /// Why the server is to end, if it is. Where the trail's file can't go on it ends as at a full
+    /// trail.
     pub fn end(&self) -> Option<End> {
-        self.end
+        match self.end {
+            None if self.seat.has_stopped() => Some(End::TrailFull),
+            end => end,
+        }
+    }
+
+    /// It is this time, for the entries in the trail's file.
+    pub fn set_time(&self, rt: &impl Clock) {
+        self.seat.set_time(rt);
     }
 
     /// A user gave the command `quit`.
@@ -182,7 +193,7 @@ impl<S: Read + Write + Drop, G: Gate + Drop, L: Roll> Peers<S, G, L> {
     }
 
     /// The seat, once the loop is over.
-    pub fn into_seat(self) -> Seat<L> {
+    pub fn into_seat(self) -> J {
         self.seat
     }
 
@@ -199,24 +210,10 @@ impl<S: Read + Write + Drop, G: Gate + Drop, L: Roll> Peers<S, G, L> {
         std::mem::replace(&mut self.news, none)
     }
 
-    // An entry has this place.
-    fn tell_filled(&mut self, place: usize) {
-        for mark in MARKS {
-            if place == FULL * usize::from(mark) / 100 {
-                self.tell(News::Filled(mark));
-            }
-        }
-    }
-
     /// Submits an event to the session that the loops share.
-    pub fn submit<'a>(
-        &mut self,
-        rt: &impl Wait,
-        shared: &SharedSession<L>,
-        event: Event<'a>,
-    ) -> Result<Answer<'a>, Unanswered> {
+    pub fn submit(&mut self, rt: &impl Wait, event: Event<'_>) -> Result<Answer, Unanswered> {
         self.gate.before();
-        let answer = shared.submit(rt, &mut self.seat, event);
+        let answer = self.seat.submit(rt, event);
         self.gate.after();
         self.is_behind = true;
         match event {
@@ -229,21 +226,23 @@ impl<S: Read + Write + Drop, G: Gate + Drop, L: Roll> Peers<S, G, L> {
         }
         match answer {
             Ok(answer) => {
-                if let Some(place) = answer.place() {
-                    self.tell_filled(place);
+                if let Some(percent) = answer.filled {
+                    self.tell(News::Filled(percent));
                 }
                 Ok(answer)
             }
-            Err(HubFault::NoMemory) => Err(Unanswered::NoMemory),
-            Err(HubFault::TrailFull) => {
-                self.end = Some(End::TrailFull);
-                Err(Unanswered::Over)
-            }
-            Err(HubFault::Strange) => {
-                self.end = Some(End::Fault);
-                Err(Unanswered::Over)
-            }
+            Err(fault) => Err(self.unanswered(fault)),
         }
+    }
+
+    // What becomes of the server where an event has no answer.
+    fn unanswered(&mut self, fault: SeatFault) -> Unanswered {
+        match fault {
+            SeatFault::NoMemory => return Unanswered::NoMemory,
+            SeatFault::TrailFull => self.end = Some(End::TrailFull),
+            SeatFault::Strange => self.end = Some(End::Fault),
+        }
+        Unanswered::Over
     }
 
     /// A connection has something to read, and perhaps its other end was closed.

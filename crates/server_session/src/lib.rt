@@ -3,10 +3,12 @@
 #![tactic(auto)]
 
 mod loop_body;
+mod seated;
 mod setting_up;
 mod shared_session;
 
-pub use hub::{Answer, Hub, HubFault, Seat, Session, Trail};
+pub use hub::{Seat, Trail};
 pub use loop_body::{LoopBody, LoopsFault, Start, keep};
+pub use seated::Seated;
 pub use server_trail::Recorder;
 pub use shared_session::SharedSession;

@@ -31,8 +31,8 @@ impl<L: Roll> SharedSession<L> {
         Ok(answer)
     }
 
-    /// Whether there is a file of the trail, and nothing is written to it any more.
-    pub fn has_stopped(&self) -> bool {
+    // Whether there is a file of the trail, and nothing is written to it any more.
+    pub(crate) fn has_stopped(&self) -> bool {
         match &self.recorder {
             Some(recorder) => recorder.stopped().is_some(),
             None => false,

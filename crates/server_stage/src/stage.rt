@@ -7,7 +7,8 @@ use crate::outside::Outside;
 use crate::stop::Stop;
 use crate::streams::{Habit, Near};
 use hub_record::{Filed, KeptRef};
-use server_loop::{Gate, Loop, LoopBody, LoopsFault, Seat, SharedSession, Start, Trail, keep};
+use server_loop::{Gate, Loop, SessionSeat};
+use server_session::{LoopBody, LoopsFault, Seat, Seated, SharedSession, Start, Trail, keep};
 use server_users::{Users, UsersFault};
 use std::alloc::Global;
 use std::sync::ledger::Ledger as Roll;
@@ -51,10 +52,9 @@ impl Turns {
     }
 }
 
-fn take<G: Gate + Drop, L: Roll>(
+fn take<G: Gate + Drop, J: SessionSeat + Drop>(
     rt: &impl Wait,
-    shared: &SharedSession<L>,
-    own: &mut Loop<Near, G, L>,
+    own: &mut Loop<Near, G, J>,
     tick: Duration,
     turns: Turns,
 ) {
@@ -67,12 +67,12 @@ fn take<G: Gate + Drop, L: Roll>(
             own.peers.mark_ready(key, true);
         }
         own.now = own.now.saturating_add(tick);
-        own.read_all(rt, shared);
-        own.peers.end_turn(rt, shared, false);
+        own.read_all(rt);
+        own.peers.end_turn(rt, false);
     }
 }
 
-fn standing<G: Gate + Drop, L: Roll>(own: &Loop<Near, G, L>) -> Standing {
+fn standing<G: Gate + Drop, J: SessionSeat + Drop>(own: &Loop<Near, G, J>) -> Standing {
     Standing {
         len: own.peers.len(),
         is_due: own.peers.is_due(),
@@ -81,10 +81,9 @@ fn standing<G: Gate + Drop, L: Roll>(own: &Loop<Near, G, L>) -> Standing {
     }
 }
 
-fn perform_one<G: Gate + Drop, L: Roll>(
+fn perform_one<G: Gate + Drop, J: SessionSeat + Drop>(
     rt: &impl Wait,
-    shared: &SharedSession<L>,
-    own: &mut Loop<Near, G, L>,
+    own: &mut Loop<Near, G, J>,
     outside: &mut Outside,
     act: Act,
 ) -> Result<(), Stop> {
@@ -97,30 +96,29 @@ fn perform_one<G: Gate + Drop, L: Roll>(
             let near = outside.connect(Habit::Whole, bytes)?;
             let _ = own.peers.admit(near, true);
         }
-        Act::Turns(most) => take(rt, shared, own, outside.tick, Turns::ready(most)),
-        Act::QuietTurns(most) => take(rt, shared, own, outside.tick, Turns::quiet(most)),
+        Act::Turns(most) => take(rt, own, outside.tick, Turns::ready(most)),
+        Act::QuietTurns(most) => take(rt, own, outside.tick, Turns::quiet(most)),
         Act::SetTime(second, millis) => {
             outside.tick = Duration::from_millis(millis);
             own.now = Duration::from_secs(second);
             own.expire();
         }
         Act::LetOldestGo(most) => own.peers.let_oldest_go(most),
-        Act::Finish(end) => own.peers.finish(rt, shared, end),
+        Act::Finish(end) => own.peers.finish(rt, end),
         Act::Note(first) => outside.note(standing(own), first)?,
         _ => outside.perform(act)?,
     }
     Ok(())
 }
 
-fn perform_all<G: Gate + Drop, L: Roll>(
+fn perform_all<G: Gate + Drop, J: SessionSeat + Drop>(
     rt: &impl Wait,
-    shared: &SharedSession<L>,
-    own: &mut Loop<Near, G, L>,
+    own: &mut Loop<Near, G, J>,
     outside: &mut Outside,
     acts: &[Act],
 ) -> Result<(), Stop> {
     for act in acts {
-        perform_one(rt, shared, own, outside, *act)?;
+        perform_one(rt, own, outside, *act)?;
     }
     Ok(())
 }
@@ -195,15 +193,18 @@ impl<R: Clock + Wait> LoopBody<usize, R> for Playing<'_> {
         place: usize,
     ) -> Option<Seat<L>> {
         let latch = self.calls.latch(rt, place == 0);
-        let mut own: Loop<Near, Latch<R>, L> = Loop::new(alloc, seat, latch, self.loops).ok()?;
+        let seated = Seated::new(shared, seat);
+        let mut own: Loop<Near, Latch<R>, Seated<L>> = Loop::new(
+            alloc, seated, latch, self.loops,
+        ).ok()?;
         let mut outside = Outside::new(alloc);
-        let played = perform_all(rt, shared, &mut own, &mut outside, self.acts);
+        let played = perform_all(rt, &mut own, &mut outside, self.acts);
         let mut left = self.left.lock(rt);
         if let Err(stop) = left.put(outside.into_notes(), played) {
             left.stop = Some(stop);
         }
         drop(left);
-        Some(own.into_seat())
+        Some(own.into_seat().into_inner())
     }
 
     fn fail(&self, _rt: &R) {}
