@@ -107,7 +107,7 @@ impl<'a> Answer<'a> {
 
     /// What the session answered, where nothing else of the answer is asked for any more.
     pub fn into_reply(self) -> Reply
-        ensures { result ≡ self.reply }
+        ensures { result ≡ self.entry.reply }
     {
         let Answer {
             event: _,
