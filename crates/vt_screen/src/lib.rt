@@ -2,6 +2,7 @@
 #![tactic(auto)]
 
 mod laws;
+mod performing;
 mod screen;
 
 pub use laws::{lines_stay_stored, scrolls_turn_places};

@@ -16,6 +16,9 @@ ghost use Rattle.vt_screen.specs.Effects.{effects, line_of};
 ghost use Rattle.vt_screen.specs.Stored.{MovesPlaces, effects_places};
 ghost use Rattle.vt_screen.specs.Sizes.{IsScreenSize};
 
+use crate::performing::{
+    perform, perform_control, perform_plain, perform_sequence, perform_silently,
+};
 use cells::{Cell, GridFault};
 use charsets::Coding;
 use control_parser::{Func, Numerals, Sequence};
@@ -69,7 +72,7 @@ impl Screen {
         ensures report { result ≡ report self.old.screen func.now }
         ensures few { length result ≤ 12 }
     {
-        self.display.perform(acts_of(func))
+        perform(&mut self.display, acts_of(func))
     }
 
     /// Whether characters 20 to 7E are printed as themselves: GL is ASCII, and no single shift
@@ -130,7 +133,7 @@ impl Screen {
         ensures places { MovesPlaces self.old (Control control) self.new }
         ensures silent { report self.old.screen (Control control) ≡ [] }
     {
-        self.display.perform_control(control);
+        perform_control(&mut self.display, control);
     }
 
     /// Does the escape sequence that has no intermediate and this final byte, as `apply` of it;
@@ -140,7 +143,7 @@ impl Screen {
         ensures places { MovesPlaces self.old (Esc [] last) self.new }
         ensures silent { report self.old.screen (Esc [] last) ≡ [] }
     {
-        self.display.perform_silently(plain_escape_action(last));
+        perform_silently(&mut self.display, plain_escape_action(last));
     }
 
     /// Does a control sequence that isn't answered, as `apply` of it. It gives false where it is
@@ -154,8 +157,7 @@ impl Screen {
         ensures undone { result ≡ false → self.new ≡ self.old }
     {
         let (mark, params, intermediates, last) = sequence.parts();
-        self.display
-            .perform_sequence(mark, params, intermediates, last)
+        perform_sequence(&mut self.display, mark, params, intermediates, last)
     }
 
     /// Does a control sequence of digits and semicolons that isn't answered, as `sequence`.
@@ -168,7 +170,7 @@ impl Screen {
         ensures undone { result ≡ false → self.new ≡ self.old }
     {
         let (params, last) = numerals.parts();
-        self.display.perform_plain(params, last)
+        perform_plain(&mut self.display, params, last)
     }
 
     /// Takes another size. It keeps the upper left part, of the kept lines too; the cursor and the

@@ -8,7 +8,6 @@ mod editing;
 mod erasing;
 mod lines;
 mod moving;
-mod performing;
 mod printing;
 mod resetting;
 mod runs;

@@ -1,0 +1,16 @@
+use Rattle.std.proofs.Common.{◌≡◌, drop}
+use Rattle.terminal_model.specs.Functions.{each}
+use Rattle.terminal_model.specs.Reports.{all_answered}
+use Rattle.terminal_model.specs.Table.{all_acted}
+use Rattle.vt_screen_actions.specs.Meanings.{meaning}
+use Rattle.vt_screen_rows.specs.Displays.{IsFit, screen_of}
+use Rattle.vt_screen_rows.specs.Places.{all_acted_places}
+use Rattle.vt_screen.proofs.performing.set_each.Given as goal
+
+abbrev pub invariant-loop-value : goal.invariant-loop-value
+invariant-loop-value l = record {
+  fit : IsFit l.display;
+  screen : all_acted (screen_of l.display) (each (meaning l.setting) (drop l.value-index l.values)) ≡ all_acted (screen_of l.fn.display) (each (meaning l.setting) l.values);
+  places : all_acted_places (screen_of l.display) (each (meaning l.setting) (drop l.value-index l.values)) l.display.page.places ≡ all_acted_places (screen_of l.fn.display) (each (meaning l.setting) l.values) l.fn.display.page.places;
+  answers : all_answered (screen_of l.display) (each (meaning l.setting) (drop l.value-index l.values)) ≡ all_answered (screen_of l.fn.display) (each (meaning l.setting) l.values);
+}
