@@ -1,7 +1,7 @@
 -- What a peer is sent as frames.
 use Rattle.std.specs.Prelude.{◌≡◌, ℕ, ◌<◌, ◌≤◌, List, ◌++◌, length, All}
 use Rattle.std.specs.List.{concat, flat_map}
-use Rattle.attach_proto.specs.Spelling.{frame, spelling}
+use Rattle.attach_proto.specs.Spelling.{IsSpellable, frame, spelling}
 use Rattle.attach_proto.specs.declared.kind.Kind.{Kind}
 use Rattle.attach_proto.specs.declared.kind.Kind.TheVariants as kind
 use Rattle.attach_proto.specs.declared.message.Message.{Message}
@@ -37,3 +37,14 @@ Sends (sending.Draw bytes) = PutsFrames kind.Draw bytes.now
 Sends (sending.Input bytes) = PutsFrames kind.Input bytes.now
 Sends (sending.Say text) = PutsMessage (message.Say text.now)
 Sends (sending.Size rows columns) = PutsMessage (message.Size rows columns)
+
+-- what stands where one isn't put whole: of bytes the frames of a front, of a message nothing
+abbrev pub SendsFront : Sending → Waiting → Waiting → Type 0
+SendsFront (sending.Draw bytes) old new = PutsFront kind.Draw bytes.now old new
+SendsFront (sending.Input bytes) old new = PutsFront kind.Input bytes.now old new
+SendsFront other old new = new ≡ old
+
+-- no frame spells it: a text can be so; a number and a size can't, and bytes go into frames
+abbrev pub IsUnspellable : Sending → Type 0
+IsUnspellable (sending.Say text) = ¬ (IsSpellable (message.Say text.now))
+IsUnspellable other = ⊥

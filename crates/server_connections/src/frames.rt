@@ -1,9 +1,10 @@
 //! What peers are sent, as frames.
 
-ghost use Rattle.std.specs.Prelude.{◌≡◌, OnOk, OnErr};
-ghost use Rattle.attach_proto.specs.Spelling.{spelling};
+ghost use Rattle.std.specs.Prelude.{◌≡◌, Err, OnOk, OnErr};
+ghost use Rattle.attach_proto.specs.Spelling.{IsSpellable, spelling};
 ghost use Rattle.attach_proto.specs.declared.message.Message.TheVariants as message;
-ghost use Rattle.server_connections.specs.Frames.{PutsFrames, PutsFront, PutsMessage, Sends};
+ghost use Rattle.server_connections.specs.Frames.{IsUnspellable, PutsFrames, PutsFront, PutsMessage};
+ghost use Rattle.server_connections.specs.Frames.{Sends, SendsFront};
 
 use attach_proto::{Kind, LONGEST, Message, Text, Why, WriteFault, head_of, write_message};
 use server_turn::Turn;
@@ -46,6 +47,7 @@ pub enum Sending<'a> {
 /// Puts a message behind what waits.
 fn put_message(alloc: Global, turn: &mut Turn, message: &Message) -> Result<(), WriteFault>
     ensures ok { OnOk result (PutsMessage message.now turn.old turn.new) }
+    ensures unspellable { result ≡ Err WriteFault.Unspellable → ¬ IsSpellable message.now }
     ensures err { OnErr result (turn.new ≡ turn.old) }
 {
     let mut frame = Vec::new(alloc);
@@ -57,6 +59,8 @@ fn put_message(alloc: Global, turn: &mut Turn, message: &Message) -> Result<(), 
 /// Puts a text behind what waits.
 fn put_text(alloc: Global, turn: &mut Turn, text: &[u8]) -> Result<(), WriteFault>
     ensures ok { OnOk result (PutsMessage (message.Say text.now) turn.old turn.new) }
+    ensures unspellable { result ≡ Err WriteFault.Unspellable
+        → ¬ IsSpellable (message.Say text.now) }
     ensures err { OnErr result (turn.new ≡ turn.old) }
 {
     match str::from_utf8(text) {
@@ -76,9 +80,13 @@ fn put_frames(turn: &mut Turn, kind: Kind, bytes: &[u8]) -> Result<(), AllocErro
     Ok(())
 }
 
-/// Puts it behind what waits for a peer; what is too long for one frame goes into several.
+/// Puts it behind what waits for a peer; bytes that are too long for one frame go into several. A
+/// text that no frame spells is `Unspellable`. Where memory is refused, a front of the bytes may
+/// stand there.
 pub fn put(alloc: Global, turn: &mut Turn, sending: Sending) -> Result<(), WriteFault>
-    ensures { OnOk result (Sends sending.entry turn.old turn.new) }
+    ensures ok { OnOk result (Sends sending.entry turn.old turn.new) }
+    ensures unspellable { result ≡ Err WriteFault.Unspellable → IsUnspellable sending.entry }
+    ensures err { OnErr result (SendsFront sending.entry turn.old turn.new) }
 {
     match sending {
         Sending::Welcome(number) => put_message(alloc, turn, &Message::Welcome(number)),
