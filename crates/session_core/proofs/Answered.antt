@@ -28,8 +28,8 @@ use Rattle.session_state.specs.declared.state.State.{State}
 use Rattle.session_state.specs.Stands.{Stands}
 use Rattle.session_state.specs.Doing.{HasDone, IsAsBefore, did}
 use Rattle.session_events.specs.Leaving.{HasLeft}
-use Rattle.session_core.specs.Reads.{Ruled}
-use Rattle.session_core.specs.Reads.{ReadFor, read_of}
+use Rattle.session_input.specs.Reads.{Ruled}
+use Rattle.session_input.specs.Reads.{ReadFor, read_of}
 use Rattle.session_core.specs.Lines.{Parses, line_refusal, refusal_by}
 use Rattle.session_core.specs.Stepping.{HasHappened, Stepped}
 use Rattle.session_core.proofs.Outcomes.{was_refused, was_done, nothing_done}

@@ -1,20 +1,14 @@
-pub mod Acting
 pub mod Answered
 pub mod Crossing
 pub mod Drawings
 pub mod Drawn
 pub mod Entries
 pub mod Fitting
-pub mod Inputs
-pub mod KeyReading
-pub mod KeyStepping
 pub mod Left
 pub mod Lowest
 pub mod Needless
 pub mod Numbered
-pub mod Ordered
 pub mod Outcomes
-pub mod Putting
 pub mod Rests
 pub mod RunReading
 pub mod Runs
@@ -22,4 +16,3 @@ pub mod Seeing
 pub mod Shared
 pub mod Staying
 pub mod Still
-pub mod Telling

@@ -1,16 +1,9 @@
 pub use Rattle.session_state.specs.Noted
 pub mod Drawn
-pub mod Given
 pub mod Headline
-pub mod KeyStepping
 pub mod Least
 pub mod Lines
-pub mod Obeying
-pub mod Reads
-pub mod Ruled
-pub mod Said
 pub mod Stands
 pub mod Stepping
 pub mod Taking
-pub mod Typing
 pub mod Sharing

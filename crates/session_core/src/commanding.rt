@@ -6,10 +6,10 @@ ghost use Rattle.session_state.specs.Doing.{IsAsBefore};
 ghost use Rattle.session_core.specs.Lines.{line_refusal, Parses, IsNumbered};
 ghost use Rattle.session_core.specs.Stepping.{Steps};
 
-use crate::orders::order;
 use acl::UserId;
 use command_lang::{Command, FaultKind, ParseFault, parse};
 use session_events::{Focuses, leave};
+use session_input::order;
 use session_model::{Done, Refusal, Reply};
 use session_rights::is_known;
 use session_state::{Caller, State, Step};

@@ -4,18 +4,12 @@
 mod coming;
 mod commanding;
 mod drawing;
-mod given;
 mod going;
-mod key_step;
-mod obeying;
-mod orders;
 mod programs;
 mod reading;
-mod saying;
 mod session;
 mod sharing;
 mod taking;
-mod typing;
 
 pub use session::Session;
 pub use session_model::{

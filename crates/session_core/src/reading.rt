@@ -5,7 +5,7 @@ ghost use Rattle.session_model.specs.Trace.{Keys};
 ghost use Rattle.session_state.specs.Doing.{IsAsBefore};
 ghost use Rattle.session_core.specs.Stepping.{Steps};
 
-use crate::key_step::keys;
+use session_input::keys;
 use session_model::{Done, Reply};
 use session_state::{State, Step};
 

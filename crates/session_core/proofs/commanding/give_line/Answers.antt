@@ -3,7 +3,7 @@ use Rattle.std.proofs.lemmas.Result.{err_from_is_err_and}
 use Rattle.session_model.specs.Tables.{Window}
 use Rattle.session_model.specs.Commands.{ruling}
 use Rattle.session_model.specs.Outcomes.{reply_of}
-use Rattle.session_core.specs.Reads.{Ruled}
+use Rattle.session_input.specs.Reads.{Ruled}
 use Rattle.session_core.proofs.Answered.{was_ruled_out, was_obeyed}
 use Rattle.session_core.proofs.commanding.give_line.Goals as goal
 

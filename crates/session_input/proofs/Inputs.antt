@@ -1,0 +1,100 @@
+-- Bytes that are typed.
+use Rattle.std.proofs.Common.{◌≡◌, ℕ, true, false, List, [], ◌∷◌, ◌++◌, Option, Some, None, refl}
+use Rattle.std.proofs.Common.{ap, sym, ◌∙◌, length, inl, inr}
+use Rattle.std.specs.Prelude.{◌⊎◌, ◌==◌}
+use Rattle.std.specs.Option.{option_and_then}
+use Rattle.acl.specs.declared.user_id.UserId.{UserId}
+use Rattle.session_model.specs.declared.event.Effect.{Effect}
+use Rattle.session_model.specs.declared.event.Effect.TheVariants.{Input, Say}
+use Rattle.session_model.specs.declared.message.Message.{Message}
+use Rattle.session_model.specs.declared.message.Message.TheVariants.{Silence, Text}
+use Rattle.session_model.specs.declared.refusal.Refusal.{Refusal}
+use Rattle.session_model.specs.declared.refusal.Refusal.TheVariants.{NoMemory}
+use Rattle.session_model.specs.declared.verdict.Verdict.{Verdict}
+use Rattle.session_model.specs.Tables.{Window, Client, Tables, window_at, client_at, focused}
+use Rattle.session_model.specs.Tables.{focused_window}
+use Rattle.session_model.specs.Checks.{first_fault, typing_checks}
+use Rattle.session_model.specs.Deeds.{Deed, changing}
+use Rattle.session_model.specs.Answering.{input_in, says_why}
+use Rattle.session_model.specs.Texts.{text_of}
+use Rattle.session_rows.proofs.Serials.{serial_is}
+use Rattle.session_state.specs.declared.step_output.StepOutput.{StepOutput}
+use Rattle.session_rights.specs.Checked.{Passed, Failed}
+use Rattle.session_input.specs.Said.{wants_memory}
+use Rattle.session_input.specs.Typing.{Typed, input_to}
+
+-- where the checks passed, there is a window in focus
+focus_there : (t : Tables) (user : UserId) (o : Option Window)
+    → first_fault t (typing_checks user o) ≡ None → (w : Window) × (o ≡ Some w)
+focus_there t user None passed = absurd (cc (passed))
+focus_there t user (Some w) passed = (w, refl)
+
+input_there : (t : Tables) (s : Option ℕ) (w : Window) (typed : List ℕ)
+    → option_and_then (window_at t) s ≡ Some w
+    → input_to s typed ≡ input_in (option_and_then (window_at t) s) typed
+input_there t None w typed at = absurd (cc (at))
+input_there t (Some n) w typed at =
+    ap (λ (k : ℕ). Input k typed ∷ [])
+    (sym (serial_is (λ (v : Window). v.serial) t.windows n w at))
+    ∙ ap (λ (o : Option Window). input_in o typed) (sym at)
+
+-- the bytes go to it
+pub typed_through : (t : Tables) (c : Client) (typed : List ℕ) (before after : StepOutput)
+    (old noted : List Verdict) → (length typed == 0) ≡ false
+    → Passed t (typing_checks c.user (focused_window t c)) old noted
+    → after.effects.items ≡ before.effects.items ++ input_to (focused c) typed
+    → Typed t c typed Silence before after old noted
+typed_through t c [] before after old noted some passed put = absurd (cc (some))
+typed_through t c (b ∷ bytes) before after old noted some passed put =
+    let there = focus_there t c.user (focused_window t c) passed.none in
+    let typed : List ℕ = b ∷ bytes in
+    let through : Deed = record (changing t) { effects = input_in (focused_window t c) typed } in
+    record {
+      message_is = sym (ap (λ (o : Option Refusal). elim o as (λ _. Message) [
+        | None ↦ Silence
+        | Some r ↦ Text (text_of r)
+      ]) passed.none);
+      effects = put ∙ ap (λ (more : List Effect). before.effects.items ++ more)
+          (input_there t (focused c) there.0 typed there.1
+          ∙ sym (ap (λ (o : Option Refusal). (elim o as (λ _. Deed) [
+            | Some r ↦ says_why t c.serial r
+            | None ↦ through
+          ]).effects) passed.none));
+      verdicts = passed.noted;
+    }
+
+-- or the client is told why not
+pub typed_refused : (t : Tables) (c : Client) (n : ℕ) (typed : List ℕ) (r : Refusal)
+    (before after : StepOutput) (old noted : List Verdict) → (length typed == 0) ≡ false → c.serial ≡ n
+    → Failed t (typing_checks c.user (focused_window t c)) r old noted
+    → after.effects.items ≡ before.effects.items ++ Say n (text_of r) ∷ []
+    → Typed t c typed (Text (text_of r)) before after old noted
+typed_refused t c n [] r before after old noted some same failed put = absurd (cc (some))
+typed_refused t c n (b ∷ bytes) r before after old noted some same failed put =
+    let typed : List ℕ = b ∷ bytes in
+    let through : Deed = record (changing t) { effects = input_in (focused_window t c) typed } in
+    record {
+      message_is = sym (ap (λ (o : Option Refusal). elim o as (λ _. Message) [
+        | None ↦ Silence
+        | Some r ↦ Text (text_of r)
+      ]) failed.first);
+      effects = put ∙ ap (λ (more : List Effect). before.effects.items ++ more)
+          (ap (λ (k : ℕ). Say k (text_of r) ∷ []) (sym same)
+          ∙ sym (ap (λ (o : Option Refusal). (elim o as (λ _. Deed) [
+            | Some r ↦ says_why t c.serial r
+            | None ↦ through
+          ]).effects) failed.first));
+      verdicts = failed.noted;
+    }
+
+pub typed_refused_or : (t : Tables) (c : Client) (n : ℕ) (typed : List ℕ) (r : Refusal)
+    (before after : StepOutput) (old noted : List Verdict) → (length typed == 0) ≡ false
+    → client_at t n ≡ Some c → wants_memory r ≡ false
+    → (r ≡ NoMemory) ⊎ Failed t (typing_checks c.user (focused_window t c)) r old noted
+    → after.effects.items ≡ before.effects.items ++ Say n (text_of r) ∷ []
+    → Typed t c typed (Text (text_of r)) before after old noted
+typed_refused_or t c n typed r before after old noted some at other (inl full) put =
+    let want : wants_memory r ≡ true = ap wants_memory full in absurd (cc (want, other))
+typed_refused_or t c n typed r before after old noted some at other (inr failed) put =
+    typed_refused t c n typed r before after old noted some
+    (serial_is (λ (d : Client). d.serial) t.clients n c at) failed put

@@ -1,0 +1,29 @@
+-- Commands that a client gives by keys.
+use Rattle.std.specs.Prelude.{ℕ, ◌≡◌, ◌++◌, List, Option, Some, Result}
+use Rattle.command_lang.specs.command.Command.{Command}
+use Rattle.command_lang.specs.fault.ParseFault.{ParseFault}
+use Rattle.session_model.specs.declared.verdict.Verdict.{Verdict}
+use Rattle.session_model.specs.Tables.{Tables, Client, client_at}
+use Rattle.session_state.specs.declared.caller.Caller.{Caller}
+use Rattle.session_state.specs.declared.step_output.StepOutput.{StepOutput}
+use Rattle.session_state.specs.declared.state.State.{State}
+use Rattle.session_state.specs.Stands.{Stands}
+use Rattle.session_model.specs.Sound.{AreFit}
+use Rattle.session_state.specs.Doing.{HasDone}
+use Rattle.session_input.specs.Given.{ordered_by}
+use Rattle.session_input.specs.Typing.{caller_by}
+
+-- what comes of it was done, and its verdicts were noted
+pub record Obeyed (t : Tables) (c : Client) (order : Option (Result Command ParseFault))
+    (new : State) (before after : StepOutput) (old noted : List Verdict) : Type 0 where
+  pub done : HasDone t (ordered_by t c order).deed new before after
+  pub verdicts : noted ≡ old ++ (ordered_by t c order).verdicts
+
+-- Whichever tables the state stood for. The row of the client may be another one, with the same
+-- serial, user and focus.
+abbrev pub Obeys : Caller → ℕ → Option (Result Command ParseFault) → State → State →
+    StepOutput → StepOutput → List Verdict → List Verdict → Type 0
+Obeys k client order old new before after past noted =
+    (t : Tables) (c d : Client) → Stands t old → AreFit t → client_at t client ≡ Some d
+    → c.serial ≡ client → k ≡ caller_by client c
+    → Obeyed t c order new before after past noted

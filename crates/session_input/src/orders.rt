@@ -1,0 +1,104 @@
+//! Commands that are given.
+
+ghost use Rattle.std.specs.Prelude.{◌≡◌, true, Some, None, IfOk, IfErr};
+ghost use Rattle.std.specs.Option.{is_some};
+ghost use Rattle.session_state.specs.Doing.{Does, HasRoomToAct, IsAsBefore, IsWhole};
+ghost use Rattle.session_model.specs.declared.refusal.Refusal.TheVariants.{NoWindow};
+ghost use Rattle.session_input.specs.Ruled.{Rules};
+
+use command_lang::Command;
+use session_commands::{
+    clear, client_of, defwritelock, encoding, fit, focus, next, number, only, other, prev, remove,
+    reset, scrollview, select, split, stuff, title, wall, writelock,
+};
+use session_events::{acldel, detach, kill, multiuser, quit};
+use session_model::{Bytes, Refusal};
+use session_rights::{acladd, aclchg, aclgrp, aclumask, check_command};
+use session_state::{Caller, State, Step, StepOutput};
+use session_view::{aclgrp_of, displays, screen, windows};
+
+/// The window of a caller's command, by its serial.
+fn window_of(caller: Caller) -> Result<u32, Refusal>
+    ensures ok { IfOk result (λ window. caller.window ≡ Some window) }
+    ensures err { IfErr result (λ refusal. (refusal ≡ NoWindow) × (caller.window ≡ None)) }
+{
+    match caller.window {
+        Some(window) => Ok(window),
+        None => Err(Refusal::NoWindow),
+    }
+}
+
+/// What a command does once its checks have passed: the deed of its row, for the client that gives
+/// it or the window that it acts on.
+#[tactic(auto, using(crate::proofs::Acting::silent_lists))]
+fn act(
+    state: &mut State,
+    caller: Caller,
+    command: &Command,
+    made: &mut StepOutput,
+) -> Result<Option<Bytes>, Refusal>
+    requires { HasRoomToAct made.old }
+    ensures answer { Does caller command.now state.old result state.new made.old made.new }
+    ensures lists { IfOk result (λ text. is_some text ≡ true
+        → IsAsBefore state.old state.new made.old made.new) }
+    ensures whole { IsWhole result state.old state.new made.old made.new }
+{
+    let client = client_of(state, caller);
+    let window = window_of(caller);
+    match command {
+        Command::Acladd(users) => acladd(state, users, made),
+        Command::Aclchg { users, bits, list } => aclchg(state, users, bits, list, made),
+        Command::Acldel(user) => acldel(state, user.as_str(), made),
+        Command::Aclgrp {
+            user,
+            leader: Some(leader),
+        } => aclgrp(state, user, leader, made),
+        Command::Aclgrp { user, leader: None } => aclgrp_of(state, caller, user.as_str()),
+        Command::Aclumask(masks) => aclumask(state, caller, masks, made),
+        Command::Writelock(mode) => writelock(state, caller, window?, *mode, made),
+        Command::Defwritelock(mode) => defwritelock(state, *mode, made),
+        Command::Multiuser(is_on) => multiuser(state, *is_on, made),
+        Command::Wall(text) => wall(state, caller, text.as_str().as_bytes(), made),
+        Command::Detach => detach(state, client?, made),
+        Command::Select(word) => select(state, client?, word.as_str(), made),
+        Command::Next => next(state, caller, client?, made),
+        Command::Prev => prev(state, caller, client?, made),
+        Command::Other => other(state, client?, made),
+        Command::Title(text) => title(state, window?, text.as_str(), made),
+        Command::Number(n) => number(state, window?, *n, made),
+        Command::Kill => kill(state, window?, made),
+        Command::Screen => screen(state, caller),
+        Command::Split { vertical } => split(state, client?, *vertical, made),
+        Command::Focus => focus(state, client?, made),
+        Command::Remove => remove(state, client?, made),
+        Command::Only => only(state, client?, made),
+        Command::Fit => fit(state, caller, client?, made),
+        Command::Scrollview(back) => scrollview(state, client?, *back, made),
+        Command::Clear => clear(state, window?, made),
+        Command::Reset => reset(state, window?, made),
+        Command::Encoding(coding) => encoding(state, window?, *coding, made),
+        Command::Stuff(text) => stuff(state, window?, text.as_str().as_bytes(), made),
+        Command::Windows => windows(state, caller),
+        Command::Displays => displays(state, caller),
+        Command::Quit => quit(state, made),
+    }
+}
+
+/// A command that is given: its checks are made, and then it does what its row says. A command that
+/// lists changes nothing; nor does a refusal, but for what was checked.
+pub fn order(
+    state: &mut State,
+    caller: Caller,
+    command: &Command,
+    step: &mut Step,
+) -> Result<Option<Bytes>, Refusal>
+    ensures ruled { Rules caller command.now state.old result state.new
+        step.old.made step.new.made step.old.verdicts.items step.new.verdicts.items }
+    ensures lists { IfOk result (λ text. is_some text ≡ true
+        → IsAsBefore state.old state.new step.old.made step.new.made) }
+    ensures whole { IsWhole result state.old state.new step.old.made step.new.made }
+{
+    check_command(state, caller, command, &mut step.verdicts)?;
+    step.made.acts.reserve(256)?;
+    act(state, caller, command, &mut step.made)
+}

@@ -1,0 +1,60 @@
+//! Bytes that keys type.
+
+ghost use Rattle.std.specs.Prelude.{◌≡◌, ◌++◌, IfOk, IfErr, OnOk, OnErr};
+ghost use Rattle.session_model.specs.declared.refusal.Refusal.TheVariants.{NoMemory};
+ghost use Rattle.session_input.specs.Typing.{Types, Grows, input_to};
+
+use crate::saying::wants_memory;
+use session_model::{Bytes, Effect, Message, Refusal};
+use session_rights::check_typing;
+use session_state::{KeyCaller, State, Step};
+use std::alloc::AllocError;
+
+/// Bytes for a window's program.
+fn put_typed(window: Option<u32>, typed: Bytes, effects: &mut Vec<Effect>) -> Result<(), AllocError>
+    ensures ok { OnOk result (effects.new.items ≡ effects.old.items ++ input_to window typed) }
+    ensures err { OnErr result (effects.new.items ≡ effects.old.items) }
+{
+    let Some(window) = window else {
+        return Ok(());
+    };
+    effects.push(Effect::Input(window, typed))?;
+    Ok(())
+}
+
+/// Bytes that a client's keys type go to the window in focus, or it is told why not. Gives what its
+/// status line says then.
+pub fn type_bytes(
+    state: &State,
+    by: KeyCaller,
+    typed: Bytes,
+    step: &mut Step,
+) -> Result<Message, Refusal>
+    ensures ok { IfOk result (λ message. Types by.caller by.client typed state.now message
+        step.old.made step.new.made step.old.verdicts.items step.new.verdicts.items) }
+    ensures grows { OnOk result (Grows step.old.made.effects.items step.new.made.effects.items) }
+    ensures err { OnErr result (step.new.made.effects.items ≡ step.old.made.effects.items) }
+    ensures memory { IfErr result (λ refusal. refusal ≡ NoMemory) }
+    ensures acts { step.new.made.acts ≡ step.old.made.acts }
+{
+    if typed.is_empty() {
+        return Ok(Message::Silence);
+    }
+    match check_typing(state, by.caller, &mut step.verdicts) {
+        Ok(()) => {
+            put_typed(by.caller.window, typed, &mut step.made.effects)?;
+            Ok(Message::Silence)
+        }
+        Err(refusal) => {
+            if wants_memory(&refusal) {
+                return Err(refusal);
+            }
+            let mut text = Vec::new(state.alloc);
+            refusal.text(&mut text)?;
+            let message = Message::Text(Bytes::of(state.alloc, &text)?);
+            let said = Effect::Say(by.client, Bytes::from_vec(text));
+            step.made.effects.push(said)?;
+            Ok(message)
+        }
+    }
+}
