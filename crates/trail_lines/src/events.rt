@@ -7,7 +7,7 @@ ghost use Rattle.hub_trail.specs.Filing.{kept_of};
 ghost use Rattle.hub_trail.specs.declared.kept.Kept.TheVariants.{Attach, Command, Open};
 ghost use Rattle.hub_record.specs.Stored.{kept_lent};
 ghost use Rattle.line_fields.specs.Parts.{blank, field};
-ghost use Rattle.trail_lines.specs.Events.{text_field, text_in, title_of, window_text, window_in};
+ghost use Rattle.trail_lines.specs.Events.{text_field, text_in, title_in, title_of, window_text, window_in};
 ghost use Rattle.trail_lines.specs.Events.{event_then, attach_at, detach_at, keys_at, command_at};
 ghost use Rattle.trail_lines.specs.Events.{shape_at, open_at, closed_at, event_by, event_at};
 ghost use Rattle.trail_lines.specs.Unreadable.{Gives};
@@ -22,7 +22,7 @@ use std::alloc::{AllocError, Global};
 use std::str;
 
 /// Appends a number and a blank.
-fn push_count(number: u64, out: &mut Vec<u8>) -> Result<(), AllocError>
+pub fn push_count(number: u64, out: &mut Vec<u8>) -> Result<(), AllocError>
     ensures { OnOk result (out.new.items ≡ out.old.items ++ field blank (decimal number) []) }
 {
     push_decimal(number, out)?;
@@ -212,6 +212,24 @@ fn keys_at(alloc: Global, bytes: &[u8]) -> Result<(KeptEvent, &[u8]), Unread>
     Ok((keep(alloc, event)?, rest))
 }
 
+/// What is kept of a command, whose line is a text.
+fn keep_command(
+    alloc: Global,
+    user: UserId,
+    window: Option<u8>,
+    word: &[u8],
+) -> Result<KeptEvent, Unread>
+    ensures { Gives (λ kept. kept) result (option_map (Command user window) (text_in word.now)) }
+{
+    let line = read_text(alloc, word)?;
+    let event = Event::Command {
+        user,
+        window,
+        line: line.as_slice(),
+    };
+    keep(alloc, event)
+}
+
 /// `USER NUMBER TEXT`
 fn command_at(alloc: Global, bytes: &[u8]) -> Result<(KeptEvent, &[u8]), Unread>
     ensures { Gives (λ p. (p.0, p.1.now)) result (command_at bytes.now) }
@@ -220,13 +238,7 @@ fn command_at(alloc: Global, bytes: &[u8]) -> Result<(KeptEvent, &[u8]), Unread>
     let (window, rest) = cut(rest, b' ').ok_or(Unread::Malformed)?;
     let window = read_window(window).ok_or(Unread::Malformed)?;
     let (line, rest) = cut(rest, b' ').ok_or(Unread::Malformed)?;
-    let line = read_text(alloc, line)?;
-    let event = Event::Command {
-        user,
-        window,
-        line: line.as_slice(),
-    };
-    Ok((keep(alloc, event)?, rest))
+    Ok((keep_command(alloc, user, window, line)?, rest))
 }
 
 /// The title that the bytes are, if they are UTF-8.
@@ -246,14 +258,18 @@ fn shape_at(bytes: &[u8]) -> Option<((u16, u16, u16), &[u8])>
     Some(((rows, columns, keep), rest))
 }
 
-/// `USER ROWS COLS KEEP TEXT`
-fn open_at(alloc: Global, bytes: &[u8]) -> Result<(KeptEvent, &[u8]), Unread>
-    ensures { Gives (λ p. (p.0, p.1.now)) result (open_at bytes.now) }
+/// What is kept of an opening, whose title is a text.
+fn keep_open(
+    alloc: Global,
+    user: UserId,
+    shape: (u16, u16, u16),
+    word: &[u8],
+) -> Result<KeptEvent, Unread>
+    ensures { Gives (λ kept. kept) result
+        (option_map (Open user shape.0 shape.1 shape.2) (title_in word.now)) }
 {
-    let (user, rest) = user_at(bytes, b' ').ok_or(Unread::Malformed)?;
-    let ((rows, columns, keep_lines), rest) = shape_at(rest).ok_or(Unread::Malformed)?;
-    let (title, rest) = cut(rest, b' ').ok_or(Unread::Malformed)?;
-    let title = read_text(alloc, title)?;
+    let (rows, columns, keep_lines) = shape;
+    let title = read_text(alloc, word)?;
     let title = title_of(title.as_slice()).ok_or(Unread::Malformed)?;
     let event = Event::Open {
         user,
@@ -262,7 +278,17 @@ fn open_at(alloc: Global, bytes: &[u8]) -> Result<(KeptEvent, &[u8]), Unread>
         keep: keep_lines,
         title,
     };
-    Ok((keep(alloc, event)?, rest))
+    keep(alloc, event)
+}
+
+/// `USER ROWS COLS KEEP TEXT`
+fn open_at(alloc: Global, bytes: &[u8]) -> Result<(KeptEvent, &[u8]), Unread>
+    ensures { Gives (λ p. (p.0, p.1.now)) result (open_at bytes.now) }
+{
+    let (user, rest) = user_at(bytes, b' ').ok_or(Unread::Malformed)?;
+    let (shape, rest) = shape_at(rest).ok_or(Unread::Malformed)?;
+    let (title, rest) = cut(rest, b' ').ok_or(Unread::Malformed)?;
+    Ok((keep_open(alloc, user, shape, title)?, rest))
 }
 
 /// `WINDOW`
