@@ -12,7 +12,7 @@ use Rattle.session_model.specs.Run.{HasEffects, drawn}
 use Rattle.session_state.specs.declared.step_output.StepOutput.{StepOutput}
 use Rattle.session_state.specs.declared.state.State.{State}
 use Rattle.session_state.specs.Stands.{Stands}
-use Rattle.session_core.specs.Stepping.{HasHappened, Stepped, Steps}
+use Rattle.session_input.specs.Stepping.{HasHappened, Stepped, Steps}
 use Rattle.session_core.specs.declared.sharing.Sharing.{Sharing}
 use Rattle.session_core.specs.Taking.{TakenAs, StayShared, Takes, wants_memory}
 

@@ -1,4 +1,3 @@
-pub mod Answered
 pub mod Crossing
 pub mod Drawings
 pub mod Drawn
@@ -7,12 +6,11 @@ pub mod Fitting
 pub mod Left
 pub mod Lowest
 pub mod Needless
-pub mod Numbered
-pub mod Outcomes
 pub mod Rests
 pub mod RunReading
 pub mod Runs
 pub mod Seeing
+pub mod Settled
 pub mod Shared
 pub mod Staying
 pub mod Still

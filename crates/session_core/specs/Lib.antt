@@ -2,8 +2,6 @@ pub use Rattle.session_state.specs.Noted
 pub mod Drawn
 pub mod Headline
 pub mod Least
-pub mod Lines
 pub mod Stands
-pub mod Stepping
 pub mod Taking
 pub mod Sharing

@@ -4,7 +4,7 @@ ghost use Rattle.std.specs.Prelude.{◌≡◌, OnErr};
 ghost use Rattle.session_model.specs.Trace.{Attach, Resize, Open};
 ghost use Rattle.session_model.specs.Outcomes.{reply_of};
 ghost use Rattle.session_state.specs.Doing.{IsAsBefore};
-ghost use Rattle.session_core.specs.Stepping.{Steps};
+ghost use Rattle.session_input.specs.Stepping.{Steps};
 
 use acl::UserId;
 use session_events::{Focuses, attach, leave, open, resize};

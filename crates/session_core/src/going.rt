@@ -4,7 +4,7 @@ ghost use Rattle.std.specs.Prelude.{List, OnErr};
 ghost use Rattle.session_model.specs.declared.verdict.Verdict.{Verdict};
 ghost use Rattle.session_model.specs.Trace.{Detach, Closed};
 ghost use Rattle.session_state.specs.Doing.{IsAsBefore};
-ghost use Rattle.session_core.specs.Stepping.{Steps};
+ghost use Rattle.session_input.specs.Stepping.{Steps};
 
 use crate::coming::made_so;
 use session_events::{Focuses, close_window, detach_client, leave};

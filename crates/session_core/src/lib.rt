@@ -2,11 +2,9 @@
 #![tactic(auto)]
 
 mod coming;
-mod commanding;
 mod drawing;
 mod going;
 mod programs;
-mod reading;
 mod session;
 mod sharing;
 mod taking;

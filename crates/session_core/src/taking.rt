@@ -7,12 +7,11 @@ ghost use Rattle.session_state.specs.Doing.{IsAsBefore};
 ghost use Rattle.session_core.specs.Taking.{Takes};
 
 use crate::coming::{attach_client, open_window, resize_client};
-use crate::commanding::give_line;
 use crate::drawing::draw_client;
 use crate::going::{end_window, let_go};
 use crate::programs::write;
-use crate::reading::give_keys;
 use crate::sharing::Sharing;
+use session_input::{give_keys, give_line};
 use session_model::{Event, Reply};
 use session_state::{State, Step, WindowSize};
 

@@ -1,7 +1,10 @@
 pub mod Acting
+pub mod Answered
 pub mod Inputs
 pub mod KeyReading
 pub mod KeyStepping
+pub mod Numbered
 pub mod Ordered
+pub mod Outcomes
 pub mod Putting
 pub mod Telling

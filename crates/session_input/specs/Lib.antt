@@ -1,7 +1,9 @@
 pub mod Given
 pub mod KeyStepping
+pub mod Lines
 pub mod Obeying
 pub mod Reads
 pub mod Ruled
 pub mod Said
+pub mod Stepping
 pub mod Typing

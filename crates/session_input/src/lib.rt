@@ -1,13 +1,15 @@
-//! What users put in: commands, which are checked, carried out and answered, and keys, which type
-//! or give a command.
+//! What users put in: keys, which type or give commands, and lines, which give them; a command is
+//! checked, carried out and answered.
 #![tactic(auto)]
 
+mod commanding;
 mod given;
 mod key_step;
 mod obeying;
 mod orders;
+mod reading;
 mod saying;
 mod typing;
 
-pub use key_step::keys;
-pub use orders::order;
+pub use commanding::give_line;
+pub use reading::give_keys;

@@ -1,6 +1,6 @@
 //! What a client is told.
 
-ghost use Rattle.std.specs.Prelude.{◌≡◌, IfErr, OnOk, OnErr};
+ghost use Rattle.std.specs.Prelude.{◌≡◌, IfOk, IfErr, OnOk, OnErr};
 ghost use Rattle.session_model.specs.Texts.{text_of};
 ghost use Rattle.session_model.specs.declared.refusal.Refusal.TheVariants.{NoMemory};
 ghost use Rattle.session_model.specs.declared.message.Message.TheVariants as message;
@@ -9,12 +9,22 @@ ghost use Rattle.session_input.specs.Said.{Says, wants_memory};
 
 use session_model::{Bytes, Effect, Message, Refusal};
 use session_state::{State, StepOutput};
+use std::alloc::{AllocError, Global};
 
 /// Whether memory was wanting.
 pub(crate) fn wants_memory(refusal: &Refusal) -> bool
     ensures { result ≡ wants_memory refusal.now }
 {
     matches!(refusal, Refusal::NoMemory)
+}
+
+/// What is told of a refusal.
+pub(crate) fn why(alloc: Global, refusal: &Refusal) -> Result<Bytes, AllocError>
+    ensures { IfOk result (λ text. text ≡ text_of refusal.now) }
+{
+    let mut text = Vec::new(alloc);
+    refusal.text(&mut text)?;
+    Ok(Bytes::from_vec(text))
 }
 
 /// A client is told a text, and its status line says this from now on.
@@ -48,8 +58,7 @@ pub(crate) fn say_why(
     ensures memory { IfErr result (λ refusal. refusal ≡ NoMemory) }
     ensures acts { made.new.acts ≡ made.old.acts }
 {
-    let mut text = Vec::new(state.alloc);
-    refusal.text(&mut text)?;
-    let message = Message::Text(Bytes::of(state.alloc, &text)?);
-    say(state, client, message, Bytes::from_vec(text), made)
+    let text = why(state.alloc, &refusal)?;
+    let message = Message::Text(Bytes::of(state.alloc, text.as_slice())?);
+    say(state, client, message, text, made)
 }

@@ -1,14 +1,17 @@
 //! Bytes that keys type.
 
-ghost use Rattle.std.specs.Prelude.{◌≡◌, ◌++◌, IfOk, IfErr, OnOk, OnErr};
+ghost use Rattle.std.specs.Prelude.{◌≡◌, ◌++◌, ◌∷◌, [], IfOk, IfErr, OnOk, OnErr};
+ghost use Rattle.session_model.specs.Texts.{text_of};
+ghost use Rattle.session_model.specs.declared.event.Effect.TheVariants.{Say};
+ghost use Rattle.session_model.specs.declared.message.Message.TheVariants.{Text};
 ghost use Rattle.session_model.specs.declared.refusal.Refusal.TheVariants.{NoMemory};
 ghost use Rattle.session_input.specs.Typing.{Types, Grows, input_to};
 
-use crate::saying::wants_memory;
+use crate::saying::{wants_memory, why};
 use session_model::{Bytes, Effect, Message, Refusal};
 use session_rights::check_typing;
 use session_state::{KeyCaller, State, Step};
-use std::alloc::AllocError;
+use std::alloc::{AllocError, Global};
 
 /// Bytes for a window's program.
 fn put_typed(window: Option<u32>, typed: Bytes, effects: &mut Vec<Effect>) -> Result<(), AllocError>
@@ -20,6 +23,23 @@ fn put_typed(window: Option<u32>, typed: Bytes, effects: &mut Vec<Effect>) -> Re
     };
     effects.push(Effect::Input(window, typed))?;
     Ok(())
+}
+
+/// A client is told why it may not type. Gives what its status line says then.
+fn deny(
+    alloc: Global,
+    client: u32,
+    refusal: &Refusal,
+    effects: &mut Vec<Effect>,
+) -> Result<Message, AllocError>
+    ensures ok { IfOk result (λ message. (message ≡ Text (text_of refusal.now))
+        × (effects.new.items ≡ effects.old.items ++ Say client (text_of refusal.now) ∷ [])) }
+    ensures err { OnErr result (effects.new.items ≡ effects.old.items) }
+{
+    let text = why(alloc, refusal)?;
+    let message = Message::Text(Bytes::of(alloc, text.as_slice())?);
+    effects.push(Effect::Say(client, text))?;
+    Ok(message)
 }
 
 /// Bytes that a client's keys type go to the window in focus, or it is told why not. Gives what its
@@ -49,12 +69,7 @@ pub fn type_bytes(
             if wants_memory(&refusal) {
                 return Err(refusal);
             }
-            let mut text = Vec::new(state.alloc);
-            refusal.text(&mut text)?;
-            let message = Message::Text(Bytes::of(state.alloc, &text)?);
-            let said = Effect::Say(by.client, Bytes::from_vec(text));
-            step.made.effects.push(said)?;
-            Ok(message)
+            Ok(deny(state.alloc, by.client, &refusal, &mut step.made.effects)?)
         }
     }
 }

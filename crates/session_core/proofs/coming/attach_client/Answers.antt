@@ -6,7 +6,7 @@ use Rattle.session_model.specs.Events.{outcome}
 use Rattle.session_model.specs.Outcomes.{reply_of}
 use Rattle.session_model.specs.Comings.{attach_checks, attaches, new_client}
 use Rattle.session_state.specs.declared.step_output.StepOutput.{StepOutput}
-use Rattle.session_core.proofs.Outcomes.{was_passed}
+use Rattle.session_input.proofs.Outcomes.{was_passed}
 use Rattle.session_core.proofs.coming.attach_client.Goals as goal
 
 pub returns-clause-step : goal.returns-clause-step

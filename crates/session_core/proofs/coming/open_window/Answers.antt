@@ -7,7 +7,7 @@ use Rattle.session_model.specs.Events.{outcome}
 use Rattle.session_model.specs.Outcomes.{reply_of}
 use Rattle.session_model.specs.Comings.{open_checks, opens, new_window}
 use Rattle.session_state.specs.declared.step_output.StepOutput.{StepOutput}
-use Rattle.session_core.proofs.Outcomes.{was_passed}
+use Rattle.session_input.proofs.Outcomes.{was_passed}
 use Rattle.session_core.proofs.coming.open_window.Goals as goal
 
 pub returns-clause-step : goal.returns-clause-step

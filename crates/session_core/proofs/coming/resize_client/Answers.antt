@@ -12,7 +12,7 @@ use Rattle.session_model.specs.Comings.{is_client_size, resized}
 use Rattle.session_rows.proofs.Matching.{both_back}
 use Rattle.session_clients.specs.Stands.{ClientStands}
 use Rattle.session_state.specs.declared.step_output.StepOutput.{StepOutput}
-use Rattle.session_core.proofs.Outcomes.{was_passed, for_there}
+use Rattle.session_input.proofs.Outcomes.{was_passed, for_there}
 use Rattle.session_core.proofs.coming.resize_client.Goals as goal
 
 pub returns-clause-step : goal.returns-clause-step

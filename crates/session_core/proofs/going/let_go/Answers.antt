@@ -4,7 +4,7 @@ use Rattle.std.proofs.lemmas.Result.{err_from_is_err_and}
 use Rattle.session_model.specs.declared.event.Reason.TheVariants as reason
 use Rattle.session_model.specs.Tables.{Client, client_at}
 use Rattle.session_model.specs.Deeds.{Deed, parts}
-use Rattle.session_core.proofs.Answered.{was_settled, was_unsettled}
+use Rattle.session_core.proofs.Settled.{was_settled, was_unsettled}
 use Rattle.session_core.proofs.going.let_go.Goals as goal
 
 pub returns-in_err-detach_client-clause-step : goal.returns-in_err-detach_client-clause-step

@@ -9,7 +9,7 @@ use Rattle.session_rows.proofs.Matching.{both_back}
 use Rattle.session_windows.specs.Standing.{WindowStands, at_serial}
 use Rattle.session_state.specs.declared.step_output.StepOutput.{StepOutput}
 use Rattle.session_laws.proofs.Leaving.{none_left}
-use Rattle.session_core.proofs.Outcomes.{was_done, for_there, nobody_leaves}
+use Rattle.session_input.proofs.Outcomes.{was_done, for_there, nobody_leaves}
 use Rattle.session_core.proofs.programs.write.Goals as goal
 
 pub returns-clause-step : goal.returns-clause-step

@@ -1,9 +1,6 @@
-use Rattle.std.proofs.Common.{◌≡◌, ◌++◌, ◌∷◌, [], ℕ, List, subst, ap, sym, ◌∙◌}
+use Rattle.std.proofs.Common.{◌≡◌, ◌++◌, subst, ap, sym, ◌∙◌}
 use Rattle.std.specs.Prelude.{◌⊎◌}
-use Rattle.session_model.specs.declared.event.Effect.TheVariants.{Say}
 use Rattle.session_model.specs.declared.message.Message.{Message}
-use Rattle.session_model.specs.declared.message.Message.TheVariants.{Text}
-use Rattle.session_model.specs.Texts.{text_of}
 use Rattle.session_model.specs.declared.refusal.Refusal.TheVariants.{NoMemory}
 use Rattle.session_model.specs.Checks.{typing_checks}
 use Rattle.session_state.specs.declared.caller.Caller.{Caller}
@@ -23,21 +20,17 @@ returns-in_ok-put_typed-in-Ok-clause-ok c = λ t row st fit at same.
     (c.in_ok-put_typed-in-Ok.ensures.ok
     ∙ ap (λ (k : Caller). c.args.step.now.made.effects.items ++ input_to k.window c.args.typed) same)
 
-pub returns-in_ok-push-in-Err-clause-ok : goal.returns-in_ok-push-in-Err-clause-ok
-returns-in_ok-push-in-Err-clause-ok c = λ t row st fit at same.
+pub returns-in_ok-deny-in-Err-clause-ok : goal.returns-in_ok-deny-in-Err-clause-ok
+returns-in_ok-deny-in-Err-clause-ok c = λ t row st fit at same.
     let r = c.in-Err.refusal in
     let past = c.args.step.now.verdicts.items in
     let noted = c.check_typing.new.verdicts.items in
-    let after : StepOutput = record c.args.step.now.made { effects = c.push.new.self } in
-    let text = c.in_ok-text-in-Err.ensures.ok
-    ∙ ap (λ (xs : List ℕ). xs ++ text_of r) c.new-text.ensures.items in
+    let after : StepOutput = record c.args.step.now.made { effects = c.deny.new.effects } in
     subst (λ (m : Message). Typed t row c.args.typed m c.args.step.now.made after past noted)
-    (sym (ap Text (c.in_ok-of-in-Err.ensures ∙ c.deref.ensures.value ∙ text)))
+    (sym c.in_ok-deny-in-Err.ensures.ok.0)
     (typed_refused_or t row c.args.by.client c.args.typed r c.args.step.now.made after past noted
     (sym c.is_empty.ensures ∙ c.if-is_empty.false) at
     (sym c.wants_memory.ensures ∙ c.if-wants_memory.false)
     (subst (λ (k : Caller). (r ≡ NoMemory) ⊎ Failed t (typing_checks k.user (caller_in t k).window)
     r past noted) same (c.in-Err.ensures t st fit))
-    (c.in_ok-push-in-Err.ensures.items
-    ∙ ap (λ (xs : List ℕ). c.args.step.now.made.effects.items ++ Say c.args.by.client xs ∷ [])
-    (c.from_vec.ensures ∙ text)))
+    c.in_ok-deny-in-Err.ensures.ok.1)

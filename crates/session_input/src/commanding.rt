@@ -3,13 +3,13 @@
 ghost use Rattle.std.specs.Prelude.{◌≡◌, OnErr};
 ghost use Rattle.session_model.specs.Trace.{Command as Given};
 ghost use Rattle.session_state.specs.Doing.{IsAsBefore};
-ghost use Rattle.session_core.specs.Lines.{line_refusal, Parses, IsNumbered};
-ghost use Rattle.session_core.specs.Stepping.{Steps};
+ghost use Rattle.session_input.specs.Lines.{line_refusal, Parses, IsNumbered};
+ghost use Rattle.session_input.specs.Stepping.{Steps};
 
+use crate::orders::order;
 use acl::UserId;
 use command_lang::{Command, FaultKind, ParseFault, parse};
 use session_events::{Focuses, leave};
-use session_input::order;
 use session_model::{Done, Refusal, Reply};
 use session_rights::is_known;
 use session_state::{Caller, State, Step};
@@ -45,7 +45,7 @@ fn window_numbered(state: &State, number: Option<u8>) -> Option<u32>
 }
 
 /// A known user gives a command by a line, for the window of a number.
-pub(crate) fn give_line(
+pub fn give_line(
     state: &mut State,
     user: UserId,
     window: Option<u8>,

@@ -1,4 +1,4 @@
--- Deeds that were answered, and lines.
+-- Lines and keys that were answered.
 use Rattle.std.proofs.Common.{◌≡◌, ℕ, true, false, List, [], Option, Some, None}
 use Rattle.std.proofs.Common.{Result, Ok, Err, refl, ap, sym, ◌∙◌, append-nil, inl, inr}
 use Rattle.std.specs.Prelude.{◌⊎◌}
@@ -18,59 +18,21 @@ use Rattle.session_model.specs.Trace.{Reply, Command as Given}
 use Rattle.session_model.specs.Tables.{Tables, Client, is_known}
 use Rattle.session_model.specs.Lines.{Caller, line_caller}
 use Rattle.session_model.specs.Commands.{Ruling, ruling}
-use Rattle.session_model.specs.Deeds.{Deed, Answer, given}
-use Rattle.session_model.specs.Outcomes.{Outcome, finished, refused, done, reply_of}
+use Rattle.session_model.specs.Deeds.{Deed, Answer}
+use Rattle.session_model.specs.Outcomes.{Outcome, refused, reply_of}
 use Rattle.session_model.specs.Events.{outcome}
 use Rattle.session_model.specs.Answering.{answered, commanded, line_ruling, keys_outcome}
 use Rattle.session_rows.proofs.Serials.{if_true, if_false}
 use Rattle.session_state.specs.declared.step_output.StepOutput.{StepOutput}
 use Rattle.session_state.specs.declared.state.State.{State}
 use Rattle.session_state.specs.Stands.{Stands}
-use Rattle.session_state.specs.Doing.{HasDone, IsAsBefore, did}
+use Rattle.session_state.specs.Doing.{IsAsBefore, did}
 use Rattle.session_events.specs.Leaving.{HasLeft}
 use Rattle.session_input.specs.Reads.{Ruled}
 use Rattle.session_input.specs.Reads.{ReadFor, read_of}
-use Rattle.session_core.specs.Lines.{Parses, line_refusal, refusal_by}
-use Rattle.session_core.specs.Stepping.{HasHappened, Stepped}
-use Rattle.session_core.proofs.Outcomes.{was_refused, was_done, nothing_done}
-
--- ---- a row that is there, or is not
-
--- what is done of it
-abbrev pub of_row : {X : Type 0} → Tables → (X → Deed) → Option X → Outcome
-of_row t f o = elim o [ None ↦ refused t [] NoWindow | Some x ↦ finished t [] done (f x) ]
-
-module _ {X : Type 0} (t : Tables) (f : X → Deed) where
-  row_done : (o : Option X) (d : Deed) → given o NoWindow (λ x. Ok (f x)) ≡ Ok d
-      → of_row t f o ≡ finished t [] done d
-  unfolding given
-  row_done None d is = absurd (cc (is))
-  row_done (Some x) d is =
-      let same : f x ≡ d = cc (is) in ap (λ (e : Deed). finished t [] done e) same
-
-  row_refused : (o : Option X) (r : Refusal) → given o NoWindow (λ x. Ok (f x)) ≡ Err r
-      → of_row t f o ≡ refused t [] r
-  unfolding given
-  row_refused None r is =
-      let same : NoWindow ≡ r = cc (is) in ap (λ (e : Refusal). refused t [] e) same
-  row_refused (Some x) r is = absurd (cc (is))
-
-  pub was_settled : (o : Option X) (d : Deed) (said : Reply) (middle new : State)
-      (before second after : StepOutput) (past : List Verdict)
-      → given o NoWindow (λ x. Ok (f x)) ≡ Ok d → done ≡ said → HasDone t d middle before second
-      → HasLeft t d new second after → HasHappened (of_row t f o) said new before after past past
-  was_settled o d said middle new before second after past is same did left =
-      was_done t [] d (of_row t f o) done said middle new before before second after past past
-      (row_done o d is) same refl refl did left (sym (append-nil past))
-
-  pub was_unsettled : (o : Option X) (r : Refusal) (old new : State) (before after : StepOutput)
-      (past : List Verdict) → (r ≡ NoMemory) ⊎ (given o NoWindow (λ x. Ok (f x)) ≡ Err r)
-      → Stands t old → IsAsBefore old new before after
-      → Stepped (of_row t f o) (Err r) new before after past past
-  was_unsettled o r old new before after past (inl full) st same = inl full
-  was_unsettled o r old new before after past (inr is) st same =
-      inr (was_refused t [] r (of_row t f o) old new before after past past (row_refused o r is) st same
-      (sym (append-nil past)))
+use Rattle.session_input.specs.Lines.{Parses, line_refusal, refusal_by}
+use Rattle.session_input.specs.Stepping.{HasHappened, Stepped}
+use Rattle.session_input.proofs.Outcomes.{was_refused, was_done, nothing_done}
 
 -- ---- lines
 

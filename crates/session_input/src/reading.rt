@@ -3,15 +3,15 @@
 ghost use Rattle.std.specs.Prelude.{OnErr};
 ghost use Rattle.session_model.specs.Trace.{Keys};
 ghost use Rattle.session_state.specs.Doing.{IsAsBefore};
-ghost use Rattle.session_core.specs.Stepping.{Steps};
+ghost use Rattle.session_input.specs.Stepping.{Steps};
 
-use session_input::keys;
+use crate::key_step::keys;
 use session_model::{Done, Reply};
 use session_state::{State, Step};
 
 /// A client gives keys: they are read up to the first that completes a command or a line. Users
 /// leave windows only where there is one.
-pub(crate) fn give_keys(state: &mut State, client: u32, bytes: &[u8], step: &mut Step) -> Reply
+pub fn give_keys(state: &mut State, client: u32, bytes: &[u8], step: &mut Step) -> Reply
     ensures step { Steps (Keys client bytes.now) state.old result state.new
         step.old.made step.new.made step.old.verdicts.items step.new.verdicts.items }
     ensures err { OnErr result (IsAsBefore state.old state.new step.old.made step.new.made) }

@@ -4,8 +4,8 @@ use Rattle.session_model.specs.Tables.{Window}
 use Rattle.session_model.specs.Commands.{ruling}
 use Rattle.session_model.specs.Outcomes.{reply_of}
 use Rattle.session_input.specs.Reads.{Ruled}
-use Rattle.session_core.proofs.Answered.{was_ruled_out, was_obeyed}
-use Rattle.session_core.proofs.commanding.give_line.Goals as goal
+use Rattle.session_input.proofs.Answered.{was_ruled_out, was_obeyed}
+use Rattle.session_input.proofs.commanding.give_line.Goals as goal
 
 pub returns-in_err-text-clause-step : goal.returns-in_err-text-clause-step
 returns-in_err-text-clause-step c = λ t st fit.

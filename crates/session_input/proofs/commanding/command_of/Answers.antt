@@ -1,8 +1,8 @@
 use Rattle.std.proofs.Common.{Err, sym, subst}
 use Rattle.session_model.specs.declared.refusal.Refusal.{Refusal}
-use Rattle.session_core.specs.Lines.{Parses}
-use Rattle.session_core.proofs.Answered.{line_says, line_fails}
-use Rattle.session_core.proofs.commanding.command_of.Goals as goal
+use Rattle.session_input.specs.Lines.{Parses}
+use Rattle.session_input.proofs.Answered.{line_says, line_fails}
+use Rattle.session_input.proofs.commanding.command_of.Goals as goal
 
 pub returns-in-Ok : goal.returns-in-Ok
 returns-in-Ok c = line_says c.args.line.now c.in-Ok.command c.in-Ok.ensures.ok

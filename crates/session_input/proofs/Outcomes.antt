@@ -19,7 +19,7 @@ use Rattle.session_state.specs.Stands.{Stands}
 use Rattle.session_state.specs.Doing.{HasDone, IsAsBefore, did}
 use Rattle.session_rights.specs.Checked.{Failed}
 use Rattle.session_events.specs.Leaving.{HasLeft}
-use Rattle.session_core.specs.Stepping.{HasHappened, Stepped}
+use Rattle.session_input.specs.Stepping.{HasHappened, Stepped}
 
 pub nothing_done : (s : State) (m : StepOutput) → IsAsBefore s s m m
 nothing_done s m = record { state = refl; acts = refl; effects = refl }

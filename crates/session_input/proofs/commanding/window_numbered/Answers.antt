@@ -1,8 +1,8 @@
 use Rattle.std.proofs.Common.{Some, refl, ap, sym, ◌∙◌}
 use Rattle.std.specs.Option.{option_and_then}
 use Rattle.session_model.specs.Naming.{with_number}
-use Rattle.session_core.proofs.Numbered.{numbered_there}
-use Rattle.session_core.proofs.commanding.window_numbered.Goals as goal
+use Rattle.session_input.proofs.Numbered.{numbered_there}
+use Rattle.session_input.proofs.commanding.window_numbered.Goals as goal
 
 pub returns : goal.returns
 returns c = λ t st fit.

@@ -2,8 +2,8 @@ use Rattle.std.proofs.Common.{None, refl}
 use Rattle.std.proofs.lemmas.Result.{err_from_is_err_and}
 use Rattle.session_model.specs.Tables.{client_at}
 use Rattle.session_model.specs.Outcomes.{reply_of}
-use Rattle.session_core.proofs.Answered.{was_read, was_unread}
-use Rattle.session_core.proofs.reading.give_keys.Goals as goal
+use Rattle.session_input.proofs.Answered.{was_read, was_unread}
+use Rattle.session_input.proofs.reading.give_keys.Goals as goal
 
 pub returns-in_err-taken-clause-step : goal.returns-in_err-taken-clause-step
 returns-in_err-taken-clause-step c = λ t st fit.
