@@ -2,7 +2,7 @@
 
 use crate::opening::{open, warn_of_token};
 use crate::showing::show;
-use crate::standing::Shared;
+use crate::standing::{Shared, Standing};
 use attach_proto::Why;
 use client_words::{Fault, Told, Words, explain, gone, words_of};
 use std::alloc::{AllocError, Global};
@@ -23,7 +23,7 @@ const LAST_WRITING: u64 = 500;
 // Starts a thread that reads the socket and writes, or one that does so only while the writing of
 // the first takes long.
 fn start_showing<
-    R: Threads + Wait + Clock + AllocGlobal + Copy + Send + 'static,
+    R: Threads + Wait + Clock + Copy + Send + 'static,
     I: Read + Send + Drop + 'static,
     O: Write + Send + Drop + 'static,
 >(rt: &R, shared: &Arc<Shared<I, O>, Global>, stands_in: bool) -> Result<(), AllocError> {
@@ -31,9 +31,7 @@ fn start_showing<
     let rt_there = *rt;
     let started = thread::spawn(rt, move || {
         let rt = rt_there;
-        if let Err(fault) = show(&rt, &theirs, stands_in) {
-            theirs.end(&rt, Err(fault));
-        }
+        show(&rt, &theirs, stands_in);
     });
     match started {
         Ok(_) => Ok(()),
@@ -50,37 +48,42 @@ struct Ending {
     has_dropped: bool,
 }
 
+impl Standing {
+    // Whether something is still to be read by a window's program.
+    fn is_awaited(&self) -> bool {
+        self.way.is_window() && (self.is_writing || !self.bytes.is_empty())
+    }
+
+    // The end, which is told once.
+    fn take_ending(&mut self) -> Ending {
+        Ending {
+            end: self.ending(),
+            said: self.said.take(),
+            has_dropped: self.has_dropped,
+        }
+    }
+}
+
 // Waits for the end; for what a window's program is still to read, not for long.
 fn wait_for_end<R: Wait + Clock, I, O>(rt: &R, shared: &Shared<I, O>) -> Ending {
     let news = &shared.news;
-    let mut standing = news.wait_while(rt, shared.standing.lock(rt), |s| s.end.is_none());
-    if shared.way.is_window() {
-        standing = news
-            .wait_timeout_while(rt, standing, Duration::from_millis(LAST_WRITING), |s| {
-                s.is_writing || !s.bytes.is_empty()
-            })
-            .0;
-    }
-    Ending {
-        end: standing.ending(),
-        said: standing.said.take(),
-        has_dropped: standing.has_dropped,
-    }
+    let standing = news.wait_while(rt, shared.standing.lock(rt), |s| s.end.is_none());
+    let most = Duration::from_millis(LAST_WRITING);
+    let (mut standing, _) = news.wait_timeout_while(rt, standing, most, |s| s.is_awaited());
+    standing.take_ending()
 }
 
 // Starts the threads of a peer, and waits for its end.
 fn join<
-    R: Clock + Threads + Wait + AllocGlobal + Copy + Send + 'static,
+    R: Clock + Threads + Wait + Copy + Send + 'static,
     I: Read + Send + Drop + 'static,
     O: Write + Send + Drop + 'static,
->(rt: &R, shared: Shared<I, O>) -> Result<Ending, Fault> {
-    let is_window = shared.way.is_window();
-    let shared = Arc::new(rt.alloc(), shared)?;
-    start_showing(rt, &shared, false)?;
-    if is_window {
-        start_showing(rt, &shared, true)?;
+>(rt: &R, shared: &Arc<Shared<I, O>, Global>) -> Result<Ending, Fault> {
+    start_showing(rt, shared, false)?;
+    if shared.way.is_window() {
+        start_showing(rt, shared, true)?;
     }
-    Ok(wait_for_end(rt, &shared))
+    Ok(wait_for_end(rt, shared))
 }
 
 fn run<
@@ -88,11 +91,20 @@ fn run<
     I: Read + Send + Drop + 'static,
     O: Write + Send + Drop + 'static,
 >(rt: &R, words: &Words<'_>, input: I, output: O) -> Result<Ending, Fault> {
-    let mut kept = Vec::new(rt.alloc());
-    match open(rt, words, &mut kept) {
-        Ok(opened) => join(rt, Shared::new(rt.alloc(), words, opened, input, output)),
-        Err(fault) => Err(fault),
+    let alloc = rt.alloc();
+    let mut kept = Vec::new(alloc);
+    let opened = open(rt, words, &mut kept)?;
+    match Arc::new(alloc, Shared::new(alloc, words, opened, input, output)) {
+        Ok(shared) => join(rt, &shared),
+        Err(fault) => Err(Fault::from(fault)),
     }
+}
+
+// Says what the session said, and what that means.
+fn tell_said<E: Write>(said: &str, words: &Words<'_>, errors: &mut E) {
+    let _ = write!(errors, "mux: {said}");
+    let _ = explain(said, words, errors);
+    let _ = writeln!(errors);
 }
 
 // Says why a peer ended otherwise than well: of a fault, in the session's own words. The answer is the
@@ -103,16 +115,14 @@ fn tell_fault<E: Write>(
     words: &Words<'_>,
     errors: &mut E,
 ) -> u8 {
-    match (fault, said) {
-        (Fault::Gone(Why::Fault), Some(said)) => {
-            let _ = write!(errors, "mux: {said}");
-            let _ = explain(said.as_str(), words, errors);
+    match said {
+        Some(said) if matches!(fault, Fault::Gone(Why::Fault)) => {
+            tell_said(said.as_str(), words, errors);
         }
         _ => {
-            let _ = write!(errors, "mux: {}", Told { fault, words });
+            let _ = writeln!(errors, "mux: {}", Told { fault, words });
         }
     }
-    let _ = writeln!(errors);
     fault.status()
 }
 

@@ -92,14 +92,6 @@ fn connect<R: Net>(rt: &R, path: &str) -> Result<UnixStream, Fault> {
     }
 }
 
-// A connection that begins with this frame.
-fn connect_with<R: Net>(rt: &R, path: &str, frame: &[u8]) -> Result<UnixStream, Fault> {
-    let stream = connect(rt, path)?;
-    let mut writer = &stream;
-    writer.write_all(frame)?;
-    Ok(stream)
-}
-
 /// A peer of the server, from its first frame on.
 #[derive(Drop)]
 pub struct Opened {
@@ -125,6 +117,19 @@ impl Opened {
             },
         }
     }
+}
+
+// A connection that begins with this frame.
+fn connect_with<R: Net>(
+    rt: &R,
+    words: &Words<'_>,
+    frame: &[u8],
+    sizes: Option<File>,
+) -> Result<Opened, Fault> {
+    let stream = connect(rt, words.socket)?;
+    let mut writer = &stream;
+    writer.write_all(frame)?;
+    Ok(Opened::of(words.way, stream, sizes))
 }
 
 // The first frame, with the token of the file that the words name.
@@ -166,7 +171,8 @@ pub fn open<R: Net + Files<File = File> + AllocGlobal>(
 ) -> Result<Opened, Fault> {
     fill_closed(rt, kept)?;
     let frame = frame_for(rt, words)?;
-    let sizes = sizes_of(rt, words)?;
-    let stream = connect_with(rt, words.socket, &frame)?;
-    Ok(Opened::of(words.way, stream, sizes))
+    match sizes_of(rt, words) {
+        Ok(sizes) => connect_with(rt, words, &frame, sizes),
+        Err(fault) => Err(fault),
+    }
 }

@@ -40,30 +40,37 @@ fn size_frame(alloc: Global, size: Size) -> Result<Vec<u8>, WriteFault> {
 }
 
 // Sends what was read. The answer is whether the socket takes more.
-fn send_input<R: Wait + AllocGlobal, J, O>(
+fn send_input<R: Wait, J, O>(rt: &R, shared: &Shared<J, O>, input: &[u8]) -> Result<bool, Fault> {
+    match input_frame(shared.alloc, shared.way, input) {
+        // What is still to be read of the socket says why it takes no more.
+        Ok(frame) => Ok(shared.send(rt, &frame).is_ok()),
+        Err(fault) => Err(Fault::from(fault)),
+    }
+}
+
+// Reads the input once, and sends what it read. The answer is whether to go on.
+fn send_next<R: Wait, I: Read, J, O>(
     rt: &R,
     shared: &Shared<J, O>,
-    input: &[u8],
-) -> Result<bool, WriteFault> {
-    let frame = input_frame(rt.alloc(), shared.way, input)?;
-    // What is still to be read of the socket says why it takes no more.
-    Ok(shared.send(rt, &frame).is_ok())
+    input: &mut I,
+    buffer: &mut [u8],
+) -> Result<bool, Fault> {
+    match read_input(input, buffer) {
+        Ok(0) => Ok(false),
+        Ok(count) => send_input(rt, shared, &buffer[..count]),
+        Err(error) => Err(Fault::Refused(Part::Input, error)),
+    }
 }
 
 // Sends what it reads, until the input ends.
-fn send_all<R: Wait + AllocGlobal, I: Read, J, O>(
+fn send_all<R: Wait, I: Read, J, O>(
     rt: &R,
     shared: &Shared<J, O>,
     input: &mut I,
 ) -> Result<(), Fault> {
-    let mut buffer = vec![in rt.alloc(); 0; LONGEST]?;
+    let mut buffer = vec![in shared.alloc; 0; LONGEST]?;
     for _ in 0..u64::MAX {
-        let count = match read_input(input, buffer.as_mut_slice()) {
-            Ok(0) => break,
-            Ok(count) => count,
-            Err(error) => return Err(Fault::Refused(Part::Input, error)),
-        };
-        if !send_input(rt, shared, &buffer[..count])? {
+        if !send_next(rt, shared, input, buffer.as_mut_slice())? {
             break;
         }
     }
@@ -76,7 +83,7 @@ fn send_detach<R: Wait, I, O>(rt: &R, shared: &Shared<I, O>) -> io::Result<()> {
 }
 
 // Sends the input, and at its end that the peer goes.
-fn send_to_end<R: Wait + AllocGlobal, I: Read, J, O>(rt: &R, shared: &Shared<J, O>, input: &mut I) {
+fn send_to_end<R: Wait, I: Read, J, O>(rt: &R, shared: &Shared<J, O>, input: &mut I) {
     if let Err(fault) = send_all(rt, shared, input) {
         shared.standing.lock(rt).input = Some(fault);
     }
@@ -84,15 +91,15 @@ fn send_to_end<R: Wait + AllocGlobal, I: Read, J, O>(rt: &R, shared: &Shared<J, 
 }
 
 // Sends a size. The answer is whether to go on.
-fn send_size<R: Wait + AllocGlobal, I, O>(rt: &R, shared: &Shared<I, O>, size: Size) -> bool {
-    match size_frame(rt.alloc(), size) {
+fn send_size<R: Wait, I, O>(rt: &R, shared: &Shared<I, O>, size: Size) -> bool {
+    match size_frame(shared.alloc, size) {
         Ok(frame) => shared.send(rt, &frame).is_ok(),
         Err(_) => false,
     }
 }
 
 // Sends the last size of those that these bytes end. The answer is whether to go on.
-fn send_last<R: Wait + AllocGlobal, I, O>(
+fn send_last<R: Wait, I, O>(
     rt: &R,
     shared: &Shared<I, O>,
     lines: &mut SizeLines,
@@ -111,7 +118,7 @@ fn send_last<R: Wait + AllocGlobal, I, O>(
 }
 
 // Sends the last size of those that a read brings. The answer is whether to go on.
-fn send_read<R: Wait + AllocGlobal, I, O>(
+fn send_read<R: Wait, I, O>(
     rt: &R,
     shared: &Shared<I, O>,
     file: &mut File,
@@ -125,13 +132,13 @@ fn send_read<R: Wait + AllocGlobal, I, O>(
 }
 
 // Sends the last size of those that came, until the file ends.
-fn send_sizes<R: Wait + AllocGlobal, I, O>(
+fn send_sizes<R: Wait, I, O>(
     rt: &R,
     shared: &Shared<I, O>,
     file: &mut File,
 ) -> Result<(), AllocError> {
-    let mut lines = SizeLines::new(rt.alloc());
-    let mut buffer = vec![in rt.alloc(); 0; LONGEST]?;
+    let mut lines = SizeLines::new(shared.alloc);
+    let mut buffer = vec![in shared.alloc; 0; LONGEST]?;
     for _ in 0..u64::MAX {
         if !send_read(rt, shared, file, &mut lines, buffer.as_mut_slice()) {
             break;
@@ -150,7 +157,7 @@ pub enum Source<I> {
 }
 
 impl<J: Read> Source<J> {
-    fn send<R: Wait + AllocGlobal, I, O>(&mut self, rt: &R, shared: &Shared<I, O>) {
+    fn send<R: Wait, I, O>(&mut self, rt: &R, shared: &Shared<I, O>) {
         match self {
             Source::Input(input) => send_to_end(rt, shared, input),
             Source::Sizes(file) => {
@@ -163,7 +170,7 @@ impl<J: Read> Source<J> {
 /// Starts a thread that sends. It isn't joined: it may wait for its source for good, and the program
 /// ends without it.
 pub fn start_sending<
-    R: Threads + Wait + AllocGlobal + Copy + Send + 'static,
+    R: Threads + Wait + Copy + Send + 'static,
     I: Read + Send + Drop + 'static,
     O: Write + Send + Drop + 'static,
 >(rt: &R, shared: &Arc<Shared<I, O>, Global>, source: Source<I>) -> Result<(), AllocError> {

@@ -46,8 +46,25 @@ enum Came {
     Nothing,
 }
 
+// Puts in order what was read.
+fn take_in<R: Wait, I, O>(
+    rt: &R,
+    shared: &Shared<I, O>,
+    intake: &mut Intake<I>,
+    bytes: &[u8],
+) -> Result<Came, Fault> {
+    let mut standing = shared.standing.lock(rt);
+    let end = standing.take_read(shared.alloc, &mut intake.reader, bytes)?;
+    intake.is_welcome = standing.is_welcome;
+    intake.is_over = end.is_some();
+    Ok(match end {
+        Some(end) => Came::End(end),
+        None => Came::More,
+    })
+}
+
 // Reads the socket, and puts in order what came.
-fn receive<R: Wait + AllocGlobal, I, O>(
+fn receive<R: Wait, I, O>(
     rt: &R,
     shared: &Shared<I, O>,
     intake: &mut Intake<I>,
@@ -57,23 +74,21 @@ fn receive<R: Wait + AllocGlobal, I, O>(
         return Ok(Came::Nothing);
     }
     let mut stream = &shared.stream;
-    let count = stream.read(buffer)?;
-    let mut standing = shared.standing.lock(rt);
-    let end = standing.take_read(rt.alloc(), &mut intake.reader, &buffer[..count])?;
-    intake.is_welcome = standing.is_welcome;
-    intake.is_over = end.is_some();
-    Ok(match end {
-        Some(end) => Came::End(end),
-        None => Came::More,
-    })
+    match stream.read(buffer) {
+        Ok(count) => take_in(rt, shared, intake, &buffer[..count]),
+        Err(error) => Err(Fault::from(error)),
+    }
 }
 
-// The peer is let in: its sizes and its input are read from now on.
+// Once the peer is let in, its sizes and its input are read.
 fn start<
-    R: Threads + Wait + AllocGlobal + Copy + Send + 'static,
+    R: Threads + Wait + Copy + Send + 'static,
     I: Read + Send + Drop + 'static,
     O: Write + Send + Drop + 'static,
 >(rt: &R, shared: &Arc<Shared<I, O>, Global>, intake: &mut Intake<I>) -> Result<(), AllocError> {
+    if !intake.is_welcome {
+        return Ok(());
+    }
     if let Some(asked) = intake.asked.take() {
         start_sending(rt, shared, Source::Sizes(asked))?;
     }
@@ -85,29 +100,23 @@ fn start<
 
 // Reads the socket once.
 fn read_once<
-    R: Threads + Wait + AllocGlobal + Copy + Send + 'static,
+    R: Threads + Wait + Copy + Send + 'static,
     I: Read + Send + Drop + 'static,
     O: Write + Send + Drop + 'static,
 >(rt: &R, shared: &Arc<Shared<I, O>, Global>, buffer: &mut [u8]) -> Result<Came, Fault> {
     let mut intake = shared.intake.lock(rt);
     let came = receive(rt, shared, &mut intake, buffer)?;
-    if intake.is_welcome {
-        start(rt, shared, &mut intake)?;
-    }
+    start(rt, shared, &mut intake)?;
     Ok(came)
 }
 
 // Takes what waits. None where nothing does, or another thread writes.
-fn waiting<R: Wait + AllocGlobal, I, O>(
-    rt: &R,
-    shared: &Shared<I, O>,
-    mine: bool,
-) -> Option<Writing> {
+fn waiting<R: Wait, I, O>(rt: &R, shared: &Shared<I, O>, mine: bool) -> Option<Writing> {
     let mut standing = shared.standing.lock(rt);
     if standing.is_writing != mine {
         return None;
     }
-    let waiting = standing.begin_writing(rt.alloc());
+    let waiting = standing.begin_writing(shared.alloc);
     let has_ended = standing.end.is_some();
     drop(standing);
     match &waiting {
@@ -130,11 +139,7 @@ impl<O: Write> Outlet<O> {
 }
 
 // Writes what waits, unless another thread does. The answer is whether it did.
-fn write_next<R: Wait + AllocGlobal, I, O: Write>(
-    rt: &R,
-    shared: &Shared<I, O>,
-    mine: bool,
-) -> io::Result<bool> {
+fn write_next<R: Wait, I, O: Write>(rt: &R, shared: &Shared<I, O>, mine: bool) -> io::Result<bool> {
     match waiting(rt, shared, mine) {
         Some(writing) => {
             shared.outlet.lock(rt).write(&writing)?;
@@ -145,10 +150,7 @@ fn write_next<R: Wait + AllocGlobal, I, O: Write>(
 }
 
 // Writes until nothing waits, unless another thread does.
-fn write_waiting<R: Wait + AllocGlobal, I, O: Write>(
-    rt: &R,
-    shared: &Shared<I, O>,
-) -> io::Result<()> {
+fn write_waiting<R: Wait, I, O: Write>(rt: &R, shared: &Shared<I, O>) -> io::Result<()> {
     let mut mine = false;
     for _ in rt.forever() {
         if !write_next(rt, shared, mine)? {
@@ -159,52 +161,52 @@ fn write_waiting<R: Wait + AllocGlobal, I, O: Write>(
     Ok(())
 }
 
-// Nobody waits for a window's program for long: it may read no more.
-fn finish<R: Wait + AllocGlobal, I, O: Write>(
-    rt: &R,
-    shared: &Shared<I, O>,
-    end: Result<Why, Fault>,
-) -> io::Result<()> {
+// The peer ends. Nobody waits for a window's program for long: it may read no more.
+fn finish<R: Wait, I, O: Write>(rt: &R, shared: &Shared<I, O>, end: Result<Why, Fault>) {
     if shared.way.is_window() {
         shared.end(rt, end);
-        return write_waiting(rt, shared);
     }
-    write_waiting(rt, shared)?;
-    shared.end(rt, end);
-    Ok(())
+    match write_waiting(rt, shared) {
+        Ok(()) => shared.end(rt, end),
+        Err(error) => shared.end(rt, Err(Fault::from(error))),
+    }
 }
 
 // Reads the socket once, and writes what that brings. The answer is whether to go on.
 fn pass_on<
-    R: Threads + Wait + AllocGlobal + Copy + Send + 'static,
+    R: Threads + Wait + Copy + Send + 'static,
     I: Read + Send + Drop + 'static,
     O: Write + Send + Drop + 'static,
->(rt: &R, shared: &Arc<Shared<I, O>, Global>, buffer: &mut [u8]) -> Result<bool, Fault> {
-    match read_once(rt, shared, buffer)? {
-        Came::More => {
-            write_waiting(rt, shared)?;
-            Ok(true)
+>(rt: &R, shared: &Arc<Shared<I, O>, Global>, buffer: &mut [u8]) -> bool {
+    let fault = match read_once(rt, shared, buffer) {
+        Ok(Came::More) => match write_waiting(rt, shared) {
+            Ok(()) => return true,
+            Err(error) => Fault::from(error),
+        },
+        Ok(Came::End(end)) => {
+            finish(rt, shared, end);
+            return false;
         }
-        Came::End(end) => {
-            finish(rt, shared, end)?;
-            Ok(false)
-        }
-        Came::Nothing => Ok(false),
-    }
+        Ok(Came::Nothing) => return false,
+        Err(fault) => fault,
+    };
+    shared.end(rt, Err(fault));
+    false
 }
 
 /// Reads and writes until the peer ends; where it stands in, while another thread's writing takes long.
 pub fn show<
-    R: Threads + Wait + Clock + AllocGlobal + Copy + Send + 'static,
+    R: Threads + Wait + Clock + Copy + Send + 'static,
     I: Read + Send + Drop + 'static,
     O: Write + Send + Drop + 'static,
->(rt: &R, shared: &Arc<Shared<I, O>, Global>, stands_in: bool) -> Result<(), Fault> {
+>(rt: &R, shared: &Arc<Shared<I, O>, Global>, stands_in: bool) {
     let mut turns = Turns::of(stands_in);
-    let mut buffer = vec![in rt.alloc(); 0; LONGEST]?;
+    let Ok(mut buffer) = vec![in shared.alloc; 0; LONGEST] else {
+        return shared.end(rt, Err(Fault::NoMemory));
+    };
     for _ in rt.forever() {
-        if !turns.wait(rt, shared) || !pass_on(rt, shared, buffer.as_mut_slice())? {
+        if !turns.wait(rt, shared) || !pass_on(rt, shared, buffer.as_mut_slice()) {
             break;
         }
     }
-    Ok(())
 }

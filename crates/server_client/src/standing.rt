@@ -108,6 +108,7 @@ pub struct Outlet<O> {
 /// A peer, for all of its threads.
 #[derive(Drop)]
 pub struct Shared<I, O> {
+    pub alloc: Global,
     pub way: Way,
     pub stream: UnixStream,
     /// Is held while a frame is written: a frame goes whole.
@@ -136,6 +137,7 @@ impl<I, O> Shared<I, O> {
             told,
         } = opened;
         Shared {
+            alloc,
             way: words.way,
             stream,
             sending: Mutex::new(()),
