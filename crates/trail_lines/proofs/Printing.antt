@@ -6,7 +6,9 @@ use Rattle.std.specs.Result.{result_ok}
 use Rattle.std.specs.Str.{IsUtf8, is_utf8}
 use Rattle.std.proofs.lemmas.Str.{IsUtf8-from_is_utf8, is_utf8-from_IsUtf8}
 use Rattle.std.specs.Prelude.{codes, map}
+use Rattle.std.specs.List.{flat_map}
 use Rattle.std.proofs.lemmas.List.{map_push}
+use Rattle.std.proofs.lemmas.List.Concat.{flat_map-append}
 use Rattle.acl.specs.declared.user_id.UserId.{UserId}
 use Rattle.acl.specs.Names.{name_of}
 use Rattle.session_model.specs.Texts.{behind}
@@ -43,3 +45,13 @@ one_more out₀ out₁ out₂ out₃ users user more e₁ e₂ e₃ e =
     ∙ ap (λ o. o ++ (codes "," ++ name_of user)) e₁ ∙ append_assoc out₀ (others_text users) (codes "," ++ name_of user)
     ∙ ap (λ o. out₀ ++ o) (sym (behind_push (codes ",") (map name_of users) (name_of user)) ∙ ap (behind (codes ",")) (sym (map_push name_of users user)))
     ∙ ap (λ u. out₀ ++ others_text u) (sym e)
+
+-- what is printed of one more, behind a mark
+pub mark_more : {X : Type 0} (text : X → List ℕ) (out₀ out₁ out₂ out₃ mark own : List ℕ) (done more : List X) (x : X) → out₁ ≡ out₀ ++ flat_map text done → out₂ ≡ out₁ ++ mark → out₃ ≡ out₂ ++ own
+    → text x ≡ mark ++ own → more ≡ done ++ x ∷ [] → out₃ ≡ out₀ ++ flat_map text more
+mark_more text out₀ out₁ out₂ out₃ mark own done more x e₁ e₂ e₃ is e =
+    e₃ ∙ ap (λ o. o ++ own) (e₂ ∙ ap (λ o. o ++ mark) e₁)
+    ∙ append_assoc (out₀ ++ flat_map text done) mark own ∙ append_assoc out₀ (flat_map text done) (mark ++ own)
+    ∙ ap (λ o. out₀ ++ (flat_map text done ++ o)) (sym is ∙ sym (append-nil (text x)))
+    ∙ ap (λ o. out₀ ++ o) (sym (flat_map-append text done (x ∷ [])))
+    ∙ ap (λ xs. out₀ ++ flat_map text xs) (sym e)

@@ -9,7 +9,7 @@ ghost use Rattle.trail_lines.specs.Entries.{noting, notes_of, tail_in, said_in, 
 ghost use Rattle.trail_lines.specs.Entries.{read_line, noted, said};
 ghost use Rattle.trail_lines.specs.Unreadable.{Gives};
 
-use crate::events::{event_at, push_event};
+use crate::events::{event_at, push_count, push_event};
 use crate::replies::{push_reply, read_reply};
 use crate::unread::Unread;
 use acl::Act;
@@ -18,7 +18,7 @@ use hub_trail::Ending;
 use line_fields::acts::{push_act, read_act};
 use line_fields::verdicts::{push_verdict, read_verdict};
 use line_fields::{next_word, u64_at};
-use session_model::{Done, Refusal, Reply, Verdict, push_decimal};
+use session_model::{Done, Refusal, Reply, Verdict};
 use std::alloc::{AllocError, Global};
 
 /// An entry, its place in the trail and its time, in milliseconds since 1970.
@@ -78,10 +78,8 @@ fn push_tail(entry: &Filed, out: &mut Vec<u8>) -> Result<(), AllocError>
 fn push_line(place: u64, ms: u64, entry: &Filed, out: &mut Vec<u8>) -> Result<(), AllocError>
     ensures { OnOk result (out.new.items ≡ out.old.items ++ line_of (place, ms, entry.now)) }
 {
-    push_decimal(place, out)?;
-    out.extend_from_slice(b" ")?;
-    push_decimal(ms, out)?;
-    out.extend_from_slice(b" ")?;
+    push_count(place, out)?;
+    push_count(ms, out)?;
     push_event(entry.event().get(), out)?;
     push_tail(entry, out)
 }

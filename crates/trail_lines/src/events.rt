@@ -22,7 +22,7 @@ use std::alloc::{AllocError, Global};
 use std::str;
 
 /// Appends a number and a blank.
-fn push_count(number: u64, out: &mut Vec<u8>) -> Result<(), AllocError>
+pub fn push_count(number: u64, out: &mut Vec<u8>) -> Result<(), AllocError>
     ensures { OnOk result (out.new.items ≡ out.old.items ++ field blank (decimal number) []) }
 {
     push_decimal(number, out)?;

@@ -5,7 +5,7 @@ ghost use Rattle.session_model.specs.declared.refusal.Refusal.TheVariants as ref
 ghost use Rattle.acl.specs.Names.{name_of};
 ghost use Rattle.session_model.specs.Texts.{behind};
 ghost use Rattle.line_fields.specs.Cutting.{words};
-ghost use Rattle.line_fields.specs.Parts.{comma};
+ghost use Rattle.line_fields.specs.Parts.{colon, comma, field};
 ghost use Rattle.trail_lines.specs.Replies.{leaders_text, with_leader, leaders_of, leaders_in};
 ghost use Rattle.trail_lines.specs.Replies.{denied_then};
 ghost use Rattle.trail_lines.specs.Replies.{denied_of, denied_at, entry_in, lock_denied_in};
@@ -21,6 +21,14 @@ use line_fields::{cut, next_word, read_u8, read_u64, u8_at, u32_at, u64_at};
 use regions::RegionFault;
 use session_model::{Denied, EntryDenied, LockDenied, Refusal, WindowsFault, push_decimal};
 use std::alloc::AllocError;
+
+/// Appends a number and a colon.
+fn push_number(number: u64, out: &mut Vec<u8>) -> Result<(), AllocError>
+    ensures { OnOk result (out.new.items ≡ out.old.items ++ field colon (decimal number) []) }
+{
+    push_decimal(number, out)?;
+    out.extend_from_slice(b":")
+}
 
 /// Appends names, each behind a comma.
 fn push_others(others: &[UserId], out: &mut Vec<u8>) -> Result<(), AllocError>
@@ -84,10 +92,8 @@ fn push_denied(on: Denied, out: &mut Vec<u8>) -> Result<(), AllocError>
 {
     match on {
         Denied::Window { serial, number } => {
-            push_decimal(u64::from(serial), out)?;
-            out.extend_from_slice(b":")?;
-            push_decimal(u64::from(number), out)?;
-            out.extend_from_slice(b":")
+            push_number(u64::from(serial), out)?;
+            push_number(u64::from(number), out)
         }
         Denied::Command(command) => {
             push_command(command, out)?;
@@ -234,10 +240,8 @@ fn push_lock_denied(denied: &LockDenied, out: &mut Vec<u8>) -> Result<(), AllocE
     ensures { OnOk result (out.new.items ≡ out.old.items ++ why_text (refusal.LockDenied denied.now)) }
 {
     out.extend_from_slice(b"lock:")?;
-    push_decimal(u64::from(denied.serial), out)?;
-    out.extend_from_slice(b":")?;
-    push_decimal(u64::from(denied.number), out)?;
-    out.extend_from_slice(b":")?;
+    push_number(u64::from(denied.serial), out)?;
+    push_number(u64::from(denied.number), out)?;
     push_name(denied.holder, out)
 }
 
@@ -246,8 +250,7 @@ fn push_line_fault(fault: ParseFault, out: &mut Vec<u8>) -> Result<(), AllocErro
     ensures { OnOk result (out.new.items ≡ out.old.items ++ why_text (refusal.Line fault)) }
 {
     out.extend_from_slice(b"line:")?;
-    push_decimal(u64::from(fault.number()), out)?;
-    out.extend_from_slice(b":")?;
+    push_number(u64::from(fault.number()), out)?;
     push_decimal(fault.place() as u64, out)
 }
 
@@ -338,10 +341,8 @@ fn push_finished(finished: &Finished, out: &mut Vec<u8>) -> Result<(), AllocErro
     ensures { OnOk result (out.new.items ≡ out.old.items ++ reply_text (Ok finished.now)) }
 {
     out.extend_from_slice(b"ok:")?;
-    push_decimal(finished.taken as u64, out)?;
-    out.extend_from_slice(b":")?;
-    push_decimal(u64::from(finished.made), out)?;
-    out.extend_from_slice(b":")?;
+    push_number(finished.taken as u64, out)?;
+    push_number(u64::from(finished.made), out)?;
     push_decimal(u64::from(finished.number), out)
 }
 
