@@ -10,7 +10,8 @@ use Rattle.hub_trail.specs.Filing as filing
 use Rattle.hub_trail.specs.Filing.{ending_of, filed, kept_of}
 use Rattle.hub.specs.Routing.{is_draw, marked}
 use Rattle.hub.specs.States.{State, Takes, entry_of}
-use Rattle.hub.specs.Seats.{AllBelow, HasReceipt, IsHanded, Sitting, StandsLast, Told, placed, with_receipt}
+use Rattle.hub_record.specs.Receipts.{Receipt}
+use Rattle.hub.specs.Seats.{HasReceipt, IsHanded, IsReceived, Sitting, StandsLast, Told, placed}
 
 one_filed : (o : Option Kept) (step : Entry) → is_some o ≡ true → length (filing.entry_of o step) ≡ 1
 one_filed None step is = absurd (cc (is))
@@ -41,12 +42,14 @@ no_more seat event reply old new takes not =
 pub seats_stay : (seat : ℕ) (event : EventValue) (reply : Reply) (old new : State) → Takes seat event reply old new → (length new.waiting ≡ length old.waiting) × (length new.marks ≡ length old.marks)
 seats_stay seat event reply old new takes = (takes.2.waiting.seats, ap length takes.2.marks ∙ marks_stay event old.marks)
 
-pub answered : (o : Option Kept) (copy : Kept) (place : ℕ) (told : Told) (old new : Sitting) → Some copy ≡ o → told.place ≡ Some place → AllBelow old.receipts place
-    → new ≡ with_receipt old (record { place = place; event = copy; reply = ending_of told.reply }) → HasReceipt o told old new
-answered None copy place told old new is at below more = absurd (cc (is))
-answered (Some k) copy place told old new is at below more =
-    let same : copy ≡ k = cc (is) in
-    (place, at, below, subst (λ (x : Kept). new ≡ with_receipt old (record { place = place; event = x; reply = ending_of told.reply })) same more)
+pub answered : (o : Option Kept) (place : ℕ) (told : Told) (old new : Sitting) → told.place ≡ Some place → IsReceived o told.reply place old.receipts new.receipts
+    → new ≡ record old { receipts = new.receipts } → HasReceipt o told old new
+answered None place told old new at is same = absurd (let none = is.more.1 in cc (none))
+answered (Some k) place told old new at is same =
+    let kept : is.more.0 ≡ k = (let some = is.more.1 in cc (some)) in
+    let items : new.receipts ≡ old.receipts ++ record { place = place; event = k; reply = ending_of told.reply } ∷ [] =
+    subst (λ (x : Kept). new.receipts ≡ old.receipts ++ record { place = place; event = x; reply = ending_of told.reply } ∷ []) kept is.more.2 in
+    (place, at, is.below, same ∙ ap (λ (x : List Receipt). record old { receipts = x }) items)
 
 pub unanswered : (o : Option Kept) (told : Told) (old new : Sitting) → is_some o ≡ false → told.place ≡ None → new ≡ old → HasReceipt o told old new
 unanswered None told old new not at same = (at, same)

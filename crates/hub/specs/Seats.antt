@@ -39,6 +39,14 @@ Rise (r ∷ receipts) = AllByRecursion (λ (s : Receipt). r.place < s.place) rec
 abbrev pub with_receipt : Sitting → Receipt → Sitting
 with_receipt s r = record s { receipts = s.receipts ++ r ∷ [] }
 
+-- an event that writes an entry was answered by a receipt, which stands behind these at a place above
+-- theirs
+pub record IsReceived (event : Option Kept) (reply : Reply) (place : ℕ) (old new : List Receipt)
+    : Type 0 where
+  pub below : AllBelow old place
+  pub more : (k : Kept) × (event ≡ Some k)
+      × (new ≡ old ++ record { place = place; event = k; reply = ending_of reply } ∷ [])
+
 -- An event that writes an entry has a receipt, which names this event and this reply, at a place
 -- above all that the seat was told; and the seat holds it. Any other event has none.
 abbrev pub HasReceipt : Option Kept → Told → Sitting → Sitting → Type 0

@@ -1,19 +1,25 @@
 //! A session with its trail, and what waits for each seat.
 
-ghost use Rattle.std.specs.Prelude.{◌≡◌, ◌<◌, length, IfOk, OnErr, replicate, false, []};
-ghost use Rattle.std.specs.Prelude.{IfSome, Some, slice_get, true};
+ghost use Rattle.std.specs.Prelude.{◌≡◌, ◌↔◌, ◌<◌, ◌≤◌, length, IfOk, OnOk, OnErr, Err, replicate};
+ghost use Rattle.std.specs.Prelude.{[], IfSome, Some, false, is_some, slice_get, true};
 ghost use Rattle.session_model.specs.Trace.{begun, happening};
 ghost use Rattle.session_core.specs.Stands.{StandsFor, wants_memory};
 ghost use Rattle.hub_trail.specs.Filing.{kept_of};
+ghost use Rattle.hub.specs.Seats.{AllBelow, IsReceived, Rise};
 ghost use Rattle.hub.specs.Slips.{kept_by};
 ghost use Rattle.hub.specs.States.{IsKept, Takes, state_of};
+ghost use Rattle.hub.specs.declared.answer.HubFault.TheVariants.{TrailFull, Strange};
+ghost use Rattle.hub.specs.declared.ledger.TheConstants.{FULL};
 
+use crate::answer::HubFault;
 use crate::entries::Entries;
+use crate::ledger::FULL;
 use crate::peers::Peers;
 use crate::prepared::Prepared;
+use crate::receipt::are_below;
 use crate::waiting::Waiting;
 use acl::{Edition, UserId};
-use hub_record::{Filed, Roll};
+use hub_record::{Filed, KeptReply, Receipts, Roll};
 use session_core::{Notes, Session};
 use session_model::{Event, Refusal, Reply};
 use std::alloc::{AllocError, Global};
@@ -109,6 +115,51 @@ impl FiledSession {
         self.peers.add(event, &reply, seat);
         self.waiting.mark(event);
         self.entries.write(prepared, notes, &reply);
+        Ok(reply)
+    }
+
+    /// One step that writes an entry, for a seat that was told this and is told one more. Where it is
+    /// refused nothing has changed.
+    pub fn file(
+        &mut self,
+        seat: usize,
+        told: &mut Receipts,
+        event: Event<'_>,
+    ) -> Result<Reply, HubFault>
+        requires kept { IsKept (state_of self.old) }
+        requires seat { seat < length self.old.waiting.lists.items }
+        requires most { length self.old.entries.list.entries ≤ FULL }
+        requires rise { Rise told.old.receipts }
+        requires writes { is_some (kept_of (happening event)) ≡ true }
+        ensures step { IfOk result (λ reply. Takes seat (happening event.entry) reply
+            (state_of self.old) (state_of self.new)) }
+        ensures kept { IsKept (state_of self.new) }
+        ensures told { IfOk result (λ reply. IsReceived (kept_of (happening event.entry)) reply
+            (length self.old.entries.list.entries) told.old.receipts told.new.receipts) }
+        ensures room { OnOk result (length self.old.entries.list.entries < FULL) }
+        ensures full { (result ≡ Err TrailFull)
+            ↔ (length self.old.entries.list.entries ≡ FULL) }
+        ensures strange { (result ≡ Err Strange)
+            ↔ ((length self.old.entries.list.entries < FULL)
+            × (AllBelow told.old.receipts (length self.old.entries.list.entries) → ⊥)) }
+        ensures same { OnErr result ((state_of self.new ≡ state_of self.old)
+            × (told.new.receipts ≡ told.old.receipts)) }
+    {
+        let place = self.entries.list.len();
+        if place >= FULL {
+            return Err(HubFault::TrailFull);
+        }
+        if !are_below(told, place) {
+            return Err(HubFault::Strange);
+        }
+        told.reserve()?;
+        let Some(copy) = Prepared::of(self.alloc, event)? else {
+            unreachable!()
+        };
+        let prepared = Prepared::of(self.alloc, event)?;
+        let reply = self.take_step(seat, event, prepared)?;
+        let ending = KeptReply::of(&reply, copy.spare);
+        told.push(place, copy.event, ending);
         Ok(reply)
     }
 

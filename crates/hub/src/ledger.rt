@@ -16,15 +16,13 @@ ghost use Rattle.hub.specs.declared.answer.HubFault.TheVariants.{Strange};
 use crate::answer::{Answer, HubFault};
 use crate::closing::{count, first_wrong};
 use crate::filed_session::FiledSession;
-use crate::prepared::Prepared;
-use crate::receipt::are_below;
 use crate::seat::Seat;
 use crate::trail::Trail;
 use acl::{Edition, UserId};
-use hub_record::{KeptReply, Receipts};
+use hub_record::Receipts;
 use session_core::Session;
 use session_model::{Effect, Event};
-use std::alloc::Global;
+use std::alloc::{AllocError, Global};
 use std::marker::Model;
 use std::sync::ledger::{Blank, Book, Ledger as Roll, Share};
 
@@ -90,6 +88,27 @@ fn make_seat<L: Roll>(alloc: Global, number: usize, share: Share<L>) -> Seat<L>
     }
 }
 
+/// As many seats as the share has parts, each with one of them, which were told nothing.
+fn make_seats<L: Roll>(
+    alloc: Global,
+    share: Share<L>,
+    seats: usize,
+) -> Result<Vec<Seat<L>>, AllocError>
+    requires parts { (share.parts ≡ L.parts) × (seats ≡ L.parts) }
+    requires amount { share.amount ≡ 0 }
+    ensures seats { IfOk result (λ made. (length made.items ≡ L.parts)
+        × (receipts_of made.items ≡ [])) }
+    ensures asks { IfOk result (λ made. NoneAsks made.items) }
+{
+    let mut all = share;
+    let mut made = Vec::new(alloc);
+    'seats: for number in 0..seats {
+        let share = all.split_off(1, 0);
+        made.push(make_seat(alloc, number, share))?;
+    }
+    Ok(made)
+}
+
 impl<L: Roll> Ledger<L> {
     /// A ledger of a session of this edition and owner that has taken no event, and its 1 to 8
     /// seats. Where memory is refused, the one refusal, the session is dropped.
@@ -117,13 +136,9 @@ impl<L: Roll> Ledger<L> {
         ensures asks { IfOk result (λ made. NoneAsks made.1.items) }
         ensures err { IfErr result (λ fault. fault ≡ NoMemory) }
     {
-        let (book, mut all) = blank.open::<L>();
+        let (book, share) = blank.open::<L>();
         let filed = FiledSession::new(alloc, edition, owner, session, seats)?;
-        let mut made = Vec::new(alloc);
-        'seats: for number in 0..seats {
-            let share = all.split_off(1, 0);
-            made.push(make_seat(alloc, number, share))?;
-        }
+        let made = make_seats(alloc, share, seats)?;
         Ok((Ledger { filed, book }, made))
     }
 
@@ -186,20 +201,7 @@ impl<L: Roll> Ledger<L> {
         ensures same { OnErr result ((self.new ≡ self.old) × (seat.new ≡ seat.old)) }
     {
         let place = self.filed.entries.list.len();
-        if place >= FULL {
-            return Err(HubFault::TrailFull);
-        }
-        if !are_below(&seat.told, place) {
-            return Err(HubFault::Strange);
-        }
-        seat.told.reserve()?;
-        let Some(copy) = Prepared::of(self.filed.alloc, event)? else {
-            unreachable!()
-        };
-        let prepared = Prepared::of(self.filed.alloc, event)?;
-        let reply = self.filed.take_step(seat.number, event, prepared)?;
-        let told = KeptReply::of(&reply, copy.spare);
-        seat.told.push(place, copy.event, told);
+        let reply = self.filed.file(seat.number, &mut seat.told, event)?;
         self.book.add(&mut seat.share, 1);
         let entry = self.filed.copied(seat.asks, place);
         Ok(Answer {

@@ -1,4 +1,4 @@
-use Rattle.std.proofs.Common.{◌≡◌, ◌<◌, ◌++◌, ◌∷◌, [], length, refl, sym, ap, ◌∙◌, arith, get_or, subst, List}
+use Rattle.std.proofs.Common.{◌≡◌, ◌<◌, ◌++◌, ◌∷◌, [], length, refl, sym, ap, ◌∙◌, arith, get_or, subst, List, length-append}
 use Rattle.std.proofs.lemmas.List.{append-nil}
 use Rattle.std.specs.Prelude.{Some, IsSome}
 use Rattle.std.specs.List.{AllByRecursion}
@@ -17,6 +17,20 @@ use Rattle.hub.proofs.waiting.route.Goals as goal
 nothing : (es : List Effect) → length es ≡ 0 → es ≡ []
 nothing [] none = refl
 nothing (e ∷ es) none = absurd (omega (arith, none))
+
+pub bounds-waiting-seat : goal.bounds-waiting-seat
+bounds-waiting-seat c = rw (c.loop-effect.auto.waiting) (seat_within (length c.args.waiting.now) (owners_of c.args.peers.now) c.in-Some.effect c.seat_of-seat.result c.requires.seats c.seat_of-seat.ensures)
+
+pub push_reserved-requires : goal.push_reserved-requires
+push_reserved-requires c =
+    let seat = c.seat_of-seat.result in
+    let within : seat < length c.loop-effect.waiting = rw (c.loop-effect.auto.waiting) (seat_within (length c.args.waiting.now) (owners_of c.args.peers.now) c.in-Some.effect seat c.requires.seats c.seat_of-seat.ensures) in
+    let at = slice_get-get_or c.loop-effect.waiting seat c.index-waiting-seat.result within in
+    let steps : into_iter_items c.loop-effect.effect-iterator ≡ c.in-Some.effect ∷ into_iter_items c.next.new.self = c.in-Some.ensures.steps.0 in
+    let all : length c.args.effects.items ≡ length (c.loop-effect.yielded ++ c.in-Some.effect ∷ into_iter_items c.next.new.self) =
+    ap length (c.loop-effect.invariant.all ∙ ap (λ (x : List Effect). c.loop-effect.yielded ++ x) steps) in
+    let room = c.loop-effect.invariant.room seat _ at in
+    omega (arith, all, room, c.requires.few, length-append c.loop-effect.yielded (c.in-Some.effect ∷ into_iter_items c.next.new.self))
 
 pub loop-effect-preserved : goal.loop-effect-preserved
 loop-effect-preserved c =

@@ -1,7 +1,7 @@
 use Rattle.std.specs.Prelude.{◌≡◌, ◌+◌, length, []}
 use Rattle.hub.specs.Seats.{NoneAsks}
 use Rattle.hub.specs.Closing.{receipts_of}
-use Rattle.hub.proofs.ledger.Ledger.new.Given as goal
+use Rattle.hub.proofs.ledger.make_seats.Given as goal
 
 abbrev pub invariant-seats : goal.invariant-seats
 invariant-seats g l = record {
