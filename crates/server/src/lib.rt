@@ -3,6 +3,7 @@
 
 mod acceptor;
 mod loop_handle;
+mod loops;
 mod serving;
 mod turns;
 mod winding;

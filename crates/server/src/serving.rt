@@ -2,8 +2,10 @@
 
 use crate::acceptor::Acceptor;
 use crate::loop_handle::{LoopHandle, LoopStart, Shared};
-use crate::turns::{LISTEN, Server, WAKE};
+use crate::loops::Server;
+use crate::turns::{LISTEN, WAKE};
 use acl::UserId;
+use clap::ArgMatches;
 use mio::net::UnixListener;
 use mio::{Interest, Poll, Waker};
 use program_words::{of_server, tell};
@@ -37,14 +39,41 @@ pub struct Host<G> {
 }
 
 /// What the words of `muxd` ask for.
-#[derive(Drop)]
+#[derive(Clone, Copy)]
 struct Asked<'a> {
     socket: &'a str,
     users: &'a str,
     setup: Option<&'a str>,
     trail: Option<&'a str>,
-    loops: usize,
+    loops: u8,
     tells: bool,
+}
+
+impl<'a> Asked<'a> {
+    // Nothing is missing that must be there: such words give no matches.
+    fn of(matches: &ArgMatches<'a>) -> Asked<'a> {
+        Asked {
+            socket: matches.get_str("socket").unwrap_or(""),
+            users: matches.get_str("users").unwrap_or(""),
+            setup: matches.get_str("setup"),
+            trail: matches.get_str("trail"),
+            loops: matches.get_one::<u8>("loops").unwrap_or(1),
+            tells: matches.get_flag("log"),
+        }
+    }
+}
+
+// What the words ask for; where they aren't understood, the status to exit with.
+fn asked_of<'a, O: Write, E: Write>(
+    alloc: Global,
+    words: &'a [String],
+    output: &mut O,
+    errors: &mut E,
+) -> Result<Asked<'a>, u8> {
+    match of_server(alloc, words) {
+        Ok(matches) => Ok(Asked::of(&matches)),
+        Err(error) => Err(tell(&error, output, errors)),
+    }
 }
 
 // The acceptor of a loop that waits at this poll.
@@ -191,7 +220,7 @@ where
         starts: Vec::new(alloc),
         loop_handles: Vec::new(alloc),
     };
-    places.fill(rt, asked.loops.clamp(1, 8), listener)?;
+    places.fill(rt, usize::from(asked.loops.clamp(1, 8)), listener)?;
     let journal = journal(host.runtime, alloc, asked.trail, users.owner())?;
     let watched = Watched::new(alloc, seen, users.owner());
     let server = Server {
@@ -274,24 +303,9 @@ where
     O: Write,
     E: Write,
 {
-    let matches = match of_server(rt.alloc(), words) {
-        Ok(matches) => matches,
-        Err(error) => return tell(&error, output, errors),
-    };
-    let (Some(socket), Some(users), Some(loops)) = (
-        matches.get_str("socket"),
-        matches.get_str("users"),
-        matches.get_one::<u8>("loops"),
-    ) else {
-        return 2;
-    };
-    let asked = Asked {
-        socket,
-        users,
-        setup: matches.get_str("setup"),
-        trail: matches.get_str("trail"),
-        loops: usize::from(loops),
-        tells: matches.get_flag("log"),
+    let asked = match asked_of(rt.alloc(), words, output, errors) {
+        Ok(asked) => asked,
+        Err(status) => return status,
     };
     match run(rt, &asked, host, output, errors) {
         Ok(()) => 0,

@@ -2,6 +2,7 @@
 
 use crate::acceptor::Acceptor;
 use crate::loop_handle::{LoopHandle, LoopStart, Shared};
+use crate::loops::Server;
 use crate::winding::wind_up;
 use mio::{Events, Poll, Registry, Token};
 use server_log::Log;
@@ -9,15 +10,12 @@ use server_loop::{
     End, Gate, LULL, Loop, News, NewsLine, Pace, Peers, Pending, Reads, SessionSeat, Submitted,
     Writes,
 };
-use server_session::{LoopBody, Recorder, Seat, Seated, SharedSession, Trail};
-use server_system::{Setup, UsersSource, Wired};
-use server_trail::{Cause, Journal};
+use server_system::{UsersSource, Wired};
+use server_users::Users;
 use std::alloc::Global;
 use std::io;
 use std::io::ErrorKind;
-use std::rt::Stderr;
 use std::sync::Wait;
-use std::sync::ledger::Ledger as Roll;
 use std::time::{Clock, Duration};
 
 /// The token of a loop's waker.
@@ -116,6 +114,28 @@ impl Watch<'_> {
         waited
     }
 
+    // So many connections of this loop may wait for their first message.
+    fn share(&self) -> usize {
+        MOST_NEW / self.pacing.shared.loop_handles.len().clamp(1, MOST_NEW)
+    }
+
+    // Hands those who wait to loops, where this one does so. Behind it what is new so far is looked at.
+    fn accept(&mut self, rt: &impl Wait, is_asked: bool) -> io::Result<()> {
+        let is_asked = is_asked || self.has_more() || self.is_stuck();
+        if let Some(acceptor) = &mut self.acceptor {
+            if is_asked {
+                acceptor.accept(rt, &self.pacing.shared.loop_handles)?;
+            }
+        }
+        self.loop_handle.take_news();
+        Ok(())
+    }
+
+    /// Nobody is taken in any more.
+    pub fn close(&mut self) {
+        self.acceptor = None;
+    }
+
     /// Waits for events, at most so long. An interrupted wait has none.
     pub fn wait(&mut self, timeout: Option<Duration>) -> io::Result<()> {
         match self.poll.poll(&mut self.events, timeout) {
@@ -128,23 +148,25 @@ impl Watch<'_> {
     }
 }
 
-// Takes in the connections that were handed to the loop, of which so many may be new. One that
-// can't be taken in is closed.
+// Takes in the connections that were handed to the loop. One that can't be taken in is closed. Where
+// the system grants no more, the one that waits for its first message longest makes room.
 fn admit<'a, J: SessionSeat + Drop, G: Gate + Drop>(
     rt: &impl Wait,
-    loop_handle: &LoopHandle,
-    registry: &'a Registry,
-    share: usize,
+    watch: &Watch<'a>,
     peers: &mut Peers<Wired<'a>, G, J>,
 ) {
+    if watch.is_stuck() {
+        peers.let_oldest_go(1);
+    }
+    let share = watch.share();
     for _ in 0..u64::MAX {
-        let Some(handed) = loop_handle.handed.lock(rt).pop_front() else {
+        let Some(handed) = watch.loop_handle.handed.lock(rt).pop_front() else {
             return;
         };
         let most = if handed.is_extra { 1 } else { share };
         peers.let_oldest_go(most);
         let token = Token(peers.next_key().saturating_add(FIRST));
-        if let Ok(wired) = Wired::new(registry, token, handed.stream) {
+        if let Ok(wired) = Wired::new(watch.registry, token, handed.stream) {
             let _ = peers.admit(wired, handed.is_extra);
         }
     }
@@ -171,48 +193,27 @@ fn sort<J: SessionSeat + Drop, G: Gate + Drop>(
     is_asked
 }
 
-// Takes in connections. Where the system grants no more, the one that waits for its first message
-// longest makes room.
-fn take_in<'a, J: SessionSeat + Drop, G: Gate + Drop>(
-    rt: &impl Wait,
-    watch: &mut Watch<'a>,
-    peers: &mut Peers<Wired<'a>, G, J>,
-    is_asked: bool,
-) -> io::Result<()> {
-    let loop_handles = watch.pacing.shared.loop_handles.as_slice();
-    let is_asked = is_asked || watch.has_more() || watch.is_stuck();
-    if let Some(acceptor) = &mut watch.acceptor {
-        if is_asked {
-            acceptor.accept(rt, loop_handles)?;
-        }
-    }
-    watch.loop_handle.take_news();
-    if watch.is_stuck() {
-        peers.let_oldest_go(1);
-    }
-    let share = MOST_NEW / loop_handles.len().clamp(1, MOST_NEW);
-    admit(rt, watch.loop_handle, watch.registry, share, peers);
-    Ok(())
-}
-
-// Tells what happened.
-fn tell_news<R: Clock + Wait>(rt: &R, log: &Log, happened: Vec<News>) {
+/// Tells what happened.
+pub fn tell_news<R: Clock + Wait>(rt: &R, log: &Log, happened: Vec<News>) {
     for news in happened {
         log.put(rt, &NewsLine(news));
     }
 }
 
-// A turn begins: who has something to say, and who is new.
+// A turn begins when the loop has something to do: who has something to say, and who is new.
 fn begin_turn<'a, J: SessionSeat + Drop, G: Gate + Drop, R: Clock + Wait>(
     rt: &R,
     watch: &mut Watch<'a>,
     own: &mut Loop<Wired<'a>, G, J>,
 ) -> io::Result<()> {
+    watch.sleep(own.peers.pending())?;
     if let Ok(now) = rt.monotonic() {
         own.now = now;
     }
     let is_asked = sort(&watch.events, &mut own.peers);
-    take_in(rt, watch, &mut own.peers, is_asked)
+    watch.accept(rt, is_asked)?;
+    admit(rt, watch, &mut own.peers);
+    Ok(())
 }
 
 // One turn: what came is read and done, and what comes of it is written.
@@ -234,6 +235,19 @@ fn turn<J: SessionSeat + Drop, G: Gate + Drop, R: Clock + Wait>(
     }
 }
 
+// Who may connect may have changed.
+fn look_at_users<G, U: UsersSource, R: Clock + Wait>(
+    rt: &R,
+    server: &Server<G, U>,
+    count: &mut u64,
+    users: &mut Option<Users>,
+) {
+    let Shared { watched, log, .. } = &server.shared;
+    if let Some(newest) = watched.newest(rt, log, &server.users, count) {
+        *users = Some(newest);
+    }
+}
+
 // Turns until the server ends.
 fn take_turns<'a, J: SessionSeat + Drop, G: Gate + Drop, U: UsersSource, R: Clock + Wait>(
     rt: &R,
@@ -241,31 +255,45 @@ fn take_turns<'a, J: SessionSeat + Drop, G: Gate + Drop, U: UsersSource, R: Cloc
     watch: &mut Watch<'a>,
     own: &mut Loop<Wired<'a>, G, J>,
 ) -> io::Result<()> {
-    let shared = &server.shared;
     let mut count = 0;
     for _ in rt.forever() {
-        watch.sleep(own.peers.pending())?;
         begin_turn(rt, watch, own)?;
         if own.peers.has_newcomer() {
-            // Who may connect may have changed.
-            let watched = &shared.watched;
-            if let Some(users) = watched.newest(rt, &shared.log, &server.users, &mut count) {
-                own.users = Some(users);
-            }
+            look_at_users(rt, server, &mut count, &mut own.users);
         }
         turn(rt, &mut watch.pacing, own)?;
-        if let Some(end) = shared.over.get() {
-            watch.acceptor = None;
-            wind_up(rt, watch, own, *end)?;
-            tell_news(rt, &shared.log, own.peers.take_news());
-            break;
+        if let Some(end) = server.shared.over.get() {
+            return wind_up(rt, &server.shared.log, watch, &mut own.peers, *end);
         }
     }
     Ok(())
 }
 
-// One loop, until the server ends: its seat.
-fn run_loop<J: SessionSeat + Drop, G: Gate + Copy + Drop, U: UsersSource, R: Clock + Wait>(
+// A loop with this seat, until the server ends: its seat.
+fn run_seat<J: SessionSeat + Drop, G: Gate + Copy + Drop, U: UsersSource, R: Clock + Wait>(
+    rt: &R,
+    alloc: Global,
+    server: &Server<G, U>,
+    watch: &mut Watch,
+    seat: J,
+) -> io::Result<J> {
+    let Shared {
+        loop_handles,
+        tells,
+        ..
+    } = &server.shared;
+    let mut gate = server.gate;
+    gate.stand_at(watch.pacing.me);
+    let mut own: Loop<Wired, G, J> = Loop::new(alloc, seat, gate, loop_handles.len())?;
+    own.peers.tells = *tells;
+    match take_turns(rt, server, watch, &mut own) {
+        Ok(()) => Ok(own.into_seat()),
+        Err(error) => Err(error),
+    }
+}
+
+/// One loop, until the server ends: its seat.
+pub fn run_loop<J: SessionSeat + Drop, G: Gate + Copy + Drop, U: UsersSource, R: Clock + Wait>(
     rt: &R,
     alloc: Global,
     server: &Server<G, U>,
@@ -282,8 +310,6 @@ fn run_loop<J: SessionSeat + Drop, G: Gate + Copy + Drop, U: UsersSource, R: Clo
     let Some(loop_handle) = shared.loop_handles.get(me) else {
         return Ok(seat);
     };
-    let mut gate = server.gate;
-    gate.stand_at(me);
     let mut watch = Watch {
         poll,
         events: Events::with_capacity(alloc, 64)?,
@@ -296,93 +322,5 @@ fn run_loop<J: SessionSeat + Drop, G: Gate + Copy + Drop, U: UsersSource, R: Clo
             pace: Pace::new(),
         },
     };
-    let loops = shared.loop_handles.len();
-    let mut own: Loop<Wired, G, J> = Loop::new(alloc, seat, gate, loops)?;
-    own.peers.tells = shared.tells;
-    take_turns(rt, server, &mut watch, &mut own)?;
-    Ok(own.into_seat())
-}
-
-// What the last line of the trail's file says of the end; none where a fault leaves it without one.
-fn cause_of(end: End) -> Option<Cause> {
-    match end {
-        End::Quit => Some(Cause::Quit),
-        End::TrailFull => Some(Cause::Full),
-        End::Fault => None,
-    }
-}
-
-/// The loops of a server.
-#[derive(Drop)]
-pub struct Server<'a, G, U> {
-    pub shared: Shared,
-    /// Who may connect.
-    pub users: U,
-    /// What the owner commands before anybody connects.
-    pub setup: Setup<'a>,
-    /// Is told of each call that a loop submits.
-    pub gate: G,
-    /// Is told who comes and goes.
-    pub log: Stderr,
-    /// Where the session's trail is written, if it is.
-    pub journal: Option<Journal<'a>>,
-}
-
-impl<R, G, U> LoopBody<LoopStart, R> for Server<'_, G, U>
-where
-    R: Clock + Wait,
-    G: Gate + Copy + Sync + Drop,
-    U: UsersSource + Sync + Drop,
-{
-    fn run<L: Roll>(
-        &self,
-        rt: &R,
-        alloc: Global,
-        session: &SharedSession<L>,
-        seat: Seat<L>,
-        start: LoopStart,
-    ) -> Option<Seat<L>> {
-        let seat = match run_loop(rt, alloc, self, Seated::new(session, seat), start) {
-            Ok(seated) => Some(seated.into_inner()),
-            Err(_) => None,
-        };
-        if seat.is_none() {
-            let _ = self.shared.end(End::Fault);
-        }
-        self.shared.log.leave(rt);
-        seat
-    }
-
-    fn setup(&self) -> &[u8] {
-        &self.setup.file
-    }
-
-    fn fail(&self, rt: &R) {
-        let _ = self.shared.end(End::Fault);
-        self.shared.log.leave(rt);
-    }
-
-    fn stand_by(&self, rt: &R) {
-        let mut errors = self.log;
-        self.shared.log.write_all(rt, &mut errors);
-    }
-
-    fn recorder(&self, alloc: Global, loops: usize) -> Option<Recorder> {
-        self.journal.as_ref()?;
-        Some(Recorder::new(alloc, loops))
-    }
-
-    fn write_trail(&self, rt: &R, recorder: &Recorder) {
-        if let Some(journal) = &self.journal {
-            let written = journal.write(rt, recorder);
-            let cause = self.shared.over.get().copied().and_then(cause_of);
-            journal.end(rt, recorder, written, cause);
-        }
-    }
-
-    fn compare(&self, rt: &R, trail: &Trail) {
-        if let Some(journal) = &self.journal {
-            journal.compare(rt, trail.entries());
-        }
-    }
+    run_seat(rt, alloc, server, &mut watch, seat)
 }

@@ -1,7 +1,8 @@
 //! How a loop ends.
 
-use crate::turns::Watch;
-use server_loop::{End, Gate, Loop, SessionSeat};
+use crate::turns::{Watch, tell_news};
+use server_log::Log;
+use server_loop::{End, Gate, Peers, SessionSeat};
 use server_system::Wired;
 use std::io;
 use std::sync::Wait;
@@ -23,21 +24,25 @@ fn is_late<R: Clock>(rt: &R, began: Option<Duration>, pauses: u64) -> bool {
     }
 }
 
-/// The peers are told of the end, and get some time to read it, whatever comes meanwhile.
+/// The peers are told of the end, and get some time to read it, whatever comes meanwhile. What
+/// happened is told.
 pub fn wind_up<J: SessionSeat + Drop, G: Gate + Drop, R: Clock + Wait>(
     rt: &R,
+    log: &Log,
     watch: &mut Watch,
-    own: &mut Loop<Wired, G, J>,
+    peers: &mut Peers<Wired, G, J>,
     end: End,
 ) -> io::Result<()> {
+    watch.close();
     let began = rt.monotonic().ok();
-    own.peers.finish(rt, end);
+    peers.finish(rt, end);
     for pauses in 0..u64::MAX {
-        if own.peers.is_empty() || is_late(rt, began, pauses) {
-            return Ok(());
+        if peers.is_empty() || is_late(rt, began, pauses) {
+            break;
         }
         watch.wait(Some(Duration::from_millis(PAUSE)))?;
-        own.peers.finish(rt, end);
+        peers.finish(rt, end);
     }
+    tell_news(rt, log, peers.take_news());
     Ok(())
 }

@@ -1,0 +1,97 @@
+//! The loops of a server, each in a thread of the session's.
+
+use crate::loop_handle::{LoopStart, Shared};
+use crate::turns::run_loop;
+use server_loop::{End, Gate};
+use server_session::{LoopBody, Recorder, Seat, Seated, SharedSession, Trail};
+use server_system::{Setup, UsersSource};
+use server_trail::{Cause, Journal};
+use std::alloc::Global;
+use std::rt::Stderr;
+use std::sync::Wait;
+use std::sync::ledger::Ledger as Roll;
+use std::time::Clock;
+
+// What the last line of the trail's file says of the end; none where a fault leaves it without one.
+fn cause_of(end: End) -> Option<Cause> {
+    match end {
+        End::Quit => Some(Cause::Quit),
+        End::TrailFull => Some(Cause::Full),
+        End::Fault => None,
+    }
+}
+
+/// The loops of a server.
+#[derive(Drop)]
+pub struct Server<'a, G, U> {
+    pub shared: Shared,
+    /// Who may connect.
+    pub users: U,
+    /// What the owner commands before anybody connects.
+    pub setup: Setup<'a>,
+    /// Is told of each call that a loop submits.
+    pub gate: G,
+    /// Is told who comes and goes.
+    pub log: Stderr,
+    /// Where the session's trail is written, if it is.
+    pub journal: Option<Journal<'a>>,
+}
+
+impl<R, G, U> LoopBody<LoopStart, R> for Server<'_, G, U>
+where
+    R: Clock + Wait,
+    G: Gate + Copy + Sync + Drop,
+    U: UsersSource + Sync + Drop,
+{
+    fn run<L: Roll>(
+        &self,
+        rt: &R,
+        alloc: Global,
+        session: &SharedSession<L>,
+        seat: Seat<L>,
+        start: LoopStart,
+    ) -> Option<Seat<L>> {
+        let left = match run_loop(rt, alloc, self, Seated::new(session, seat), start) {
+            Ok(seated) => Some(seated.into_inner()),
+            Err(_) => {
+                let _ = self.shared.end(End::Fault);
+                None
+            }
+        };
+        self.shared.log.leave(rt);
+        left
+    }
+
+    fn setup(&self) -> &[u8] {
+        &self.setup.file
+    }
+
+    fn fail(&self, rt: &R) {
+        let _ = self.shared.end(End::Fault);
+        self.shared.log.leave(rt);
+    }
+
+    fn stand_by(&self, rt: &R) {
+        let mut errors = self.log;
+        self.shared.log.write_all(rt, &mut errors);
+    }
+
+    fn recorder(&self, alloc: Global, loops: usize) -> Option<Recorder> {
+        self.journal.as_ref()?;
+        Some(Recorder::new(alloc, loops))
+    }
+
+    fn write_trail(&self, rt: &R, recorder: &Recorder) {
+        if let Some(journal) = &self.journal {
+            let written = journal.write(rt, recorder);
+            let cause = self.shared.over.get().copied().and_then(cause_of);
+            journal.end(rt, recorder, written, cause);
+        }
+    }
+
+    fn compare(&self, rt: &R, trail: &Trail) {
+        if let Some(journal) = &self.journal {
+            journal.compare(rt, trail.entries());
+        }
+    }
+}
