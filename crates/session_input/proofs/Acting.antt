@@ -1,9 +1,10 @@
 -- Commands whose client isn't attached.
-use Rattle.std.proofs.Common.{◌≡◌, Bool, true, false, ℕ, List, Option, Some, None, Ok, Err, ap, sym, ◌∙◌, inr}
+use Rattle.std.proofs.Common.{◌≡◌, true, ℕ, List, Option, Some, None, Ok, Err, ap, sym, ◌∙◌, inr}
 use Rattle.std.specs.Prelude.{Result, IfOk}
 use Rattle.std.specs.Option.{is_some}
 use Rattle.command_lang.specs.command.Command.{Command}
 use Rattle.command_lang.specs.command.Command.TheVariants as command
+use Rattle.session_input.specs.Acting.{acts_on_client}
 use Rattle.session_model.specs.declared.refusal.Refusal.{Refusal}
 use Rattle.session_model.specs.declared.refusal.Refusal.TheVariants.{NoWindow}
 use Rattle.session_model.specs.Tables.{Tables, Client}
@@ -15,21 +16,6 @@ use Rattle.session_state.specs.declared.step_output.StepOutput.{StepOutput}
 use Rattle.session_state.specs.declared.state.State.{State}
 use Rattle.session_state.specs.Doing.{Does, IsAsBefore, IsSilent, caller_in}
 use Rattle.session_commands.specs.Giving.{NobodyGives}
-
--- commands that act on the client that gives them
-abbrev pub acts_on_client : Command → Bool
-acts_on_client command.Detach = true
-acts_on_client (command.Select word) = true
-acts_on_client command.Next = true
-acts_on_client command.Prev = true
-acts_on_client command.Other = true
-acts_on_client (command.Split vertical) = true
-acts_on_client command.Focus = true
-acts_on_client command.Remove = true
-acts_on_client command.Only = true
-acts_on_client command.Fit = true
-acts_on_client (command.Scrollview back) = true
-acts_on_client c = false
 
 module _ (t : Tables) (k : model.Caller) (none : caller_client t k ≡ None) where
   no_client : (f : Client → Answer) → on_client t k f ≡ Err NoWindow

@@ -2,8 +2,10 @@
 
 ghost use Rattle.std.specs.Prelude.{◌≡◌, true, Some, None, IfOk, IfErr};
 ghost use Rattle.std.specs.Option.{is_some};
-ghost use Rattle.session_state.specs.Doing.{Does, HasRoomToAct, IsAsBefore, IsWhole};
+ghost use Rattle.session_state.specs.Doing.{Does, GivesBy, HasRoomToAct, IsAsBefore, IsSilent};
+ghost use Rattle.session_state.specs.Doing.{IsWhole};
 ghost use Rattle.session_model.specs.declared.refusal.Refusal.TheVariants.{NoWindow};
+ghost use Rattle.session_input.specs.Acting.{acts_on_client};
 ghost use Rattle.session_input.specs.Ruled.{Rules};
 
 use command_lang::Command;
@@ -28,6 +30,56 @@ fn window_of(caller: Caller) -> Result<u32, Refusal>
     }
 }
 
+/// Whether a command acts on the client that gives it.
+fn is_of_client(command: &Command) -> bool
+    ensures { result ≡ acts_on_client command.now }
+{
+    matches!(
+        command,
+        Command::Detach
+            | Command::Select(_)
+            | Command::Next
+            | Command::Prev
+            | Command::Other
+            | Command::Split { .. }
+            | Command::Focus
+            | Command::Remove
+            | Command::Only
+            | Command::Fit
+            | Command::Scrollview(_)
+    )
+}
+
+/// What a command that acts on the client that gives it does.
+fn act_on_client(
+    state: &mut State,
+    caller: Caller,
+    client: u32,
+    command: &Command,
+    made: &mut StepOutput,
+) -> Result<Option<Bytes>, Refusal>
+    requires room { HasRoomToAct made.old }
+    requires gives { GivesBy client state.old caller }
+    requires client { acts_on_client command.now ≡ true }
+    ensures answer { Does caller command.now state.old result state.new made.old made.new }
+    ensures silent { IsSilent result state.old state.new made.old made.new }
+{
+    match command {
+        Command::Detach => detach(state, client, made),
+        Command::Select(word) => select(state, client, word.as_str(), made),
+        Command::Next => next(state, caller, client, made),
+        Command::Prev => prev(state, caller, client, made),
+        Command::Other => other(state, client, made),
+        Command::Split { vertical } => split(state, client, *vertical, made),
+        Command::Focus => focus(state, client, made),
+        Command::Remove => remove(state, client, made),
+        Command::Only => only(state, client, made),
+        Command::Fit => fit(state, caller, client, made),
+        Command::Scrollview(back) => scrollview(state, client, *back, made),
+        _ => unreachable!(),
+    }
+}
+
 /// What a command does once its checks have passed: the deed of its row, for the client that gives
 /// it or the window that it acts on.
 #[tactic(auto, using(crate::proofs::Acting::silent_lists))]
@@ -43,7 +95,10 @@ fn act(
         → IsAsBefore state.old state.new made.old made.new) }
     ensures whole { IsWhole result state.old state.new made.old made.new }
 {
-    let client = client_of(state, caller);
+    if is_of_client(command) {
+        let client = client_of(state, caller)?;
+        return act_on_client(state, caller, client, command, made);
+    }
     let window = window_of(caller);
     match command {
         Command::Acladd(users) => acladd(state, users, made),
@@ -59,21 +114,10 @@ fn act(
         Command::Defwritelock(mode) => defwritelock(state, *mode, made),
         Command::Multiuser(is_on) => multiuser(state, *is_on, made),
         Command::Wall(text) => wall(state, caller, text.as_str().as_bytes(), made),
-        Command::Detach => detach(state, client?, made),
-        Command::Select(word) => select(state, client?, word.as_str(), made),
-        Command::Next => next(state, caller, client?, made),
-        Command::Prev => prev(state, caller, client?, made),
-        Command::Other => other(state, client?, made),
         Command::Title(text) => title(state, window?, text.as_str(), made),
         Command::Number(n) => number(state, window?, *n, made),
         Command::Kill => kill(state, window?, made),
         Command::Screen => screen(state, caller),
-        Command::Split { vertical } => split(state, client?, *vertical, made),
-        Command::Focus => focus(state, client?, made),
-        Command::Remove => remove(state, client?, made),
-        Command::Only => only(state, client?, made),
-        Command::Fit => fit(state, caller, client?, made),
-        Command::Scrollview(back) => scrollview(state, client?, *back, made),
         Command::Clear => clear(state, window?, made),
         Command::Reset => reset(state, window?, made),
         Command::Encoding(coding) => encoding(state, window?, *coding, made),
@@ -81,6 +125,7 @@ fn act(
         Command::Windows => windows(state, caller),
         Command::Displays => displays(state, caller),
         Command::Quit => quit(state, made),
+        _ => unreachable!(),
     }
 }
 
