@@ -13,8 +13,8 @@ use Rattle.std.specs.contracts.alloc.Global as Global
 use Rattle.std.specs.contracts.vec.Vec as Vec
 use Rattle.std.specs.contracts.impls.GlobalAllocator.TheImpl as heap
 use Rattle.session_core.proofs.Crossing.{session_send}
-use Rattle.hub.proofs.peers.Peers.TheSendSync as peers
-use Rattle.hub.proofs.waiting.Waiting.TheSendSync as waiting
+use Rattle.hub_seats.proofs.peers.Peers.TheSendSync as peers
+use Rattle.hub_seats.proofs.waiting.Waiting.TheSendSync as waiting
 use Rattle.hub.proofs.entries.Entries.TheSendSync as entries
 use Rattle.hub.proofs.seat.Seat.TheSendSync as seat
 use Rattle.hub.specs.contracts.filed_session.FiledSession as FiledSession

@@ -1,7 +1,4 @@
-pub mod Places
-pub mod Queues
 pub mod Steps
-pub mod Rising
 pub mod Stripping
 pub mod Counting
 pub mod Tellings

@@ -19,7 +19,7 @@ use Rattle.hub_trail.specs.Filing.{filed}
 use Rattle.hub_trail.specs.Peers.{HasCome, one_more, attaches, opens}
 use Rattle.hub_trail.proofs.Coming.{peers_came}
 use Rattle.hub_trail.proofs.Serials.{gives_serials}
-use Rattle.hub.specs.Peers.{Owners, AreSeats, HasPeer, with_peer, with_peers}
+use Rattle.hub_seats.specs.Peers.{Owners, AreSeats, HasPeer, with_peer, with_peers}
 use Rattle.hub.specs.Slips.{with_entries, written}
 use Rattle.hub.specs.States.{State, Stood, IsKept, IsAfter}
 

@@ -1,28 +1,17 @@
 -- Receipts against the trail.
-use Rattle.std.specs.Prelude.{ℕ, ◌<◌, ◌≤◌, ◌==◌, List, [], ◌∷◌, ◌++◌, ◌≡◌, Option, Some, None}
-use Rattle.std.specs.Prelude.{length, count_by, filter, nat_lt, slice_get}
+use Rattle.std.specs.Prelude.{ℕ, ◌<◌, ◌≤◌, List, [], ◌∷◌, ◌++◌, ◌≡◌, Option, Some, None}
+use Rattle.std.specs.Prelude.{length, slice_get}
 use Rattle.std.specs.List.{AllByRecursion}
 use Rattle.hub_trail.specs.Trails.{Entry}
 use Rattle.hub_record.specs.Receipts.{Receipt}
 pub use Rattle.hub_record.specs.Receipts.{IsOf}
+pub use Rattle.hub_seats.specs.Rising.{AreOf, before, times}
 use Rattle.hub.specs.Seats.{Sitting}
 
 -- all that these seats were told
 abbrev pub receipts_of : List Sitting → List Receipt
 receipts_of [] = []
 receipts_of (s ∷ seats) = s.receipts ++ receipts_of seats
-
--- those of the places below one
-abbrev pub before : ℕ → List Receipt → List Receipt
-before place receipts = filter (λ (r : Receipt). nat_lt r.place place) receipts
-
--- how many receipts name a place
-abbrev pub times : ℕ → List Receipt → ℕ
-times place receipts = count_by (λ (r : Receipt). r.place == place) receipts
-
--- those that name the place do
-abbrev pub AreOf : ℕ → Entry → List Receipt → Type 0
-AreOf place e receipts = AllByRecursion (λ (r : Receipt). r.place ≡ place → IsOf e r) receipts
 
 -- the place is, with its event and reply, in just one receipt
 pub record IsTold (place : ℕ) (e : Entry) (receipts : List Receipt) : Type 0 where

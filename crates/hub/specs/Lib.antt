@@ -1,5 +1,3 @@
-pub mod Peers
-pub mod Routing
 pub mod Slips
 pub mod States
 pub mod Editions

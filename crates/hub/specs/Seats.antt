@@ -1,13 +1,14 @@
 -- What a seat was told.
-use Rattle.std.specs.Prelude.{ℕ, ◌<◌, List, [], ◌∷◌, ◌++◌, ◌≡◌, Option, Some, None}
+use Rattle.std.specs.Prelude.{ℕ, List, [], ◌∷◌, ◌++◌, ◌≡◌, Option, Some, None}
 use Rattle.std.specs.Prelude.{Bool, false, true, IfSome}
-use Rattle.std.specs.List.{AllByRecursion, list_any}
+use Rattle.std.specs.List.{list_any}
 use Rattle.session_model.specs.Trace.{EventValue, Reply}
 pub use Rattle.hub.specs.States.{StandsFor}
 use Rattle.hub_trail.specs.declared.kept.Kept.{Kept}
 use Rattle.hub_trail.specs.Trails.{Entry}
 use Rattle.hub_trail.specs.Filing.{kept_of, ending_of}
 use Rattle.hub_record.specs.Receipts.{Receipt}
+pub use Rattle.hub_seats.specs.Rising.{AllBelow, Rise}
 
 -- an answer: the event, the reply, the place of the entry if there is one, and this entry if it is
 -- handed out
@@ -26,15 +27,6 @@ pub record Sitting : Type 0 where
 -- none of these seats asks
 abbrev pub NoneAsks : List Sitting → Type 0
 NoneAsks seats = list_any (λ (s : Sitting). s.asks) seats ≡ false
-
--- all places that a seat was told are below this one
-abbrev pub AllBelow : List Receipt → ℕ → Type 0
-AllBelow receipts place = AllByRecursion (λ (r : Receipt). r.place < place) receipts
-
--- each place is above those before it
-abbrev pub Rise : List Receipt → Type 0
-Rise [] = Unit {0}
-Rise (r ∷ receipts) = AllByRecursion (λ (s : Receipt). r.place < s.place) receipts × Rise receipts
 
 abbrev pub with_receipt : Sitting → Receipt → Sitting
 with_receipt s r = record s { receipts = s.receipts ++ r ∷ [] }

@@ -14,12 +14,9 @@ mod entries;
 mod filed_session;
 mod laws;
 mod ledger;
-mod peers;
 mod prepared;
-mod receipt;
 mod seat;
 mod trail;
-mod waiting;
 
 ghost use Rattle.std.specs.Prelude.{◌≡◌, ◌↔◌, ◌<◌, ◌≤◌, length, IfOk, IfErr, OnErr, None, []};
 ghost use Rattle.session_model.specs.Trace.{begun, happening};
