@@ -1,9 +1,8 @@
 //! The loops of a server, each in a thread of the session's.
 
-use crate::loop_handle::{LoopStart, Shared};
-use crate::turns::run_loop;
 use server_loop::{End, Gate};
 use server_session::{LoopBody, Recorder, Seat, Seated, SharedSession, Trail};
+use server_sockets::{Common, LoopStart, run_loop};
 use server_system::{Setup, UsersSource};
 use server_trail::{Cause, Journal};
 use std::alloc::Global;
@@ -24,13 +23,9 @@ fn cause_of(end: End) -> Option<Cause> {
 /// The loops of a server.
 #[derive(Drop)]
 pub struct Server<'a, G, U> {
-    pub shared: Shared,
-    /// Who may connect.
-    pub users: U,
+    pub common: Common<G, U>,
     /// What the owner commands before anybody connects.
     pub setup: Setup<'a>,
-    /// Is told of each call that a loop submits.
-    pub gate: G,
     /// Is told who comes and goes.
     pub log: Stderr,
     /// Where the session's trail is written, if it is.
@@ -51,14 +46,14 @@ where
         seat: Seat<L>,
         start: LoopStart,
     ) -> Option<Seat<L>> {
-        let left = match run_loop(rt, alloc, self, Seated::new(session, seat), start) {
+        let left = match run_loop(rt, alloc, &self.common, Seated::new(session, seat), start) {
             Ok(seated) => Some(seated.into_inner()),
             Err(_) => {
-                let _ = self.shared.end(End::Fault);
+                let _ = self.common.shared.end(End::Fault);
                 None
             }
         };
-        self.shared.log.leave(rt);
+        self.common.shared.log.leave(rt);
         left
     }
 
@@ -67,13 +62,13 @@ where
     }
 
     fn fail(&self, rt: &R) {
-        let _ = self.shared.end(End::Fault);
-        self.shared.log.leave(rt);
+        let _ = self.common.shared.end(End::Fault);
+        self.common.shared.log.leave(rt);
     }
 
     fn stand_by(&self, rt: &R) {
         let mut errors = self.log;
-        self.shared.log.write_all(rt, &mut errors);
+        self.common.shared.log.write_all(rt, &mut errors);
     }
 
     fn recorder(&self, alloc: Global, loops: usize) -> Option<Recorder> {
@@ -84,7 +79,7 @@ where
     fn write_trail(&self, rt: &R, recorder: &Recorder) {
         if let Some(journal) = &self.journal {
             let written = journal.write(rt, recorder);
-            let cause = self.shared.over.get().copied().and_then(cause_of);
+            let cause = self.common.shared.over.get().copied().and_then(cause_of);
             journal.end(rt, recorder, written, cause);
         }
     }

@@ -1,29 +1,23 @@
 //! `muxd`: the session, its listener and its loops.
 
-use crate::acceptor::Acceptor;
-use crate::loop_handle::{LoopHandle, LoopStart, Shared};
 use crate::loops::Server;
-use crate::turns::{LISTEN, WAKE};
 use acl::UserId;
 use clap::ArgMatches;
 use mio::net::UnixListener;
-use mio::{Interest, Poll, Waker};
 use program_words::{of_server, tell};
-use server_log::Log;
 use server_loop::{End, Gate, Open};
 use server_session::{LoopsFault, Start, keep};
+use server_sockets::{Common, LoopStart, Places, Shared};
 use server_system::{Place, ServeFault, Setup, Stamp, UsersFile, UsersSource, Watched};
 use server_trail::Journal;
 use server_users::Users;
 use std::alloc::Global;
-use std::collections::VecDeque;
 use std::fs::{File, Files};
 use std::io;
 use std::io::Write;
 use std::net::Net;
 use std::rt::HostRuntime;
-use std::sync::atomic::AtomicU64;
-use std::sync::{OnceLock, Wait};
+use std::sync::Wait;
 use std::thread::Threads;
 use std::time::Clock;
 
@@ -76,49 +70,6 @@ fn asked_of<'a, O: Write, E: Write>(
     }
 }
 
-// The acceptor of a loop that waits at this poll.
-fn acceptor(alloc: Global, mut listener: UnixListener, poll: &Poll) -> io::Result<Acceptor> {
-    let registry = poll.registry();
-    registry.register(&mut listener, LISTEN, Interest::READABLE)?;
-    Ok(Acceptor::new(alloc, listener, registry.try_clone()?)?)
-}
-
-/// The starts of the loops, and how others reach them.
-#[derive(Drop)]
-struct Places {
-    alloc: Global,
-    starts: Vec<LoopStart>,
-    loop_handles: Vec<LoopHandle>,
-}
-
-impl Places {
-    // One more loop, which waits at this poll.
-    fn push(&mut self, poll: Poll) -> io::Result<()> {
-        let waker = Waker::new(poll.registry(), WAKE)?;
-        let registry = poll.registry().try_clone()?;
-        let handed = VecDeque::new(self.alloc);
-        self.loop_handles.push(LoopHandle::new(waker, handed))?;
-        let start = LoopStart {
-            me: self.starts.len(),
-            poll,
-            registry,
-            acceptor: None,
-        };
-        Ok(self.starts.push(start)?)
-    }
-
-    // So many loops, of which the first has the listener.
-    fn fill<R: Net>(&mut self, rt: &R, loops: usize, listener: UnixListener) -> io::Result<()> {
-        for _ in 0..loops {
-            self.push(Poll::new(rt)?)?;
-        }
-        if let Some(first) = self.starts.first_mut() {
-            first.acceptor = Some(acceptor(self.alloc, listener, &first.poll)?);
-        }
-        Ok(())
-    }
-}
-
 // What is wrong with the trail's file, if there is one.
 fn trail_fault(rt: &impl Wait, alloc: Global, journal: Option<&Journal>) -> Option<ServeFault> {
     let journal = journal?;
@@ -162,25 +113,12 @@ where
     match kept {
         Ok(agrees) => {
             let fault = trail_fault(rt, alloc, server.journal.as_ref());
-            outcome(server.shared.over.get().copied(), agrees, fault)
+            outcome(server.common.shared.over.get().copied(), agrees, fault)
         }
         Err(LoopsFault::NoMemory) => Err(ServeFault::NoMemory),
         Err(LoopsFault::Untold(error)) => Err(ServeFault::Other(error)),
         Err(LoopsFault::Setup(fault)) => Err(server.setup.wrong(alloc, fault)),
         Err(LoopsFault::Refused(number, said)) => Err(server.setup.refused(alloc, number, &said)),
-    }
-}
-
-// What the loops share, which others reach so.
-fn shared(alloc: Global, loop_handles: Vec<LoopHandle>, watched: Watched, tells: bool) -> Shared {
-    let log = Log::new(alloc, loop_handles.len());
-    Shared {
-        loop_handles,
-        over: OnceLock::new(),
-        busy: AtomicU64::new(0),
-        watched,
-        log,
-        tells,
     }
 }
 
@@ -215,23 +153,21 @@ where
     O: Write,
 {
     let alloc = rt.alloc();
-    let mut places = Places {
-        alloc,
-        starts: Vec::new(alloc),
-        loop_handles: Vec::new(alloc),
-    };
+    let mut places = Places::new(alloc);
     places.fill(rt, usize::from(asked.loops.clamp(1, 8)), listener)?;
     let journal = journal(host.runtime, alloc, asked.trail, users.owner())?;
     let watched = Watched::new(alloc, seen, users.owner());
     let server = Server {
-        shared: shared(alloc, places.loop_handles, watched, asked.tells),
-        users: UsersFile {
-            files: host.runtime,
-            alloc,
-            path: asked.users,
+        common: Common {
+            shared: Shared::new(alloc, places.loop_handles, watched, asked.tells),
+            users: UsersFile {
+                files: host.runtime,
+                alloc,
+                path: asked.users,
+            },
+            gate: host.gate,
         },
         setup,
-        gate: host.gate,
         log: host.runtime.stderr(),
         journal,
     };

@@ -1,8 +1,7 @@
 //! The turns of one loop.
 
 use crate::acceptor::Acceptor;
-use crate::loop_handle::{LoopHandle, LoopStart, Shared};
-use crate::loops::Server;
+use crate::loop_handle::{Common, LoopHandle, LoopStart, Shared};
 use crate::winding::wind_up;
 use mio::{Events, Poll, Registry, Token};
 use server_log::Log;
@@ -238,12 +237,12 @@ fn turn<J: SessionSeat + Drop, G: Gate + Drop, R: Clock + Wait>(
 // Who may connect may have changed.
 fn look_at_users<G, U: UsersSource, R: Clock + Wait>(
     rt: &R,
-    server: &Server<G, U>,
+    common: &Common<G, U>,
     count: &mut u64,
     users: &mut Option<Users>,
 ) {
-    let Shared { watched, log, .. } = &server.shared;
-    if let Some(newest) = watched.newest(rt, log, &server.users, count) {
+    let Shared { watched, log, .. } = &common.shared;
+    if let Some(newest) = watched.newest(rt, log, &common.users, count) {
         *users = Some(newest);
     }
 }
@@ -251,7 +250,7 @@ fn look_at_users<G, U: UsersSource, R: Clock + Wait>(
 // Turns until the server ends.
 fn take_turns<'a, J: SessionSeat + Drop, G: Gate + Drop, U: UsersSource, R: Clock + Wait>(
     rt: &R,
-    server: &Server<G, U>,
+    common: &Common<G, U>,
     watch: &mut Watch<'a>,
     own: &mut Loop<Wired<'a>, G, J>,
 ) -> io::Result<()> {
@@ -259,11 +258,11 @@ fn take_turns<'a, J: SessionSeat + Drop, G: Gate + Drop, U: UsersSource, R: Cloc
     for _ in rt.forever() {
         begin_turn(rt, watch, own)?;
         if own.peers.has_newcomer() {
-            look_at_users(rt, server, &mut count, &mut own.users);
+            look_at_users(rt, common, &mut count, &mut own.users);
         }
         turn(rt, &mut watch.pacing, own)?;
-        if let Some(end) = server.shared.over.get() {
-            return wind_up(rt, &server.shared.log, watch, &mut own.peers, *end);
+        if let Some(end) = common.shared.over.get() {
+            return wind_up(rt, &common.shared.log, watch, &mut own.peers, *end);
         }
     }
     Ok(())
@@ -273,7 +272,7 @@ fn take_turns<'a, J: SessionSeat + Drop, G: Gate + Drop, U: UsersSource, R: Cloc
 fn run_seat<J: SessionSeat + Drop, G: Gate + Copy + Drop, U: UsersSource, R: Clock + Wait>(
     rt: &R,
     alloc: Global,
-    server: &Server<G, U>,
+    common: &Common<G, U>,
     watch: &mut Watch,
     seat: J,
 ) -> io::Result<J> {
@@ -281,12 +280,12 @@ fn run_seat<J: SessionSeat + Drop, G: Gate + Copy + Drop, U: UsersSource, R: Clo
         loop_handles,
         tells,
         ..
-    } = &server.shared;
-    let mut gate = server.gate;
+    } = &common.shared;
+    let mut gate = common.gate;
     gate.stand_at(watch.pacing.me);
     let mut own: Loop<Wired, G, J> = Loop::new(alloc, seat, gate, loop_handles.len())?;
     own.peers.tells = *tells;
-    match take_turns(rt, server, watch, &mut own) {
+    match take_turns(rt, common, watch, &mut own) {
         Ok(()) => Ok(own.into_seat()),
         Err(error) => Err(error),
     }
@@ -296,7 +295,7 @@ fn run_seat<J: SessionSeat + Drop, G: Gate + Copy + Drop, U: UsersSource, R: Clo
 pub fn run_loop<J: SessionSeat + Drop, G: Gate + Copy + Drop, U: UsersSource, R: Clock + Wait>(
     rt: &R,
     alloc: Global,
-    server: &Server<G, U>,
+    common: &Common<G, U>,
     seat: J,
     start: LoopStart,
 ) -> io::Result<J> {
@@ -306,7 +305,7 @@ pub fn run_loop<J: SessionSeat + Drop, G: Gate + Copy + Drop, U: UsersSource, R:
         registry,
         acceptor,
     } = start;
-    let shared = &server.shared;
+    let shared = &common.shared;
     let Some(loop_handle) = shared.loop_handles.get(me) else {
         return Ok(seat);
     };
@@ -322,5 +321,5 @@ pub fn run_loop<J: SessionSeat + Drop, G: Gate + Copy + Drop, U: UsersSource, R:
             pace: Pace::new(),
         },
     };
-    run_seat(rt, alloc, server, &mut watch, seat)
+    run_seat(rt, alloc, common, &mut watch, seat)
 }

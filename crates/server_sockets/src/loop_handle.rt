@@ -6,6 +6,7 @@ use mio::{Poll, Registry, Waker};
 use server_log::Log;
 use server_loop::End;
 use server_system::Watched;
+use std::alloc::Global;
 use std::collections::VecDeque;
 use std::io;
 use std::sync::atomic::{AtomicBool, AtomicU64, Ordering};
@@ -78,6 +79,16 @@ pub struct Shared {
     pub tells: bool,
 }
 
+/// What the loops of a server stand on.
+#[derive(Drop)]
+pub struct Common<G, U> {
+    pub shared: Shared,
+    /// Who may connect.
+    pub users: U,
+    /// Is told of each call that a loop submits.
+    pub gate: G,
+}
+
 /// What a loop is begun with.
 #[derive(Drop)]
 pub struct LoopStart {
@@ -89,6 +100,23 @@ pub struct LoopStart {
 }
 
 impl Shared {
+    pub fn new(
+        alloc: Global,
+        loop_handles: Vec<LoopHandle>,
+        watched: Watched,
+        tells: bool,
+    ) -> Shared {
+        let log = Log::new(alloc, loop_handles.len());
+        Shared {
+            loop_handles,
+            over: OnceLock::new(),
+            busy: AtomicU64::new(0),
+            watched,
+            log,
+            tells,
+        }
+    }
+
     pub fn wake_others(&self, me: usize) -> io::Result<()> {
         for (place, loop_handle) in self.loop_handles.iter().enumerate() {
             if place != me {

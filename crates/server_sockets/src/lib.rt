@@ -1,0 +1,13 @@
+//! A server's loops over sockets: who takes connections in, how a loop waits and is woken, its turns,
+//! and how it ends.
+#![tactic(auto)]
+
+mod acceptor;
+mod loop_handle;
+mod places;
+mod turns;
+mod winding;
+
+pub use loop_handle::{Common, LoopStart, Shared};
+pub use places::Places;
+pub use turns::run_loop;
