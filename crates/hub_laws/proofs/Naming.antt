@@ -9,7 +9,7 @@ use Rattle.acl.specs.declared.act.Object.TheVariants as object
 use Rattle.acl.specs.declared.command_name.CommandName.{CommandName}
 use Rattle.acl.specs.History.{is_open, there}
 use Rattle.command_lang.specs.Names.{all_names, command_named}
-use Rattle.command_lang.specs.Values.{number_in}
+use Rattle.session_model.specs.Naming.{spelled}
 use Rattle.regions.specs.declared.shown.Shown.{Shown}
 use Rattle.regions.specs.Layouts.{empty}
 use Rattle.session_model.specs.Sound.{IsOpen, ShowsOpen, AreFit}
@@ -38,8 +38,8 @@ either_there ws (Some v) b w one two is = one is
 
 named_there : (ws : List Window) (word : List ℕ) (w : Window) → window_named ws word ≡ Some w → IsThere ws w
 named_there ws word w is =
-    either_there ws (option_and_then (with_number ws) (number_in 9999 word)) (lowest (filter (λ (v : Window). bytes_eq v.title word) ws)) w
-    (λ at. number_there ws (number_in 9999 word) w at) (λ at. filter_there _ ws w (lowest_there _ w at)) is
+    either_there ws (option_and_then (with_number ws) (spelled word)) (lowest (filter (λ (v : Window). bytes_eq v.title word) ws)) w
+    (λ at. number_there ws (spelled word) w at) (λ at. filter_there _ ws w (lowest_there _ w at)) is
 
 -- the acts say of each window of the tables that it is open
 abbrev pub OpenIs : Tables → Type 0

@@ -18,7 +18,7 @@ use Rattle.command_lang.specs.command.Command.TheVariants as command
 use Rattle.command_lang.specs.command.Users.TheVariants as users
 use Rattle.session_model.specs.declared.refusal.Refusal.{Refusal}
 use Rattle.session_model.specs.declared.refusal.Refusal.TheVariants.{Acl, Windows}
-use Rattle.session_model.specs.declared.refusal.WindowsFault.TheVariants.{NoSuchWindow}
+use Rattle.session_model.specs.windows_fault.WindowsFault.TheVariants.{NoSuchWindow}
 use Rattle.session_model.specs.Tables.{Tables, Window, Client, known_users}
 use Rattle.session_model.specs.Rights.{add_acts_in, group_fault_in}
 use Rattle.session_model.specs.Naming.{names_of, every_window, every_command, new_leader_of}

@@ -11,8 +11,8 @@ use acl::UserId;
 use keys::KeyReader;
 use redraw::Shadow;
 use regions::{Layout, RegionFault, Shown, Way};
+use serial_rows::Serial;
 use session_model::Message;
-use session_rows::Serial;
 use std::alloc::{AllocError, Global};
 use std::mem;
 

@@ -22,8 +22,8 @@ use acl::UserId;
 use keys::KeyReader;
 use redraw::{Frame, Shadow, SharedView};
 use regions::{RegionFault, Shown, Way};
+use serial_rows::Rows;
 use session_model::{Bytes, Effect, Message};
-use session_rows::Rows;
 use std::alloc::{AllocError, Global};
 use std::marker::Model;
 use view::View;
@@ -61,7 +61,7 @@ impl Clients {
     ghost use Rattle.session_clients.specs.Draws.{Draws, FitsIn, LeadsFrom, ShowsAlready};
     ghost use Rattle.session_clients.specs.Stands.{Attaches, Keeps, Changes, ChangesAll, Finds};
     ghost use Rattle.session_clients.specs.Stands.{AreClients, ClientStands, IsFaultOf, IsRemoval};
-    ghost use Rattle.session_rows.specs.Matched.{BothOrNone};
+    ghost use Rattle.serial_rows.specs.Matched.{BothOrNone};
 
     /// No client.
     pub fn new(alloc: Global) -> Clients

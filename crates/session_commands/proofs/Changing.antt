@@ -7,9 +7,10 @@ use Rattle.command_lang.specs.command.Command.TheVariants as command
 use Rattle.command_lang.specs.command.Coding.{Coding}
 use Rattle.terminal_model.specs.Writing as terminal
 use Rattle.terminal_model.specs.Writing.{Writing}
-use Rattle.session_model.specs.declared.refusal.Refusal.{Refusal}
-use Rattle.session_model.specs.declared.refusal.Refusal.TheVariants.{NoMemory, Windows}
-use Rattle.session_model.specs.declared.refusal.WindowsFault.TheVariants.{NumberTaken, BadTitle}
+use Rattle.session_model.specs.declared.refusal.Refusal.TheVariants.{Windows}
+use Rattle.session_model.specs.Faults.{refusal_of}
+use Rattle.session_model.specs.windows_fault.WindowsFault.{WindowsFault}
+use Rattle.session_model.specs.windows_fault.WindowsFault.TheVariants.{NumberTaken, BadTitle, NoMemory}
 use Rattle.session_model.specs.Tables.{Tables, Window, with_window, with_row}
 use Rattle.session_model.specs.Naming.{is_title}
 use Rattle.session_model.specs.Lines as model
@@ -17,10 +18,10 @@ use Rattle.command_lang.specs.Needs.{needs}
 use Rattle.session_model.specs.Checks.{checks, first_fault}
 use Rattle.session_model.specs.Deeds.{Answer, changing, refused_if}
 use Rattle.session_model.specs.Commands.{does, coding_of, is_taken}
-use Rattle.session_windows.specs.declared.window.Window.{Window as Row}
-use Rattle.session_windows.specs.Standing.{StandFor, Change, Answered, changed, serial}
-use Rattle.session_windows.specs.Standing.{written, written_to, retitled, with_new_number}
-use Rattle.session_windows.proofs.Callers.{row_done, row_refused_as}
+use Rattle.windows.specs.declared.window.Window.{Window as Row}
+use Rattle.windows.specs.Standing.{StandFor, Change, Answered, changed, serial}
+use Rattle.windows.specs.Standing.{written, written_to, retitled, with_new_number}
+use Rattle.windows.proofs.Callers.{row_done, row_refused_as}
 use Rattle.session_state.specs.declared.caller.Caller.{Caller}
 use Rattle.session_state.specs.declared.step_output.StepOutput.{StepOutput}
 use Rattle.session_state.specs.declared.state.State.{State}
@@ -43,9 +44,9 @@ with_windows t s rows ws st on = record {
 }
 
 -- what a change of a row is as an answer
-abbrev pub as_answer : Tables → Result Window Refusal → Answer
+abbrev pub as_answer : Tables → Result Window WindowsFault → Answer
 as_answer t (Ok n) = Ok (changing (with_window t n))
-as_answer t (Err r) = Err r
+as_answer t (Err f) = Err (refusal_of f)
 
 -- what a command does is a change of the window that it acts on, whose serial stays
 pub record IsChange (t : Tables) (c : Command) (change : Change) : Type 0 where
@@ -78,38 +79,39 @@ module _ (t : Tables) (s : State) (k : Caller) (w : ℕ) (c : Command) (change :
         },
       )
 
-  pub change_refused : (r : Refusal) (new : State) (before after : StepOutput)
-      → (r ≡ NoMemory) ⊎ (changed w change t.windows ≡ Err r)
-      → Answers t (does t (caller_in t k) c) (Err r) new before after
-  change_refused r new before after (inl full) = inl full
-  change_refused r new before after (inr by) =
+  pub change_refused : (f : WindowsFault) (new : State) (before after : StepOutput)
+      → (f ≡ NoMemory) ⊎ (changed w change t.windows ≡ Err f)
+      → Answers t (does t (caller_in t k) c) (Err (refusal_of f)) new before after
+  change_refused f new before after (inl full) = inl (ap refusal_of full)
+  change_refused f new before after (inr by) =
       let found = acted_on t k c w at is.needed passed in
       inr (is.row (caller_in t k) found.0 found.1.given
-      ∙ ap (as_answer t) (row_refused_as t.windows w change found.0 found.1.row r by))
+      ∙ ap (as_answer t) (row_refused_as t.windows w change found.0 found.1.row f by))
 
 -- ---- what each of them changes
 
 -- where a test decides
-module _ (t : Tables) (r : Refusal) (n : Window) where
+module _ (t : Tables) (f : WindowsFault) (n : Window) where
   unless_by : (b : Bool)
-      → refused_if b r (changing (with_window t n)) ≡ as_answer t (if b then Err r else Ok n)
+      → refused_if b (refusal_of f) (changing (with_window t n))
+      ≡ as_answer t (if b then Err f else Ok n)
   unfolding refused_if
   unless_by true = refl
   unless_by false = refl
 
   where_by : (b : Bool)
-      → refused_if (not b) r (changing (with_window t n))
-      ≡ as_answer t (if b then Ok n else Err r)
+      → refused_if (not b) (refusal_of f) (changing (with_window t n))
+      ≡ as_answer t (if b then Ok n else Err f)
   unfolding refused_if
   where_by true = refl
   where_by false = refl
 
-  serial_where : (b : Bool) (m : Window) → (if b then Ok n else Err r) ≡ Ok m
+  serial_where : (b : Bool) (m : Window) → (if b then Ok n else Err f) ≡ Ok m
       → m.serial ≡ n.serial
   serial_where true m is = ap (λ (v : Window). v.serial) (sym (let e : n ≡ m = cc (is) in e))
   serial_where false m is = absurd (cc (is))
 
-  serial_unless : (b : Bool) (m : Window) → (if b then Err r else Ok n) ≡ Ok m
+  serial_unless : (b : Bool) (m : Window) → (if b then Err f else Ok n) ≡ Ok m
       → m.serial ≡ n.serial
   serial_unless true m is = absurd (cc (is))
   serial_unless false m is = ap (λ (v : Window). v.serial) (sym (let e : n ≡ m = cc (is) in e))
@@ -121,8 +123,8 @@ title_changes t text = record {
   row = λ k m at.
       on_row t k (λ (w : Window). refused_if (not (is_title text)) (Windows BadTitle)
       (changing (with_window t (record w { title = text })))) m at
-      ∙ where_by t (Windows BadTitle) (record m { title = text }) (is_title text);
-  keeps = λ m n is. serial_where t (Windows BadTitle) (record m { title = text }) (is_title text) n is;
+      ∙ where_by t BadTitle (record m { title = text }) (is_title text);
+  keeps = λ m n is. serial_where t BadTitle (record m { title = text }) (is_title text) n is;
 }
 
 pub number_changes : (t : Tables) (n : ℕ)
@@ -132,9 +134,9 @@ number_changes t n = record {
   row = λ k m at.
       on_row t k (λ (w : Window). refused_if (is_taken t w n) (Windows NumberTaken)
       (changing (with_window t (record w { number = n })))) m at
-      ∙ unless_by t (Windows NumberTaken) (record m { number = n }) (is_taken t m n);
+      ∙ unless_by t NumberTaken (record m { number = n }) (is_taken t m n);
   keeps = λ m v is.
-      serial_unless t (Windows NumberTaken) (record m { number = n }) (is_taken t m n) v is;
+      serial_unless t NumberTaken (record m { number = n }) (is_taken t m n) v is;
 }
 
 -- what writes to a window

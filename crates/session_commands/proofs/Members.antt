@@ -5,10 +5,10 @@ use Rattle.std.specs.List.{AllByRecursion}
 use Rattle.std.specs.Option.{option_or, option_and_then}
 use Rattle.session_model.specs.Tables.{Window, Tables, row_of, window_at}
 use Rattle.session_model.specs.Naming.{lower, higher, lowest, highest, with_number, window_named, window_after, window_before}
-use Rattle.session_rows.specs.Matched.{BothOrNone}
-use Rattle.session_rows.proofs.Serials.{same_number, serial_is}
-use Rattle.session_windows.specs.declared.window.Window as code
-use Rattle.session_windows.specs.Standing.{WindowStands}
+use Rattle.serial_rows.specs.Matched.{BothOrNone}
+use Rattle.serial_rows.proofs.Serials.{same_number, serial_is}
+use Rattle.windows.specs.declared.window.Window as code
+use Rattle.windows.specs.Standing.{WindowStands}
 
 -- a fact of each row is one of the row that is found
 module _ (P : Window → Type 0) where

@@ -11,17 +11,19 @@ use Rattle.regions.specs.Shapes.{Shape, region, split, boxes, upper, lower, left
 use Rattle.regions.specs.Pages.{box_of, is_roomy, has_room}
 use Rattle.terminal_model.specs.Writing as terminal
 use Rattle.session_model.specs.declared.event.Effect.TheVariants.{Size}
-use Rattle.session_model.specs.declared.refusal.Refusal.{Refusal}
 use Rattle.session_model.specs.declared.refusal.Refusal.TheVariants.{NoMemory, NoWindow, Regions}
+use Rattle.session_model.specs.Faults.{refusal_of}
+use Rattle.session_model.specs.windows_fault.WindowsFault.{WindowsFault}
+use Rattle.session_model.specs.windows_fault.WindowsFault.TheVariants as fault
 use Rattle.session_model.specs.Tables as model
 use Rattle.session_model.specs.Tables.{Window, Tables, window_at, with_row}
 use Rattle.session_model.specs.Deeds.{Deed, Answer, focused_box, fits, given, writes}
 use Rattle.session_model.specs.Commands.{on_client, on_window}
 use Rattle.session_model.specs.Comings.{is_client_size, is_window_size}
-use Rattle.session_rows.proofs.Serials.{if_true, serial_is}
-use Rattle.session_windows.specs.declared.window.Window as code
-use Rattle.session_windows.specs.Standing.{StandFor, Answered, serial, resized, resized_in, written_to}
-use Rattle.session_windows.proofs.Callers.{row_done, row_refused_as}
+use Rattle.serial_rows.proofs.Serials.{if_true, serial_is}
+use Rattle.windows.specs.declared.window.Window as code
+use Rattle.windows.specs.Standing.{StandFor, Answered, serial, resized, resized_in, written_to}
+use Rattle.windows.proofs.Callers.{row_done, row_refused_as}
 use Rattle.session_clients.specs.declared.client.Client.{Client}
 use Rattle.session_clients.specs.Stands.{ClientStands}
 use Rattle.session_state.specs.declared.caller.Caller.{Caller}
@@ -142,11 +144,15 @@ module _ (t : Tables) (k : Caller) (client : ℕ) (c : Client) (m : model.Client
 
   module _ (tall : 2 ≤ rows) where
     sized : resized rows r.columns w ≡ Ok (written_to (terminal.Size rows r.columns) w)
-    sized = if_true (is_window_size rows r.columns 0) _ _ (window_sized m r stands.sized stands.room place tall)
+    sized = refl
+
+    -- a region of a page has the size of a window
+    pub good : is_window_size rows r.columns 0 ≡ true
+    good = window_sized m r stands.sized stands.room place tall
 
     -- a window of the size is refused for want of memory alone
-    pub for_memory : (why : Refusal) → (why ≡ NoMemory) ⊎ (resized_in s rows r.columns t.windows ≡ Err why) → why ≡ NoMemory
-    for_memory why (inl full) = full
+    pub for_memory : (why : WindowsFault) → (why ≡ fault.NoMemory) ⊎ (resized_in s rows r.columns t.windows ≡ Err why) → refusal_of why ≡ NoMemory
+    for_memory why (inl full) = ap refusal_of full
     for_memory why (inr other) =
         let refusal = row_refused_as t.windows s (resized rows r.columns) w there why other in
         let never : Ok (written_to (terminal.Size rows r.columns) w) ≡ Err why = sym sized ∙ refusal in

@@ -12,6 +12,7 @@ use session_clients::Client;
 use session_model::{Bytes, Effect, Refusal};
 use session_state::{Caller, State, StepOutput};
 use std::alloc::Global;
+use windows::is_window_size;
 
 /// The rectangle of a client's focused region.
 fn focused_box(alloc: Global, client: &Client) -> Result<Rect, Refusal>
@@ -48,6 +49,9 @@ pub fn fit(
     let rows = region.rows - 1;
     if rows < 2 {
         return Err(Refusal::Regions(RegionFault::TooSmall));
+    }
+    if !is_window_size(rows, region.columns, 0) {
+        return Err(Refusal::BadSize);
     }
     made.effects.reserve(1)?;
     state.windows.resize(window, rows, region.columns)?;

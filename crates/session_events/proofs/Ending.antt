@@ -19,15 +19,17 @@ use Rattle.writelock.specs.declared.locks.Locks.{Locks}
 use Rattle.session_model.specs.declared.event.Effect.TheVariants.{GoneWindow, GoneClient}
 use Rattle.session_model.specs.declared.event.Reason.{Reason}
 use Rattle.session_model.specs.declared.event.Reason.TheVariants as reason
-use Rattle.session_model.specs.declared.refusal.Refusal.{Refusal}
+use Rattle.session_model.specs.windows_fault.WindowsFault.{WindowsFault}
+use Rattle.session_model.specs.windows_fault.WindowsFault.TheVariants as fault
+use Rattle.session_model.specs.Faults.{refusal_of}
 use Rattle.session_model.specs.declared.refusal.Refusal.TheVariants.{NoWindow}
 use Rattle.session_model.specs.Tables as model
 use Rattle.session_model.specs.Tables.{Tables, window_at, row_of}
 use Rattle.session_model.specs.Sound.{Rises, window_serials}
 use Rattle.session_model.specs.Deeds.{Deed, is_of, removes, closes, parts, both, without_window, without_windows}
-use Rattle.session_rows.proofs.Serials.{is_equal, serial_is}
-use Rattle.session_windows.specs.declared.window.Window.{Window}
-use Rattle.session_windows.specs.Standing.{StandFor, closed, without}
+use Rattle.serial_rows.proofs.Serials.{is_equal, serial_is}
+use Rattle.windows.specs.declared.window.Window.{Window}
+use Rattle.windows.specs.Standing.{StandFor, closed, without}
 use Rattle.session_clients.specs.declared.client.Client.{Client}
 use Rattle.session_clients.specs.Stands.{AreClients, Keeps, ChangesAll}
 use Rattle.session_state.specs.declared.step_output.StepOutput.{StepOutput}
@@ -83,15 +85,15 @@ module _ (t : Tables) (why : Reason) (window : ℕ) where
   there_by None rows is = absurd (cc (is))
   there_by (Some w) rows is = (w, refl, cc (is))
 
-  not_there : (o : Option model.Window) (r : Refusal) → without t.windows window o ≡ Err r → (o ≡ None) × (NoWindow ≡ r)
-  not_there None r is = (refl, cc (is))
-  not_there (Some w) r is = absurd (cc (is))
+  not_there : (o : Option model.Window) (f : WindowsFault) → without t.windows window o ≡ Err f → (o ≡ None) × (fault.NoSuchWindow ≡ f)
+  not_there None f is = (refl, cc (is))
+  not_there (Some w) f is = absurd (cc (is))
 
   -- there is none
-  pub closing_refused : (r : Refusal) → closed window t.windows ≡ Err r → closing window why t ≡ Err r
-  closing_refused r is =
-      let missing = not_there (window_at t window) r is in
-      given_none (window_at t window) NoWindow (λ w. Ok (closes (λ v. v.serial == window) why t)) missing.0 ∙ ap (λ e. Err e) missing.1
+  pub closing_refused : (f : WindowsFault) → closed window t.windows ≡ Err f → closing window why t ≡ Err (refusal_of f)
+  closing_refused f is =
+      let missing = not_there (window_at t window) f is in
+      given_none (window_at t window) NoWindow (λ w. Ok (closes (λ v. v.serial == window) why t)) missing.0 ∙ ap (λ e. Err (refusal_of e)) missing.1
 
   -- it is closed
   pub closing_done : (s : State) (acl : Table) (locks : Locks) (windows : List Window) (clients : List Client) (before after : StepOutput) → Stands t s → AreFit t

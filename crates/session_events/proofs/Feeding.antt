@@ -6,16 +6,18 @@ use Rattle.std.specs.Prelude.{◌==◌, if◌then◌else◌, Result}
 use Rattle.terminal_model.specs.Writing.{Output}
 use Rattle.terminal_model.specs.Reading.{reads}
 use Rattle.session_model.specs.declared.event.Effect.TheVariants.{Input}
-use Rattle.session_model.specs.declared.refusal.Refusal.{Refusal}
+use Rattle.session_model.specs.windows_fault.WindowsFault.{WindowsFault}
+use Rattle.session_model.specs.windows_fault.WindowsFault.TheVariants as fault
+use Rattle.session_model.specs.Faults.{refusal_of}
 use Rattle.session_model.specs.declared.refusal.Refusal.TheVariants.{NoMemory}
 use Rattle.session_model.specs.Tables.{Tables, Window, window_at, with_row}
 use Rattle.session_model.specs.Terminals.{terminal_of}
 use Rattle.session_model.specs.Deeds.{input_of}
 use Rattle.session_model.specs.Comings.{outputs}
-use Rattle.session_windows.specs.declared.window.Window.{Window as Row}
-use Rattle.session_windows.specs.Standing.{StandFor, AnsweredIfRoom, serial, written, written_to, fed_in}
-use Rattle.session_windows.proofs.Callers.{row_done, row_refused_as}
-use Rattle.session_rows.proofs.Serials.{serial_is, if_true, if_false}
+use Rattle.windows.specs.declared.window.Window.{Window as Row}
+use Rattle.windows.specs.Standing.{StandFor, AnsweredIfRoom, serial, written, written_to, fed_in}
+use Rattle.windows.proofs.Callers.{row_done, row_refused_as}
+use Rattle.serial_rows.proofs.Serials.{serial_is, if_true, if_false}
 use Rattle.session_state.specs.declared.step_output.StepOutput.{StepOutput}
 use Rattle.session_state.specs.declared.state.State.{State}
 use Rattle.session_state.specs.Stands.{Stands}
@@ -70,8 +72,8 @@ module _ (t : Tables) (window : ℕ) (w : Window) (bytes : List ℕ)
       }
 
   -- or memory was wanting
-  pub unfed : (r : Refusal) → (r ≡ NoMemory) ⊎ (fed_in window bytes t.windows ≡ Err r)
-      → r ≡ NoMemory
-  unfed r (inl full) = full
-  unfed r (inr by) =
-      absurd (cc (row_refused_as t.windows window (written (Output bytes)) w here r by))
+  pub unfed : (f : WindowsFault) → (f ≡ fault.NoMemory) ⊎ (fed_in window bytes t.windows ≡ Err f)
+      → refusal_of f ≡ NoMemory
+  unfed f (inl full) = ap refusal_of full
+  unfed f (inr by) =
+      absurd (cc (row_refused_as t.windows window (written (Output bytes)) w here f by))

@@ -10,16 +10,18 @@ use Rattle.acl.specs.declared.act.Act.TheVariants as act
 use Rattle.acl.specs.Table as acl
 use Rattle.writelock.specs.declared.locks.Locks.{Locks}
 use Rattle.writelock.specs.LockTable.{LocksStandFor}
-use Rattle.session_model.specs.declared.refusal.Refusal.{Refusal}
+use Rattle.session_model.specs.windows_fault.WindowsFault.{WindowsFault}
+use Rattle.session_model.specs.windows_fault.WindowsFault.TheVariants as fault
+use Rattle.session_model.specs.Faults.{refusal_of}
 use Rattle.session_model.specs.declared.refusal.Refusal.TheVariants.{NoMemory}
 use Rattle.session_model.specs.Tables.{Tables, Window, is_known}
 use Rattle.session_model.specs.Naming.{free_number, is_title}
 use Rattle.session_model.specs.Checks.{first_fault}
 use Rattle.session_model.specs.Comings.{is_window_size, has_place, open_checks, new_window, opens}
 use Rattle.session_model.specs.Sound.{AreFit, Rises, window_serials}
-use Rattle.session_windows.specs.declared.window.Window.{Window as Row}
-use Rattle.session_windows.specs.Standing.{StandFor, AnsweredIfRoom, is_above, opened, new_row, numbered}
-use Rattle.session_rows.proofs.Serials.{if_true}
+use Rattle.windows.specs.declared.window.Window.{Window as Row}
+use Rattle.windows.specs.Standing.{StandFor, AnsweredIfRoom, is_above, opened, new_row, numbered}
+use Rattle.serial_rows.proofs.Serials.{if_true}
 use Rattle.session_state.specs.declared.step_output.StepOutput.{StepOutput}
 use Rattle.session_state.specs.declared.state.State.{State}
 use Rattle.session_state.specs.Stands.{Stands}
@@ -87,13 +89,12 @@ module _ (t : Tables) (user : UserId) (rows columns keep : ℕ) (title : List �
   opened_is : opened serial rows columns keep title t.windows
       ≡ Ok (t.windows ++ new_window t rows columns keep title ∷ [])
   opened_is =
-      if_true (is_window_size rows columns keep) _ _ may.sized
-      ∙ (ap (λ o. numbered t.windows o (λ n. new_row serial n rows columns keep title) title)
+      ap (λ o. numbered t.windows o (λ n. new_row serial n rows columns keep title) title)
       (if_true (is_above serial t.windows) _ _ above)
       ∙ numbered_by (free_number t.windows) may.free
       ∙ ap (λ k. Ok (t.windows
       ++ new_row k (unwrap_or (free_number t.windows) 0) rows columns keep title ∷ []))
-      serial_is)
+      serial_is
 
   pub opened_rows : {A : Type 0} (a : A) (ws : List Row)
       → AnsweredIfRoom (opened serial rows columns keep title t.windows) (Ok a) ws
@@ -104,11 +105,11 @@ module _ (t : Tables) (user : UserId) (rows columns keep : ℕ) (title : List �
       subst (λ (vs : List Window). StandFor vs ws) same by.2
 
   -- or memory is wanting
-  pub unopened : (r : Refusal)
-      → (r ≡ NoMemory) ⊎ (opened serial rows columns keep title t.windows ≡ Err r)
-      → r ≡ NoMemory
-  unopened r (inl full) = full
-  unopened r (inr by) = absurd (cc (by, opened_is))
+  pub unopened : (f : WindowsFault)
+      → (f ≡ fault.NoMemory) ⊎ (opened serial rows columns keep title t.windows ≡ Err f)
+      → refusal_of f ≡ NoMemory
+  unopened f (inl full) = ap refusal_of full
+  unopened f (inr by) = absurd (cc (by, opened_is))
 
   pub opened_done : (s : State) (a : acl.Table) (locks : Locks) (ws : List Row)
       (before after : StepOutput) → Stands t s

@@ -8,7 +8,7 @@ use Rattle.session_model.specs.declared.event.Reason.{Reason}
 use Rattle.session_model.specs.declared.refusal.Refusal.TheVariants.{NoWindow}
 use Rattle.session_model.specs.Tables.{Tables, window_at}
 use Rattle.session_model.specs.Deeds.{Answer, given, closes}
-use Rattle.session_windows.specs.declared.window.Window.{Window}
+use Rattle.windows.specs.declared.window.Window.{Window}
 
 abbrev pub gone_row : Reason → Window → Effect
 gone_row why w = GoneWindow w.serial why

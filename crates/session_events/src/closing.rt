@@ -13,8 +13,8 @@ ghost use Rattle.session_events.specs.Settling.{Settles};
 use acl::{Acl, Act, UserId};
 use session_model::{Effect, Reason, Refusal};
 use session_state::{State, StepOutput};
-use session_windows::Window;
 use std::alloc::{AllocError, Global};
+use windows::Window;
 use writelock::Locks;
 
 /// The effects of windows that are closed.

@@ -7,6 +7,7 @@ use crate::serials::serial_from;
 use acl::{Act, UserId};
 use session_model::{Refusal, WindowsFault};
 use session_state::{State, StepOutput, WindowSize};
+use windows::is_window_size;
 
 /// A user opens a window, whose checks have passed; it gets the next serial and the lowest number
 /// that is free. Gives both.
@@ -25,6 +26,9 @@ pub fn open(
     let Some(window) = serial_from(state.next_window) else {
         return Err(Refusal::Windows(WindowsFault::Full));
     };
+    if !is_window_size(size.rows, size.columns, size.keep) {
+        return Err(Refusal::BadSize);
+    }
     let number = state.windows.open(state.alloc, window, size, title)?;
     state.next_window += 1;
     made.acts.push(Act::Opened { by: user, window }).unwrap();

@@ -17,7 +17,7 @@ use Rattle.session_model.specs.Checks.{first_fault, typing_checks}
 use Rattle.session_model.specs.Deeds.{Deed, changing}
 use Rattle.session_model.specs.Answering.{input_in, says_why}
 use Rattle.session_model.specs.Texts.{text_of}
-use Rattle.session_rows.proofs.Serials.{serial_is}
+use Rattle.serial_rows.proofs.Serials.{serial_is}
 use Rattle.session_state.specs.declared.step_output.StepOutput.{StepOutput}
 use Rattle.session_rights.specs.Checked.{Passed, Failed}
 use Rattle.session_input.specs.Said.{wants_memory}

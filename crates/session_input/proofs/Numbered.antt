@@ -8,10 +8,10 @@ use Rattle.session_model.specs.Tables as model
 use Rattle.session_model.specs.Tables.{Tables, row_of, window_at}
 use Rattle.session_model.specs.Naming.{with_number}
 use Rattle.session_model.specs.Sound.{Rises, window_serials}
-use Rattle.session_rows.proofs.Matching.{both_back, none_back}
-use Rattle.session_rows.proofs.Serials.{if_true, if_false, same_number}
-use Rattle.session_windows.specs.Standing.{WindowStands, Finds}
-use Rattle.session_windows.specs.declared.window.Window.{Window}
+use Rattle.serial_rows.proofs.Matching.{both_back, none_back}
+use Rattle.serial_rows.proofs.Serials.{if_true, if_false, same_number}
+use Rattle.windows.specs.Standing.{WindowStands, Finds}
+use Rattle.windows.specs.declared.window.Window.{Window}
 use Rattle.session_state.specs.declared.state.State.{State}
 use Rattle.session_state.specs.Stands.{Stands}
 use Rattle.session_model.specs.Sound.{AreFit}

@@ -7,7 +7,7 @@ use Rattle.acl.specs.declared.faults.AclFault.{AclFault}
 use Rattle.command_lang.specs.command.Command.{Command as Order}
 use Rattle.session_model.specs.declared.refusal.Refusal.{Refusal}
 use Rattle.session_model.specs.declared.refusal.Refusal.TheVariants.{EntryDenied, LockDenied, Acl, Windows, NoWindow}
-use Rattle.session_model.specs.declared.refusal.WindowsFault.TheVariants.{NoSuchWindow}
+use Rattle.session_model.specs.windows_fault.WindowsFault.TheVariants.{NoSuchWindow}
 use Rattle.session_model.specs.Tables.{Tables, Window, Client, client_at}
 use Rattle.session_model.specs.Lines.{Caller}
 use Rattle.session_model.specs.Deeds as deeds

@@ -23,7 +23,7 @@ use Rattle.session_model.specs.declared.event.Effect.TheVariants.{Size}
 use Rattle.session_model.specs.declared.event.Reason.TheVariants.{Detached, Killed, Quit, SingleUser}
 use Rattle.session_model.specs.declared.refusal.Refusal.{Refusal}
 use Rattle.session_model.specs.declared.refusal.Refusal.TheVariants.{Acl, Windows, NoWindow}
-use Rattle.session_model.specs.declared.refusal.WindowsFault.TheVariants.{NoSuchWindow}
+use Rattle.session_model.specs.windows_fault.WindowsFault.TheVariants.{NoSuchWindow}
 use Rattle.session_model.specs.Tables.{Tables, Window, Client, window_at, with_window, focused, known_users}
 use Rattle.session_model.specs.Rights.{leaders_in, add_acts_in, group_fault_in}
 use Rattle.session_model.specs.Naming.{names_of, objects_of, every_window, every_command, new_leader_of, window_named, window_after, window_before}

@@ -3,7 +3,7 @@ use Rattle.std.proofs.Common.{◌≡◌, ℕ, zero, suc, ◌+◌, Bool, true, fa
 use Rattle.std.specs.Prelude.{if◌then◌else◌, ◌==◌, nat_lt, MatchOption, slice_get, slice_set, unwrap_or, find}
 use Rattle.std.specs.List.{AllByRecursion, insert, remove}
 use Rattle.std.specs.Option.{option_and_then, option_or}
-use Rattle.command_lang.specs.Values.{number_in}
+use Rattle.session_model.specs.Naming.{spelled}
 use Rattle.regions.specs.declared.shown.Shown.{Shown}
 use Rattle.regions.specs.Layouts.{Arrangement, empty}
 use Rattle.session_model.specs.Tables.{Tables, Window, Client, with_row, window_at}
@@ -97,8 +97,8 @@ number_there ws None w is = absurd (cc (is))
 number_there ws (Some n) w is = found_there (λ (v : Window). v.number == n) ws w is
 
 pub named_there : (ws : List Window) (word : List ℕ) (w : Window) → window_named ws word ≡ Some w → IsThere ws w
-named_there ws word w is = by_or (option_and_then (with_number ws) (number_in 9999 word)) _ w is
-    (λ at. number_there ws (number_in 9999 word) w at) (λ at. filter_there _ ws w (lowest_there _ w at))
+named_there ws word w is = by_or (option_and_then (with_number ws) (spelled word)) _ w is
+    (λ at. number_there ws (spelled word) w at) (λ at. filter_there _ ws w (lowest_there _ w at))
 
 pub after_there : (ws : List Window) (o : Option Window) (w : Window) → window_after ws o ≡ Some w → IsThere ws w
 after_there ws None w is = lowest_there ws w is

@@ -19,9 +19,10 @@ use Rattle.session_model.specs.declared.message.Message.TheVariants as message
 use Rattle.session_model.specs.declared.refusal.Refusal.TheVariants.{NotMultiuser, UnknownUser}
 use Rattle.session_model.specs.declared.refusal.Refusal.TheVariants.{TooManyClients, BadSize}
 use Rattle.session_model.specs.declared.refusal.Refusal.TheVariants.{Windows}
-use Rattle.session_model.specs.declared.refusal.WindowsFault.TheVariants.{Full, BadTitle}
+use Rattle.windows_model.specs.declared.windows_fault.WindowsFault.TheVariants.{Full, BadTitle}
 use Rattle.session_model.specs.declared.limits.TheConstants.{CLIENTS, SERIALS}
 use Rattle.session_model.specs.Tables.{Window, Client, Tables, focused, seeing, is_known}
+pub use Rattle.windows_model.specs.Table.{is_window_size}
 use Rattle.session_model.specs.Terminals.{terminal_of}
 use Rattle.session_model.specs.Naming.{lowest, free_number, is_title}
 use Rattle.session_model.specs.Deeds.{Deed, acting, entering, writes, input_of}
@@ -31,10 +32,6 @@ use Rattle.session_model.specs.Deeds.{Deed, acting, entering, writes, input_of}
 abbrev pub is_client_size : ℕ → ℕ → Bool
 is_client_size rows columns =
     nat_le 4 rows && nat_le rows 200 && nat_le 20 columns && nat_le columns 300
-
-abbrev pub is_window_size : ℕ → ℕ → ℕ → Bool
-is_window_size rows columns keep =
-    nat_le 2 rows && nat_le rows 200 && nat_le 2 columns && nat_le columns 300 && nat_le keep 2000
 
 -- in single-user mode the owner alone
 abbrev pub is_let_in : Tables → UserId → Bool

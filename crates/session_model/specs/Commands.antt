@@ -32,7 +32,7 @@ use Rattle.terminal_model.specs.Writing as written
 use Rattle.session_model.specs.declared.event.Reason.TheVariants as reason
 use Rattle.session_model.specs.declared.refusal.Refusal.TheVariants.{NoWindow, Acl}
 use Rattle.session_model.specs.declared.refusal.Refusal.TheVariants.{Windows, Regions}
-use Rattle.session_model.specs.declared.refusal.WindowsFault.TheVariants as fault
+use Rattle.windows_model.specs.declared.windows_fault.WindowsFault.TheVariants as fault
 use Rattle.session_model.specs.declared.verdict.Verdict.{Verdict}
 use Rattle.session_model.specs.Tables.{Window, Client, Tables, window_at, client_at, with_window}
 use Rattle.session_model.specs.Tables.{known_users}

@@ -23,7 +23,7 @@ use Rattle.session_model.specs.declared.event.Reason.{Reason}
 use Rattle.session_model.specs.declared.event.Reason.TheVariants as reason
 use Rattle.session_model.specs.declared.refusal.Refusal.{Refusal}
 use Rattle.session_model.specs.declared.refusal.Refusal.TheVariants.{Acl, Windows, Regions}
-use Rattle.session_model.specs.declared.refusal.WindowsFault.TheVariants.{NoSuchWindow}
+use Rattle.windows_model.specs.declared.windows_fault.WindowsFault.TheVariants.{NoSuchWindow}
 use Rattle.session_model.specs.declared.message.Message.{Message}
 use Rattle.session_model.specs.declared.message.Message.TheVariants as message
 use Rattle.session_model.specs.Tables.{Window, Client, Tables, with_window, with_client}

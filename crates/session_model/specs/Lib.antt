@@ -1,9 +1,11 @@
+pub use Rattle.windows_model.specs.declared.windows_fault
 pub mod Trace
 pub mod Tables
 pub mod Rights
 pub mod Terminals
 pub mod Naming
 pub mod Texts
+pub mod Faults
 pub mod Denials
 pub mod Lines
 pub mod Checks

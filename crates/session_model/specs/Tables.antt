@@ -9,21 +9,10 @@ use Rattle.acl.specs.History as acl
 use Rattle.regions.specs.declared.shown.Shown.{Shown}
 use Rattle.regions.specs.Layouts.{Arrangement}
 use Rattle.terminal_model.specs.Shows.{View}
-use Rattle.terminal_model.specs.Writing.{Writing}
-pub use Rattle.session_rows.specs.Finding.{row_of, with_row}
+pub use Rattle.serial_rows.specs.Finding.{row_of, with_row}
+pub use Rattle.windows_model.specs.Table.{Window}
 use Rattle.session_model.specs.declared.message.Message.{Message}
 use Rattle.acl.specs.declared.edition.Edition.{Edition}
-
--- A window: its serial, its number, its title, the size that it was opened with, how many lines it
--- keeps above its page, and all that was written to it.
-pub record Window : Type 0 where
-  pub serial : ℕ
-  pub number : ℕ
-  pub title : List ℕ
-  pub rows : ℕ
-  pub columns : ℕ
-  pub keep : ℕ
-  pub writing : List Writing
 
 -- A client: its user, the size of its terminal, all its keys; all that was delivered to it since it
 -- attached or last changed its size, and the view that was drawn last since then; its regions and

@@ -11,12 +11,11 @@ use Rattle.acl.specs.Commands.{number_of_fault}
 use Rattle.command_lang.specs.Names.{name_text}
 use Rattle.command_lang.specs.FaultNumbers.{number_of}
 use Rattle.regions.specs.Faults as regions
+pub use Rattle.windows_model.specs.Faults.{windows_number}
 use Rattle.session_model.specs.declared.refusal.Denied.{Denied}
 use Rattle.session_model.specs.declared.refusal.Denied.TheVariants as denied
 use Rattle.session_model.specs.declared.refusal.EntryDenied.{EntryDenied as EntryDenial}
 use Rattle.session_model.specs.declared.refusal.LockDenied.{LockDenied as LockDenial}
-use Rattle.session_model.specs.declared.refusal.WindowsFault.{WindowsFault}
-use Rattle.session_model.specs.declared.refusal.WindowsFault.TheVariants as fault
 use Rattle.session_model.specs.declared.refusal.Refusal.{Refusal}
 use Rattle.session_model.specs.declared.refusal.Refusal.TheVariants as refusal
 use Rattle.session_model.specs.Tables.{Window, Client, Tables, window_at, focused, is_window}
@@ -52,12 +51,6 @@ entry_text d =
 abbrev pub lock_text : LockDenial → List ℕ
 lock_text d =
     codes "denied: window " ++ (decimal d.number ++ (codes " locked by " ++ name_of d.holder))
-
-abbrev pub windows_number : WindowsFault → ℕ
-windows_number fault.Full = 1
-windows_number fault.NoSuchWindow = 2
-windows_number fault.NumberTaken = 3
-windows_number fault.BadTitle = 4
 
 abbrev pub text_of : Refusal → List ℕ
 text_of (refusal.EntryDenied d) = entry_text d

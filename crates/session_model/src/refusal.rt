@@ -2,11 +2,13 @@
 
 ghost use Rattle.std.specs.Prelude.{◌≡◌};
 ghost use Rattle.session_model.specs.declared.refusal.Refusal.TheVariants.{NoMemory};
+ghost use Rattle.session_model.specs.Faults.{refusal_of};
 
 use acl::{AclFault, Bit, CommandName, Leaders, UserId};
 use command_lang::ParseFault;
 use regions::RegionFault;
 use std::alloc::{AllocError, AllocFailed};
+use windows_model::WindowsFault;
 
 /// What a bit was missing on: a window, by its serial and its number, or a command.
 #[derive(Clone, Copy, PartialEq, Eq, Debug)]
@@ -52,16 +54,16 @@ pub enum Refusal {
     Regions(RegionFault),
 }
 
-/// Why the table of windows doesn't change.
-#[derive(Clone, Copy, PartialEq, Eq, Debug)]
-pub enum WindowsFault {
-    /// There are 40 windows, or all serials are given.
-    Full,
-    NoSuchWindow,
-    /// Another window has the number.
-    NumberTaken,
-    /// The title hasn't 1 to 40 characters, each of width 1 or 2.
-    BadTitle,
+impl From<WindowsFault> for Refusal {
+    ghost from_gives = { λ fault e. e ≡ refusal_of fault };
+
+    fn from(fault: WindowsFault) -> Refusal {
+        match fault {
+            WindowsFault::NoSuchWindow => Refusal::NoWindow,
+            WindowsFault::NoMemory => Refusal::NoMemory,
+            _ => Refusal::Windows(fault),
+        }
+    }
 }
 
 impl From<AllocError> for Refusal {

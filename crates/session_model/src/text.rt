@@ -4,9 +4,9 @@ ghost use Rattle.std.specs.Prelude.{◌≡◌, ◌++◌, decimal, OnOk, OnErr};
 ghost use Rattle.std.specs.List.{flat_map};
 ghost use Rattle.acl.specs.Names.{name_of};
 ghost use Rattle.session_model.specs.Texts.{letter, denied_text, missing_text, leader_text};
-ghost use Rattle.session_model.specs.Texts.{entry_text, lock_text, windows_number, text_of};
+ghost use Rattle.session_model.specs.Texts.{entry_text, lock_text, text_of};
 
-use crate::refusal::{Denied, EntryDenied, LockDenied, Refusal, WindowsFault};
+use crate::refusal::{Denied, EntryDenied, LockDenied, Refusal};
 use acl::{Bit, Leaders, UserId};
 use command_lang::name_text;
 use itoa::Buffer;
@@ -98,20 +98,6 @@ fn push_lock(denied: &LockDenied, out: &mut Vec<u8>) -> Result<(), AllocError>
     push_numbered(b"denied: window ", denied.number, out)?;
     out.extend_from_slice(b" locked by ")?;
     push_name(denied.holder, out)
-}
-
-impl WindowsFault {
-    /// The fault's number, 1 to 4.
-    pub fn number(self) -> u8
-        ensures { result ≡ windows_number self }
-    {
-        match self {
-            WindowsFault::Full => 1,
-            WindowsFault::NoSuchWindow => 2,
-            WindowsFault::NumberTaken => 3,
-            WindowsFault::BadTitle => 4,
-        }
-    }
 }
 
 /// Appends the text of a refusal.

@@ -14,7 +14,7 @@ use Rattle.writelock.specs.declared.locks.Locks.{Locks}
 use Rattle.writelock.specs.LockTable.{LocksStandFor}
 use Rattle.session_model.specs.declared.refusal.Refusal.{Refusal}
 use Rattle.session_model.specs.declared.refusal.Refusal.TheVariants.{NoMemory, Acl, Windows}
-use Rattle.session_model.specs.declared.refusal.WindowsFault.TheVariants.{NoSuchWindow}
+use Rattle.session_model.specs.windows_fault.WindowsFault.TheVariants.{NoSuchWindow}
 use Rattle.session_model.specs.Tables.{Tables, known_users}
 use Rattle.session_model.specs.Deeds.{Deed, Answer, acting, changes, unless, given}
 use Rattle.session_state.specs.declared.step_output.StepOutput.{StepOutput}

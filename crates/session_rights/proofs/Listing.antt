@@ -15,7 +15,7 @@ use Rattle.session_model.specs.declared.refusal.Refusal.TheVariants.{NotMultiuse
 use Rattle.session_model.specs.Tables.{Window, Tables, window_at}
 use Rattle.session_model.specs.Checks.{where_needed, window_checks, checks, typing_checks}
 use Rattle.command_lang.specs.Needs.{needs}
-use Rattle.session_rows.proofs.Serials.{serial_is}
+use Rattle.serial_rows.proofs.Serials.{serial_is}
 use Rattle.session_state.specs.declared.caller.Caller.{Caller}
 use Rattle.session_model.specs.Sound.{AreFit}
 use Rattle.session_state.specs.Doing.{caller_in}

@@ -20,10 +20,10 @@ use Rattle.session_model.specs.declared.refusal.Refusal.{Refusal}
 use Rattle.session_model.specs.Tables as model
 use Rattle.session_model.specs.Tables.{Tables, others}
 use Rattle.session_model.specs.Naming.{is_wide, item_objects, objects_of, every_window, every_command, scopes_of, word_scope}
-use Rattle.session_rows.proofs.Serials.{if_true, if_false}
-use Rattle.session_rows.proofs.Matching.{mapped_match}
-use Rattle.session_windows.specs.Standing.{WindowStands, StandFor}
-use Rattle.session_windows.specs.declared.window.Window.{Window}
+use Rattle.serial_rows.proofs.Serials.{if_true, if_false}
+use Rattle.serial_rows.proofs.Matching.{mapped_match}
+use Rattle.windows.specs.Standing.{WindowStands, StandFor}
+use Rattle.windows.specs.declared.window.Window.{Window}
 use Rattle.session_rights.specs.Asked.{other_names, window_object, wide, object_named, NamesNothing, lone_word, names_in}
 
 -- ---- users

@@ -2,10 +2,10 @@
 use Rattle.std.proofs.Common.{◌≡◌, ℕ, length, ◌∙◌, Some, refl}
 use Rattle.session_model.specs.Tables as model
 use Rattle.session_model.specs.Tables.{Tables, window_at}
-use Rattle.session_rows.proofs.Matching.{length_match, both_back}
-use Rattle.session_rows.proofs.Serials.{serial_is}
-use Rattle.session_windows.specs.Standing.{WindowStands, Finds, at_serial}
-use Rattle.session_windows.specs.declared.window.Window.{Window}
+use Rattle.serial_rows.proofs.Matching.{length_match, both_back}
+use Rattle.serial_rows.proofs.Serials.{serial_is}
+use Rattle.windows.specs.Standing.{WindowStands, Finds, at_serial}
+use Rattle.windows.specs.declared.window.Window.{Window}
 use Rattle.session_clients.specs.Stands.{ClientStands}
 use Rattle.session_state.specs.declared.state.State.{State}
 use Rattle.session_state.specs.Stands.{Stands}

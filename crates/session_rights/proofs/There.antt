@@ -10,11 +10,11 @@ use Rattle.acl.specs.declared.act.Object.TheVariants as object
 use Rattle.acl.specs.declared.command_name.CommandName.{CommandName}
 use Rattle.acl.specs.History.{is_open, there}
 use Rattle.command_lang.specs.Names.{all_names, command_named}
-use Rattle.command_lang.specs.Values.{number_in}
+use Rattle.session_model.specs.Naming.{spelled}
 use Rattle.session_model.specs.Tables.{Window, Tables, row_of}
 use Rattle.session_model.specs.Naming.{has_number, with_number, lower, lowest, window_named, is_wide, wide_objects, item_objects, objects_of, every_window, every_command}
 use Rattle.session_model.specs.Sound.{ActsAgree}
-use Rattle.session_rows.proofs.Serials.{if_true, by_if, same_number}
+use Rattle.serial_rows.proofs.Serials.{if_true, by_if, same_number}
 
 -- ---- rows that are there
 
@@ -76,8 +76,8 @@ module _ (Q : Window → Type 0) where
 
   named_one : (ws : List Window) (word : List ℕ) → AllByRecursion Q ws → IfSome (window_named ws word) Q
   named_one ws word all =
-      either (option_and_then (with_number ws) (number_in 9999 word)) (lowest (filter (λ w. bytes_eq w.title word) ws))
-      (numbered_one ws (number_in 9999 word) all) (lowest_one (filter (λ w. bytes_eq w.title word) ws) (filter_all (λ w. bytes_eq w.title word) ws all))
+      either (option_and_then (with_number ws) (spelled word)) (lowest (filter (λ w. bytes_eq w.title word) ws))
+      (numbered_one ws (spelled word) all) (lowest_one (filter (λ w. bytes_eq w.title word) ws) (filter_all (λ w. bytes_eq w.title word) ws all))
 
 -- ---- objects that are named
 

@@ -20,11 +20,11 @@ use Rattle.command_lang.specs.command.Users.TheVariants as users
 use Rattle.command_lang.specs.Names.{command_named}
 use Rattle.session_model.specs.declared.refusal.Refusal.{Refusal}
 use Rattle.session_model.specs.declared.refusal.Refusal.TheVariants as refusal
-use Rattle.session_model.specs.declared.refusal.WindowsFault.TheVariants.{NoSuchWindow}
+use Rattle.session_model.specs.windows_fault.WindowsFault.TheVariants.{NoSuchWindow}
 use Rattle.session_model.specs.Tables as model
 use Rattle.session_model.specs.Tables.{Tables, others}
 use Rattle.session_model.specs.Naming.{every_command, window_named, names_of}
-use Rattle.session_windows.specs.declared.window.Window.{Window}
+use Rattle.windows.specs.declared.window.Window.{Window}
 
 -- ---- users
 

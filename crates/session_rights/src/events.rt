@@ -17,7 +17,7 @@ use crate::commands::{lock_on, open_window};
 use acl::{Bit, CommandName, Object, UserId, WINDOWS};
 use session_model::{CLIENTS, Check, Refusal, SERIALS, Verdict, WindowsFault};
 use session_state::{Caller, State, WindowSize, is_client_size};
-use session_windows::{is_title, is_window_size};
+use windows::{is_title, is_window_size};
 
 /// Whether a user is known.
 pub fn is_known(state: &State, user: UserId) -> bool

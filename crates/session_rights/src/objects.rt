@@ -7,16 +7,16 @@ ghost use Rattle.acl.specs.declared.act.Object.TheVariants.{Command};
 ghost use Rattle.session_model.specs.Tables.{Tables};
 ghost use Rattle.session_model.specs.Naming.{is_wide, every_command, item_objects, objects_of};
 ghost use Rattle.session_model.specs.Naming.{every_window};
-ghost use Rattle.session_windows.specs.Standing.{StandFor};
-ghost use Rattle.session_windows.specs.declared.window.Window.{Window};
+ghost use Rattle.windows.specs.Standing.{StandFor};
+ghost use Rattle.windows.specs.declared.window.Window.{Window};
 ghost use Rattle.session_rights.specs.Asked.{window_object, wide, object_named};
 ghost use Rattle.session_rights.specs.Asked.{Names, NamesNothing};
 
 use acl::{CommandName, Object};
 use command_lang::{Text, command_named};
 use session_model::{Refusal, WindowsFault};
-use session_windows::Windows;
 use std::alloc::{AllocError, Global};
+use windows::Windows;
 
 /// Appends all open windows.
 fn push_windows(windows: &Windows, objects: &mut Vec<Object>) -> Result<(), AllocError>

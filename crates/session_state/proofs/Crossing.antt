@@ -4,7 +4,7 @@ use denote.Param.SendFields.{declared_send}
 use Rattle.std.proofs.alloc.Global.TheSendSync as heap
 use Rattle.acl.proofs.acl.Acl.TheSendSync as acl
 use Rattle.writelock.proofs.locks.Locks.TheSendSync as locks
-use Rattle.session_windows.proofs.windows.Windows.TheSendSync as windows
+use Rattle.windows.proofs.windows.Windows.TheSendSync as windows
 use Rattle.session_clients.proofs.Crossing.{clients_send}
 use Rattle.session_state.specs.contracts.state.State as State
 

@@ -3,7 +3,7 @@ use Rattle.std.specs.Prelude.{◌≡◌}
 use Rattle.acl.specs.Table as acl
 use Rattle.writelock.specs.LockTable.{LocksStandFor}
 use Rattle.session_model.specs.Tables.{Tables}
-use Rattle.session_windows.specs.Standing as windows
+use Rattle.windows.specs.Standing as windows
 use Rattle.session_clients.specs.Stands.{AreClients}
 use Rattle.session_state.specs.declared.state.State.{State}
 

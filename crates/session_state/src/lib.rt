@@ -10,8 +10,8 @@ mod step_output;
 
 pub use caller::Caller;
 pub use notes::Notes;
-pub use session_windows::WindowSize;
 pub use sizes::is_client_size;
 pub use state::State;
 pub use step_notes::{KeyCaller, KeyOrder, Step};
 pub use step_output::StepOutput;
+pub use windows::WindowSize;

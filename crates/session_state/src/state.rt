@@ -5,8 +5,8 @@ ghost use Rattle.session_model.specs.Tables.{fresh};
 
 use acl::{Acl, Edition, UserId};
 use session_clients::Clients;
-use session_windows::Windows;
 use std::alloc::{AllocError, Global};
+use windows::Windows;
 use writelock::Locks;
 
 /// What a session has at a moment: its lists, its locks, whether other users than the owner may be

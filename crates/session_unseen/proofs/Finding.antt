@@ -8,7 +8,7 @@ use Rattle.acl.specs.declared.user_id.UserId.{UserId}
 use Rattle.acl.specs.declared.act.Object.TheVariants as object
 use Rattle.acl.specs.Names.{name_of}
 use Rattle.command_lang.specs.Names.{command_named}
-use Rattle.command_lang.specs.Values.{number_in}
+use Rattle.session_model.specs.Naming.{spelled}
 use Rattle.session_model.specs.Tables.{Tables, Window, Client, window_at, focused, focused_window, shows, is_in_focus}
 use Rattle.session_model.specs.Naming.{lower, lowest, higher, highest, with_number, has_number, window_named, window_after, window_before, free_number, every_window, every_command, is_wide, wide_objects, item_objects, objects_of}
 use Rattle.session_model.specs.Texts.{by_number, in_order, window_item, windows_text, separated, number_text, focus_text, client_item, clients_text}
@@ -73,9 +73,9 @@ module _ (shown : ℕ → Bool) (seeing : UserId → Bool) where
 
   pub named_cut : (ws : List Window) (word : List ℕ) → window_named (map f ws) word ≡ option_map f (window_named ws word)
   named_cut ws word =
-      ap (λ o. option_or o (lowest (filter (λ (w : Window). bytes_eq w.title word) (map f ws)))) (numbered_in ws (number_in 9999 word))
-      ∙ ap (λ o. option_or (option_map f (option_and_then (with_number ws) (number_in 9999 word))) o) (lowest_of (λ (w : Window). bytes_eq w.title word) ws (λ w. refl))
-      ∙ or_cut f (option_and_then (with_number ws) (number_in 9999 word)) (lowest (filter (λ (w : Window). bytes_eq w.title word) ws))
+      ap (λ o. option_or o (lowest (filter (λ (w : Window). bytes_eq w.title word) (map f ws)))) (numbered_in ws (spelled word))
+      ∙ ap (λ o. option_or (option_map f (option_and_then (with_number ws) (spelled word))) o) (lowest_of (λ (w : Window). bytes_eq w.title word) ws (λ w. refl))
+      ∙ or_cut f (option_and_then (with_number ws) (spelled word)) (lowest (filter (λ (w : Window). bytes_eq w.title word) ws))
 
   pub after_cut : (ws : List Window) (o : Option Window) → window_after (map f ws) (option_map f o) ≡ option_map f (window_after ws o)
   after_cut ws None = lowest_cut ws

@@ -18,7 +18,7 @@ use Rattle.session_model.specs.declared.check.Check.TheVariants.{Right as right,
 use Rattle.session_model.specs.declared.message.Message.TheVariants as message
 use Rattle.session_model.specs.declared.refusal.Refusal.{Refusal}
 use Rattle.session_model.specs.declared.refusal.Refusal.TheVariants.{NoWindow, UnknownUser, BadSize, NotMultiuser, TooManyClients, Windows}
-use Rattle.session_model.specs.declared.refusal.WindowsFault.TheVariants.{Full, BadTitle}
+use Rattle.session_model.specs.windows_fault.WindowsFault.TheVariants.{Full, BadTitle}
 use Rattle.session_model.specs.declared.verdict.Verdict.{Verdict}
 use Rattle.session_model.specs.Trace.{Command, Reply}
 use Rattle.session_model.specs.Tables.{Tables, Window, Client, window_at, client_at, with_client, focused, focused_window, is_in_focus, is_known}

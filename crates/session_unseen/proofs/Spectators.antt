@@ -22,7 +22,7 @@ use Rattle.command_lang.specs.Names.{name_of}
 use Rattle.session_model.specs.declared.check.Check.{Check}
 use Rattle.session_model.specs.declared.check.Check.TheVariants.{Must as must}
 use Rattle.session_model.specs.Naming.{is_title}
-use Rattle.session_model.specs.declared.refusal.WindowsFault.TheVariants.{Full, BadTitle}
+use Rattle.session_model.specs.windows_fault.WindowsFault.TheVariants.{Full, BadTitle}
 use Rattle.session_model.specs.declared.event.Effect.{Effect}
 use Rattle.session_model.specs.declared.event.Effect.TheVariants.{Input, Deliver, Say, Size, GoneWindow, GoneClient}
 use Rattle.session_model.specs.declared.event.Reason.TheVariants as reason

@@ -26,11 +26,11 @@ use Rattle.acl.specs.History.{among}
 use Rattle.acl.specs.Table.{knows}
 use Rattle.acl.specs.Commands.{known_name_fault}
 use Rattle.acl.proofs.FollowingLemmas.{known-among}
-use Rattle.session_rows.specs.Matched.{BothOrNone}
-use Rattle.session_rows.proofs.Matching.{rows_match, mapped_match}
+use Rattle.serial_rows.specs.Matched.{BothOrNone}
+use Rattle.serial_rows.proofs.Matching.{rows_match, mapped_match}
 use Rattle.session_view.specs.Items.{number_or_dash, number_of_window, client_line, client_line_is}
-use Rattle.session_windows.specs.declared.window.Window.{Window}
-use Rattle.session_windows.specs.Standing.{WindowStands, StandFor}
+use Rattle.windows.specs.declared.window.Window.{Window}
+use Rattle.windows.specs.Standing.{WindowStands, StandFor}
 use Rattle.session_clients.specs.declared.client.Client.{Client}
 use Rattle.session_clients.specs.Moves.{in_focus}
 use Rattle.session_clients.specs.Stands.{ClientStands}

@@ -10,8 +10,8 @@ use Rattle.session_model.specs.Commands.{known_fault}
 use Rattle.session_model.specs.Rights.{leaders_in}
 use Rattle.session_model.specs.Texts.{window_item, windows_text, clients_text, group_text}
 use Rattle.session_view.specs.Items.{client_line}
-use Rattle.session_windows.specs.declared.window.Window.{Window}
-use Rattle.session_windows.specs.Standing.{WindowStands}
+use Rattle.windows.specs.declared.window.Window.{Window}
+use Rattle.windows.specs.Standing.{WindowStands}
 use Rattle.session_clients.specs.declared.client.Client.{Client}
 use Rattle.session_clients.specs.Moves.{in_focus}
 use Rattle.session_state.specs.declared.state.State.{State}

@@ -1,23 +1,31 @@
 -- What regions show, whichever tables a state stands for.
 use Rattle.std.specs.Prelude.{ℕ, ◌≡◌, List}
+use Rattle.std.specs.Borrow.{Bor}
 use Rattle.acl.specs.declared.user_id.UserId.{UserId}
 use Rattle.cells.specs.declared.cell.Cell.{Cell}
 use Rattle.regions.specs.declared.shown.Shown.{Shown}
+use Rattle.view.specs.declared.pane.Contents.{Contents}
 use Rattle.view.specs.Granted as view
 use Rattle.session_model.specs.Tables as model
 use Rattle.session_model.specs.Tables.{Tables}
 use Rattle.session_model.specs.Terminals.{terminal_of}
 use Rattle.terminal_model.specs.Scrollback.{moved_back}
 use Rattle.session_model.specs.Granted.{window_read, part_shown}
-use Rattle.session_rows.specs.Matched.{Matched}
-use Rattle.session_windows.specs.declared.window.Window.{Window}
-use Rattle.session_windows.specs.Standing.{WindowStands}
-use Rattle.session_windows.specs.Showing.{cells_of}
+use Rattle.serial_rows.specs.Matched.{Matched}
+use Rattle.windows.specs.declared.window.Window.{Window}
+use Rattle.windows.specs.Standing.{WindowStands}
+use Rattle.windows.specs.Showing.{cells_of}
 use Rattle.session_state.specs.declared.state.State.{State}
 use Rattle.session_state.specs.Stands.{Stands}
 use Rattle.session_model.specs.Sound.{AreFit}
 use Rattle.session_view.specs.declared.parts.Part.{Part}
 use Rattle.session_view.specs.declared.parts.Part.TheVariants.{Empty, Hidden, Readable}
+
+-- what a region shows of a window: its number, its title, these lines, its cursor and its modes
+abbrev pub ShowsWindow : ℕ → Window → List (Bor (List Cell)) → Contents → Type 0
+ShowsWindow back w lines contents = (m : model.Window) → WindowStands m w →
+    cells_of lines ≡ moved_back back (terminal_of m).screen →
+    view.window_of contents ≡ window_read m back (terminal_of m).screen
 
 -- a window of the table, which may be read, with the lines of its page moved back
 pub record Reads (t : Tables) (user : UserId) (s : Shown) (w : Window) (back : ℕ)

@@ -1,6 +1,7 @@
 //! What lists say of a session's state, and what its clients are granted to see.
 #![tactic(auto)]
 
+mod contents;
 mod drawing;
 mod following;
 mod items;

@@ -5,17 +5,18 @@ ghost use Rattle.acl.specs.declared.user_id.UserId.{UserId};
 ghost use Rattle.regions.specs.declared.shown.Shown.{Shown};
 ghost use Rattle.session_model.specs.Tables.{Tables};
 ghost use Rattle.session_model.specs.Granted.{part_shown};
-ghost use Rattle.session_rows.specs.Matched.{Matched};
+ghost use Rattle.serial_rows.specs.Matched.{Matched};
 ghost use Rattle.view.specs.Granted.{part_of};
 ghost use Rattle.session_view.specs.Parts.{IsPart, AreParts, ShowsPart};
 
+use crate::contents::contents;
 use acl::{Bit, Object, UserId};
 use cells::Cell;
 use regions::Shown;
 use session_state::State;
-use session_windows::Window;
 use std::alloc::{AllocError, Global};
 use view::Pane;
+use windows::Window;
 
 /// What a region shows a user.
 #[derive(Drop)]
@@ -47,7 +48,7 @@ impl Part<'_> {
                 window,
                 back,
                 lines,
-            } => Pane::Readable(window.contents(*back, lines)),
+            } => Pane::Readable(contents(window, *back, lines)),
         }
     }
 }

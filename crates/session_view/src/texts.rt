@@ -10,8 +10,8 @@ use acl::{Bit, Object, UserId};
 use session_clients::Client;
 use session_model::Bytes;
 use session_state::State;
-use session_windows::{Window, Windows};
 use std::alloc::AllocError;
+use windows::{Window, Windows};
 
 /// The numbers of windows are below this.
 const NUMBERS: u16 = 40;

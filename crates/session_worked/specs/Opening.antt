@@ -9,7 +9,7 @@ use Rattle.session_model.specs.declared.event.Effect.TheVariants.{GoneClient}
 use Rattle.session_model.specs.declared.event.Reason.TheVariants as reason
 use Rattle.session_model.specs.declared.refusal.Refusal.TheVariants.{NotMultiuser, UnknownUser}
 use Rattle.session_model.specs.declared.refusal.Refusal.TheVariants.{BadSize, NoWindow, Windows}
-use Rattle.session_model.specs.declared.refusal.WindowsFault.TheVariants as fault
+use Rattle.session_model.specs.windows_fault.WindowsFault.TheVariants as fault
 use Rattle.session_model.specs.Trace.{Keys, Attach, Open, Resize}
 use Rattle.session_model.specs.Tables.{Tables}
 use Rattle.session_model.specs.Events.{outcome}

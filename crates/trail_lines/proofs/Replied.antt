@@ -24,8 +24,8 @@ use Rattle.session_model.specs.declared.refusal.Denied.{Denied}
 use Rattle.session_model.specs.declared.refusal.Denied.TheVariants as denied
 use Rattle.session_model.specs.declared.refusal.Refusal.{Refusal}
 use Rattle.session_model.specs.declared.refusal.Refusal.TheVariants as refusal
-use Rattle.session_model.specs.declared.refusal.WindowsFault.{WindowsFault}
-use Rattle.session_model.specs.declared.refusal.WindowsFault.TheVariants as windows
+use Rattle.session_model.specs.windows_fault.WindowsFault.{WindowsFault}
+use Rattle.session_model.specs.windows_fault.WindowsFault.TheVariants as windows
 use Rattle.session_model.specs.Texts.{behind, separated, windows_number}
 use Rattle.hub_trail.specs.Trails.{Ending}
 use Rattle.line_fields.specs.Cutting.{◌>>=◌, cut, words}
@@ -124,6 +124,7 @@ windows_small windows.Full = (omega arith, refl)
 windows_small windows.NoSuchWindow = (omega arith, refl)
 windows_small windows.NumberTaken = (omega arith, refl)
 windows_small windows.BadTitle = (omega arith, refl)
+windows_small windows.NoMemory = (omega arith, refl)
 
 pub regions_small : (f : RegionFault) → (regions.number f < 2 ^ 8) × (regions_fault (regions.number f) ≡ Some f)
 regions_small region.TooSmall = (omega arith, refl)

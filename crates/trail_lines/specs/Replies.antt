@@ -22,8 +22,8 @@ use Rattle.session_model.specs.declared.refusal.Denied.{Denied}
 use Rattle.session_model.specs.declared.refusal.Denied.TheVariants as denied
 use Rattle.session_model.specs.declared.refusal.Refusal.{Refusal}
 use Rattle.session_model.specs.declared.refusal.Refusal.TheVariants as refusal
-use Rattle.session_model.specs.declared.refusal.WindowsFault.{WindowsFault}
-use Rattle.session_model.specs.declared.refusal.WindowsFault.TheVariants as windows
+use Rattle.session_model.specs.windows_fault.WindowsFault.{WindowsFault}
+use Rattle.session_model.specs.windows_fault.WindowsFault.TheVariants as windows
 use Rattle.session_model.specs.Texts.{separated, windows_number}
 use Rattle.hub_trail.specs.declared.kept.Finished.{Finished}
 use Rattle.hub_trail.specs.Trails.{Ending}
@@ -111,6 +111,7 @@ windows_fault n =
     else if n == 2 then Some windows.NoSuchWindow
     else if n == 3 then Some windows.NumberTaken
     else if n == 4 then Some windows.BadTitle
+    else if n == 5 then Some windows.NoMemory
     else None
 
 abbrev pub regions_fault : ℕ → Option RegionFault

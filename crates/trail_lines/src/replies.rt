@@ -178,6 +178,7 @@ fn windows_fault(number: u8) -> Option<WindowsFault>
         2 => Some(WindowsFault::NoSuchWindow),
         3 => Some(WindowsFault::NumberTaken),
         4 => Some(WindowsFault::BadTitle),
+        5 => Some(WindowsFault::NoMemory),
         _ => None,
     }
 }

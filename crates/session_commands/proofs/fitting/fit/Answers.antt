@@ -1,10 +1,10 @@
-use Rattle.std.proofs.Common.{ap, inl, inr, ◌-◌, ◌∷◌, ◌++◌, [], ◌∙◌, refl}
+use Rattle.std.proofs.Common.{ap, sym, true, false, ◌≡◌, inl, inr, ◌-◌, ◌∷◌, ◌++◌, [], ◌∙◌, refl}
 use Rattle.std.specs.Prelude.{option_copied, is_ok}
 use Rattle.std.proofs.lemmas.Result.{err_from_is_err_and}
 use Rattle.session_model.specs.declared.event.Effect.TheVariants.{Size}
-use Rattle.session_rows.proofs.Serials.{if_true}
+use Rattle.serial_rows.proofs.Serials.{if_true}
 use Rattle.session_commands.proofs.Paging.{giver_there, row_stands, row_there}
-use Rattle.session_commands.proofs.Sizes.{window_there, too_small, for_memory, fits_there}
+use Rattle.session_commands.proofs.Sizes.{window_there, too_small, good, for_memory, fits_there}
 use Rattle.session_commands.proofs.fitting.fit.Goals as goal
 
 pub returns-in_default-clause-answer : goal.returns-in_default-clause-answer
@@ -18,6 +18,15 @@ returns-then-rows-lt2-clause-answer c = λ gives t st fit free.
     let stands = row_stands by.0 c.in-Some.row.now _ _ (c.get.ensures.stands t.clients st.clients) by.1.at (ap option_copied c.in-Some.is) in
     let row = window_there t c.args.caller.window c.window_of.result c.in-Some-window_of.window (c.window_of.ensures t st) c.in-Some-window_of.is in
     inr (too_small t c.args.caller c.args.client c.in-Some.row.now by.0 by.1 stands c.in-Some-window_of.window row.0 row.1 row.2 c.in_ok-region.region (c.in_ok-region.ensures.value by.0 stands) c.if-rows-lt2.true)
+
+pub returns-then-not-is_window_size-clause-answer : goal.returns-then-not-is_window_size-clause-answer
+returns-then-not-is_window_size-clause-answer c = λ gives t st fit free.
+    let by = giver_there t c.args.caller c.args.client c.args.state.now st gives in
+    let stands = row_stands by.0 c.in-Some.row.now _ _ (c.get.ensures.stands t.clients st.clients) by.1.at (ap option_copied c.in-Some.is) in
+    let row = window_there t c.args.caller.window c.window_of.result c.in-Some-window_of.window (c.window_of.ensures t st) c.in-Some-window_of.is in
+    let sized = good t c.args.caller c.args.client c.in-Some.row.now by.0 by.1 stands c.in-Some-window_of.window row.0 row.1 row.2 c.in_ok-region.region (c.in_ok-region.ensures.value by.0 stands) c.if-rows-lt2.false in
+    let never : true ≡ false = sym sized ∙ (sym c.is_window_size.ensures ∙ c.if-not-is_window_size.true) in
+    absurd (cc (never))
 
 pub returns-in_err-resize-clause-answer : goal.returns-in_err-resize-clause-answer
 returns-in_err-resize-clause-answer c = λ gives t st fit free.

@@ -5,7 +5,7 @@ use Rattle.regions.specs.declared.fault.RegionFault.TheVariants.{LastRegion}
 use Rattle.session_model.specs.declared.refusal.Refusal.TheVariants.{Regions}
 use Rattle.session_model.specs.Tables as model
 use Rattle.session_model.specs.Deeds.{enters}
-use Rattle.session_rows.proofs.Serials.{equal_number, other_number}
+use Rattle.serial_rows.proofs.Serials.{equal_number, other_number}
 use Rattle.session_commands.proofs.Answering.{done_on, on_giver, refused, not_refused}
 use Rattle.session_commands.proofs.Paging.{giver_there, row_stands, row_there, done_entering}
 use Rattle.session_commands.proofs.Shown.{open_removed}

@@ -1,6 +1,6 @@
 use Rattle.command_lang.specs.command.Command.TheVariants as command
 use Rattle.terminal_model.specs.Writing as terminal
-use Rattle.session_windows.specs.Standing.{written}
+use Rattle.windows.specs.Standing.{written}
 use Rattle.session_commands.proofs.Changing.{change_done, clear_writes}
 use Rattle.session_commands.proofs.window.clear.Goals as goal
 

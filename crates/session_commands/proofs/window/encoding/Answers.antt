@@ -3,7 +3,7 @@ use Rattle.command_lang.specs.command.Command.TheVariants as command
 use Rattle.charsets.specs.declared.unit.Coding.{Coding}
 use Rattle.terminal_model.specs.Writing as terminal
 use Rattle.session_model.specs.Commands.{coding_of}
-use Rattle.session_windows.specs.Standing.{written, written_in, Answered}
+use Rattle.windows.specs.Standing.{written, written_in, Answered}
 use Rattle.session_commands.proofs.Changing.{change_done, encoding_writes}
 use Rattle.session_commands.proofs.window.encoding.Goals as goal
 

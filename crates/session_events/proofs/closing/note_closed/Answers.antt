@@ -4,7 +4,7 @@ use Rattle.acl.specs.declared.act.Act.TheVariants.{Closed}
 use Rattle.acl.specs.History.{followed_by}
 use Rattle.acl.specs.Table.{StandsFor}
 use Rattle.writelock.specs.LockTable.{LocksStandFor}
-use Rattle.session_windows.specs.declared.window.Window.{Window}
+use Rattle.windows.specs.declared.window.Window.{Window}
 use Rattle.session_events.specs.Closing.{closed_acts}
 use Rattle.session_events.proofs.Left.{pushed}
 use Rattle.session_events.proofs.Parting.{at_place}

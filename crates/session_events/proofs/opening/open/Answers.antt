@@ -22,6 +22,14 @@ returns-in_default-clause-answer c = λ t st fit passed.
     sym may.left ∙ (ap (λ n. nat_lt n (2 ^ 32)) (sym st.next_window_is) ∙ none) in
     absurd (cc (never))
 
+pub returns-then-not-is_window_size-clause-answer : goal.returns-then-not-is_window_size-clause-answer
+returns-then-not-is_window_size-clause-answer c = λ t st fit passed.
+    let may =
+    may_open t c.args.user c.args.size.rows c.args.size.columns c.args.size.keep c.args.title.now passed in
+    let never : true ≡ false =
+    sym may.sized ∙ (sym c.is_window_size.ensures ∙ c.if-not-is_window_size.true) in
+    absurd (cc (never))
+
 pub returns-in_err-number-clause-answer : goal.returns-in_err-number-clause-answer
 returns-in_err-number-clause-answer c = λ t st fit passed.
     let s = c.args.state.now in

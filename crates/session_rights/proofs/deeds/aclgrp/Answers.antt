@@ -7,7 +7,7 @@ use Rattle.session_model.specs.declared.refusal.Refusal.TheVariants.{Acl}
 use Rattle.session_model.specs.Naming.{new_leader_of}
 use Rattle.session_model.specs.Rights.{group_fault_in}
 use Rattle.session_model.specs.Deeds.{Answer, acting, unless}
-use Rattle.session_rows.proofs.Serials.{on_ok}
+use Rattle.serial_rows.proofs.Serials.{on_ok}
 use Rattle.session_rights.proofs.Doing.{acted, says_nothing, unless_none, unless_some}
 use Rattle.session_rights.proofs.deeds.aclgrp.Goals as goal
 

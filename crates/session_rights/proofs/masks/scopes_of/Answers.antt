@@ -1,7 +1,7 @@
 use Rattle.std.proofs.Common.{◌∙◌, ap, sym, map, List, Option, option_copied}
 use Rattle.acl.specs.declared.user_id.UserId.{UserId}
 use Rattle.acl.specs.declared.entries.MaskScope.TheVariants.{User}
-use Rattle.session_rows.proofs.Serials.{if_ok}
+use Rattle.serial_rows.proofs.Serials.{if_ok}
 use Rattle.session_rights.proofs.Naming.{other_scopes}
 use Rattle.session_rights.proofs.masks.scopes_of.Goals as goal
 

@@ -2,7 +2,7 @@ use Rattle.std.proofs.Common.{◌≡◌, ◌++◌, drop}
 use Rattle.std.specs.Option.{option_map}
 use Rattle.session_model.specs.Tables.{Tables}
 use Rattle.session_model.specs.Naming.{objects_of}
-use Rattle.session_windows.specs.Standing.{StandFor}
+use Rattle.windows.specs.Standing.{StandFor}
 use Rattle.session_rights.proofs.objects.objects_of.Given as goal
 
 abbrev pub invariant-loop-item : goal.invariant-loop-item

@@ -1,7 +1,7 @@
 use Rattle.std.proofs.Common.{◌∙◌, Some, refl}
-use Rattle.session_rows.proofs.Matching.{both_back}
+use Rattle.serial_rows.proofs.Matching.{both_back}
 use Rattle.session_model.specs.Tables.{window_at}
-use Rattle.session_windows.specs.Standing.{WindowStands}
+use Rattle.windows.specs.Standing.{WindowStands}
 use Rattle.session_view.proofs.Panes.{there_by_acts}
 use Rattle.session_view.proofs.Alike.{by_rights}
 use Rattle.session_view.proofs.sameness.shows_both.Goals as goal

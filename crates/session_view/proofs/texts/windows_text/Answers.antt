@@ -1,9 +1,9 @@
 use Rattle.std.proofs.Common.{◌≡◌, ◌∙◌, ◌+◌, ℕ, List, ap, Bool, refl, sym, subst, map, arith, Some, None}
 use Rattle.session_model.specs.Naming.{with_number}
 use Rattle.session_model.specs.Texts.{window_item}
-use Rattle.session_rows.proofs.Matching.{both_back, none_back}
+use Rattle.serial_rows.proofs.Matching.{both_back, none_back}
 use Rattle.session_view.specs.Orders.{numbered}
-use Rattle.session_windows.specs.Standing.{WindowStands}
+use Rattle.windows.specs.Standing.{WindowStands}
 use Rattle.session_view.specs.Growing.{IsList}
 use Rattle.session_view.proofs.Numbered.{none_numbered, one_numbered, all_numbered, there_by_number}
 use Rattle.session_view.proofs.texts.windows_text.Goals as goal

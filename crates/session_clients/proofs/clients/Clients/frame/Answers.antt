@@ -1,5 +1,5 @@
 use Rattle.std.proofs.Common.{sym}
-use Rattle.session_rows.proofs.Serials.{if_ok}
+use Rattle.serial_rows.proofs.Serials.{if_ok}
 use Rattle.session_clients.proofs.Drawing.{found_shows, found_nobody, none_then}
 use Rattle.session_clients.proofs.clients.Clients.frame.Goals as goal
 

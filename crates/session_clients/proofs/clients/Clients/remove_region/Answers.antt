@@ -2,7 +2,7 @@ use Rattle.std.proofs.Common.{◌∙◌, ap, subst}
 use Rattle.regions.specs.Layouts.{Arrangement, remove_focused}
 use Rattle.session_model.specs.Tables as model
 use Rattle.session_model.specs.Tables.{with_layout}
-use Rattle.session_rows.proofs.Serials.{on_both, on_error}
+use Rattle.serial_rows.proofs.Serials.{on_both, on_error}
 use Rattle.session_clients.specs.Stands.{IsRemoval}
 use Rattle.session_clients.proofs.Changing.{changed_row, no_row, lent_back, found, found_none}
 use Rattle.session_clients.proofs.Keeping.{keeps_arranged, still_roomy}

@@ -1,6 +1,6 @@
 use Rattle.std.proofs.Common.{refl, sym, subst, [], List}
-use Rattle.session_windows.specs.Standing.{StandFor}
-use Rattle.session_windows.specs.declared.window.Window.{Window}
+use Rattle.windows.specs.Standing.{StandFor}
+use Rattle.windows.specs.declared.window.Window.{Window}
 use Rattle.session_clients.specs.Stands.{AreClients}
 use Rattle.session_clients.specs.declared.client.Client.{Client}
 use Rattle.session_state.proofs.state.State.new.Goals as goal

@@ -1,8 +1,0 @@
-use Rattle.std.proofs.Common.{◌∙◌, ap, List}
-use Rattle.session_windows.specs.Among.{first_free}
-use Rattle.session_windows.specs.declared.window.Window.{Window}
-use Rattle.session_windows.proofs.Nearest.{free_both}
-use Rattle.session_windows.proofs.windows.Windows.free_number.Goals as goal
-
-pub returns : goal.returns
-returns c = λ rows st. c.first_free.ensures ∙ ap (λ (ws : List Window). first_free ws) (c.as_slice.ensures ∙ c.self.view_is) ∙ free_both rows c.args.self.now st

@@ -1,0 +1,13 @@
+-- The lines of a window's page.
+use Rattle.std.specs.Prelude.{ℕ, ◌≡◌, List, map}
+use Rattle.std.specs.Borrow.{Bor}
+use Rattle.cells.specs.declared.cell.Cell.{Cell}
+use Rattle.terminal_model.specs.Scrollback.{moved_back}
+use Rattle.windows.specs.declared.window.Window.{Window}
+
+abbrev pub cells_of : List (Bor (List Cell)) → List (List Cell)
+cells_of lines = map (λ line. line.now) lines
+
+-- the lines of its page, moved back by so many kept lines, or by all where they are fewer
+abbrev pub AreLines : ℕ → Window → List (Bor (List Cell)) → Type 0
+AreLines back w lines = cells_of lines ≡ moved_back back w.emulator.screen

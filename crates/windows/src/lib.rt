@@ -1,0 +1,13 @@
+//! The open windows: their serials, numbers, titles and screens.
+#![tactic(auto)]
+
+mod among;
+mod numbers;
+mod titles;
+mod window;
+mod windows;
+
+pub use titles::is_title;
+pub use window::{Window, WindowSize, is_window_size};
+pub use windows::Windows;
+pub use windows_model::WindowsFault;

@@ -1,0 +1,166 @@
+//! One window.
+
+ghost use Rattle.std.specs.Prelude.{◌≡◌, true, IfOk, IfErr, OnOk, OnErr};
+ghost use Rattle.terminal_model.specs.Writing.{Clear, Reset, Encoding};
+ghost use Rattle.windows_model.specs.Table.{is_window_size};
+
+use crate::titles::is_title;
+use cells::Cell;
+use charsets::Coding;
+use emulator::Emulator;
+use serial_rows::Serial;
+use std::alloc::{AllocError, Global};
+use terminal_model::REPORT_BYTES;
+use windows_model::WindowsFault;
+
+/// A program's screen, with its serial, its number and its title.
+#[derive(Drop)]
+pub struct Window {
+    pub serial: u32,
+    pub number: u8,
+    pub title: String,
+    pub emulator: Emulator,
+}
+
+impl Serial for Window {
+    ghost serial_of = { λ w. w.serial };
+
+    fn serial(&self) -> u32 {
+        self.serial
+    }
+}
+
+/// What size a window has: lines, columns, and how many lines that left at the top it keeps.
+#[derive(Clone, Copy)]
+pub struct WindowSize {
+    pub rows: u16,
+    pub columns: u16,
+    pub keep: u16,
+}
+
+/// Whether a window may have so many lines and columns, and keep so many lines above its page: 2 to
+/// 200 lines by 2 to 300 columns, and at most 2,000 lines.
+pub fn is_window_size(rows: u16, columns: u16, keep: u16) -> bool
+    ensures { result ≡ is_window_size rows columns keep }
+{
+    2 <= rows && rows <= 200 && 2 <= columns && columns <= 300 && keep <= 2000
+}
+
+impl Window {
+    ghost use Rattle.windows_model.specs.declared.windows_fault.WindowsFault.TheVariants.{NoMemory};
+    ghost use Rattle.windows.specs.Standing.{WindowStands, new_row};
+    ghost use Rattle.windows.specs.Rows.{KeepsName};
+    ghost use Rattle.windows.specs.Showing.{AreLines};
+    ghost use Rattle.windows.specs.Writing.{Writes, Retitles, Resizes, HasFed};
+
+    /// A window that opens, with a blank screen.
+    pub(crate) fn new(
+        alloc: Global,
+        serial: u32,
+        number: u8,
+        size: WindowSize,
+        title: &str,
+    ) -> Result<Window, WindowsFault>
+        requires { is_window_size size.rows size.columns size.keep ≡ true }
+        ensures ok { IfOk result (WindowStands
+            (new_row serial number size.rows size.columns size.keep title.now)) }
+        ensures err { IfErr result (λ fault. fault ≡ NoMemory) }
+    {
+        let (rows, columns, keep) = (
+            size.rows as usize,
+            size.columns as usize,
+            size.keep as usize,
+        );
+        let emulator = match Emulator::new(alloc, rows, columns, keep) {
+            Ok(emulator) => emulator,
+            Err(_) => return Err(WindowsFault::NoMemory),
+        };
+        let title = String::from_str(alloc, title)?;
+        Ok(Window {
+            serial,
+            number,
+            title,
+            emulator,
+        })
+    }
+
+    /// Reads output of its program, and appends what is answered. A refusal leaves all as it was.
+    pub(crate) fn feed_all(&mut self, bytes: &[u8], out: &mut Vec<u8>) -> Result<(), WindowsFault>
+        ensures ok { OnOk result (HasFed self.old bytes.now out.old.items out.new.items self.new) }
+        ensures err { IfErr result (λ fault. fault ≡ NoMemory) }
+        ensures name { KeepsName self.old self.new }
+        ensures window { OnErr result (self.new ≡ self.old) }
+        ensures reports { OnErr result (out.new.items ≡ out.old.items) }
+    {
+        let Some(room) = bytes.len().checked_mul(REPORT_BYTES) else {
+            return Err(WindowsFault::NoMemory);
+        };
+        out.reserve(room)?;
+        match self.emulator.feed_all(bytes, out) {
+            Ok(()) => Ok(()),
+            Err(_) => Err(WindowsFault::NoMemory),
+        }
+    }
+
+    /// Takes another size. A refusal leaves all as it was.
+    pub(crate) fn resize(&mut self, rows: u16, columns: u16) -> Result<(), WindowsFault>
+        requires { is_window_size rows columns 0 ≡ true }
+        ensures answer { Resizes rows columns self.old result self.new }
+        ensures name { KeepsName self.old self.new }
+        ensures err { OnErr result (self.new ≡ self.old) }
+    {
+        match self.emulator.resized(rows as usize, columns as usize) {
+            Ok(()) => Ok(()),
+            Err(_) => Err(WindowsFault::NoMemory),
+        }
+    }
+
+    /// Takes another title. A refusal leaves all as it was.
+    pub(crate) fn retitle(&mut self, alloc: Global, title: &str) -> Result<(), WindowsFault>
+        ensures answer { Retitles title.now self.old result self.new }
+        ensures name { KeepsName self.old self.new }
+        ensures err { OnErr result (self.new ≡ self.old) }
+    {
+        if !is_title(title) {
+            return Err(WindowsFault::BadTitle);
+        }
+        self.title = String::from_str(alloc, title)?;
+        Ok(())
+    }
+
+    /// Erases its page and goes home.
+    pub(crate) fn clear(&mut self)
+        ensures writes { Writes Clear self.old self.new }
+        ensures name { KeepsName self.old self.new }
+    {
+        self.emulator.clear();
+    }
+
+    /// Takes all starting values.
+    pub(crate) fn reset(&mut self)
+        ensures writes { Writes Reset self.old self.new }
+        ensures name { KeepsName self.old self.new }
+    {
+        self.emulator.reset();
+    }
+
+    /// Reads in a coding from here on.
+    pub(crate) fn encode(&mut self, coding: Coding)
+        ensures writes { Writes (Encoding coding) self.old self.new }
+        ensures name { KeepsName self.old self.new }
+    {
+        self.emulator.set_encoding(coding);
+    }
+
+    /// The lines of the page, moved back by so many kept lines, or by all where they are fewer.
+    pub fn lines(&self, alloc: Global, back: usize) -> Result<Vec<&[Cell]>, AllocError>
+        ensures { IfOk result (λ lines. AreLines back self.now lines.items) }
+    {
+        let page = self.emulator.page(back);
+        let mut lines = Vec::with_capacity(alloc, page.rows())?;
+        for line in 0..page.rows() {
+            lines.push(page.line(line))?;
+        }
+        Ok(lines)
+    }
+}

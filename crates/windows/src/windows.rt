@@ -1,0 +1,299 @@
+//! The open windows.
+
+ghost use Rattle.std.specs.Prelude.{◌≡◌, List, [], true, Some, length, option_copied};
+ghost use Rattle.std.specs.Prelude.{IfOk, IfSome, OnOk, OnErr};
+ghost use Rattle.terminal_model.specs.Writing.{Clear, Reset, Encoding};
+
+use crate::among::{Among, End, nearest};
+use crate::numbers::{first_free, is_above, is_taken, numbered, numbered_by};
+use crate::titles::is_title;
+use crate::window::{Window, WindowSize};
+use charsets::Coding;
+use serial_rows::Rows;
+use std::alloc::Global;
+use std::marker::Model;
+use windows_model::WindowsFault;
+
+/// The open windows, by rising serials. No two have one number.
+pub struct Windows {
+    rows: Rows<Window>,
+}
+
+impl Drop for Windows {
+    fn drop(self) {
+        let Windows { rows: _ } = self;
+    }
+}
+
+impl Model for Windows {
+    ghost use Rattle.std.specs.Prelude.{List};
+    ghost use Rattle.windows.specs.declared.window.Window.{Window};
+
+    ghost Value = { List Window };
+
+    ghost view = { λ w. w.rows };
+
+    ghost use Rattle.windows.specs.Rows.{AreRows};
+
+    ghost invariant = { λ w. AreRows w.rows };
+}
+
+impl Windows {
+    ghost use Rattle.windows_model.specs.Table as model;
+    ghost use Rattle.serial_rows.specs.Finding.{row_of};
+    ghost use Rattle.windows_model.specs.Naming.{with_number, window_named, lowest, free_number};
+    ghost use Rattle.windows.specs.declared.window.Window.{Window};
+    ghost use Rattle.windows.specs.Standing.{StandFor, Finds, Answers, AnswersIfRoom, at_serial};
+    ghost use Rattle.windows.specs.Standing.{written_in, fed_in, resized_in, retitled_in};
+    ghost use Rattle.windows.specs.Standing.{renumbered, closed};
+    ghost use Rattle.windows.specs.Asking.{FindsAfter, FindsBefore, Opens, IsFree, IsOneMore};
+    ghost use Rattle.windows.specs.Asking.{IsNumberFor, Reports};
+    ghost use Rattle.windows.specs.Among.{first_free, is_above};
+    ghost use Rattle.windows.specs.Rows.{AreRows, ChangesRow, WritesRow, LosesRow, AddsRow};
+    ghost use Rattle.windows_model.specs.Table.{is_window_size};
+
+    /// No window.
+    pub fn new(alloc: Global) -> Windows
+        ensures { result ≡ [] }
+    {
+        Windows {
+            rows: Rows::new(alloc),
+        }
+    }
+
+    pub fn len(&self) -> usize
+        ensures { result ≡ length self.now }
+    {
+        self.rows.len()
+    }
+
+    /// The windows, from the one that was opened first.
+    pub fn as_slice(&self) -> &[Window]
+        ensures { result.now ≡ self.now }
+    {
+        self.rows.as_slice()
+    }
+
+    /// The window of a serial.
+    pub fn get(&self, serial: u32) -> Option<&Window>
+        ensures row { option_copied result ≡ row_of (λ (w : Window). w.serial) self.now serial }
+        ensures finds { Finds (at_serial serial) self.now (option_copied result) }
+        ensures rows { AreRows self.now }
+    {
+        self.rows.get(serial)
+    }
+
+    /// The window of a number.
+    pub fn by_number(&self, number: u16) -> Option<&Window>
+        ensures { Finds (λ rows. with_number rows number) self.now (option_copied result) }
+    {
+        numbered(self.rows.as_slice(), number)
+    }
+
+    /// The window that a word names: by its number, else by its title, the one of the lowest number
+    /// among equal titles.
+    pub fn by_name(&self, word: &str) -> Option<&Window>
+        ensures { Finds (λ rows. window_named rows word.now) self.now (option_copied result) }
+    {
+        let rows = self.rows.as_slice();
+        let titled = nearest(rows, End::Lowest, Among::Titled(word));
+        numbered_by(rows, word).or(titled)
+    }
+
+    /// The window of the lowest number.
+    pub fn lowest(&self) -> Option<&Window>
+        ensures { Finds lowest self.now (option_copied result) }
+    {
+        nearest(self.rows.as_slice(), End::Lowest, Among::All)
+    }
+
+    /// The window of the next higher number, cyclically; of the lowest one without a number.
+    pub fn after(&self, number: Option<u8>) -> Option<&Window>
+        ensures { FindsAfter number self.now (option_copied result) }
+    {
+        let rows = self.rows.as_slice();
+        let lowest = nearest(rows, End::Lowest, Among::All);
+        nearest(rows, End::Lowest, Among::Above(number)).or(lowest)
+    }
+
+    /// The window of the next lower number, cyclically; of the highest one without a number.
+    pub fn before(&self, number: Option<u8>) -> Option<&Window>
+        ensures { FindsBefore number self.now (option_copied result) }
+    {
+        let rows = self.rows.as_slice();
+        let highest = nearest(rows, End::Highest, Among::All);
+        nearest(rows, End::Highest, Among::Below(number)).or(highest)
+    }
+
+    /// The lowest number from 0 to 39 that no window has.
+    pub fn free_number(&self) -> Option<u8>
+        ensures { (rows : List model.Window) → StandFor rows self.now → result ≡ free_number rows }
+    {
+        first_free(self.rows.as_slice())
+    }
+
+    /// The number of a window that opens with this serial: the lowest one that is free. None where
+    /// there are 40 windows, or where the serial isn't above those of all windows.
+    fn number_for(&self, serial: u32) -> Option<u8>
+        ensures number { IsNumberFor serial self.now result }
+        ensures free { IfSome result (IsFree self.now) }
+        ensures first { IfSome result (λ number. first_free self.now ≡ Some number) }
+        ensures above { IfSome result (λ number. is_above serial self.now ≡ true) }
+    {
+        let rows = self.rows.as_slice();
+        if is_above(rows, serial) {
+            first_free(rows)
+        } else {
+            None
+        }
+    }
+
+    /// Opens a window with the lowest free number, and returns that number. It is `Full` if there
+    /// are 40 windows or the serial isn't above those of all windows, then `BadTitle`. A refusal
+    /// leaves all as it was.
+    pub fn open(
+        &mut self,
+        alloc: Global,
+        serial: u32,
+        size: WindowSize,
+        title: &str,
+    ) -> Result<u8, WindowsFault>
+        requires { is_window_size size.rows size.columns size.keep ≡ true }
+        ensures answer { Opens serial size.rows size.columns size.keep title.now
+            self.old result self.new }
+        ensures number { IfOk result (IsFree self.old) }
+        ensures row { IfOk result (λ number. AddsRow serial number self.old self.new) }
+        ensures last { OnOk result (IsOneMore self.old self.new) }
+        ensures err { OnErr result (self.new ≡ self.old) }
+    {
+        let Some(number) = self.number_for(serial) else {
+            return Err(WindowsFault::Full);
+        };
+        if !is_title(title) {
+            return Err(WindowsFault::BadTitle);
+        }
+        let window = Window::new(alloc, serial, number, size, title)?;
+        self.rows.push(window)?;
+        Ok(number)
+    }
+
+    /// Closes the window of a serial.
+    pub fn close(&mut self, serial: u32) -> Result<(), WindowsFault>
+        ensures answer { Answers (closed serial) self.old result self.new }
+        ensures alone { LosesRow serial self.old self.new }
+        ensures err { OnErr result (self.new ≡ self.old) }
+    {
+        let Some(_window) = self.rows.get(serial) else {
+            return Err(WindowsFault::NoSuchWindow);
+        };
+        self.rows.remove(serial);
+        Ok(())
+    }
+
+    /// Closes all windows.
+    pub fn close_all(&mut self)
+        ensures { self.new ≡ [] }
+    {
+        self.rows.clear();
+    }
+
+    /// Gives the window of a serial another number, unless another window has it.
+    pub fn renumber(&mut self, serial: u32, number: u8) -> Result<(), WindowsFault>
+        ensures answer { Answers (renumbered serial number) self.old result self.new }
+        ensures alone { ChangesRow serial self.old self.new }
+        ensures err { OnErr result (self.new ≡ self.old) }
+    {
+        let is_taken = is_taken(self.rows.as_slice(), serial, number);
+        let Some(window) = self.rows.get_mut(serial) else {
+            return Err(WindowsFault::NoSuchWindow);
+        };
+        if is_taken {
+            return Err(WindowsFault::NumberTaken);
+        }
+        window.number = number;
+        Ok(())
+    }
+
+    /// Gives the window of a serial another title. A refusal leaves all as it was.
+    pub fn retitle(&mut self, alloc: Global, serial: u32, title: &str) -> Result<(), WindowsFault>
+        ensures answer { AnswersIfRoom (retitled_in serial title.now) self.old result self.new }
+        ensures alone { WritesRow serial self.old self.new }
+        ensures err { OnErr result (self.new ≡ self.old) }
+    {
+        let Some(window) = self.rows.get_mut(serial) else {
+            return Err(WindowsFault::NoSuchWindow);
+        };
+        window.retitle(alloc, title)
+    }
+
+    /// Feeds output to the window of a serial, and appends what is answered. A refusal leaves all
+    /// as it was.
+    pub fn feed_all(
+        &mut self,
+        serial: u32,
+        bytes: &[u8],
+        out: &mut Vec<u8>,
+    ) -> Result<(), WindowsFault>
+        ensures answer { AnswersIfRoom (fed_in serial bytes.now) self.old result self.new }
+        ensures alone { WritesRow serial self.old self.new }
+        ensures reports { Reports serial bytes.now self.old result out.old.items out.new.items }
+        ensures err { OnErr result ((self.new ≡ self.old) × (out.new.items ≡ out.old.items)) }
+    {
+        let Some(window) = self.rows.get_mut(serial) else {
+            return Err(WindowsFault::NoSuchWindow);
+        };
+        window.feed_all(bytes, out)
+    }
+
+    /// Gives the window of a serial another size. A refusal leaves all as it was.
+    pub fn resize(&mut self, serial: u32, rows: u16, columns: u16) -> Result<(), WindowsFault>
+        requires { is_window_size rows columns 0 ≡ true }
+        ensures answer { AnswersIfRoom (resized_in serial rows columns) self.old result self.new }
+        ensures alone { WritesRow serial self.old self.new }
+        ensures err { OnErr result (self.new ≡ self.old) }
+    {
+        let Some(window) = self.rows.get_mut(serial) else {
+            return Err(WindowsFault::NoSuchWindow);
+        };
+        window.resize(rows, columns)
+    }
+
+    /// Erases the page of the window of a serial, and goes home there.
+    pub fn clear(&mut self, serial: u32) -> Result<(), WindowsFault>
+        ensures answer { Answers (written_in serial Clear) self.old result self.new }
+        ensures alone { WritesRow serial self.old self.new }
+        ensures err { OnErr result (self.new ≡ self.old) }
+    {
+        let Some(window) = self.rows.get_mut(serial) else {
+            return Err(WindowsFault::NoSuchWindow);
+        };
+        window.clear();
+        Ok(())
+    }
+
+    /// Gives the window of a serial all starting values.
+    pub fn reset(&mut self, serial: u32) -> Result<(), WindowsFault>
+        ensures answer { Answers (written_in serial Reset) self.old result self.new }
+        ensures alone { WritesRow serial self.old self.new }
+        ensures err { OnErr result (self.new ≡ self.old) }
+    {
+        let Some(window) = self.rows.get_mut(serial) else {
+            return Err(WindowsFault::NoSuchWindow);
+        };
+        window.reset();
+        Ok(())
+    }
+
+    /// Has the window of a serial read in a coding from here on.
+    pub fn encode(&mut self, serial: u32, coding: Coding) -> Result<(), WindowsFault>
+        ensures answer { Answers (written_in serial (Encoding coding)) self.old result self.new }
+        ensures alone { WritesRow serial self.old self.new }
+        ensures err { OnErr result (self.new ≡ self.old) }
+    {
+        let Some(window) = self.rows.get_mut(serial) else {
+            return Err(WindowsFault::NoSuchWindow);
+        };
+        window.encode(coding);
+        Ok(())
+    }
+}

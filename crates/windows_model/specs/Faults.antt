@@ -1,0 +1,12 @@
+-- The numbers of the faults.
+use Rattle.std.specs.Prelude.{ℕ}
+use Rattle.windows_model.specs.declared.windows_fault.WindowsFault.{WindowsFault}
+use Rattle.windows_model.specs.declared.windows_fault.WindowsFault.TheVariants.{Full, NoSuchWindow}
+use Rattle.windows_model.specs.declared.windows_fault.WindowsFault.TheVariants.{NumberTaken, BadTitle, NoMemory}
+
+abbrev pub windows_number : WindowsFault → ℕ
+windows_number Full = 1
+windows_number NoSuchWindow = 2
+windows_number NumberTaken = 3
+windows_number BadTitle = 4
+windows_number NoMemory = 5

@@ -1,0 +1,4 @@
+pub mod Table
+pub mod Naming
+pub mod Terminals
+pub mod Faults
