@@ -1,11 +1,11 @@
 -- What a caller knows of an answer, whose row is there.
-use Rattle.std.proofs.Common.{◌≡◌, ℕ, List, Option, Some, Ok, Err, refl, ap, sym, subst, ◌∙◌}
+use Rattle.std.proofs.Common.{◌≡◌, ℕ, List, Some, Ok, Err, refl, ap, sym, subst, ◌∙◌}
 use Rattle.std.specs.Prelude.{Result}
 use Rattle.windows_model.specs.declared.windows_fault.WindowsFault.{WindowsFault}
 use Rattle.windows_model.specs.Table as model
 use Rattle.serial_rows.specs.Finding.{with_row}
 use Rattle.windows.specs.declared.window.Window.{Window}
-use Rattle.windows.specs.Standing.{StandFor, Answer, Answered, Change, serial, at_serial, in_place, in_row, changed}
+use Rattle.windows.specs.Standing.{StandFor, Answered, Change, serial, at_serial, in_place, in_row, changed}
 
 module _ (rows : List model.Window) (s : ℕ) (change : Change) (m : model.Window) (here : at_serial s rows ≡ Some m) where
   answer_is : changed s change rows ≡ in_place rows s (change m)

@@ -1,5 +1,5 @@
 -- What keeps the rows of a table of windows: serials rise, and numbers differ.
-use Rattle.std.proofs.Common.{◌≡◌, ◌≢◌, ℕ, zero, suc, ◌<◌, ◌≤◌, Bool, true, false, List, [], ◌∷◌, ◌++◌, Option, Some, None, length, map, filter, not, inl, inr, get_or, refl, ap, sym, subst, ◌∙◌, arith, ⊎_elim}
+use Rattle.std.proofs.Common.{◌≡◌, ◌≢◌, ℕ, zero, suc, ◌<◌, Bool, true, false, List, [], ◌∷◌, ◌++◌, Some, None, length, map, filter, not, inl, inr, get_or, refl, ap, sym, subst, ◌∙◌, arith, ⊎_elim}
 use Rattle.std.specs.Prelude.{◌⊎◌, ◌==◌, ◌&&◌, ◌||◌, ◌+◌, nat_lt, if◌then◌else◌, AllPairs, find}
 use Rattle.std.proofs.lemmas.Bool.Decides.{nat_tests}
 use Rattle.std.specs.List.{list_any, range_with_len}
@@ -11,8 +11,8 @@ use Rattle.windows_model.specs.declared.limits.TheConstants.{WINDOWS}
 use Rattle.serial_rows.specs.Finding.{row_of, with_row}
 use Rattle.serial_rows.proofs.Serials.{serials_stay, serial_is, with_other, is_equal, equal_number}
 use Rattle.windows.specs.declared.window.Window.{Window}
-use Rattle.windows.specs.Among.{is_above, has_number, numbered, taken_by_other, first_free}
-use Rattle.windows.specs.Rows.{serial_of, number_of, AreRows, KeepsName, ChangesRow, WritesRow, LosesRow, AddsRow}
+use Rattle.windows.specs.Among.{is_above, has_number, taken_by_other, first_free}
+use Rattle.windows.specs.Rows.{serial_of, number_of, AreRows, KeepsName, ChangesRow, WritesRow, LosesRow}
 
 -- ---- rows that come and go
 
