@@ -7,39 +7,23 @@
 //! `ghosts-serve g a = record { name = a.blank.name; parts = a.blank.parts }`.
 #![tactic(auto)]
 
-mod answer;
-mod checking;
-mod closing;
-mod entries;
-mod filed_session;
-mod laws;
-mod ledger;
-mod prepared;
-mod seat;
-mod trail;
-
 ghost use Rattle.std.specs.Prelude.{◌≡◌, ◌↔◌, ◌<◌, ◌≤◌, length, IfOk, IfErr, OnErr, None, []};
 ghost use Rattle.session_model.specs.Trace.{begun, happening};
 ghost use Rattle.hub_trail.specs.Legal.{IsLegal};
-ghost use Rattle.hub.specs.Closing.{AreThere, IsFirstWrong, receipts_of};
-ghost use Rattle.hub.specs.Seats.{Answers, NoneAsks, StandsFor};
-ghost use Rattle.hub.specs.declared.answer.HubFault.TheVariants.{NoMemory};
+ghost use Rattle.hub_ledger.specs.Closing.{AreThere, IsFirstWrong, receipts_of};
+ghost use Rattle.hub_ledger.specs.Seats.{Answers, AreNumbered, NoneAsks, StandsFor};
+ghost use Rattle.hub_ledger.specs.declared.answer.HubFault.TheVariants.{NoMemory};
 
 use acl::{Edition, UserId};
-pub use answer::{Answer, HubFault};
-pub use checking::check_trail;
-pub use hub_check::CheckFault;
-pub use hub_record::{Filed, KeptEvent, Receipt, Receipts};
-pub use laws::kept_trails_are_legal;
-pub use ledger::FULL;
-use ledger::Ledger;
-pub use seat::Seat;
-pub use session_core::Session;
+use hub_ledger::Ledger;
+pub use hub_ledger::{
+    Answer, CheckFault, FULL, Filed, HubFault, KeptEvent, Receipt, Receipts, Seat, Session, Trail,
+    check_trail, kept_trails_are_legal,
+};
 use session_model::{Effect, Event};
 use std::alloc::Global;
 use std::sync::ledger::{Blank, Ledger as Roll};
 use std::sync::{Mutex, Wait};
-pub use trail::Trail;
 
 /// A session that threads share.
 pub struct Hub<L: Roll> {
@@ -69,6 +53,8 @@ impl<L: Roll> Hub<L> {
         requires fresh { StandsFor (begun edition owner) session }
         ensures seats { IfOk result (λ made. (length made.1.items ≡ L.parts)
             × (receipts_of made.1.items ≡ [])) }
+        // No two seats have one number.
+        ensures numbers { IfOk result (λ made. AreNumbered made.1.items) }
         // A seat asks for entries only where it is told to.
         ensures asks { IfOk result (λ made. NoneAsks made.1.items) }
         ensures err { IfErr result (λ fault. fault ≡ NoMemory) }
