@@ -3,6 +3,7 @@ use denote.RattleType.{RattleType}
 use denote.Param.Send.{IsSend, IsSync}
 use denote.Param.SendFields.{declared_send, declared_sync}
 use Rattle.std.specs.declared.sync.ledger.Ledger.{Ghosts}
+use Rattle.hub_ledger.specs.declared.begun.Begun.{Ghosts as Beginnings}
 use Rattle.std.specs.contracts.sync.Mutex as Mutex
 use Rattle.std.proofs.sync.Mutex.TheSendSync as mutex
 use Rattle.std.proofs.Crossing.{Vec-send}
@@ -15,11 +16,11 @@ use Rattle.hub_ledger.specs.contracts.ledger.Ledger as Ledger
 use Rattle.hub_ledger.specs.contracts.seat.Seat as Seat
 use Rattle.hub.specs.contracts.Hub as Hub
 
-pub hub_send : (L : RattleType) (g : Ghosts L.Denot) → IsSend (Hub.the_row L g)
-hub_send L g = declared_send (Hub.the_type L g) (mutex.the_send (Ledger.the_row L g) (ledger_send L g), tt)
+pub hub_send : (L : RattleType) (b : Beginnings L.Denot) (g : Ghosts L.Denot) → IsSend (Hub.the_row L b g)
+hub_send L b g = declared_send (Hub.the_type L b g) (mutex.the_send (Ledger.the_row L b g) (ledger_send L b g), tt)
 
-pub hub_sync : (L : RattleType) (g : Ghosts L.Denot) → IsSync (Hub.the_row L g)
-hub_sync L g = declared_sync (Hub.the_type L g) (mutex.the_sync (Ledger.the_row L g) (ledger_send L g), tt)
+pub hub_sync : (L : RattleType) (b : Beginnings L.Denot) (g : Ghosts L.Denot) → IsSync (Hub.the_row L b g)
+hub_sync L b g = declared_sync (Hub.the_type L b g) (mutex.the_sync (Ledger.the_row L b g) (ledger_send L b g), tt)
 
 pub seats_sync : (L : RattleType) (g : Ghosts L.Denot) → IsSync (Mutex.the_row (Vec.the_row (Seat.the_row L g) Global.the_row heap.ghosts))
 seats_sync L g = mutex.the_sync (Vec.the_row (Seat.the_row L g) Global.the_row heap.ghosts) (Vec-send (Seat.the_row L g) (seat.the_send L g))

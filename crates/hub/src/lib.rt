@@ -2,9 +2,11 @@
 //! seat of clients and windows; the seats, and what they were told.
 //!
 //! A program names the hub's ledger once, where it calls a function that is generic in it:
-//! `serve::<Brand, _>(rt, alloc, Blank::new(seats), ..)` with `fn serve<L: Roll + Send + Sync, R:
-//! ..>` that requires `(blank.name ≡ L.name) × (blank.parts ≡ L.parts)`; its `Invariants.antt` says
-//! `ghosts-serve g a = record { name = a.blank.name; parts = a.blank.parts }`.
+//! `serve::<Brand, _>(rt, alloc, Blank::new(seats), owner, ..)` with `fn serve<L: Begun + Send +
+//! Sync, R: ..>` that requires `(blank.name ≡ L.name) × (blank.parts ≡ L.parts)` and `(L.edition ≡
+//! Second) × (L.owner ≡ owner)`; its `Invariants.antt` says
+//! `ghosts-serve-L-Ledger g a = record { name = a.blank.name; parts = a.blank.parts }` and
+//! `ghosts-serve-L-Begun g a = record { edition = Second; owner = a.owner }`.
 #![tactic(auto)]
 
 ghost use Rattle.std.specs.Prelude.{◌≡◌, ◌↔◌, ◌<◌, ◌≤◌, length, IfOk, IfErr, OnErr, None, []};
@@ -14,43 +16,40 @@ ghost use Rattle.hub_ledger.specs.Closing.{AreThere, IsFirstWrong, receipts_of};
 ghost use Rattle.hub_ledger.specs.Seats.{Answers, AreNumbered, NoneAsks, StandsFor};
 ghost use Rattle.hub_ledger.specs.declared.answer.HubFault.TheVariants.{NoMemory};
 
-use acl::{Edition, UserId};
 use hub_ledger::Ledger;
 pub use hub_ledger::{
-    Answer, CheckFault, FULL, Filed, HubFault, KeptEvent, Receipt, Receipts, Seat, Session, Trail,
-    check_trail, kept_trails_are_legal,
+    Answer, Begun, CheckFault, FULL, Filed, HubFault, KeptEvent, Receipt, Receipts, Seat, Session,
+    Trail, check_trail, kept_trails_are_legal,
 };
 use session_model::{Effect, Event};
 use std::alloc::Global;
-use std::sync::ledger::{Blank, Ledger as Roll};
+use std::sync::ledger::Blank;
 use std::sync::{Mutex, Wait};
 
 /// A session that threads share.
-pub struct Hub<L: Roll> {
+pub struct Hub<L: Begun> {
     ledger: Mutex<Ledger<L>>,
 }
 
-impl<L: Roll> Drop for Hub<L> {
+impl<L: Begun> Drop for Hub<L> {
     fn drop(self) {
         let Hub { ledger: _ } = self;
     }
 }
 
-impl<L: Roll> Hub<L> {
-    /// A hub of a session of this edition and owner that has taken no event, and its 1 to 8 seats.
-    /// Where memory is refused, the one refusal, the session is dropped.
+impl<L: Begun> Hub<L> {
+    /// A hub of a session that has taken no event, and its 1 to 8 seats. Where memory is refused,
+    /// the one refusal, the session is dropped.
     pub fn new(
         alloc: Global,
         blank: Blank,
-        edition: Edition,
-        owner: UserId,
         session: Session,
         seats: usize,
     ) -> Result<(Hub<L>, Vec<Seat<L>>), HubFault>
         requires name { blank.name ≡ L.name }
         requires parts { (blank.parts ≡ L.parts) × (seats ≡ L.parts) }
         requires seats { (0 < seats) × (seats ≤ 8) }
-        requires fresh { StandsFor (begun edition owner) session }
+        requires fresh { StandsFor (begun L.edition L.owner) session }
         ensures seats { IfOk result (λ made. (length made.1.items ≡ L.parts)
             × (receipts_of made.1.items ≡ [])) }
         // No two seats have one number.
@@ -59,7 +58,7 @@ impl<L: Roll> Hub<L> {
         ensures asks { IfOk result (λ made. NoneAsks made.1.items) }
         ensures err { IfErr result (λ fault. fault ≡ NoMemory) }
     {
-        let (ledger, seats) = Ledger::new(alloc, blank, edition, owner, session, seats)?;
+        let (ledger, seats) = Ledger::new(alloc, blank, session, seats)?;
         Ok((
             Hub {
                 ledger: Mutex::new(ledger),
@@ -92,6 +91,8 @@ impl<L: Roll> Hub<L> {
     /// The trail, and the least place that isn't, with its event and reply, in just one receipt of
     /// these seats. It takes no memory.
     pub fn close(self, seats: Vec<Seat<L>>) -> (Trail, Option<usize>)
+        // It is the trail of the session that the hub began with.
+        ensures begun { (result.0.edition ≡ L.edition) × (result.0.owner ≡ L.owner) }
         // The trail is a legal history of one thread.
         ensures legal { IsLegal result.0 }
         // Where all seats are handed back, they hold as many receipts as the trail has entries.

@@ -4,6 +4,7 @@ use denote.RattleType.{RattleType}
 use denote.Param.Send.{IsSend, view_send}
 use denote.Param.SendFields.{declared_send}
 use Rattle.std.specs.declared.sync.ledger.Ledger.{Ghosts}
+use Rattle.hub_ledger.specs.declared.begun.Begun.{Ghosts as Beginnings}
 use Rattle.std.proofs.sync.ledger.Book.TheSendSync as book
 use Rattle.std.proofs.alloc.Global.TheSendSync as global
 use Rattle.session_core.proofs.Crossing.{session_send}
@@ -17,5 +18,5 @@ use Rattle.hub_ledger.specs.contracts.ledger.Ledger.TheInside as inside
 pub desk_send : IsSend FiledSession.the_row
 desk_send = declared_send FiledSession.the_type (global.the_send, (session_send, (entries.the_send, (peers.the_send, (waiting.the_send, tt)))))
 
-pub ledger_send : (L : RattleType) (g : Ghosts L.Denot) → IsSend (Ledger.the_row L g)
-ledger_send L g = view_send (inside.the_row L g) _ _ _ _ (declared_send (inside.the_type L g) (desk_send, (book.the_send L g, tt)))
+pub ledger_send : (L : RattleType) (b : Beginnings L.Denot) (g : Ghosts L.Denot) → IsSend (Ledger.the_row L b g)
+ledger_send L b g = view_send (inside.the_row L b g) _ _ _ _ (declared_send (inside.the_type L b g) (desk_send, (book.the_send L g, tt)))

@@ -42,6 +42,10 @@ no_more seat event reply old new takes not =
 pub seats_stay : (seat : ℕ) (event : EventValue) (reply : Reply) (old new : State) → Takes seat event reply old new → (length new.waiting ≡ length old.waiting) × (length new.marks ≡ length old.marks)
 seats_stay seat event reply old new takes = (takes.2.waiting.seats, ap length takes.2.marks ∙ marks_stay event old.marks)
 
+-- the trail stays that of the session that the hub began with
+pub begins_stay : (seat : ℕ) (event : EventValue) (reply : Reply) (old new : State) → Takes seat event reply old new → (new.trail.edition ≡ old.trail.edition) × (new.trail.owner ≡ old.trail.owner)
+begins_stay seat event reply old new takes = (ap (λ (t : trails.Trail). t.edition) takes.2.trail, ap (λ (t : trails.Trail). t.owner) takes.2.trail)
+
 pub answered : (o : Option Kept) (place : ℕ) (told : Told) (old new : Sitting) → told.place ≡ Some place → IsReceived o told.reply place old.receipts new.receipts
     → new ≡ record old { receipts = new.receipts } → HasReceipt o told old new
 answered None place told old new at is same = absurd (let none = is.more.1 in cc (none))

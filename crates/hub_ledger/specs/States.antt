@@ -1,5 +1,7 @@
 -- What lies under the hub's lock.
-use Rattle.std.specs.Prelude.{ℕ, Bool, List, ◌≡◌, length}
+use Rattle.std.specs.Prelude.{ℕ, Bool, false, List, [], ◌≡◌, length, replicate}
+use Rattle.acl.specs.declared.edition.Edition.{Edition}
+use Rattle.acl.specs.declared.user_id.UserId.{UserId}
 use Rattle.session_model.specs.declared.event.Effect.{Effect}
 use Rattle.session_model.specs.Trace.{EventValue, Reply, Entry, Trace, with_step}
 use Rattle.session_model.specs.Run.{tables_of}
@@ -33,6 +35,16 @@ state_of d = record {
   owners = owners_of d.peers;
   waiting = views d.waiting.lists.items;
   marks = d.waiting.marks.items;
+}
+
+-- what a hub with so many seats begins with: no entry, no peer, and nothing that waits
+abbrev pub begun_with : Session → Edition → UserId → ℕ → State
+begun_with session edition owner seats = record {
+  session = session;
+  trail = record { edition = edition; owner = owner; entries = [] };
+  owners = record { clients = []; windows = [] };
+  waiting = replicate seats [];
+  marks = replicate seats false;
 }
 
 -- The session stands for a run, whose trail is the one that is kept; and each client and each

@@ -1,13 +1,13 @@
 //! A session with its trail, and what waits for each seat.
 
-ghost use Rattle.std.specs.Prelude.{◌≡◌, ◌↔◌, ◌<◌, ◌≤◌, length, IfOk, OnOk, OnErr, Err, replicate};
-ghost use Rattle.std.specs.Prelude.{[], IfSome, Some, false, is_some, slice_get, true};
+ghost use Rattle.std.specs.Prelude.{◌≡◌, ◌↔◌, ◌<◌, ◌≤◌, length, IfOk, OnOk, OnErr, Err};
+ghost use Rattle.std.specs.Prelude.{IfSome, Some, is_some, slice_get, true};
 ghost use Rattle.session_model.specs.Trace.{begun, happening};
 ghost use Rattle.session_core.specs.Stands.{StandsFor, wants_memory};
 ghost use Rattle.hub_trail.specs.Filing.{kept_of};
 ghost use Rattle.hub_ledger.specs.Seats.{AllBelow, IsReceived, Rise};
 ghost use Rattle.hub_ledger.specs.Slips.{kept_by};
-ghost use Rattle.hub_ledger.specs.States.{IsKept, Takes, state_of};
+ghost use Rattle.hub_ledger.specs.States.{IsKept, Takes, begun_with, state_of};
 ghost use Rattle.hub_ledger.specs.declared.answer.HubFault.TheVariants.{TrailFull, Strange};
 ghost use Rattle.hub_ledger.specs.declared.ledger.TheConstants.{FULL};
 
@@ -60,13 +60,8 @@ impl FiledSession {
         seats: usize,
     ) -> Result<FiledSession, AllocError>
         requires { StandsFor (begun edition owner) session }
-        ensures state { IfOk result (λ filed. state_of filed ≡ record {
-          session = session;
-          trail = record { edition = edition; owner = owner; entries = [] };
-          owners = record { clients = []; windows = [] };
-          waiting = replicate seats [];
-          marks = replicate seats false;
-        }) }
+        ensures state { IfOk result (λ filed. state_of filed
+            ≡ begun_with session edition owner seats) }
         ensures kept { IfOk result (λ filed. IsKept (state_of filed)) }
     {
         let waiting = Waiting::new(alloc, seats)?;

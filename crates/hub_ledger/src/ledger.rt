@@ -2,11 +2,11 @@
 
 ghost use Rattle.std.specs.Prelude.{◌≡◌, ◌↔◌, ◌<◌, ◌≤◌, length, IfOk, OnErr, Err, IsSome, None};
 ghost use Rattle.std.specs.Prelude.{Some, IfErr};
-ghost use Rattle.std.specs.Prelude.{[], false, is_some, replicate, slice_get, slice_set, true};
+ghost use Rattle.std.specs.Prelude.{[], false, is_some, slice_get, slice_set, true};
 ghost use Rattle.session_model.specs.Trace.{begun, happening};
 ghost use Rattle.hub_trail.specs.Filing.{kept_of};
 ghost use Rattle.hub_trail.specs.Legal.{IsLegal};
-ghost use Rattle.hub_ledger.specs.States.{IsKept, StandsFor, Takes, state_of};
+ghost use Rattle.hub_ledger.specs.States.{IsKept, StandsFor, Takes, begun_with, state_of};
 ghost use Rattle.hub_ledger.specs.Closing.{AreThere, IsFirstWrong, receipts_of};
 ghost use Rattle.hub_ledger.specs.Seats.{AllBelow, Answers, AreNumbered, NoneAsks, StandsLast};
 ghost use Rattle.hub_ledger.specs.Seats.{placed};
@@ -15,11 +15,11 @@ ghost use Rattle.hub_ledger.specs.declared.answer.HubFault.TheVariants.{TrailFul
 ghost use Rattle.hub_ledger.specs.declared.answer.HubFault.TheVariants.{Strange};
 
 use crate::answer::{Answer, HubFault};
+use crate::begun::Begun;
 use crate::closing::{count, first_wrong};
 use crate::filed_session::FiledSession;
 use crate::seat::Seat;
 use crate::trail::Trail;
-use acl::{Edition, UserId};
 use hub_record::Receipts;
 use session_core::Session;
 use session_model::{Effect, Event};
@@ -33,18 +33,18 @@ pub const FULL: usize = 4_194_304;
 /// What lies under the hub's lock: a session that stands for a run, its trail, and what waits for
 /// each seat. Its shares count the receipts of all seats: there are as many as the trail has
 /// entries.
-pub struct Ledger<L: Roll> {
+pub struct Ledger<L: Begun> {
     filed: FiledSession,
     book: Book<L>,
 }
 
-impl<L: Roll> Drop for Ledger<L> {
+impl<L: Begun> Drop for Ledger<L> {
     fn drop(self) {
         let Ledger { filed: _, book: _ } = self;
     }
 }
 
-impl<L: Roll> Model for Ledger<L> {
+impl<L: Begun> Model for Ledger<L> {
     ghost use Rattle.std.specs.Prelude.{◌≡◌, ◌<◌, ◌≤◌, length};
     ghost use Rattle.hub_ledger.specs.States.{State, IsKept, state_of};
     ghost use Rattle.hub_ledger.specs.declared.ledger.TheConstants.{FULL};
@@ -62,7 +62,8 @@ impl<L: Roll> Model for Ledger<L> {
         × (l.book.total ≡ length l.filed.entries.list.entries)
         × (length l.filed.entries.list.entries ≤ FULL)
         × (length l.filed.waiting.lists.items ≡ L.parts)
-        × (length l.filed.waiting.marks.items ≡ L.parts) × (0 < L.parts) };
+        × (length l.filed.waiting.marks.items ≡ L.parts) × (0 < L.parts)
+        × (l.filed.entries.edition ≡ L.edition) × (l.filed.entries.owner ≡ L.owner) };
 }
 
 /// Whether an event writes an entry.
@@ -111,28 +112,21 @@ fn make_seats<L: Roll>(
     Ok(made)
 }
 
-impl<L: Roll> Ledger<L> {
-    /// A ledger of a session of this edition and owner that has taken no event, and its 1 to 8
-    /// seats. Where memory is refused, the one refusal, the session is dropped.
+impl<L: Begun> Ledger<L> {
+    /// A ledger of a session that has taken no event, and its 1 to 8 seats. Where memory is
+    /// refused, the one refusal, the session is dropped.
     pub fn new(
         alloc: Global,
         blank: Blank,
-        edition: Edition,
-        owner: UserId,
         session: Session,
         seats: usize,
     ) -> Result<(Ledger<L>, Vec<Seat<L>>), HubFault>
         requires name { blank.name ≡ L.name }
         requires parts { (blank.parts ≡ L.parts) × (seats ≡ L.parts) }
         requires seats { (0 < seats) × (seats ≤ 8) }
-        requires fresh { StandsFor (begun edition owner) session }
-        ensures state { IfOk result (λ made. made.0 ≡ record {
-          session = session;
-          trail = record { edition = edition; owner = owner; entries = [] };
-          owners = record { clients = []; windows = [] };
-          waiting = replicate seats [];
-          marks = replicate seats false;
-        }) }
+        requires fresh { StandsFor (begun L.edition L.owner) session }
+        ensures state { IfOk result (λ made. made.0
+            ≡ begun_with session L.edition L.owner seats) }
         ensures seats { IfOk result (λ made. (length made.1.items ≡ L.parts)
             × (receipts_of made.1.items ≡ [])) }
         ensures numbers { IfOk result (λ made. AreNumbered made.1.items) }
@@ -140,6 +134,7 @@ impl<L: Roll> Ledger<L> {
         ensures err { IfErr result (λ fault. fault ≡ NoMemory) }
     {
         let (book, share) = blank.open::<L>();
+        let (edition, owner) = (session.edition(), session.owner());
         let filed = FiledSession::new(alloc, edition, owner, session, seats)?;
         let made = make_seats(alloc, share, seats)?;
         Ok((Ledger { filed, book }, made))
@@ -240,6 +235,8 @@ impl<L: Roll> Ledger<L> {
     /// these seats. It takes no memory.
     pub fn close(self, seats: Vec<Seat<L>>) -> (Trail, Option<usize>)
         ensures trail { result.0 ≡ self.trail }
+        // It is that of the session with which the ledger was made.
+        ensures begun { (result.0.edition ≡ L.edition) × (result.0.owner ≡ L.owner) }
         ensures legal { IsLegal result.0 }
         // Where all seats are handed back, they hold as many receipts as the trail has entries.
         ensures counted { length seats.items ≡ L.parts

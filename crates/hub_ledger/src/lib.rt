@@ -3,6 +3,7 @@
 #![tactic(auto)]
 
 mod answer;
+mod begun;
 mod checking;
 mod closing;
 mod entries;
@@ -14,6 +15,7 @@ mod seat;
 mod trail;
 
 pub use answer::{Answer, HubFault};
+pub use begun::Begun;
 pub use checking::check_trail;
 pub use hub_check::CheckFault;
 pub use hub_record::{Filed, KeptEvent, Receipt, Receipts};

@@ -18,6 +18,11 @@ of-requires g c =
 pub returns-clause-trail : goal.returns-clause-trail
 returns-clause-trail g c = c.of.ensures ∙ ap trail_in c.into_entries-entries.ensures ∙ ap (λ (s : State). s.trail) c.self.view_is
 
+pub returns-clause-begun : goal.returns-clause-begun
+returns-clause-begun g c =
+    let is = c.of.ensures ∙ ap trail_in c.into_entries-entries.ensures in
+    (ap (λ (t : Trail). t.edition) is ∙ c.self.invariant.6, ap (λ (t : Trail). t.owner) is ∙ c.self.invariant.7)
+
 pub returns-clause-legal : goal.returns-clause-legal
 returns-clause-legal g c =
     subst IsLegal (sym (c.of.ensures ∙ ap trail_in c.into_entries-entries.ensures)) (kept_legal (state_of c.self.inside.filed) c.self.invariant.0)

@@ -7,7 +7,7 @@ use Rattle.session_model.specs.Trace.{happening}
 use Rattle.hub_trail.specs.Filing.{kept_of}
 use Rattle.hub_ledger.specs.States.{State, state_of}
 use Rattle.hub_ledger.specs.Seats.{Answers, Sitting, StandsLast, Told}
-use Rattle.hub_ledger.proofs.Filing.{answered, handed, one_more, seats_stay, stands_last}
+use Rattle.hub_ledger.proofs.Filing.{answered, begins_stay, handed, one_more, seats_stay, stands_last}
 use Rattle.hub_seats.proofs.Rising.{rise_pushed}
 use Rattle.hub_ledger.proofs.ledger.Ledger.file.Goals as goal
 
@@ -47,13 +47,16 @@ invariant_of-self-2 g c =
     let new = state_of c.file.new.self in
     let takes = c.in_ok-reply.ensures.step in
     let more = one_more c.seat.inside.number (happening c.args.event) c.in_ok-reply.reply old new takes c.requires in
-    let stay = seats_stay c.seat.inside.number (happening c.args.event) c.in_ok-reply.reply old new takes in (
+    let stay = seats_stay c.seat.inside.number (happening c.args.event) c.in_ok-reply.reply old new takes in
+    let begins = begins_stay c.seat.inside.number (happening c.args.event) c.in_ok-reply.reply old new takes in (
       c.file.ensures.kept,
       (let t = c.add.ensures.total in omega (arith, t, inv.1, more)),
       omega (arith, more, c.in_ok-reply.ensures.room),
       sym (length-map c.file.new.self.waiting.lists.items (λ (v : Vec Effect Global). v.items)) ∙ stay.0 ∙ length-map c.self.inside.filed.waiting.lists.items (λ (v : Vec Effect Global). v.items) ∙ inv.3,
       stay.1 ∙ inv.4,
       inv.5,
+      begins.0 ∙ inv.6,
+      begins.1 ∙ inv.7,
     )
 
 pub invariant_of-seat-2 : goal.invariant_of-seat-2

@@ -9,7 +9,7 @@ use Rattle.acl.specs.declared.user_id.UserId.{UserId}
 use Rattle.setup_lines.specs.Lines.{line_of, commands_in}
 use Rattle.session.specs.Words.{muxsim, edition_text, flag_text, Simulates}
 use Rattle.session.proofs.Parts.{plays_behind}
-use Rattle.session.proofs.simulator.simulate.Goals as goal
+use Rattle.session.proofs.simulator.simulate_behind.Goals as goal
 
 flag_is : (text : Option Text) (flag shows : Bool) → (text ≡ Some (codes "true") → flag ≡ true) → (text ≡ Some (codes "false") → flag ≡ false) → text ≡ Some (flag_text shows) → flag ≡ shows
 flag_is text flag true set unset is = set is

@@ -2,8 +2,7 @@
 
 use acl::{Edition, UserId};
 use hub_record::{Filed, KeptEvent, KeptReply};
-use session_core::{Notes, Session};
-use session_model::{Bytes, Event, Refusal, Reply};
+use session::{Bytes, Event, Notes, Refusal, Reply, Session};
 use std::alloc::{AllocError, Global};
 use trail_audit::{Cause, Ended, Header, print_end, print_header};
 use trail_lines::print_line;
