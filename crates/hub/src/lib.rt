@@ -1,5 +1,5 @@
-//! A session that threads share under one lock: the session, its trail, and what waits for each
-//! seat of clients and windows; the seats, and what they were told.
+//! A session that threads share under one lock. Each call of `Hub` is one call of the `Ledger` under
+//! it, which alone makes answers and trails.
 //!
 //! A program names the hub's ledger once, where it calls a function that is generic in it:
 //! `serve::<Brand, _>(rt, alloc, Blank::new(seats), owner, ..)` with `fn serve<L: Begun + Send +

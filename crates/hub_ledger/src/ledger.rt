@@ -134,7 +134,8 @@ impl<L: Begun> Ledger<L> {
         ensures err { IfErr result (λ fault. fault ≡ NoMemory) }
     {
         let (book, share) = blank.open::<L>();
-        let (edition, owner) = (session.edition(), session.owner());
+        let edition = session.edition();
+        let owner = session.owner();
         let filed = FiledSession::new(alloc, edition, owner, session, seats)?;
         let made = make_seats(alloc, share, seats)?;
         Ok((Ledger { filed, book }, made))
