@@ -40,4 +40,5 @@ number_at (r ∷ rest) s t n (suc k) before is at =
 
 pub numbered : (all rest : List Sitting) (s : Sitting) → all ≡ rest ++ s ∷ [] → AreNumbered rest → s.number ≡ length rest → AreNumbered all
 numbered all rest s is before number k t at =
-    number_at rest s t 0 k before number (ap (λ (x : List Sitting). slice_get x k) (sym is) ∙ at)
+    let here = number_at rest s t 0 k (λ j u h. let b = before j u h in omega (arith, b)) (omega (arith, number)) (ap (λ (x : List Sitting). slice_get x k) (sym is) ∙ at) in
+    omega (arith, here)

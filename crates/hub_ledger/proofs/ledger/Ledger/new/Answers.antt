@@ -19,9 +19,9 @@ so_made : (s : State) (session : Session) (e edition : Edition) (o owner : UserI
 so_made s session e edition o owner seats same own is =
     is ∙ ap (λ (x : Edition). begun_with session x o seats) same ∙ ap (λ (x : UserId). begun_with session edition x seats) own
 
-pub new-filed-requires : goal.new-filed-requires
-new-filed-requires g c =
-    so_begun c.args.session _ g.L.Begun.edition _ g.L.Begun.owner (c.edition.ensures _ c.requires.fresh) (c.owner.ensures _ c.requires.fresh) c.requires.fresh
+pub new-requires : goal.new-requires
+new-requires g c =
+    so_begun c.args.session _ g.L.Begun.edition _ g.L.Begun.owner (c.edition-edition.ensures _ c.requires.fresh) (c.owner-owner.ensures _ c.requires.fresh) c.requires.fresh
 
 pub invariant_of-result : goal.invariant_of-result
 invariant_of-result g c =
@@ -33,13 +33,13 @@ invariant_of-result g c =
       sym (length-map c.in_ok-filed.filed.waiting.lists.items (λ (v : Vec Effect Global). v.items)) ∙ ap (λ (s : State). length s.waiting) is ∙ length-replicate c.args.seats _ ∙ c.requires.parts.1,
       ap (λ (s : State). length s.marks) is ∙ length-replicate c.args.seats _ ∙ c.requires.parts.1,
       (let some = c.requires.seats.0 in omega (arith, some, c.requires.parts.1)),
-      ap (λ (s : State). s.trail.edition) is ∙ c.edition.ensures _ c.requires.fresh,
-      ap (λ (s : State). s.trail.owner) is ∙ c.owner.ensures _ c.requires.fresh,
+      ap (λ (s : State). s.trail.edition) is ∙ c.edition-edition.ensures _ c.requires.fresh,
+      ap (λ (s : State). s.trail.owner) is ∙ c.owner-owner.ensures _ c.requires.fresh,
     )
 
 pub returns-clause-state : goal.returns-clause-state
 returns-clause-state g c =
-    so_made _ c.args.session _ g.L.Begun.edition _ g.L.Begun.owner c.args.seats (c.edition.ensures _ c.requires.fresh) (c.owner.ensures _ c.requires.fresh) c.in_ok-filed.ensures.state
+    so_made _ c.args.session _ g.L.Begun.edition _ g.L.Begun.owner c.args.seats (c.edition-edition.ensures _ c.requires.fresh) (c.owner-owner.ensures _ c.requires.fresh) c.in_ok-filed.ensures.state
 
 pub returns-clause-seats : goal.returns-clause-seats
 returns-clause-seats g c = c.in_ok-made.ensures.seats
