@@ -1,79 +1,64 @@
-//! A session that threads share under one lock: the session, its trail, and what waits for each
-//! seat of clients and windows; the seats, and what they were told.
+//! A session that threads share under one lock. Each call of `Hub` is one call of the `Ledger` under
+//! it, which alone makes answers and trails.
 //!
 //! A program names the hub's ledger once, where it calls a function that is generic in it:
-//! `serve::<Brand, _>(rt, alloc, Blank::new(seats), ..)` with `fn serve<L: Roll + Send + Sync, R:
-//! ..>` that requires `(blank.name ≡ L.name) × (blank.parts ≡ L.parts)`; its `Invariants.antt` says
-//! `ghosts-serve g a = record { name = a.blank.name; parts = a.blank.parts }`.
+//! `serve::<Brand, _>(rt, alloc, Blank::new(seats), owner, ..)` with `fn serve<L: Begun + Send +
+//! Sync, R: ..>` that requires `(blank.name ≡ L.name) × (blank.parts ≡ L.parts)` and `(L.edition ≡
+//! Second) × (L.owner ≡ owner)`; its `Invariants.antt` says
+//! `ghosts-serve-L-Ledger g a = record { name = a.blank.name; parts = a.blank.parts }` and
+//! `ghosts-serve-L-Begun g a = record { edition = Second; owner = a.owner }`.
 #![tactic(auto)]
-
-mod answer;
-mod checking;
-mod closing;
-mod entries;
-mod filed_session;
-mod laws;
-mod ledger;
-mod prepared;
-mod seat;
-mod trail;
 
 ghost use Rattle.std.specs.Prelude.{◌≡◌, ◌↔◌, ◌<◌, ◌≤◌, length, IfOk, IfErr, OnErr, None, []};
 ghost use Rattle.session_model.specs.Trace.{begun, happening};
 ghost use Rattle.hub_trail.specs.Legal.{IsLegal};
-ghost use Rattle.hub.specs.Closing.{AreThere, IsFirstWrong, receipts_of};
-ghost use Rattle.hub.specs.Seats.{Answers, NoneAsks, StandsFor};
-ghost use Rattle.hub.specs.declared.answer.HubFault.TheVariants.{NoMemory};
+ghost use Rattle.hub_ledger.specs.Closing.{AreThere, IsFirstWrong, receipts_of};
+ghost use Rattle.hub_ledger.specs.Seats.{Answers, AreNumbered, NoneAsks, StandsFor};
+ghost use Rattle.hub_ledger.specs.declared.answer.HubFault.TheVariants.{NoMemory};
 
-use acl::{Edition, UserId};
-pub use answer::{Answer, HubFault};
-pub use checking::check_trail;
-pub use hub_check::CheckFault;
-pub use hub_record::{Filed, KeptEvent, Receipt, Receipts};
-pub use laws::kept_trails_are_legal;
-pub use ledger::FULL;
-use ledger::Ledger;
-pub use seat::Seat;
-pub use session_core::Session;
+use hub_ledger::Ledger;
+pub use hub_ledger::{
+    Answer, Begun, CheckFault, FULL, Filed, HubFault, KeptEvent, Receipt, Receipts, Seat, Session,
+    Trail, check_trail, kept_trails_are_legal,
+};
 use session_model::{Effect, Event};
 use std::alloc::Global;
-use std::sync::ledger::{Blank, Ledger as Roll};
+use std::sync::ledger::Blank;
 use std::sync::{Mutex, Wait};
-pub use trail::Trail;
 
 /// A session that threads share.
-pub struct Hub<L: Roll> {
+pub struct Hub<L: Begun> {
     ledger: Mutex<Ledger<L>>,
 }
 
-impl<L: Roll> Drop for Hub<L> {
+impl<L: Begun> Drop for Hub<L> {
     fn drop(self) {
         let Hub { ledger: _ } = self;
     }
 }
 
-impl<L: Roll> Hub<L> {
-    /// A hub of a session of this edition and owner that has taken no event, and its 1 to 8 seats.
-    /// Where memory is refused, the one refusal, the session is dropped.
+impl<L: Begun> Hub<L> {
+    /// A hub of a session that has taken no event, and its 1 to 8 seats. Where memory is refused,
+    /// the one refusal, the session is dropped.
     pub fn new(
         alloc: Global,
         blank: Blank,
-        edition: Edition,
-        owner: UserId,
         session: Session,
         seats: usize,
     ) -> Result<(Hub<L>, Vec<Seat<L>>), HubFault>
         requires name { blank.name ≡ L.name }
         requires parts { (blank.parts ≡ L.parts) × (seats ≡ L.parts) }
         requires seats { (0 < seats) × (seats ≤ 8) }
-        requires fresh { StandsFor (begun edition owner) session }
+        requires fresh { StandsFor (begun L.edition L.owner) session }
         ensures seats { IfOk result (λ made. (length made.1.items ≡ L.parts)
             × (receipts_of made.1.items ≡ [])) }
+        // No two seats have one number.
+        ensures numbers { IfOk result (λ made. AreNumbered made.1.items) }
         // A seat asks for entries only where it is told to.
         ensures asks { IfOk result (λ made. NoneAsks made.1.items) }
         ensures err { IfErr result (λ fault. fault ≡ NoMemory) }
     {
-        let (ledger, seats) = Ledger::new(alloc, blank, edition, owner, session, seats)?;
+        let (ledger, seats) = Ledger::new(alloc, blank, session, seats)?;
         Ok((
             Hub {
                 ledger: Mutex::new(ledger),
@@ -106,6 +91,8 @@ impl<L: Roll> Hub<L> {
     /// The trail, and the least place that isn't, with its event and reply, in just one receipt of
     /// these seats. It takes no memory.
     pub fn close(self, seats: Vec<Seat<L>>) -> (Trail, Option<usize>)
+        // It is the trail of the session that the hub began with.
+        ensures begun { (result.0.edition ≡ L.edition) × (result.0.owner ≡ L.owner) }
         // The trail is a legal history of one thread.
         ensures legal { IsLegal result.0 }
         // Where all seats are handed back, they hold as many receipts as the trail has entries.

@@ -1,7 +1,7 @@
 //! Entries, and a trail of them.
 
 use hub_record::{Filed, KeptEvent, KeptReply, Roll, Slip};
-use session_model::{Done, Event, Refusal, Reply};
+use session_model::{Done, Event, Refusal, Reply, Verdict};
 use std::alloc::{AllocError, Global};
 
 fn slip(alloc: Global, event: Event<'_>) -> Result<Slip, AllocError> {
@@ -31,6 +31,17 @@ pub fn keys(place: usize) -> Event<'static> {
 /// The entry of an event.
 pub fn entry(alloc: Global, event: Event<'_>) -> Result<Filed, AllocError> {
     Ok(slip(alloc, event)?.into_entry())
+}
+
+/// The entry of an event with these verdicts, which has no acts.
+pub fn entry_with(
+    alloc: Global,
+    event: Event<'_>,
+    verdicts: Vec<Verdict>,
+) -> Result<Filed, AllocError> {
+    let mut made = slip(alloc, event)?;
+    made.verdicts = verdicts;
+    Ok(made.into_entry())
 }
 
 /// A trail of so many keys.

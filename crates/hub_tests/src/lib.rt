@@ -1,6 +1,6 @@
 //! Tests of the hub and of a trail's file: threads that share a hub, what a seat is answered and
-//! takes; a file that is slow, one that refuses writes, how much may wait, and files that aren't
-//! the trail's.
+//! takes, and whether its trail is legal; a file that is slow, one that refuses writes, how much may
+//! wait, and files that aren't the trail's.
 #![tactic(auto)]
 
 #[cfg(test)]
@@ -8,11 +8,17 @@ mod compare;
 #[cfg(test)]
 mod disk;
 #[cfg(test)]
+mod editions;
+#[cfg(test)]
 mod entries;
 #[cfg(test)]
 mod files;
 #[cfg(test)]
+mod fresh;
+#[cfg(test)]
 mod many;
+#[cfg(test)]
+mod side;
 #[cfg(test)]
 mod stops;
 #[cfg(test)]

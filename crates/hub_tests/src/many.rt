@@ -3,15 +3,16 @@
 //! reply, and each step but a Draw marks both seats.
 
 ghost use Rattle.std.specs.Prelude.{◌≡◌, ◌≤◌};
+ghost use Rattle.acl.specs.declared.edition.Edition.TheVariants.{Second};
 
 use crate::compare::{are_same, is_same_reply, parts_of};
-use acl::{Edition, UserId};
-use hub::{Hub, Seat, Session};
+use acl::UserId;
+use hub::{Begun, Hub, Seat, Session};
 use session_model::{Effect, Event, Reply};
 use std::alloc::Global;
 use std::marker::Brand;
 use std::sync::Wait;
-use std::sync::ledger::{Blank, Ledger as Roll};
+use std::sync::ledger::Blank;
 
 /// How many turns there are.
 const TURNS: u32 = 50;
@@ -131,7 +132,7 @@ fn kinds_of(taken: &[Effect], made: &[Effect], is_second: bool) -> Option<u8> {
 
 /// The kinds of effects that both seats take, if these are what the session made for each, and both
 /// are marked or neither is.
-fn taken<L: Roll, R: Wait>(
+fn taken<L: Begun, R: Wait>(
     rt: &R,
     hub: &Hub<L>,
     seats: &mut [Seat<L>],
@@ -152,7 +153,7 @@ fn taken<L: Roll, R: Wait>(
 
 /// How many entries an event writes, none or one, if it is answered by this reply. Where the seat
 /// asks for its entry the answer has it.
-fn entries_of<L: Roll, R: Wait>(
+fn entries_of<L: Begun, R: Wait>(
     rt: &R,
     hub: &Hub<L>,
     seat: &mut Seat<L>,
@@ -170,21 +171,21 @@ fn entries_of<L: Roll, R: Wait>(
 
 /// A hub with two seats, and a session that runs what they submit.
 #[derive(Drop)]
-struct Pair<L: Roll> {
+struct Pair<L: Begun> {
     hub: Hub<L>,
     seats: Vec<Seat<L>>,
     twin: Session,
 }
 
 /// The second seat asks for its entries.
-fn begin<L: Roll>(alloc: Global, blank: Blank, owner: UserId) -> Option<Pair<L>>
-    requires { (blank.name ≡ L.name) × (blank.parts ≡ L.parts) × (blank.parts ≡ 2) }
+fn begin<L: Begun>(alloc: Global, blank: Blank, owner: UserId) -> Option<Pair<L>>
+    requires blank { (blank.name ≡ L.name) × (blank.parts ≡ L.parts) × (blank.parts ≡ 2) }
+    requires begun { (L.edition ≡ Second) × (L.owner ≡ owner) }
 {
     let Ok(session) = Session::new(alloc, owner) else {
         return None;
     };
-    let Ok((hub, mut seats)) = Hub::<L>::new(alloc, blank, Edition::Second, owner, session, 2)
-    else {
+    let Ok((hub, mut seats)) = Hub::<L>::new(alloc, blank, session, 2) else {
         return None;
     };
     seats.get_mut(1)?.ask_for_entries();
@@ -200,7 +201,7 @@ struct Counted {
 }
 
 /// A step by one of the seats, which the session does beside it.
-fn step<L: Roll, R: Wait>(
+fn step<L: Begun, R: Wait>(
     rt: &R,
     alloc: Global,
     pair: &mut Pair<L>,
@@ -219,7 +220,7 @@ fn step<L: Roll, R: Wait>(
 }
 
 /// All steps.
-fn all_steps<L: Roll, R: Wait>(
+fn all_steps<L: Begun, R: Wait>(
     rt: &R,
     alloc: Global,
     pair: &mut Pair<L>,
@@ -243,10 +244,16 @@ fn all_steps<L: Roll, R: Wait>(
 
 /// Whether the seats take what the session made over all steps, effects of all kinds, and the trail
 /// has the entries that were written.
-fn is_thousand_right<L: Roll, R: Wait>(rt: &R, alloc: Global, blank: Blank) -> Option<bool>
-    requires { (blank.name ≡ L.name) × (blank.parts ≡ L.parts) × (blank.parts ≡ 2) }
+fn is_thousand_right<L: Begun, R: Wait>(
+    rt: &R,
+    alloc: Global,
+    blank: Blank,
+    owner: UserId,
+) -> Option<bool>
+    requires blank { (blank.name ≡ L.name) × (blank.parts ≡ L.parts) × (blank.parts ≡ 2) }
+    requires begun { (L.edition ≡ Second) × (L.owner ≡ owner) }
 {
-    let (owner, bob) = (UserId::of(b"root")?, UserId::of(b"bob")?);
+    let bob = UserId::of(b"bob")?;
     let mut pair = begin::<L>(alloc, blank, owner)?;
     let counted = all_steps(rt, alloc, &mut pair, owner, bob)?;
     let Pair {
@@ -260,6 +267,9 @@ fn is_thousand_right<L: Roll, R: Wait>(rt: &R, alloc: Global, blank: Blank) -> O
 
 #[test]
 fn seats_take_what_the_session_made(rt: HostRuntime) {
-    let is_right = is_thousand_right::<Brand, _>(&rt, rt.alloc(), Blank::new(2));
+    let Some(owner) = UserId::of(b"root") else {
+        panic!(rt; "a name")
+    };
+    let is_right = is_thousand_right::<Brand, _>(&rt, rt.alloc(), Blank::new(2), owner);
     assert!(rt; is_right == Some(true));
 }

@@ -1,21 +1,22 @@
-//! Two threads that submit commands by one hub.
+//! Four threads that submit commands by one hub.
 
 ghost use Rattle.std.specs.Prelude.{◌≡◌};
+ghost use Rattle.acl.specs.declared.edition.Edition.TheVariants.{Second};
 
-use acl::{Edition, UserId};
-use hub::{Hub, Seat, Session};
+use acl::UserId;
+use hub::{Begun, Hub, Seat, Session};
 use session_model::Event;
 use std::alloc::Global;
 use std::marker::Brand;
 use std::sync::Wait;
-use std::sync::ledger::{Blank, Ledger as Roll};
+use std::sync::ledger::Blank;
 use std::thread::{Threads, join};
 
 /// How many commands each thread submits.
-const EACH: usize = 1_000;
+const EACH: usize = 500;
 
 /// Submits so many commands, and takes what waits. Whether each was answered as it should.
-fn work<L: Roll, R: Wait>(rt: &R, hub: &Hub<L>, seat: &mut Seat<L>, user: UserId) -> bool {
+fn work<L: Begun, R: Wait>(rt: &R, hub: &Hub<L>, seat: &mut Seat<L>, user: UserId) -> bool {
     for i in 0..EACH {
         let event = Event::Command {
             user,
@@ -38,36 +39,51 @@ fn work<L: Roll, R: Wait>(rt: &R, hub: &Hub<L>, seat: &mut Seat<L>, user: UserId
     true
 }
 
-/// How many entries the trail has, if each has its receipt and all were answered.
-fn both<L: Roll + Send + Sync, R: Threads + Wait + Sync>(
+/// Whether two threads, each with a seat of its own, are answered as they should.
+fn are_answered<L: Begun + Send + Sync, R: Threads + Wait + Sync>(
+    rt: &R,
+    hub: &Hub<L>,
+    first: &mut Seat<L>,
+    second: &mut Seat<L>,
+    user: UserId,
+) -> bool {
+    let (is_first, is_second) = join(
+        rt,
+        || work(rt, hub, first, user),
+        || work(rt, hub, second, user),
+    );
+    is_first && is_second
+}
+
+/// How many entries the trail of four threads has, if each has its receipt and all were answered.
+fn four<L: Begun + Send + Sync, R: Threads + Wait + Sync>(
     rt: &R,
     alloc: Global,
     blank: Blank,
     owner: UserId,
 ) -> Option<usize>
-    requires { (blank.name ≡ L.name) × (blank.parts ≡ L.parts) × (blank.parts ≡ 2) }
+    requires blank { (blank.name ≡ L.name) × (blank.parts ≡ L.parts) × (blank.parts ≡ 4) }
+    requires begun { (L.edition ≡ Second) × (L.owner ≡ owner) }
 {
-    let Ok(session) = Session::new(alloc, owner) else {
-        return None;
-    };
-    let Ok((hub, mut seats)) = Hub::<L>::new(alloc, blank, Edition::Second, owner, session, 2)
-    else {
-        return None;
-    };
+    let session = Session::new(alloc, owner).ok()?;
+    let (hub, mut seats) = Hub::<L>::new(alloc, blank, session, 4).ok()?;
     let (Some(mut a), Some(mut b)) = (seats.pop(), seats.pop()) else {
         return None;
     };
+    let (Some(mut c), Some(mut d)) = (seats.pop(), seats.pop()) else {
+        return None;
+    };
     let shared = &hub;
-    let (is_first_answered, is_second_answered) = join(
+    let (is_first, is_second) = join(
         rt,
-        || work(rt, shared, &mut a, owner),
-        || work(rt, shared, &mut b, owner),
+        || are_answered(rt, shared, &mut a, &mut b, owner),
+        || are_answered(rt, shared, &mut c, &mut d, owner),
     );
-    for seat in [a, b] {
+    for seat in [a, b, c, d] {
         seats.push(seat).ok()?;
     }
     let (trail, wrong) = hub.close(seats);
-    if !is_first_answered || !is_second_answered || wrong.is_some() {
+    if !is_first || !is_second || wrong.is_some() {
         return None;
     }
     Some(trail.len())
@@ -78,6 +94,6 @@ fn each_entry_has_its_receipt(rt: HostRuntime) {
     let Some(owner) = UserId::of(b"root") else {
         panic!(rt; "a name")
     };
-    let entries = both::<Brand, _>(&rt, rt.alloc(), Blank::new(2), owner);
-    assert_eq!(rt; entries, Some(2 * EACH));
+    let entries = four::<Brand, _>(&rt, rt.alloc(), Blank::new(4), owner);
+    assert_eq!(rt; entries, Some(4 * EACH));
 }

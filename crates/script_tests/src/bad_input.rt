@@ -2,7 +2,7 @@
 
 use crate::judging::is_wanted;
 use crate::playing::{arguments, play};
-use session::{Asked, simulate};
+use session::{Asked, simulate_behind};
 use std::alloc::{AllocError, Global};
 use std::io::{Read, Write};
 use std::{io, str};
@@ -234,7 +234,7 @@ fn is_torn(alloc: Global, asked: Asked) -> bool {
     let mut output = Vec::new(alloc);
     let mut errors = Vec::new(alloc);
     let torn = Torn { bytes: SCRIPT };
-    simulate(alloc, asked, torn, &mut output, &mut errors) == 1
+    simulate_behind(alloc, asked, torn, &mut output, &mut errors) == 1
         && output.as_slice() == b"opened 0 0\n".as_slice()
         && errors.starts_with(b"muxsim: ")
 }
@@ -242,7 +242,7 @@ fn is_torn(alloc: Global, asked: Asked) -> bool {
 /// Whether a writer that fails is told of.
 fn is_full(alloc: Global, asked: Asked) -> bool {
     let mut errors = Vec::new(alloc);
-    simulate(alloc, asked, SCRIPT, &mut Full, &mut errors) == 1 && errors.starts_with(b"muxsim: ")
+    simulate_behind(alloc, asked, SCRIPT, &mut Full, &mut errors) == 1 && errors.starts_with(b"muxsim: ")
 }
 
 fn are_failures_told(alloc: Global) -> bool {

@@ -1,6 +1,6 @@
 //! Plays a script.
 
-use session::{Asked, simulate};
+use session::{Asked, simulate_behind};
 use std::alloc::{AllocError, Global};
 
 /// What a run of the simulator left.
@@ -35,7 +35,7 @@ pub fn play(
         words: &words,
         setup,
     };
-    let status = simulate(alloc, asked, script, &mut output, &mut errors);
+    let status = simulate_behind(alloc, asked, script, &mut output, &mut errors);
     Ok(Played {
         output,
         errors,

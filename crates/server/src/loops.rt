@@ -1,14 +1,13 @@
 //! The loops of a server, each in a thread of the session's.
 
 use server_loop::{End, Gate};
-use server_session::{LoopBody, Recorder, Seat, Seated, SharedSession, Trail};
+use server_session::{Begun as Roll, LoopBody, Recorder, Seat, Seated, SharedSession, Trail};
 use server_sockets::{Common, LoopStart, run_loop};
 use server_system::{Setup, UsersSource};
 use server_trail::{Cause, Journal};
 use std::alloc::Global;
 use std::rt::Stderr;
 use std::sync::Wait;
-use std::sync::ledger::Ledger as Roll;
 use std::time::Clock;
 
 // What the last line of the trail's file says of the end; none where a fault leaves it without one.

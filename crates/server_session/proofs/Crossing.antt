@@ -3,6 +3,7 @@ use denote.RattleType.{RattleType}
 use denote.Param.Send.{IsSync}
 use denote.Param.SendFields.{declared_sync}
 use Rattle.std.specs.declared.sync.ledger.Ledger.{Ghosts}
+use Rattle.hub_ledger.specs.declared.begun.Begun.{Ghosts as Beginnings}
 use Rattle.hub.proofs.Crossing.{hub_sync, seats_sync}
 use denote.Param.Send.{sendable}
 use Rattle.std.proofs.Crossing.{crosses}
@@ -11,8 +12,8 @@ use Rattle.server_trail.proofs.recorder.Recorder.TheSendSync as recorder
 use Rattle.server_session.specs.contracts.shared_session.SharedSession as SharedSession
 use Rattle.server_session.specs.contracts.loop_body.Kept as Kept
 
-pub session_sync : (L : RattleType) (g : Ghosts L.Denot) → IsSync (SharedSession.the_row L g)
-session_sync L g = declared_sync (SharedSession.the_type L g) (hub_sync L g, (users.the_sync, (search (recorder.the_sync, sendable, crosses) depth 60, tt)))
+pub session_sync : (L : RattleType) (b : Beginnings L.Denot) (g : Ghosts L.Denot) → IsSync (SharedSession.the_row L b g)
+session_sync L b g = declared_sync (SharedSession.the_type L b g) (hub_sync L b g, (users.the_sync, (search (recorder.the_sync, sendable, crosses) depth 60, tt)))
 
-pub kept_sync : (L : RattleType) (g : Ghosts L.Denot) → IsSync (Kept.the_row L g)
-kept_sync L g = declared_sync (Kept.the_type L g) (session_sync L g, (seats_sync L g, tt))
+pub kept_sync : (L : RattleType) (b : Beginnings L.Denot) (g : Ghosts L.Denot) → IsSync (Kept.the_row L b g)
+kept_sync L b g = declared_sync (Kept.the_type L b g) (session_sync L b g, (seats_sync L g, tt))

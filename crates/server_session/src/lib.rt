@@ -7,7 +7,7 @@ mod seated;
 mod setting_up;
 mod shared_session;
 
-pub use hub::{Seat, Trail};
+pub use hub::{Begun, Seat, Trail};
 pub use loop_body::{LoopBody, LoopsFault, Start, keep};
 pub use seated::Seated;
 pub use server_trail::Recorder;

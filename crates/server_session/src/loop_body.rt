@@ -1,17 +1,18 @@
 //! The loops that share a session, each in a thread.
 
 ghost use Rattle.std.specs.Prelude.{◌≡◌, ◌<◌, ◌≤◌};
+ghost use Rattle.acl.specs.declared.edition.Edition.TheVariants.{Second};
 
 use crate::setting_up::set_up;
 use crate::shared_session::SharedSession;
-use acl::{Edition, UserId};
-use hub::{Hub, Seat, Session, Trail};
+use acl::UserId;
+use hub::{Begun as Roll, Hub, Seat, Session, Trail};
 use server_trail::Recorder;
 use server_users::Users;
 use setup_lines::SetupFault;
 use std::alloc::{AllocError, Global};
 use std::marker::Brand;
-use std::sync::ledger::{Blank, Ledger as Roll};
+use std::sync::ledger::Blank;
 use std::sync::{Mutex, Wait};
 use std::thread::Threads;
 use std::time::Clock;
@@ -156,14 +157,15 @@ fn begin<L: Roll>(
     owner: UserId,
     loops: usize,
 ) -> Result<(Hub<L>, Vec<Seat<L>>), LoopsFault>
-    requires { (blank.name ≡ L.name) × (blank.parts ≡ L.parts) × (loops ≡ L.parts)
+    requires blank { (blank.name ≡ L.name) × (blank.parts ≡ L.parts) × (loops ≡ L.parts)
         × (0 < loops) × (loops ≤ 8) }
+    requires begun { (L.edition ≡ Second) × (L.owner ≡ owner) }
 {
     // A new session and a new hub are refused for want of memory alone.
     let Ok(session) = Session::new(alloc, owner) else {
         return Err(LoopsFault::NoMemory);
     };
-    match Hub::<L>::new(alloc, blank, Edition::Second, owner, session, loops) {
+    match Hub::<L>::new(alloc, blank, session, loops) {
         Ok(begun) => Ok(begun),
         Err(_) => Err(LoopsFault::NoMemory),
     }
@@ -190,10 +192,11 @@ where
     Some(recorder)
 }
 
-// For how many loops a session is made: a blank of as many parts.
+// For which owner and how many loops a session is made: a blank of as many parts.
 #[derive(Drop)]
 struct Parts {
     blank: Blank,
+    owner: UserId,
     loops: usize,
 }
 
@@ -212,16 +215,21 @@ where
     B: FnOnce() -> io::Result<()>,
     requires blank { (parts.blank.name ≡ L.name) × (parts.blank.parts ≡ L.parts)
         × (parts.loops ≡ L.parts) × (0 < parts.loops) × (parts.loops ≤ 8) }
+    requires session { (L.edition ≡ Second) × (L.owner ≡ parts.owner) }
     requires begun { B.IsAlwaysCallable begun }
 {
-    let Parts { blank, loops } = parts;
+    let Parts {
+        blank,
+        owner,
+        loops,
+    } = parts;
     let Start {
         alloc,
         users,
         places,
     } = start;
     let left = Mutex::new(Vec::with_capacity(alloc, loops)?);
-    let (hub, mut seats) = begin::<L>(alloc, blank, users.owner(), loops)?;
+    let (hub, mut seats) = begin::<L>(alloc, blank, owner, loops)?;
     let recorder = recorder::<L, P, K, R>(rt, alloc, seats.as_mut_slice(), loop_body);
     let shared = SharedSession {
         hub,
@@ -266,7 +274,10 @@ where
     requires { B.IsAlwaysCallable begun }
 {
     let loops = start.places.len().clamp(1, MOST);
-    let blank = Blank::new(loops as u64);
-    let parts = Parts { blank, loops };
+    let parts = Parts {
+        blank: Blank::new(loops as u64),
+        owner: start.users.owner(),
+        loops,
+    };
     keep_as::<Brand, P, K, R, B>(rt, parts, start, loop_body, begun)
 }

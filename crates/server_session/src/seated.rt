@@ -1,12 +1,11 @@
 //! A loop's seat in the session that it shares.
 
 use crate::shared_session::SharedSession;
-use hub::{FULL, HubFault, Seat};
+use hub::{Begun as Roll, FULL, HubFault, Seat};
 use server_connections::{Answer, SeatFault, SessionSeat};
 use server_users::Users;
 use session_model::{Effect, Event};
 use std::sync::Wait;
-use std::sync::ledger::Ledger as Roll;
 use std::time::Clock;
 
 // At so many hundredths of the trail's most entries there is news.

@@ -2,12 +2,11 @@
 
 use crate::loop_body::LoopsFault;
 use crate::shared_session::SharedSession;
-use hub::Seat;
+use hub::{Begun as Roll, Seat};
 use session_model::Event;
 use setup_lines::{SetupLine, read_setup};
 use std::alloc::Global;
 use std::sync::Wait;
-use std::sync::ledger::Ledger as Roll;
 
 // Submits a line as a Command of the owner. There is no peer to which it could do something.
 fn give<L: Roll, R: Wait>(

@@ -1,11 +1,10 @@
 //! What the loops share.
 
-use hub::{Answer, Hub, HubFault, Seat};
+use hub::{Answer, Begun as Roll, Hub, HubFault, Seat};
 use server_trail::Recorder;
 use server_users::Users;
 use session_model::Event;
 use std::sync::Wait;
-use std::sync::ledger::Ledger as Roll;
 
 /// The session that the loops share, who may connect, and where its trail is written down.
 #[derive(Drop)]

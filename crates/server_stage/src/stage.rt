@@ -8,10 +8,11 @@ use crate::stop::Stop;
 use crate::streams::{Habit, Near};
 use hub_record::{Filed, KeptRef};
 use server_loop::{Gate, Loop, SessionSeat};
-use server_session::{LoopBody, LoopsFault, Seat, Seated, SharedSession, Start, Trail, keep};
+use server_session::{
+    Begun as Roll, LoopBody, LoopsFault, Seat, Seated, SharedSession, Start, Trail, keep,
+};
 use server_users::{Users, UsersFault};
 use std::alloc::Global;
-use std::sync::ledger::Ledger as Roll;
 use std::sync::{Mutex, Wait};
 use std::thread::Threads;
 use std::time::{Clock, Duration};

@@ -1,21 +1,23 @@
 //! The simulator: plays a script of events over a session.
 
-ghost use Rattle.std.specs.Prelude.{◌≡◌, Bool, map};
+ghost use Rattle.std.specs.Prelude.{◌≡◌, ℕ, Bool, List, map};
 ghost use Rattle.std.specs.String.{string_bytes};
 ghost use Rattle.acl.specs.declared.edition.Edition.{Edition as Groups};
 ghost use Rattle.acl.specs.declared.user_id.UserId.{UserId as Owner};
 ghost use Rattle.clap.specs.Words.{kind_of};
-ghost use Rattle.session.specs.Words.{Asks, Simulates};
+ghost use Rattle.session.specs.Words.{Asks, MayHave, Simulates};
 
 use crate::fault::Fault;
 use crate::player::play;
+use crate::setup::{SetupUnread, setup_of};
 use crate::words::{edition_of, owner_of, read_words};
 use clap::Error;
 use clap::error::ErrorKind;
 use program_words::RefusedLine;
-use session_setup::{Beginning, Unbegun, trail_of};
+use session_setup::{Beginning, Unbegun};
 use setup_lines::{SetupFault, SetupLine, read_setup};
-use std::alloc::{AllocError, Global};
+use std::alloc::Global;
+use std::fs::Files;
 use std::io::{Read, Write};
 use std::str;
 
@@ -28,11 +30,44 @@ pub struct Asked<'a> {
     pub setup: &'a [u8],
 }
 
-/// Plays the script on the reader, one event a line, behind the commands of the setup, and writes
-/// its effects and answers. Gives the status to exit with: 0; 1 for a line that isn't understood, a
-/// line of the setup that is refused, or another fault; 2 where the words aren't understood or the
-/// owner is no name.
-pub fn simulate<R: Read + Drop, W: Write, E: Write>(
+/// Plays the script on the reader, one event a line, and writes its effects and answers. First the
+/// owner gives the commands of the file that the words name behind `--setup`. Gives the status to
+/// exit with: 0; 1 for a line that isn't understood, a setup that isn't read or whose line is
+/// refused, or another fault; 2 where the words aren't understood or the owner is no name.
+pub fn simulate<H, R, W, E>(
+    rt: &H,
+    words: &[String],
+    reader: R,
+    writer: &mut W,
+    errors: &mut E,
+) -> u8
+where
+    H: Files + AllocGlobal,
+    R: Read + Drop,
+    W: Write,
+    E: Write,
+    // Words that are understood have the whole script played behind what the setup's file has,
+    // unless the status tells of a fault.
+    ensures { (groups : Groups) (name : Owner) (shows : Bool)
+        → Asks (map string_bytes words.entry.now) groups name shows
+        → (setup : List ℕ) × MayHave (map string_bytes words.entry.now) setup
+        × Simulates groups name shows setup (R.remaining reader) result
+        (W.contents writer.old) (W.contents writer.new) }
+{
+    match setup_of(rt, words) {
+        Ok(setup) => {
+            let asked = Asked {
+                words,
+                setup: setup.as_slice(),
+            };
+            simulate_behind(rt.alloc(), asked, reader, writer, errors)
+        }
+        Err(fault) => report_unread(&fault, errors),
+    }
+}
+
+/// Plays a script as `simulate` does, behind the commands of a setup that has been read.
+pub fn simulate_behind<R: Read + Drop, W: Write, E: Write>(
     alloc: Global,
     asked: Asked,
     reader: R,
@@ -74,22 +109,6 @@ pub fn simulate<R: Read + Drop, W: Write, E: Write>(
     }
 }
 
-/// The file of the trail that the session has which `simulate` plays: none where it plays none.
-pub fn recorded(alloc: Global, asked: Asked, script: &[u8]) -> Result<Option<Vec<u8>>, AllocError> {
-    let Ok(matches) = read_words(alloc, asked.words) else {
-        return Ok(None);
-    };
-    let (Some(owner), Ok(setup)) = (owner_of(&matches), read_setup(alloc, asked.setup)) else {
-        return Ok(None);
-    };
-    let beginning = Beginning {
-        edition: edition_of(&matches),
-        owner,
-        setup: &setup,
-    };
-    trail_of(alloc, &beginning, script)
-}
-
 /// The text of the line of a setup that has this number.
 fn line_of<'a>(setup: &[SetupLine<'a>], number: usize) -> &'a str {
     match setup.iter().find(|line| line.number == number) {
@@ -111,6 +130,14 @@ fn report_unbegun<E: Write>(file: &str, setup: &[SetupLine], fault: &Unbegun, er
         said: str::from_utf8(said).unwrap_or(""),
     };
     let _ = writeln!(errors, "muxsim: setup {file}: {line}");
+    1
+}
+
+/// Writes why a setup isn't read, and gives the status to exit with.
+fn report_unread<E: Write>(fault: &SetupUnread, errors: &mut E) -> u8
+    ensures { result ≡ 1 }
+{
+    let _ = writeln!(errors, "muxsim: {fault}");
     1
 }
 

@@ -203,6 +203,20 @@ impl Session {
         }
     }
 
+    /// How many groups its users may be in. It never changes.
+    pub fn edition(&self) -> Edition
+        ensures { (h : Trace) → StandsFor h self.now → result ≡ (tables_of h).edition }
+    {
+        self.state.acl.edition()
+    }
+
+    /// The session's owner.
+    pub fn owner(&self) -> UserId
+        ensures { (h : Trace) → StandsFor h self.now → result ≡ (tables_of h).owner }
+    {
+        self.state.acl.owner()
+    }
+
     /// A session of an edition that has taken no event.
     fn of(alloc: Global, owner: UserId, edition: Edition) -> Result<Session, Refusal>
         ensures ok { IfOk result (StandsFor (begun edition owner)) }

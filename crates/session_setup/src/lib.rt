@@ -1,8 +1,5 @@
-//! How a session begins, with the commands of its owner's setup; and the trail's file of one whose
-//! script is played.
+//! How a session begins, with the commands of its owner's setup.
 #![tactic(auto)]
-
-mod recorder;
 
 ghost use Rattle.std.specs.Prelude.{◌≡◌, ◌∷◌, [], IfOk, IfErr, OnOk, map};
 ghost use Rattle.setup_lines.specs.Lines.{line_of};
@@ -11,13 +8,11 @@ ghost use Rattle.session_model.specs.Texts.{text_of};
 ghost use Rattle.session_core.specs.Stands.{StandsFor, wants_memory};
 ghost use Rattle.session_setup.specs.Setup.{Behind, Begins, Refuses, StopsAt, IfRefused};
 
-use crate::recorder::Recorder;
 use acl::{Edition, UserId};
 use session_core::{Notes, Session};
-use session_lines::read_event;
 use session_model::{Event, Refusal, Reply};
 use setup_lines::SetupLine;
-use std::alloc::{AllocError, Global};
+use std::alloc::Global;
 
 /// How a session begins.
 #[derive(Clone, Copy, Debug)]
@@ -128,36 +123,4 @@ impl Beginning<'_> {
         set_up(alloc, &mut session, self.owner, self.setup)?;
         Ok(session)
     }
-}
-
-/// The trail's file of a session that begins so and takes the events of a script, one a line, as
-/// far as its lines are events. A script has no clock: all times are 0. None where the session
-/// doesn't begin, a line of its setup being refused.
-pub fn trail_of(
-    alloc: Global,
-    beginning: &Beginning,
-    script: &[u8],
-) -> Result<Option<Vec<u8>>, AllocError> {
-    let mut recorder = Recorder::new(alloc, beginning.edition, beginning.owner)?;
-    for line in beginning.setup {
-        let event = Event::Command {
-            user: beginning.owner,
-            window: None,
-            line: line.text.as_bytes(),
-        };
-        if recorder.step(event)?.is_err() {
-            return Ok(None);
-        }
-    }
-    for line in script.split(|byte| *byte == b'\n') {
-        if line.is_empty() {
-            continue;
-        }
-        let mut text = Vec::new(alloc);
-        let Some(event) = read_event(line, &mut text)? else {
-            break;
-        };
-        recorder.take(event)?;
-    }
-    Ok(Some(recorder.end()?))
 }

@@ -1,4 +1,8 @@
+use Rattle.acl.specs.declared.edition.Edition.TheVariants.{Second}
 use Rattle.hub_tests.proofs.totals.each_entry_has_its_receipt.Given as goal
 
-abbrev pub ghosts-both : goal.ghosts-both
-ghosts-both g a = record { name = a.blank.name; parts = a.blank.parts }
+abbrev pub ghosts-four-L-Ledger : goal.ghosts-four-L-Ledger
+ghosts-four-L-Ledger g a = record { name = a.blank.name; parts = a.blank.parts }
+
+abbrev pub ghosts-four-L-Begun : goal.ghosts-four-L-Begun
+ghosts-four-L-Begun g a = record { edition = Second; owner = a.owner }

@@ -1,0 +1,74 @@
+//! Receipts against the trail.
+
+ghost use Rattle.std.specs.Prelude.{◌≡◌, ◌↔◌, ◌+◌, ◌<◌, ◌≤◌, true, length};
+ghost use Rattle.hub_ledger.specs.Closing.{IsFirstWrong, IsTold, before, receipts_of};
+ghost use Rattle.hub_ledger.specs.declared.ledger.TheConstants.{FULL};
+
+use crate::seat::Seat;
+use hub_record::{Filed, Roll as Entries};
+use std::sync::ledger::{Book, Ledger as Roll};
+
+/// Takes away the receipts of this place and above from all seats. Whether one of them alone names
+/// it, and has the event and the reply of the entry.
+fn strip_all<L: Roll>(
+    book: &mut Book<L>,
+    seats: &mut [Seat<L>],
+    place: usize,
+    entry: &Filed,
+) -> bool
+    requires { place < 4294967296 }
+    ensures rest { receipts_of seats.new ≡ before place (receipts_of seats.old) }
+    ensures total { book.new.total + length (receipts_of seats.old)
+        ≡ book.old.total + length (receipts_of seats.new) }
+    ensures told { (result ≡ true) ↔ IsTold place entry.now (receipts_of seats.old) }
+{
+    let mut named = 0;
+    let mut right = true;
+    'seats: for i in 0..seats.len() {
+        let seat = &mut seats[i];
+        let (times, is_right) = seat.strip(book, place, entry);
+        named += times;
+        right = right && is_right;
+    }
+    named == 1 && right
+}
+
+/// The least place that isn't, with its event and reply, in just one receipt of these seats, which
+/// are taken away.
+pub fn first_wrong<L: Roll>(
+    book: &mut Book<L>,
+    seats: &mut [Seat<L>],
+    entries: &Entries,
+) -> Option<usize>
+    requires { length entries.now.entries ≤ FULL }
+    ensures wrong { IsFirstWrong entries.now.entries (receipts_of seats.old) result }
+    ensures total { book.new.total + length (receipts_of seats.old)
+        ≡ book.old.total + length (receipts_of seats.new) }
+{
+    let mut wrong = None;
+    let mut place = entries.len();
+    'places: while place > 0 {
+        place -= 1;
+        if !strip_all(book, seats, place, entries.at(place)) {
+            wrong = Some(place);
+        }
+    }
+    wrong
+}
+
+/// Merges the shares of all seats: then the book's total is the number of their receipts.
+pub fn count<L: Roll>(book: &mut Book<L>, seats: Vec<Seat<L>>)
+    requires { 0 < L.parts }
+    ensures { length seats.items ≡ L.parts → book.old.total ≡ length (receipts_of seats.items) }
+{
+    let mut rest = seats;
+    let Some(first) = rest.pop() else {
+        return;
+    };
+    let Seat { mut share, .. } = first;
+    'merging: while let Some(seat) = rest.pop() {
+        let Seat { share: other, .. } = seat;
+        share.merge(other);
+    }
+    book.audit(&mut share);
+}

@@ -1,0 +1,258 @@
+//! What lies under the hub's lock.
+
+ghost use Rattle.std.specs.Prelude.{◌≡◌, ◌↔◌, ◌<◌, ◌≤◌, length, IfOk, OnErr, Err, IsSome, None};
+ghost use Rattle.std.specs.Prelude.{Some, IfErr};
+ghost use Rattle.std.specs.Prelude.{[], false, is_some, slice_get, slice_set, true};
+ghost use Rattle.session_model.specs.Trace.{begun, happening};
+ghost use Rattle.hub_trail.specs.Filing.{kept_of};
+ghost use Rattle.hub_trail.specs.Legal.{IsLegal};
+ghost use Rattle.hub_ledger.specs.States.{IsKept, StandsFor, Takes, begun_with, state_of};
+ghost use Rattle.hub_ledger.specs.Closing.{AreThere, IsFirstWrong, receipts_of};
+ghost use Rattle.hub_ledger.specs.Seats.{AllBelow, Answers, AreNumbered, NoneAsks, StandsLast};
+ghost use Rattle.hub_ledger.specs.Seats.{placed};
+ghost use Rattle.hub_ledger.specs.declared.ledger.TheConstants.{FULL};
+ghost use Rattle.hub_ledger.specs.declared.answer.HubFault.TheVariants.{TrailFull, NoMemory};
+ghost use Rattle.hub_ledger.specs.declared.answer.HubFault.TheVariants.{Strange};
+
+use crate::answer::{Answer, HubFault};
+use crate::begun::Begun;
+use crate::closing::{count, first_wrong};
+use crate::filed_session::FiledSession;
+use crate::seat::Seat;
+use crate::trail::Trail;
+use hub_record::Receipts;
+use session_core::Session;
+use session_model::{Effect, Event};
+use std::alloc::{AllocError, Global};
+use std::marker::Model;
+use std::sync::ledger::{Blank, Book, Ledger as Roll, Share};
+
+/// The most entries of a trail.
+pub const FULL: usize = 4_194_304;
+
+/// What lies under the hub's lock: a session that stands for a run, its trail, and what waits for
+/// each seat. Its shares count the receipts of all seats: there are as many as the trail has
+/// entries.
+pub struct Ledger<L: Begun> {
+    filed: FiledSession,
+    book: Book<L>,
+}
+
+impl<L: Begun> Drop for Ledger<L> {
+    fn drop(self) {
+        let Ledger { filed: _, book: _ } = self;
+    }
+}
+
+impl<L: Begun> Model for Ledger<L> {
+    ghost use Rattle.std.specs.Prelude.{◌≡◌, ◌<◌, ◌≤◌, length};
+    ghost use Rattle.hub_ledger.specs.States.{State, IsKept, state_of};
+    ghost use Rattle.hub_ledger.specs.declared.ledger.TheConstants.{FULL};
+
+    ghost Value = { State };
+
+    ghost use Rattle.std.specs.Coded.{codes};
+    ghost use Rattle.regions.specs.Layouts.{arrangement_code};
+
+    ghost coded = { Prim.hlevel (codes, arrangement_code) };
+
+    ghost view = { λ l. state_of l.filed };
+
+    ghost invariant = { λ l. IsKept (state_of l.filed)
+        × (l.book.total ≡ length l.filed.entries.list.entries)
+        × (length l.filed.entries.list.entries ≤ FULL)
+        × (length l.filed.waiting.lists.items ≡ L.parts)
+        × (length l.filed.waiting.marks.items ≡ L.parts) × (0 < L.parts)
+        × (l.filed.entries.edition ≡ L.edition) × (l.filed.entries.owner ≡ L.owner) };
+}
+
+/// Whether an event writes an entry.
+fn writes_entry(event: Event) -> bool
+    ensures { result ≡ is_some (kept_of (happening event.entry)) }
+{
+    !matches!(
+        event,
+        Event::Resize { .. } | Event::Output { .. } | Event::Draw { .. }
+    )
+}
+
+/// A seat of this number that was told nothing.
+fn make_seat<L: Roll>(alloc: Global, number: usize, share: Share<L>) -> Seat<L>
+    requires number { number < L.parts }
+    requires share { (share.parts ≡ 1) × (share.amount ≡ 0) }
+    ensures { result ≡ record { number = number; asks = false; receipts = [] } }
+{
+    Seat {
+        number,
+        asks: false,
+        told: Receipts::new(alloc),
+        share,
+    }
+}
+
+/// As many seats as the share has parts, each with one of them, which were told nothing.
+fn make_seats<L: Roll>(
+    alloc: Global,
+    share: Share<L>,
+    seats: usize,
+) -> Result<Vec<Seat<L>>, AllocError>
+    requires parts { (share.parts ≡ L.parts) × (seats ≡ L.parts) }
+    requires amount { share.amount ≡ 0 }
+    ensures seats { IfOk result (λ made. (length made.items ≡ L.parts)
+        × (receipts_of made.items ≡ [])) }
+    ensures numbers { IfOk result (λ made. AreNumbered made.items) }
+    ensures asks { IfOk result (λ made. NoneAsks made.items) }
+{
+    let mut all = share;
+    let mut made = Vec::new(alloc);
+    'seats: for number in 0..seats {
+        let share = all.split_off(1, 0);
+        made.push(make_seat(alloc, number, share))?;
+    }
+    Ok(made)
+}
+
+impl<L: Begun> Ledger<L> {
+    /// A ledger of a session that has taken no event, and its 1 to 8 seats. Where memory is
+    /// refused, the one refusal, the session is dropped.
+    pub fn new(
+        alloc: Global,
+        blank: Blank,
+        session: Session,
+        seats: usize,
+    ) -> Result<(Ledger<L>, Vec<Seat<L>>), HubFault>
+        requires name { blank.name ≡ L.name }
+        requires parts { (blank.parts ≡ L.parts) × (seats ≡ L.parts) }
+        requires seats { (0 < seats) × (seats ≤ 8) }
+        requires fresh { StandsFor (begun L.edition L.owner) session }
+        ensures state { IfOk result (λ made. made.0
+            ≡ begun_with session L.edition L.owner seats) }
+        ensures seats { IfOk result (λ made. (length made.1.items ≡ L.parts)
+            × (receipts_of made.1.items ≡ [])) }
+        ensures numbers { IfOk result (λ made. AreNumbered made.1.items) }
+        ensures asks { IfOk result (λ made. NoneAsks made.1.items) }
+        ensures err { IfErr result (λ fault. fault ≡ NoMemory) }
+    {
+        let (book, share) = blank.open::<L>();
+        let edition = session.edition();
+        let owner = session.owner();
+        let filed = FiledSession::new(alloc, edition, owner, session, seats)?;
+        let made = make_seats(alloc, share, seats)?;
+        Ok((Ledger { filed, book }, made))
+    }
+
+    /// Takes one event for a seat: one step of the session, its entry in the trail, and the
+    /// receipt in the seat. Where it is refused nothing has changed.
+    pub fn submit<'a>(
+        &mut self,
+        seat: &mut Seat<L>,
+        event: Event<'a>,
+    ) -> Result<Answer<'a>, HubFault>
+        // The session takes a step of this event with this reply; its entry stands last, and its
+        // effects wait for the seats of their peers.
+        ensures step { IfOk result (λ told. Takes seat.old.number (happening event.entry)
+            told.reply self.old self.new) }
+        // The answer is to this event, and the seat holds its receipt at the entry's place.
+        ensures answer { IfOk result (λ told. Answers (happening event.entry) told seat.old
+            seat.new) }
+        ensures place { IfOk result (λ told. told.place
+            ≡ placed (kept_of (happening event.entry)) (length self.old.trail.entries)) }
+        // An entry in it is the one that was filed.
+        ensures entry { IfOk result (λ told. StandsLast told.entry self.old.trail.entries
+            self.new.trail.entries) }
+        ensures full { (result ≡ Err TrailFull)
+            ↔ (IsSome (kept_of (happening event.entry))
+            × (length self.old.trail.entries ≡ FULL)) }
+        ensures strange { (result ≡ Err Strange)
+            ↔ (IsSome (kept_of (happening event.entry))
+            × (length self.old.trail.entries < FULL)
+            × (AllBelow seat.old.receipts (length self.old.trail.entries) → ⊥)) }
+        ensures same { OnErr result ((self.new ≡ self.old) × (seat.new ≡ seat.old)) }
+    {
+        if writes_entry(event) {
+            self.file(seat, event)
+        } else {
+            let reply = self.filed.take_step(seat.number, event, None)?;
+            Ok(Answer {
+                event,
+                reply,
+                place: None,
+                entry: None,
+            })
+        }
+    }
+
+    /// Takes one event that writes an entry.
+    fn file<'a>(&mut self, seat: &mut Seat<L>, event: Event<'a>) -> Result<Answer<'a>, HubFault>
+        requires { is_some (kept_of (happening event)) ≡ true }
+        ensures step { IfOk result (λ told. Takes seat.old.number (happening event.entry)
+            told.reply self.old self.new) }
+        ensures answer { IfOk result (λ told. Answers (happening event.entry) told seat.old
+            seat.new) }
+        ensures place { IfOk result (λ told. told.place
+            ≡ Some (length self.old.trail.entries)) }
+        ensures entry { IfOk result (λ told. StandsLast told.entry self.old.trail.entries
+            self.new.trail.entries) }
+        ensures full { (result ≡ Err TrailFull) ↔ (length self.old.trail.entries ≡ FULL) }
+        ensures strange { (result ≡ Err Strange)
+            ↔ ((length self.old.trail.entries < FULL)
+            × (AllBelow seat.old.receipts (length self.old.trail.entries) → ⊥)) }
+        ensures same { OnErr result ((self.new ≡ self.old) × (seat.new ≡ seat.old)) }
+    {
+        let place = self.filed.entries.list.len();
+        let reply = self.filed.file(seat.number, &mut seat.told, event)?;
+        self.book.add(&mut seat.share, 1);
+        let entry = self.filed.copied(seat.asks, place);
+        Ok(Answer {
+            event,
+            reply,
+            place: Some(place),
+            entry,
+        })
+    }
+
+    /// Hands out what waits for a seat, and tells whether a step other than a Draw came since its
+    /// last take. It takes no memory.
+    pub fn take(&mut self, seat: &Seat<L>) -> (Vec<Effect>, bool)
+        ensures effects { slice_get self.old.waiting seat.now.number ≡ Some result.0.items }
+        ensures mark { slice_get self.old.marks seat.now.number ≡ Some result.1 }
+        ensures rest { self.new ≡ record self.old {
+          waiting = slice_set self.old.waiting seat.now.number [];
+          marks = slice_set self.old.marks seat.now.number false;
+        } }
+    {
+        self.filed.waiting.take(self.filed.alloc, seat.number)
+    }
+
+    /// That a run stands behind what is kept, and that its trail is legal.
+    pub fn is_kept(&self)
+        ensures kept { IsKept self.now }
+        ensures legal { IsLegal self.now.trail }
+    {
+        let _ = &self.filed;
+    }
+
+    /// The trail, and the least place that isn't, with its event and reply, in just one receipt of
+    /// these seats. It takes no memory.
+    pub fn close(self, seats: Vec<Seat<L>>) -> (Trail, Option<usize>)
+        ensures trail { result.0 ≡ self.trail }
+        // It is that of the session with which the ledger was made.
+        ensures begun { (result.0.edition ≡ L.edition) × (result.0.owner ≡ L.owner) }
+        ensures legal { IsLegal result.0 }
+        // Where all seats are handed back, they hold as many receipts as the trail has entries.
+        ensures counted { length seats.items ≡ L.parts
+            → length result.0.entries ≡ length (receipts_of seats.items) }
+        ensures wrong { IsFirstWrong result.0.entries (receipts_of seats.items) result.1 }
+        // Then there is no such place exactly where no two receipts name one place, and at each
+        // place stand the receipt's event and reply.
+        ensures none { length seats.items ≡ L.parts
+            → ((result.1 ≡ None) ↔ AreThere result.0.entries (receipts_of seats.items)) }
+    {
+        let Ledger { filed, mut book } = self;
+        let entries = filed.into_entries();
+        let mut seats = seats;
+        let wrong = first_wrong(&mut book, seats.as_mut_slice(), &entries.list);
+        count(&mut book, seats);
+        (Trail::of(entries), wrong)
+    }
+}

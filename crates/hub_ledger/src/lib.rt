@@ -1,0 +1,26 @@
+//! What lies under the hub's lock: a session, its trail, and what waits for each seat of clients and
+//! windows; the seats, and what they were told.
+#![tactic(auto)]
+
+mod answer;
+mod begun;
+mod checking;
+mod closing;
+mod entries;
+mod filed_session;
+mod laws;
+mod ledger;
+mod prepared;
+mod seat;
+mod trail;
+
+pub use answer::{Answer, HubFault};
+pub use begun::Begun;
+pub use checking::check_trail;
+pub use hub_check::CheckFault;
+pub use hub_record::{Filed, KeptEvent, Receipt, Receipts};
+pub use laws::kept_trails_are_legal;
+pub use ledger::{FULL, Ledger};
+pub use seat::Seat;
+pub use session_core::Session;
+pub use trail::Trail;

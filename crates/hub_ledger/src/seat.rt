@@ -1,0 +1,70 @@
+//! Seats, and what they hold.
+
+ghost use Rattle.std.specs.Prelude.{◌≡◌, ◌↔◌, ◌+◌, ◌≤◌, ◌<◌, true, length};
+ghost use Rattle.hub_ledger.specs.Closing.{AreOf, before, times};
+
+use hub_record::{Filed, Receipts};
+use hub_seats::strip;
+use std::marker::Model;
+use std::sync::ledger::{Book, Ledger as Roll, Share};
+
+/// One of those that submit. It holds what it was told.
+#[derive(Drop)]
+pub struct Seat<L: Roll> {
+    pub(crate) number: usize,
+    pub(crate) asks: bool,
+    pub(crate) told: Receipts,
+    pub(crate) share: Share<L>,
+}
+
+impl<L: Roll> Model for Seat<L> {
+    ghost use Rattle.std.specs.Prelude.{◌≡◌, ◌<◌, length};
+    ghost use Rattle.hub_ledger.specs.Seats.{Sitting, Rise};
+
+    ghost Value = { Sitting };
+
+    ghost view = { λ s. record { number = s.number; asks = s.asks; receipts = s.told.receipts } };
+
+    ghost invariant = { λ s. (s.number < L.parts) × (s.share.parts ≡ 1)
+        × (s.share.amount ≡ length s.told.receipts) × Rise s.told.receipts };
+}
+
+impl<L: Roll> Seat<L> {
+    /// Its number, counted from 0.
+    pub fn number(&self) -> usize
+        ensures { result ≡ self.now.number }
+    {
+        self.number
+    }
+
+    /// From now on an answer to it has the entry that was written.
+    pub fn ask_for_entries(&mut self)
+        ensures { self.new ≡ record self.old { asks = true } }
+    {
+        self.asks = true;
+    }
+
+    /// What it was told, the oldest first.
+    pub fn receipts(&self) -> &Receipts
+        ensures { result.now.receipts ≡ self.now.receipts }
+    {
+        &self.told
+    }
+
+    /// Takes away the receipts of this place and above. How many of them name it, and whether these
+    /// have the event and the reply of the entry.
+    pub(crate) fn strip(&mut self, book: &mut Book<L>, place: usize, entry: &Filed) -> (usize, bool)
+        requires { place < 4294967296 }
+        ensures rest { self.new.receipts ≡ before place self.old.receipts }
+        ensures total { book.new.total + length self.old.receipts
+            ≡ book.old.total + length self.new.receipts }
+        ensures times { result.0 ≡ times place self.old.receipts }
+        ensures once { result.0 ≤ 1 }
+        ensures right { (result.1 ≡ true) ↔ AreOf place entry.now self.old.receipts }
+    {
+        let had = self.told.len();
+        let found = strip(&mut self.told, place, entry);
+        book.sub(&mut self.share, (had - self.told.len()) as u64);
+        found
+    }
+}

@@ -1,0 +1,113 @@
+//! The trail of a session.
+
+ghost use Rattle.std.specs.Prelude.{◌≡◌, ◌<◌, [], length, slice_get, Some};
+ghost use Rattle.hub_trail.specs.Judging.{AreJudgeable};
+ghost use Rattle.hub_ledger.specs.States.{trail_in};
+ghost use Rattle.hub_ledger.specs.Editions.{number_of_edition};
+
+use crate::entries::Entries;
+use acl::{Edition, UserId};
+use hub_record::{Filed, Roll};
+use std::marker::Model;
+
+/// The trail of a session: its edition and its owner, and the entries of all its steps, in their
+/// order. Tables of rights and locks can judge it.
+pub struct Trail {
+    edition: Edition,
+    owner: UserId,
+    entries: Roll,
+}
+
+impl Drop for Trail {
+    fn drop(self) {
+        let Trail {
+            edition: _,
+            owner: _,
+            entries: _,
+        } = self;
+    }
+}
+
+impl Model for Trail {
+    ghost use Rattle.std.specs.Prelude.{[]};
+    ghost use Rattle.hub_trail.specs.Trails.{Trail as Kept};
+    ghost use Rattle.hub_trail.specs.Judging.{AreJudgeable};
+
+    ghost Value = { Kept };
+
+    ghost view = { λ t. record { edition = t.edition; owner = t.owner; entries = t.entries.entries } };
+
+    ghost invariant = { λ t. AreJudgeable t.edition t.owner [] t.entries.entries };
+}
+
+impl Trail {
+    /// The trail with these entries.
+    pub(crate) fn of(entries: Entries) -> Trail
+        requires { AreJudgeable entries.edition entries.owner [] entries.list.entries }
+        ensures { result ≡ trail_in entries }
+    {
+        let Entries {
+            edition,
+            owner,
+            list,
+        } = entries;
+        Trail {
+            edition,
+            owner,
+            entries: list,
+        }
+    }
+
+    /// The number of the edition of the session's groups, 1 or 2.
+    pub fn edition(&self) -> u8
+        ensures { result ≡ number_of_edition self.now.edition }
+    {
+        match self.edition {
+            Edition::First => 1,
+            Edition::Second => 2,
+        }
+    }
+
+    /// The same, as lists of rights take it.
+    pub fn acl_edition(&self) -> Edition
+        ensures { result ≡ self.now.edition }
+    {
+        self.edition
+    }
+
+    /// The session's owner.
+    pub fn owner(&self) -> UserId
+        ensures { result ≡ self.now.owner }
+    {
+        self.owner
+    }
+
+    /// How many entries it has.
+    pub fn len(&self) -> usize
+        ensures { result ≡ length self.now.entries }
+    {
+        self.entries.len()
+    }
+
+    /// Its entries, the oldest first.
+    pub fn entries(&self) -> &Roll
+        ensures { result.now.entries ≡ self.now.entries }
+    {
+        &self.entries
+    }
+
+    /// The entry at a place, counted from 0.
+    pub fn at(&self, place: usize) -> &Filed
+        requires { place < length self.now.entries }
+        ensures { slice_get self.now.entries place ≡ Some result.now }
+    {
+        self.entries.at(place)
+    }
+
+    /// That tables of rights and locks can judge each entry after the acts of those before it.
+    pub fn is_judgeable(&self)
+        ensures { AreJudgeable self.now.edition self.now.owner [] self.now.entries }
+    {
+        let _ = &self.entries;
+    }
+}

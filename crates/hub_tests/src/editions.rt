@@ -1,0 +1,134 @@
+//! A trail of each edition, as a hub filed it: it is legal for its owner alone, and where its last
+//! verdict is turned round, the check names that entry.
+
+ghost use Rattle.std.specs.Prelude.{◌≡◌};
+
+use crate::entries::entry_with;
+use crate::side::{Beginning, are_done, begin, close, line_of};
+use acl::{Bit, Edition, Object, UserId};
+use hub::{Begun, CheckFault, Trail, check_trail};
+use hub_check::check_entries;
+use session_model::{Event, Verdict};
+use std::alloc::Global;
+use std::marker::Brand;
+use std::sync::Wait;
+use std::sync::ledger::Blank;
+
+/// The place of the entry of bob's keys.
+const KEYS: usize = 8;
+
+const TYPED: Event<'static> = Event::Keys {
+    client: 0,
+    bytes: b"x",
+};
+
+/// On window 0 bob and ann lose w and eve keeps it. Bob's leader is ann, then eve, then ann again: in
+/// the first edition ann alone, in the second both. Then he types.
+fn events(owner: UserId, bob: UserId) -> [Event<'static>; 9] {
+    let open = Event::Open {
+        user: owner,
+        rows: 24,
+        columns: 80,
+        keep: 0,
+        title: "sh",
+    };
+    let attach = Event::Attach {
+        user: bob,
+        rows: 24,
+        columns: 80,
+    };
+    [
+        open,
+        line_of(owner, b"multiuser on"),
+        line_of(owner, b"acladd bob,ann,eve"),
+        line_of(owner, b"aclchg bob,ann -w 0"),
+        line_of(owner, b"aclgrp bob ann"),
+        line_of(owner, b"aclgrp bob eve"),
+        line_of(owner, b"aclgrp bob ann"),
+        attach,
+        TYPED,
+    ]
+}
+
+/// The trail of these events.
+fn trail_of<L: Begun, R: Wait>(
+    rt: &R,
+    alloc: Global,
+    blank: Blank,
+    whose: Beginning,
+    bob: UserId,
+) -> Option<Trail>
+    requires blank { (blank.name ≡ L.name) × (blank.parts ≡ L.parts) × (blank.parts ≡ 1) }
+    requires begun { (L.edition ≡ whose.edition) × (L.owner ≡ whose.owner) }
+{
+    let mut side = begin::<L>(alloc, blank, whose)?;
+    if !are_done(rt, &mut side, &events(whose.owner, bob)) {
+        return None;
+    }
+    close(side)
+}
+
+/// The verdict on bob's right to type into window 0.
+fn asked(bob: UserId, answer: bool) -> Verdict {
+    Verdict::Right {
+        user: bob,
+        bit: Bit::Write,
+        object: Object::Window(0),
+        answer,
+    }
+}
+
+/// What the check answers of the trail's entries, where the last one's first verdict is this.
+fn judged(alloc: Global, trail: &Trail, first: Verdict) -> Option<Result<(), CheckFault>> {
+    let mut entries = Vec::new(alloc);
+    let mut verdicts = Vec::new(alloc);
+    for place in 0..trail.len() {
+        let entry = trail.at(place);
+        if place < KEYS {
+            entries.push(entry.copy(alloc).ok()?).ok()?;
+        } else {
+            verdicts = entry.verdicts().to_vec(alloc).ok()?;
+        }
+    }
+    *verdicts.first_mut()? = first;
+    entries.push(entry_with(alloc, TYPED, verdicts).ok()?).ok()?;
+    Some(check_entries(
+        alloc,
+        trail.acl_edition(),
+        trail.owner(),
+        entries.as_slice(),
+    ))
+}
+
+/// Whether the trail of an edition, which has this number, is legal for its owner alone, and bob's
+/// keys were judged so.
+fn is_right(alloc: Global, trail: &Trail, bob: UserId, number: u8, may_type: bool) -> bool {
+    let owned = check_trail(alloc, trail, trail.owner());
+    let taken = check_trail(alloc, trail, bob);
+    let told = judged(alloc, trail, asked(bob, may_type));
+    let turned = judged(alloc, trail, asked(bob, !may_type));
+    trail.edition() == number
+        && trail.len() == KEYS + 1
+        && owned == Ok(())
+        && taken == Err(CheckFault::BadEntry { place: 0 })
+        && told == Some(Ok(()))
+        && turned == Some(Err(CheckFault::BadEntry { place: KEYS }))
+}
+
+fn judge<R: Wait>(rt: &R, alloc: Global, edition: Edition) -> Option<bool> {
+    let (owner, bob) = (UserId::of(b"root")?, UserId::of(b"bob")?);
+    let whose = Beginning { edition, owner };
+    let trail = trail_of::<Brand, R>(rt, alloc, Blank::new(1), whose, bob)?;
+    let (number, may_type) = match edition {
+        Edition::First => (1, false),
+        Edition::Second => (2, true),
+    };
+    Some(is_right(alloc, &trail, bob, number, may_type))
+}
+
+#[test]
+fn a_trail_is_legal_in_its_edition(rt: HostRuntime) {
+    for edition in [Edition::First, Edition::Second] {
+        assert_eq!(rt; judge(&rt, rt.alloc(), edition), Some(true));
+    }
+}

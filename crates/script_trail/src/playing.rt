@@ -1,0 +1,160 @@
+//! Plays a script, and writes its trail where the words name a file for it.
+
+ghost use Rattle.std.specs.Prelude.{◌≡◌, ℕ, Bool, List, IfOk, map};
+ghost use Rattle.std.specs.String.{string_bytes};
+ghost use Rattle.acl.specs.declared.edition.Edition.{Edition as Groups};
+ghost use Rattle.acl.specs.declared.user_id.UserId.{UserId as Owner};
+ghost use Rattle.session.specs.Words.{Asks, MayHave, Simulates};
+
+use crate::recorded::recorded;
+use session::{Asked, SetupUnread, path_of, setup_of, simulate, simulate_behind};
+use std::alloc::{AllocError, Global};
+use std::fs::{File, Files, OpenOptions};
+use std::io::{self, Read, Write};
+use std::os::unix::fs::OpenOptionsExt;
+use thiserror::Error;
+
+/// Why a script isn't played, or its trail isn't written.
+#[derive(Debug, Drop, Error)]
+enum Fault<'a> {
+    #[error("{0}")]
+    Io(io::Error),
+    #[error("{0}")]
+    Setup(SetupUnread<'a>),
+    #[error("trail {0}: {1}")]
+    Trail(&'a str, io::Error),
+}
+
+impl From<AllocError> for Fault<'_> {
+    fn from(error: AllocError) -> Self {
+        Fault::Io(io::Error::from(error))
+    }
+}
+
+impl From<io::Error> for Fault<'_> {
+    fn from(error: io::Error) -> Self {
+        Fault::Io(error)
+    }
+}
+
+impl<'a> From<SetupUnread<'a>> for Fault<'a> {
+    fn from(error: SetupUnread<'a>) -> Self {
+        Fault::Setup(error)
+    }
+}
+
+/// What a script is played with, and the new file for its trail.
+#[derive(Drop)]
+struct Recording<'a> {
+    alloc: Global,
+    words: &'a [String],
+    setup: Vec<u8>,
+    file: File,
+}
+
+/// Reads the setup, and makes the file for the trail, which its owner alone reads and writes.
+fn begin<'a, H: Files<File = File> + AllocGlobal>(
+    rt: &H,
+    words: &'a [String],
+    path: &'a str,
+) -> Result<Recording<'a>, Fault<'a>>
+    ensures words { IfOk result (λ r. r.words.now ≡ words.now) }
+    ensures setup { (groups : Groups) (name : Owner) (shows : Bool)
+        → Asks (map string_bytes words.now) groups name shows
+        → IfOk result (λ r. MayHave (map string_bytes words.now) r.setup.items) }
+{
+    let setup = setup_of(rt, words)?;
+    let mut options = OpenOptions::new();
+    match options
+        .write(true)
+        .create_new(true)
+        .mode(0o600)
+        .open(rt, path)
+    {
+        Ok(file) => Ok(Recording {
+            alloc: rt.alloc(),
+            words,
+            setup,
+            file,
+        }),
+        Err(error) => Err(Fault::Trail(path, error)),
+    }
+}
+
+impl Recording<'_> {
+    /// Plays the script on the reader, and writes its trail.
+    fn play<R: Read + Drop, W: Write, E: Write>(
+        self,
+        reader: R,
+        writer: &mut W,
+        errors: &mut E,
+    ) -> io::Result<u8>
+        ensures { (groups : Groups) (name : Owner) (shows : Bool)
+            → Asks (map string_bytes self.entry.words.now) groups name shows
+            → IfOk result (λ status. Simulates groups name shows self.entry.setup.items
+            (R.remaining reader) status (W.contents writer.old) (W.contents writer.new)) }
+    {
+        let Recording {
+            alloc,
+            words,
+            setup,
+            mut file,
+        } = self;
+        let mut reader = reader;
+        let mut script = Vec::new(alloc);
+        reader.read_to_end(&mut script)?;
+        let asked = Asked {
+            words,
+            setup: setup.as_slice(),
+        };
+        let status = simulate_behind(alloc, asked, script.as_slice(), writer, errors);
+        if let Some(text) = recorded(alloc, words, &setup, &script)? {
+            file.write_all(&text)?;
+        }
+        Ok(status)
+    }
+}
+
+/// Writes why not all was done, and gives the status to exit with.
+fn report<E: Write>(fault: &Fault, errors: &mut E) -> u8
+    ensures { result ≡ 1 }
+{
+    let _ = writeln!(errors, "muxsim: {fault}");
+    1
+}
+
+/// Plays the script on the reader as `simulate` does; then, if the words name a file behind
+/// `--trail`, writes the trail of its session to that new file. Gives the status to exit with.
+pub fn simulate_with_trail<H, R, W, E>(
+    rt: &H,
+    words: &[String],
+    reader: R,
+    writer: &mut W,
+    errors: &mut E,
+) -> u8
+where
+    H: Files<File = File> + AllocGlobal,
+    R: Read + Drop,
+    W: Write,
+    E: Write,
+    // What is played, and what its status says, is as `simulate` has it.
+    ensures { (groups : Groups) (name : Owner) (shows : Bool)
+        → Asks (map string_bytes words.entry.now) groups name shows
+        → (setup : List ℕ) × MayHave (map string_bytes words.entry.now) setup
+        × Simulates groups name shows setup (R.remaining reader) result
+        (W.contents writer.old) (W.contents writer.new) }
+{
+    let path = match path_of(rt.alloc(), words, "trail") {
+        Ok(Some(path)) => path,
+        Ok(None) => return simulate(rt, words, reader, writer, errors),
+        Err(error) => return report(&Fault::from(error), errors),
+    };
+    let recording = match begin(rt, words, path) {
+        Ok(recording) => recording,
+        Err(fault) => return report(&fault, errors),
+    };
+    match recording.play(reader, writer, errors) {
+        Ok(status) => status,
+        Err(error) => report(&Fault::from(error), errors),
+    }
+}

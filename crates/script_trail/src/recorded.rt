@@ -1,0 +1,56 @@
+//! The trail of a script's session, as a file has it.
+
+use crate::recorder::Recorder;
+use session::{Beginning, Event, beginning_of};
+use session_lines::read_event;
+use setup_lines::read_setup;
+use std::alloc::{AllocError, Global};
+
+/// The trail's file of a session that begins so and takes the events of a script, one a line, up to
+/// the first line that is no event. A script has no clock: all times are 0. None if a line of the
+/// setup is refused.
+fn trail_of(
+    alloc: Global,
+    beginning: &Beginning,
+    script: &[u8],
+) -> Result<Option<Vec<u8>>, AllocError> {
+    let mut recorder = Recorder::new(alloc, beginning.edition, beginning.owner)?;
+    for line in beginning.setup {
+        let event = Event::Command {
+            user: beginning.owner,
+            window: None,
+            line: line.text.as_bytes(),
+        };
+        if recorder.step(event)?.is_err() {
+            return Ok(None);
+        }
+    }
+    for line in script.split(|byte| *byte == b'\n') {
+        if line.is_empty() {
+            continue;
+        }
+        let mut text = Vec::new(alloc);
+        let Some(event) = read_event(line, &mut text)? else {
+            break;
+        };
+        recorder.take(event)?;
+    }
+    Ok(Some(recorder.end()?))
+}
+
+/// The trail's file of the session that these words, this setup and this script make; none if they
+/// make no session.
+pub fn recorded(
+    alloc: Global,
+    words: &[String],
+    setup: &[u8],
+    script: &[u8],
+) -> Result<Option<Vec<u8>>, AllocError> {
+    let Ok(setup) = read_setup(alloc, setup) else {
+        return Ok(None);
+    };
+    match beginning_of(alloc, words, &setup)? {
+        Some(beginning) => trail_of(alloc, &beginning, script),
+        None => Ok(None),
+    }
+}

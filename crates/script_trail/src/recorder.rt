@@ -1,0 +1,116 @@
+//! A session whose steps are written down.
+
+use acl::{Edition, UserId};
+use hub_record::{Filed, KeptEvent, KeptReply};
+use session::{Bytes, Event, Notes, Refusal, Reply, Session};
+use std::alloc::{AllocError, Global};
+use trail_audit::{Cause, Ended, Header, print_end, print_header};
+use trail_lines::print_line;
+
+/// What writes the file.
+const VERSION: &[u8] = b"0.1.0";
+
+/// The time of all entries.
+const NO_TIME: u64 = 0;
+
+/// A session, and the lines of its trail so far.
+#[derive(Drop)]
+pub struct Recorder {
+    alloc: Global,
+    session: Session,
+    entries: u64,
+    text: Vec<u8>,
+}
+
+/// A session that has taken no event.
+fn session_of(alloc: Global, edition: Edition, owner: UserId) -> Result<Session, AllocError> {
+    let made = match edition {
+        Edition::First => Session::first_edition(alloc, owner),
+        Edition::Second => Session::new(alloc, owner),
+    };
+    made.map_err(|_refusal| AllocError)
+}
+
+impl Recorder {
+    pub fn new(alloc: Global, edition: Edition, owner: UserId) -> Result<Recorder, AllocError> {
+        let header = Header {
+            edition,
+            owner,
+            version: Bytes::of(alloc, VERSION)?,
+            ms: NO_TIME,
+        };
+        let mut text = Vec::new(alloc);
+        print_header(&header, &mut text)?;
+        text.push(b'\n')?;
+        Ok(Recorder {
+            alloc,
+            session: session_of(alloc, edition, owner)?,
+            entries: 0,
+            text,
+        })
+    }
+
+    /// One step, whose entry is written, if it has one.
+    pub fn step(&mut self, event: Event) -> Result<Reply, AllocError> {
+        let kept = KeptEvent::of(self.alloc, event)?;
+        let spare = Box::new(self.alloc, Refusal::NoMemory)?;
+        let mut effects = Vec::new(self.alloc);
+        let mut notes = Notes::new(self.alloc);
+        let reply = self.session.step(event, &mut effects, &mut notes);
+        if let Err(Refusal::NoMemory) = reply {
+            return Err(AllocError);
+        }
+        if let Some(kept) = kept {
+            let (acts, verdicts) = notes.into_parts();
+            let entry = Filed::new(kept, verdicts, acts, KeptReply::of(&reply, spare));
+            self.write(&entry)?;
+        }
+        Ok(reply)
+    }
+
+    /// An event, in as many steps as it needs: each has the keys that the one before didn't read,
+    /// and one that reads none is the last.
+    pub fn take(&mut self, event: Event) -> Result<(), AllocError> {
+        let Event::Keys { client, bytes } = event else {
+            let _reply = self.step(event)?;
+            return Ok(());
+        };
+        let mut rest = bytes;
+        for _ in 0..=bytes.len() {
+            let keys = Event::Keys {
+                client,
+                bytes: rest,
+            };
+            let read = self.step(keys)?.map_or(0, |done| done.taken);
+            if read == 0 || rest.len() <= read {
+                break;
+            }
+            rest = &rest[read..];
+        }
+        Ok(())
+    }
+
+    /// The file's lines, with the last one.
+    pub fn end(self) -> Result<Vec<u8>, AllocError> {
+        let Recorder {
+            mut text,
+            entries,
+            ..
+        } = self;
+        let ended = Ended {
+            entries,
+            ms: NO_TIME,
+            cause: Cause::Script,
+        };
+        print_end(&ended, &mut text)?;
+        text.push(b'\n')?;
+        Ok(text)
+    }
+
+    fn write(&mut self, entry: &Filed) -> Result<(), AllocError> {
+        print_line(self.entries, NO_TIME, entry, &mut self.text)?;
+        self.text.push(b'\n')?;
+        self.entries = self.entries.saturating_add(1);
+        Ok(())
+    }
+}
