@@ -1,8 +1,11 @@
-//! Tests of screens: bytes as control functions, the pages that have read them, and their cells.
+//! Tests of screens: bytes as control functions, the pages that have read them however they were cut,
+//! and their cells.
 #![tactic(auto)]
 
 #[cfg(test)]
 mod colours;
+#[cfg(test)]
+mod cuts;
 #[cfg(test)]
 mod functions;
 #[cfg(test)]
@@ -11,6 +14,8 @@ mod growths;
 mod judging;
 #[cfg(test)]
 mod pages;
+#[cfg(test)]
+mod runs;
 #[cfg(test)]
 mod sizes;
 #[cfg(test)]
