@@ -1,5 +1,5 @@
 //! Tests of screens: bytes as control functions, the pages that have read them however they were cut,
-//! and their cells.
+//! their cells, and tables of windows.
 #![tactic(auto)]
 
 #[cfg(test)]
@@ -20,3 +20,5 @@ mod runs;
 mod sizes;
 #[cfg(test)]
 mod table;
+#[cfg(test)]
+mod tables;

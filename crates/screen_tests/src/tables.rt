@@ -1,0 +1,46 @@
+//! A table of windows: a window that is refused changes nothing. Run as it stands the test here meets
+//! no refusal; `tools/refusals` runs it once for each of its allocations, which is refused then. So
+//! at most one is refused in a run, and a second try never is.
+
+use session_windows::{WindowSize, Windows};
+use std::alloc::Global;
+
+/// The titles of windows, by their serials.
+static TITLES: [&str; 6] = ["zero", "one", "two", "three", "four", "five"];
+
+const SIZE: WindowSize = WindowSize {
+    rows: 2,
+    columns: 5,
+    keep: 1,
+};
+
+/// The number of a window that is opened, by a second try where the first one is refused. None if
+/// the refused one has left a window.
+fn opened(windows: &mut Windows, alloc: Global, serial: u32, title: &str) -> Option<u8> {
+    let before = windows.len();
+    match windows.open(alloc, serial, SIZE, title) {
+        Ok(number) => Some(number),
+        Err(_) if windows.len() == before => windows.open(alloc, serial, SIZE, title).ok(),
+        Err(_) => None,
+    }
+}
+
+/// Whether windows get the numbers of their serials, and the lowest one is given again.
+fn are_opened(alloc: Global) -> bool {
+    let mut windows = Windows::new(alloc);
+    for (number, title) in TITLES.iter().enumerate() {
+        if opened(&mut windows, alloc, number as u32, title) != Some(number as u8) {
+            return false;
+        }
+    }
+    windows.close(1).is_ok()
+        && opened(&mut windows, alloc, 6, "six") == Some(1)
+        && windows.len() == TITLES.len()
+        && windows.by_name("six").is_some()
+        && windows.get(1).is_none()
+}
+
+#[test]
+fn windows_are_opened_though_refused_once(rt: HostRuntime) {
+    assert!(rt; are_opened(rt.alloc()));
+}
