@@ -49,12 +49,15 @@ fn next_list(numbers: &mut Numbers, list: &mut [u8; LONGEST]) -> usize
 
 /// Whether two pages have the same cells.
 fn are_alike(page: &MovedPage<'_>, other: &MovedPage<'_>) -> bool {
+    if page.rows() != other.rows() {
+        return false;
+    }
     for line in 0..page.rows() {
         if page.line(line) != other.line(line) {
             return false;
         }
     }
-    page.rows() == other.rows()
+    true
 }
 
 /// Whether two terminals show the same, kept lines too, and have the same modes.

@@ -5,8 +5,14 @@
 use session_windows::{WindowSize, Windows};
 use std::alloc::Global;
 
-/// The titles of windows, by their serials.
-static TITLES: [&str; 6] = ["zero", "one", "two", "three", "four", "five"];
+/// Serials, numbers and titles.
+static WINDOWS: [(u32, u8, &str); 5] = [
+    (0, 0, "zero"),
+    (1, 1, "one"),
+    (2, 2, "two"),
+    (7, 3, "seven"),
+    (8, 4, "eight"),
+];
 
 const SIZE: WindowSize = WindowSize {
     rows: 2,
@@ -25,18 +31,18 @@ fn opened(windows: &mut Windows, alloc: Global, serial: u32, title: &str) -> Opt
     }
 }
 
-/// Whether windows get the numbers of their serials, and the lowest one is given again.
+/// Whether windows get the lowest free numbers, also one that was given before.
 fn are_opened(alloc: Global) -> bool {
     let mut windows = Windows::new(alloc);
-    for (number, title) in TITLES.iter().enumerate() {
-        if opened(&mut windows, alloc, number as u32, title) != Some(number as u8) {
+    for (serial, number, title) in &WINDOWS {
+        if opened(&mut windows, alloc, *serial, title) != Some(*number) {
             return false;
         }
     }
     windows.close(1).is_ok()
-        && opened(&mut windows, alloc, 6, "six") == Some(1)
-        && windows.len() == TITLES.len()
-        && windows.by_name("six").is_some()
+        && opened(&mut windows, alloc, 9, "nine") == Some(1)
+        && windows.len() == WINDOWS.len()
+        && windows.by_name("nine").is_some()
         && windows.get(1).is_none()
 }
 

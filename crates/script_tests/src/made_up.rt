@@ -1,11 +1,9 @@
 //! Made-up steps, each drawn both ways: for a client whose terminal is known, and for one that sees the
 //! same and whose terminal is unknown, since it has just changed its size.
 
-ghost use Rattle.std.specs.Prelude.{◌<◌};
-
 use crate::playing::play;
 use crate::terminals::{STRANGE, put_unescaped};
-use emulator::Emulator;
+use emulator::{Emulator, MovedPage};
 use std::alloc::{AllocError, Global};
 use std::str;
 
@@ -99,20 +97,18 @@ struct Dice {
 
 impl Dice {
     /// The next number below this one.
-    fn below(&mut self, count: usize) -> usize
-        requires { 0 < count }
-        ensures { result < count }
-    {
+    fn below(&mut self, count: usize) -> usize {
         self.state = self
             .state
             .wrapping_mul(6_364_136_223_846_793_005)
             .wrapping_add(1_442_695_040_888_963_407);
-        (self.state >> 33) as usize % count
+        let number = (self.state >> 33) as usize;
+        number.checked_rem(count).unwrap_or(0)
     }
 
     /// One of some texts.
     fn one_of(&mut self, texts: &[&'static str]) -> &'static str {
-        let place = self.below(texts.len().max(1));
+        let place = self.below(texts.len());
         match texts.get(place) {
             Some(text) => text,
             None => "",
@@ -173,21 +169,29 @@ fn is_read(alloc: Global, terminal: &mut Emulator, before: &[u8], text: &str) ->
         && reports.is_empty()
 }
 
-/// Whether two terminals show the same.
-fn are_alike(one: &Emulator, other: &Emulator) -> bool {
-    let (page, others) = (one.page(0), other.page(0));
+/// Whether two pages have the same cells.
+fn have_same_cells(page: &MovedPage<'_>, other: &MovedPage<'_>) -> bool {
+    if page.rows() != other.rows() {
+        return false;
+    }
     for line in 0..page.rows() {
-        if page.line(line) != others.line(line) {
+        if page.line(line) != other.line(line) {
             return false;
         }
     }
-    let (modes, other_modes) = (one.modes(), other.modes());
-    page.rows() == others.rows()
-        && modes.shows_cursor == other_modes.shows_cursor
+    true
+}
+
+/// Whether two terminals show the same.
+fn are_alike(one: &Emulator, other: &Emulator) -> bool {
+    let modes = one.modes();
+    let others = other.modes();
+    have_same_cells(&one.page(0), &other.page(0))
+        && modes.shows_cursor == others.shows_cursor
         && (!modes.shows_cursor || one.cursor() == other.cursor())
-        && modes.is_inverted == other_modes.is_inverted
-        && modes.has_application_arrows == other_modes.has_application_arrows
-        && modes.has_application_keypad == other_modes.has_application_keypad
+        && modes.is_inverted == others.is_inverted
+        && modes.has_application_arrows == others.has_application_arrows
+        && modes.has_application_keypad == others.has_application_keypad
 }
 
 impl Terminals {
