@@ -1,5 +1,5 @@
 //! Tests that cross crates, by scripts: one owner, several users, what each client sees, how pages
-//! are split, draws, made-up steps, memory that is refused, and what isn't understood.
+//! are split, draws, memory that is refused, and what isn't understood.
 #![tactic(auto)]
 
 #[cfg(test)]
@@ -8,8 +8,6 @@ mod bad_input;
 mod draws;
 #[cfg(test)]
 mod judging;
-#[cfg(test)]
-mod made_up;
 #[cfg(test)]
 mod one_owner;
 #[cfg(test)]

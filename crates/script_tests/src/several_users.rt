@@ -86,14 +86,8 @@ command own - acldel ann => gone client 1 1 / ok
 command own - aclgrp bob => text bob: eve
 = a user has eight leaders at most, and one who is there keeps his place
 command own - acladd a,b,c,d,e,f,g,h,i
-command own - aclgrp bob a
-command own - aclgrp bob b
-command own - aclgrp bob c
-command own - aclgrp bob d
-command own - aclgrp bob e
-command own - aclgrp bob f
-command own - aclgrp bob g
-command own - aclgrp bob h
+keys 0 \01:aclgrp bob a\0d\01:aclgrp bob b\0d\01:aclgrp bob c\0d\01:aclgrp bob d\0d
+keys 0 \01:aclgrp bob e\0d\01:aclgrp bob f\0d\01:aclgrp bob g\0d\01:aclgrp bob h\0d
 command own - aclgrp bob i => refused acl: 7
 command own - aclgrp bob a
 command own - aclgrp bob => text bob: a,b,c,d,e,f,g,h

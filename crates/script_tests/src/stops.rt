@@ -6,16 +6,9 @@ use crate::judging::are_lines;
 use crate::rows::{DRAWN, FOUR_CLIENTS, put_windows};
 use crate::{draws, several_users, splits, views};
 use acl::UserId;
-use session_core::{Effect, Event, Refusal, Reply, Session};
+use session_core::{Effect, Event, Reply, Session};
 use session_lines::{print_effect, print_reply, read_event};
-use std::alloc::Global;
-
-/// A session that plays, and what it printed.
-#[derive(Drop)]
-struct Player {
-    session: Session,
-    printed: String,
-}
+use std::alloc::{AllocError, Global};
 
 /// The event behind so many of its keys.
 fn rest_of(event: Event<'_>, part: usize) -> Event<'_> {
@@ -43,103 +36,81 @@ fn is_taken(
     ran.taken == 1 && !ran.stopped
 }
 
-fn begin(alloc: Global, owner: UserId, is_first: bool) -> Result<Session, Refusal> {
-    if is_first {
-        Session::first_edition(alloc, owner)
-    } else {
-        Session::new(alloc, owner)
+/// The lines of an event's effects, and that of its reply.
+fn lines_of(
+    alloc: Global,
+    event: &Event<'_>,
+    effects: &[Effect],
+    replies: &[Reply],
+) -> Result<String, AllocError> {
+    let mut printed = String::new(alloc);
+    for effect in effects {
+        print_effect(effect, &mut printed)?;
+    }
+    for reply in replies {
+        print_reply(event, reply, &mut printed)?;
+    }
+    Ok(printed)
+}
+
+/// Whether an event prints what its line wants.
+fn prints(alloc: Global, session: &mut Session, event: Event<'_>, line: &str) -> bool {
+    let mut effects = Vec::new(alloc);
+    let mut replies = Vec::new(alloc);
+    if !is_taken(session, event, &mut effects, &mut replies) {
+        return false;
+    }
+    let printed = match lines_of(alloc, &event, &effects, &replies) {
+        Ok(printed) => Ok(printed),
+        Err(_) => lines_of(alloc, &event, &effects, &replies),
+    };
+    match printed {
+        Ok(printed) => are_lines(line, &printed),
+        Err(_) => false,
     }
 }
 
-impl Player {
-    /// A session of the owner, in the first edition or in the second.
-    fn new(alloc: Global, is_first: bool) -> Option<Player> {
-        let owner = UserId::of(b"own")?;
-        let session = match begin(alloc, owner, is_first) {
-            Ok(session) => session,
-            Err(_) => begin(alloc, owner, is_first).ok()?,
-        };
-        Some(Player {
-            session,
-            printed: String::new(alloc),
-        })
-    }
-
-    /// Prints the effects of an event, and then its reply.
-    fn print(&mut self, event: &Event<'_>, effects: &[Effect], replies: &[Reply]) -> bool {
-        for effect in effects {
-            if print_effect(effect, &mut self.printed).is_err()
-                && print_effect(effect, &mut self.printed).is_err()
-            {
-                return false;
-            }
-        }
-        for reply in replies {
-            if print_reply(event, reply, &mut self.printed).is_err()
-                && print_reply(event, reply, &mut self.printed).is_err()
-            {
-                return false;
-            }
-        }
-        true
-    }
-
-    /// Takes an event, and prints what comes of it.
-    fn is_played(&mut self, alloc: Global, event: Event<'_>) -> bool {
-        let mut effects = Vec::new(alloc);
-        let mut replies = Vec::new(alloc);
-        is_taken(&mut self.session, event, &mut effects, &mut replies)
-            && self.print(&event, &effects, &replies)
-    }
-
-    /// Plays the event of a line.
-    fn is_line_played(&mut self, alloc: Global, line: &str) -> bool {
+/// Whether each event of a text prints what its line wants.
+fn are_so(alloc: Global, session: &mut Session, text: &str) -> bool {
+    for line in text.lines() {
+        let words = line.split(" => ").next().unwrap_or(line);
         let mut text = Vec::new(alloc);
-        if text.reserve(line.len()).is_err() && text.reserve(line.len()).is_err() {
+        if text.reserve(words.len()).is_err() && text.reserve(words.len()).is_err() {
             return false;
         }
-        match read_event(line.as_bytes(), &mut text) {
-            Ok(Some(event)) => self.is_played(alloc, event),
-            _ => false,
+        match read_event(words.as_bytes(), &mut text) {
+            Ok(Some(event)) if prints(alloc, session, event, line) => {}
+            _ => return false,
         }
     }
-
-    /// Plays the events of a text. Whether just that is printed which it wants.
-    fn prints(&mut self, alloc: Global, text: &str) -> bool {
-        self.printed.clear();
-        for line in text.lines() {
-            let event = match line.split_once(" => ") {
-                Some((event, _)) => event,
-                None => line,
-            };
-            if !self.is_line_played(alloc, event) {
-                return false;
-            }
-        }
-        are_lines(text, &self.printed)
-    }
+    true
 }
 
-/// Whether a beginning and a row behind it print what they want.
-fn is_row_so(alloc: Global, is_first: bool, beginning: &str, row: &str) -> bool {
-    let Some((_, events)) = row.split_once('\n') else {
+/// Whether a beginning and a row behind it are so in a session.
+fn is_row_so(alloc: Global, beginning: &str, row: &str) -> bool {
+    let events = match row.split_once('\n') {
+        Some((_, events)) => events,
+        None => "",
+    };
+    let Some(owner) = UserId::of(b"own") else {
         return false;
     };
-    match Player::new(alloc, is_first) {
-        Some(mut player) => player.prints(alloc, beginning) && player.prints(alloc, events),
-        None => false,
+    let session = match Session::new(alloc, owner) {
+        Ok(session) => Ok(session),
+        Err(_) => Session::new(alloc, owner),
+    };
+    match session {
+        Ok(mut session) => {
+            are_so(alloc, &mut session, beginning) && are_so(alloc, &mut session, events)
+        }
+        Err(_) => false,
     }
 }
 
 /// The first row that isn't so.
-fn first_wrong(
-    alloc: Global,
-    is_first: bool,
-    beginning: &str,
-    rows: &'static str,
-) -> Option<&'static str> {
+fn first_wrong(alloc: Global, beginning: &str, rows: &'static str) -> Option<&'static str> {
     for row in rows.split("\n= ") {
-        if !row.is_empty() && !is_row_so(alloc, is_first, beginning, row) {
+        if !row.is_empty() && !is_row_so(alloc, beginning, row) {
             return Some(row);
         }
     }
@@ -155,21 +126,18 @@ fn are_forty_open(alloc: Global) -> bool {
             return false;
         }
     }
-    match Player::new(alloc, false) {
-        Some(mut player) => player.prints(alloc, &text),
-        None => false,
-    }
+    is_row_so(alloc, &text, "")
 }
 
 #[test]
 fn rows_are_printed_though_refused_once(rt: HostRuntime) {
     let alloc = rt.alloc();
-    let wrong = first_wrong(alloc, false, FOUR_CLIENTS, several_users::CASES)
-        .or(first_wrong(alloc, true, FOUR_CLIENTS, several_users::FIRST))
-        .or(first_wrong(alloc, false, FOUR_CLIENTS, views::CASES))
-        .or(first_wrong(alloc, false, "", splits::CASES))
-        .or(first_wrong(alloc, false, DRAWN, draws::CASES))
-        .or(first_wrong(alloc, false, FOUR_CLIENTS, draws::REVOKED));
+    let wrong = first_wrong(alloc, FOUR_CLIENTS, several_users::CASES)
+        .or(first_wrong(alloc, FOUR_CLIENTS, several_users::SECOND))
+        .or(first_wrong(alloc, FOUR_CLIENTS, views::CASES))
+        .or(first_wrong(alloc, "", splits::CASES))
+        .or(first_wrong(alloc, DRAWN, draws::CASES))
+        .or(first_wrong(alloc, FOUR_CLIENTS, draws::REVOKED));
     assert_eq!(rt; wrong, None);
     assert!(rt; are_forty_open(alloc));
 }

@@ -6,7 +6,7 @@ use std::alloc::{AllocError, Global};
 
 /// What stands in a terminal before its first draw: a page of wide characters with strange modes,
 /// inside a string.
-pub const STRANGE: &[u8] =
+const STRANGE: &[u8] =
     b"x\xE6\xBC\xA2y\x1b[2;3r\x1b[?1;5;6h\x1b[4;20h\x1b[1;4;7m\x1b7\x1b[?25l\x1b=\x1b)0\x0e\x1b%@\
       \x1bPtext";
 
@@ -53,7 +53,7 @@ fn put_delivered(printed: &str, client: &str, out: &mut Vec<u8>) -> bool {
 }
 
 /// Appends the bytes that a printed text stands for.
-pub fn put_unescaped(text: &str, out: &mut Vec<u8>) -> bool {
+fn put_unescaped(text: &str, out: &mut Vec<u8>) -> bool {
     let mut is_first = true;
     for piece in text.split('\\') {
         let is_put = if is_first {
