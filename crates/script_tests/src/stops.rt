@@ -74,11 +74,11 @@ fn prints(alloc: Global, session: &mut Session, event: Event<'_>, line: &str) ->
 fn are_so(alloc: Global, session: &mut Session, text: &str) -> bool {
     for line in text.lines() {
         let words = line.split(" => ").next().unwrap_or(line);
-        let mut text = Vec::new(alloc);
-        if text.reserve(words.len()).is_err() && text.reserve(words.len()).is_err() {
+        let mut bytes = Vec::new(alloc);
+        if bytes.reserve(words.len()).is_err() && bytes.reserve(words.len()).is_err() {
             return false;
         }
-        match read_event(words.as_bytes(), &mut text) {
+        match read_event(words.as_bytes(), &mut bytes) {
             Ok(Some(event)) if prints(alloc, session, event, line) => {}
             _ => return false,
         }
@@ -88,10 +88,7 @@ fn are_so(alloc: Global, session: &mut Session, text: &str) -> bool {
 
 /// Whether a beginning and a row behind it are so in a session.
 fn is_row_so(alloc: Global, beginning: &str, row: &str) -> bool {
-    let events = match row.split_once('\n') {
-        Some((_, events)) => events,
-        None => "",
-    };
+    let (_, events) = row.split_once('\n').unwrap_or(("", ""));
     let Some(owner) = UserId::of(b"own") else {
         return false;
     };
@@ -122,9 +119,7 @@ fn are_forty_open(alloc: Global) -> bool {
     let mut text = String::new(alloc);
     if put_windows(&mut text).is_err() {
         text.clear();
-        if put_windows(&mut text).is_err() {
-            return false;
-        }
+        let _second = put_windows(&mut text);
     }
     is_row_so(alloc, &text, "")
 }
