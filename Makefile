@@ -35,11 +35,13 @@ check:
 	@test -n "$(CRATE)" || { echo "make check CRATE=name" >&2; exit 2; }
 	@cd crates/$(CRATE) && $(RT) check
 
-# The gate: every proof from nothing, the must-fail edits, the tests and the programs.  So many crates at a time as there
-# are processors, each with one job, but no more than four: a proof takes up to 4 GB.  RT_JOBS=2 make test: two.
+# The gate: every proof from nothing, the must-fail edits, the tests and the programs, and then the tests of refused
+# memory with each of their allocations refused in turn.  So many crates at a time as there are processors, each with one
+# job, but no more than four: a proof takes up to 4 GB.  RT_JOBS=2 make test: two.
 LANES = $(shell n=$$(nproc); test $$n -le 4 || n=4; echo $$n)
 test:
 	@RT='$(RT)' RT_JOBS=$${RT_JOBS:-$(LANES)} tools/rt ci
+	@RT='$(RT)' tools/refusals >&2
 
 # Tries the edits of edits/ in copies of the tree: all, or make edits CRATE=acl.
 edits:
@@ -74,6 +76,7 @@ lint:
 	@for file in $(shell grep -s -l -m 1 '^.!/usr/bin/perl' contrib/*); do perl -c $$file || exit 1; done
 	tic -c contrib/mux.ti
 	cd man && mandoc -T lint *.1 *.5 *.8
+	tests/outside/empty_edits
 	tools/crates-table README.md
 	tools/proved-table
 	tools/walk docs/READING.md

@@ -39,21 +39,34 @@ static FAULTS: [Row; 12] = [
     (Side::Peer, b"\x73\x00\x01\xFF", 0, ProtoFault::BadPayload),
 ];
 
-/// Whether the last byte shows the fault, which is answered to what comes then too.
-fn is_faulty(alloc: Global, row: &Row) -> bool {
+/// Whether the last byte of a row, the bytes before which come in two pieces, shows the fault, which
+/// is answered to what comes then too.
+fn is_faulty(alloc: Global, row: &Row, cut: usize) -> bool {
     let (side, bytes, count, fault) = *row;
     let (before, last) = bytes.split_at(bytes.len().saturating_sub(1));
+    let (first, second) = before.split_at(cut.min(before.len()));
     let mut reader = Reader::new(alloc, side);
     let mut messages = Vec::new(alloc);
-    reader.feed(before, &mut messages).is_ok()
+    reader.feed(first, &mut messages).is_ok()
+        && reader.feed(second, &mut messages).is_ok()
         && reader.feed(last, &mut messages) == Err(fault)
         && reader.feed(b"\x44\x00\x00", &mut messages) == Err(fault)
         && messages.len() == count
 }
 
+/// The same at each place.
+fn is_faulty_at_each_cut(alloc: Global, row: &Row) -> bool {
+    for cut in 0..row.1.len() {
+        if !is_faulty(alloc, row, cut) {
+            return false;
+        }
+    }
+    true
+}
+
 fn first_wrong(alloc: Global) -> Option<usize> {
     for (number, row) in FAULTS.iter().enumerate() {
-        if !is_faulty(alloc, row) {
+        if !is_faulty_at_each_cut(alloc, row) {
             return Some(number);
         }
     }
@@ -61,7 +74,7 @@ fn first_wrong(alloc: Global) -> Option<usize> {
 }
 
 #[test]
-fn faults(rt: HostRuntime) {
+fn faults_stay_however_they_are_cut(rt: HostRuntime) {
     assert_eq!(rt; first_wrong(rt.alloc()), None);
 }
 

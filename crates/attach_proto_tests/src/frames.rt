@@ -87,19 +87,33 @@ fn are_written(alloc: Global, messages: &[Message], frame: &[u8]) -> bool {
     out.as_slice() == frame
 }
 
-/// Whether a frame is read as its message, which is written as the frame.
-fn is_so(alloc: Global, row: &Row) -> bool {
+/// Whether a frame that comes in two pieces is read as its message, which is written as the frame.
+/// The first piece is a beginning of it, and gives no message and no fault.
+fn is_so(alloc: Global, row: &Row, cut: usize) -> bool {
     let (side, frame, message) = *row;
+    let (first, second) = frame.split_at(cut.min(frame.len()));
     let mut reader = Reader::new(alloc, side);
     let mut messages = Vec::new(alloc);
-    reader.feed(frame, &mut messages).is_ok()
+    reader.feed(first, &mut messages).is_ok()
+        && messages.is_empty()
+        && reader.feed(second, &mut messages).is_ok()
         && are_shown(alloc, &messages, message)
         && are_written(alloc, &messages, frame)
 }
 
+/// The same at each place, from the frame as a whole on.
+fn is_so_at_each_cut(alloc: Global, row: &Row) -> bool {
+    for cut in 0..row.1.len() {
+        if !is_so(alloc, row, cut) {
+            return false;
+        }
+    }
+    true
+}
+
 fn first_wrong(alloc: Global) -> Option<usize> {
     for (number, row) in FRAMES.iter().enumerate() {
-        if !is_so(alloc, row) {
+        if !is_so_at_each_cut(alloc, row) {
             return Some(number);
         }
     }
@@ -107,6 +121,6 @@ fn first_wrong(alloc: Global) -> Option<usize> {
 }
 
 #[test]
-fn frames(rt: HostRuntime) {
-    assert!(rt; first_wrong(rt.alloc()).is_none());
+fn frames_are_read_however_they_are_cut(rt: HostRuntime) {
+    assert_eq!(rt; first_wrong(rt.alloc()), None);
 }

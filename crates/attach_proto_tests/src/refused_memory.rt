@@ -1,5 +1,6 @@
-//! Growths that are refused. Run as it stands it meets no refusal; with each allocation refused in
-//! turn, a refused call has read or written nothing and does it when it is asked again.
+//! Growths that are refused: a refused call has read or written nothing, and does it when it is asked
+//! again. Run as it stands the test here meets no refusal; `tools/refusals` runs it once for each of
+//! its allocations, which is refused then.
 
 use attach_proto::{Message, Reader, Side, write_message};
 use std::alloc::Global;
@@ -53,6 +54,6 @@ fn is_nothing_lost(alloc: Global) -> bool {
 }
 
 #[test]
-fn nothing_is_lost_by_a_refusal(rt: HostRuntime) {
+fn nothing_is_lost_though_refused_once(rt: HostRuntime) {
     assert!(rt; is_nothing_lost(rt.alloc()));
 }

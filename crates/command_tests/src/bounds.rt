@@ -63,7 +63,7 @@ fn is_bounded(alloc: Global) -> bool {
 }
 
 #[test]
-fn longest_line(rt: HostRuntime) {
+fn steps_file_65536_acts_at_most_though_refused_once(rt: HostRuntime) {
     assert!(rt; is_bounded(rt.alloc()));
 }
 

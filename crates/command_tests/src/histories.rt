@@ -247,6 +247,6 @@ fn first_wrong(alloc: Global) -> Option<usize> {
 }
 
 #[test]
-fn histories(rt: HostRuntime) {
+fn histories_are_answered_though_refused_once(rt: HostRuntime) {
     assert_eq!(rt; first_wrong(rt.alloc()), None);
 }

@@ -193,11 +193,10 @@ fn first_wrong(alloc: Global) -> Option<usize> {
     None
 }
 
-/// Each command and alias, and each fault. With each allocation refused in turn (`rt try --test
-/// --fail-alloc N`), a refused call says so, hides no fault, and does its work when it is asked
-/// again.
+/// Each command and alias, and each fault. With each allocation refused in turn (`tools/refusals`),
+/// a refused call says so, hides no fault, and does its work when it is asked again.
 #[test]
-fn lines(rt: HostRuntime) {
+fn lines_are_answered_though_refused_once(rt: HostRuntime) {
     assert_eq!(rt; first_wrong(rt.alloc()), None);
 }
 
@@ -207,7 +206,7 @@ const CONTROL_PRINTED: &str = "title \"\\\"\\\\\\177\u{6F22}\"= window";
 
 /// A control character, and the longest line with a byte too much.
 #[test]
-fn odd_lines(rt: HostRuntime) {
+fn odd_lines_are_answered_though_refused_once(rt: HostRuntime) {
     assert!(rt;
         is_answered_at_last(rt.alloc(), CONTROL.as_bytes(), CONTROL_PRINTED)
             && is_answered_at_last(rt.alloc(), &[b' '; 1025], "7 at 1024")

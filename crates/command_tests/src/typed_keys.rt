@@ -126,6 +126,6 @@ fn give_commands(alloc: Global) -> bool {
 }
 
 #[test]
-fn bound_keys_give_commands(rt: HostRuntime) {
+fn bound_keys_give_commands_though_refused_once(rt: HostRuntime) {
     assert!(rt; give_commands(rt.alloc()));
 }

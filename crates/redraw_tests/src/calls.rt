@@ -1,6 +1,6 @@
-//! The calls that make frames give the same bytes, and a refused one changes nothing. Run as it stands,
-//! the test here meets no refusal; `rt try --test --fail-alloc N` refuses the Nth allocation. At most
-//! one is refused in a run, so a second try never is.
+//! The calls that make frames give the same bytes, and a refused one changes nothing. Run as it stands
+//! the test here meets no refusal; `tools/refusals` runs it once for each of its allocations, which is
+//! refused then. So at most one is refused in a run, and a second try never is.
 
 ghost use Rattle.std.specs.Prelude.{◌≡◌};
 
@@ -125,6 +125,6 @@ fn are_alike(alloc: Global) -> bool {
 }
 
 #[test]
-fn calls_give_the_same_bytes(rt: HostRuntime) {
+fn calls_give_the_same_bytes_though_refused_once(rt: HostRuntime) {
     assert!(rt; are_alike(rt.alloc()));
 }

@@ -257,10 +257,10 @@ fn first_wrong(alloc: Global) -> Option<usize> {
     None
 }
 
-/// A refused split is asked for again: with each allocation refused in turn (`rt try --test
-/// --fail-alloc N`), the layout is then as without a refusal.
+/// A refused split is asked for again: with each allocation refused in turn (`tools/refusals`), the
+/// layout is then as without a refusal.
 #[test]
-fn layouts_give_their_rows(rt: HostRuntime) {
+fn layouts_give_their_rows_though_refused_once(rt: HostRuntime) {
     assert_eq!(rt; first_wrong(rt.alloc()), None);
 }
 

@@ -1,4 +1,4 @@
-//! Tests of draws: layouts of regions, and frames from one page to another.
+//! Tests of draws: layouts of regions, frames from one page to another, and made-up steps of a session.
 #![tactic(auto)]
 
 #[cfg(test)]
@@ -11,3 +11,5 @@ mod drawing;
 mod layouts;
 #[cfg(test)]
 mod lengths;
+#[cfg(test)]
+mod made_up;

@@ -108,7 +108,7 @@ fn has_colours(page: &MovedPage<'_>, fore: &str, back: &str) -> bool {
 fn is_coloured(alloc: Global, row: &Row) -> bool {
     let (bytes, fore, back) = *row;
     let mut answers = Vec::new(alloc);
-    match read(alloc, SMALL, bytes, &mut answers) {
+    match read(alloc, SMALL, &[bytes], &mut answers) {
         Some(emulator) => has_colours(&emulator.page(0), fore, back),
         None => false,
     }
@@ -131,7 +131,7 @@ fn is_bold_and_blinking(alloc: Global) -> bool {
         ..Rendition::PLAIN
     };
     let mut answers = Vec::new(alloc);
-    match read(alloc, SMALL, b"\x1B[38;5;1ma", &mut answers) {
+    match read(alloc, SMALL, &[b"\x1B[38;5;1ma"], &mut answers) {
         Some(emulator) => {
             emulator.page(0).line(0).first() == Some(&Cell::narrow('a', rendition, false))
         }

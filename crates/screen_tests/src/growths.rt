@@ -1,6 +1,5 @@
-//! Growths that are refused. Played as it stands this meets no refusal;
-//! `rt try --test --fail-alloc 1..` refuses each allocation in turn, and what was there must then
-//! still be there.
+//! Growths that are refused, and leave all as it was. Run as it stands the test here meets no refusal;
+//! `tools/refusals` runs it once for each of its allocations, which is refused then.
 
 use crate::judging::shows;
 use cells::GridFault;
@@ -51,6 +50,6 @@ fn is_all_left(alloc: Global) -> bool {
 }
 
 #[test]
-fn refused_growths_leave_all(rt: HostRuntime) {
+fn all_is_left_though_refused_once(rt: HostRuntime) {
     assert!(rt; is_all_left(rt.alloc()));
 }

@@ -8,11 +8,18 @@ use std::str::Chars;
 /// Lines, columns, and lines to keep.
 pub type Size = (usize, usize, usize);
 
-/// An emulator of this size that has read these bytes; what it answered is appended.
-pub fn read(alloc: Global, size: Size, bytes: &[u8], answers: &mut Vec<u8>) -> Option<Emulator> {
+/// An emulator of this size that has read these pieces; what it answered is appended.
+pub fn read(
+    alloc: Global,
+    size: Size,
+    pieces: &[&[u8]],
+    answers: &mut Vec<u8>,
+) -> Option<Emulator> {
     let (rows, columns, keep) = size;
     let mut emulator = Emulator::new(alloc, rows, columns, keep).ok()?;
-    emulator.feed_all(bytes, answers).ok()?;
+    for piece in pieces {
+        emulator.feed_all(piece, answers).ok()?;
+    }
     Some(emulator)
 }
 
@@ -32,16 +39,27 @@ pub struct Row {
     pub answer: &'static [u8],
 }
 
-/// Whether a row's bytes do what it says.
-pub fn is_so(alloc: Global, row: &Row) -> bool {
+/// Whether a row's bytes, which come in two pieces, do what it says.
+fn is_so(alloc: Global, row: &Row, cut: usize) -> bool {
+    let (first, second) = row.bytes.split_at(cut.min(row.bytes.len()));
     let mut answers = Vec::new(alloc);
-    let Some(emulator) = read(alloc, row.size, row.bytes, &mut answers) else {
+    let Some(emulator) = read(alloc, row.size, &[first, second], &mut answers) else {
         return false;
     };
     shows(&emulator.page(row.back), row.page)
         && emulator.cursor() == row.cursor
         && has_modes(&emulator, row.modes)
         && answers.as_slice() == row.answer
+}
+
+/// The same at each place.
+pub fn is_so_at_each_cut(alloc: Global, row: &Row) -> bool {
+    for cut in 0..=row.bytes.len() {
+        if !is_so(alloc, row, cut) {
+            return false;
+        }
+    }
+    true
 }
 
 /// Whether a text goes on with a cell: `_` is a blank, and a right half is nothing.
@@ -85,19 +103,34 @@ pub fn shows(page: &MovedPage<'_>, text: &str) -> bool {
     text.next().is_none()
 }
 
+/// The letters of the modes: IRM, LNM, ?1, ?5, ?6, ?7, ?25, and an application keypad.
+const LETTERS: [u8; 8] = *b"ilavowck";
+
 /// The modes of a new screen.
 pub const NEW: &[u8] = b"wc";
 
-/// Whether those modes are set that have these letters, and no others: IRM, LNM, ?1, ?5, ?6, ?7,
-/// ?25, and an application keypad.
-fn has_modes(emulator: &Emulator, letters: &[u8]) -> bool {
+/// Which modes are set, in the order of their letters.
+pub fn modes_of(emulator: &Emulator) -> [bool; 8] {
     let modes = emulator.modes();
-    modes.inserts == letters.contains(&b'i')
-        && modes.starts_lines == letters.contains(&b'l')
-        && modes.has_application_arrows == letters.contains(&b'a')
-        && modes.is_inverted == letters.contains(&b'v')
-        && modes.counts_from_margin == letters.contains(&b'o')
-        && modes.wraps == letters.contains(&b'w')
-        && modes.shows_cursor == letters.contains(&b'c')
-        && modes.has_application_keypad == letters.contains(&b'k')
+    [
+        modes.inserts,
+        modes.starts_lines,
+        modes.has_application_arrows,
+        modes.is_inverted,
+        modes.counts_from_margin,
+        modes.wraps,
+        modes.shows_cursor,
+        modes.has_application_keypad,
+    ]
+}
+
+/// Whether those modes are set that have these letters, and no others.
+fn has_modes(emulator: &Emulator, letters: &[u8]) -> bool {
+    let modes = modes_of(emulator);
+    for place in 0..LETTERS.len() {
+        if letters.contains(&LETTERS[place]) != modes[place] {
+            return false;
+        }
+    }
+    true
 }

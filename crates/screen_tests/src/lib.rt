@@ -1,8 +1,11 @@
-//! Tests of screens: bytes as control functions, the pages that have read them, and their cells.
+//! Tests of screens: bytes as control functions, the pages that have read them however they were cut,
+//! their cells, and tables of windows.
 #![tactic(auto)]
 
 #[cfg(test)]
 mod colours;
+#[cfg(test)]
+mod cuts;
 #[cfg(test)]
 mod functions;
 #[cfg(test)]
@@ -12,6 +15,10 @@ mod judging;
 #[cfg(test)]
 mod pages;
 #[cfg(test)]
+mod runs;
+#[cfg(test)]
 mod sizes;
 #[cfg(test)]
 mod table;
+#[cfg(test)]
+mod tables;

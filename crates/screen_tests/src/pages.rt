@@ -1,6 +1,6 @@
 //! What pages show when they have read some bytes.
 
-use crate::judging::{NEW, Row, Size, is_so, read, shows};
+use crate::judging::{NEW, Row, Size, is_so_at_each_cut, read, shows};
 use emulator::Emulator;
 use std::alloc::Global;
 
@@ -199,7 +199,7 @@ fn first_wrong(alloc: Global) -> Option<usize> {
             modes: NEW,
             answer: b"",
         };
-        if !is_so(alloc, &row) {
+        if !is_so_at_each_cut(alloc, &row) {
             return Some(number);
         }
     }
@@ -220,7 +220,7 @@ fn is_read_often(emulator: &mut Emulator, bytes: &[u8], out: &mut Vec<u8>) -> bo
 /// is until it is ended.
 fn are_long_ones_read(alloc: Global) -> bool {
     let mut out = Vec::new(alloc);
-    let Some(mut emulator) = read(alloc, SMALL, b"ab\x1B[", &mut out) else {
+    let Some(mut emulator) = read(alloc, SMALL, &[b"ab\x1B["], &mut out) else {
         return false;
     };
     is_read_often(&mut emulator, b"1;", &mut out)
@@ -233,7 +233,7 @@ fn are_long_ones_read(alloc: Global) -> bool {
 }
 
 #[test]
-fn pages_show_what_was_read(rt: HostRuntime) {
+fn pages_show_what_was_read_however_cut(rt: HostRuntime) {
     assert_eq!(rt; first_wrong(rt.alloc()), None);
     assert!(rt; are_long_ones_read(rt.alloc()));
 }

@@ -1,6 +1,6 @@
 //! Every row of the screen table: bytes in; page, cursor, modes and answers out.
 
-use crate::judging::{NEW, Row, Size, is_so, read};
+use crate::judging::{NEW, Row, Size, is_so_at_each_cut, read};
 use std::alloc::Global;
 
 /// Bytes; the lines of the page, each ended by `|`, where a blank is `_`; the cursor's line and
@@ -184,11 +184,13 @@ static MODES: [Sets; 29] = [
 ];
 
 /// Reports of a page of 24 lines by 80 columns: the place is counted from the margins, the last
-/// place, 8-bit controls in UTF-8.
-static LARGE: [(&[u8], &[u8]); 3] = [
+/// place, 8-bit controls in UTF-8; the place behind three tabs, and behind one where no stop is left.
+static LARGE: [(&[u8], &[u8]); 5] = [
     (b"\x1B[2;4r\x1B[?6h\x1B[6n", b"\x1B[1;1R"),
     (b"\x1B[999;999H\x1B[6n", b"\x1B[24;80R"),
     (b"\x1B G\x1B[c", b"\xC2\x9B?62;6c"),
+    (b"\t\t\t\x1B[6n", b"\x1B[1;25R"),
+    (b"\t\t\t\x1B[3g\r\t\x1B[6n", b"\x1B[1;80R"),
 ];
 
 fn first_wrong(alloc: Global) -> Option<usize> {
@@ -202,7 +204,7 @@ fn first_wrong(alloc: Global) -> Option<usize> {
             modes: NEW,
             answer: b"",
         };
-        if !is_so(alloc, &row) {
+        if !is_so_at_each_cut(alloc, &row) {
             return Some(number);
         }
     }
@@ -220,7 +222,7 @@ fn first_wrong_mode(alloc: Global) -> Option<usize> {
             modes,
             answer,
         };
-        if !is_so(alloc, &row) {
+        if !is_so_at_each_cut(alloc, &row) {
             return Some(number);
         }
     }
@@ -230,7 +232,7 @@ fn first_wrong_mode(alloc: Global) -> Option<usize> {
 fn are_answered(alloc: Global) -> bool {
     for (bytes, answer) in &LARGE {
         let mut out = Vec::new(alloc);
-        if read(alloc, (24, 80, 0), bytes, &mut out).is_none() || out.as_slice() != *answer {
+        if read(alloc, (24, 80, 0), &[bytes], &mut out).is_none() || out.as_slice() != *answer {
             return false;
         }
     }

@@ -1,5 +1,5 @@
 //! Tests that cross crates, by scripts: one owner, several users, what each client sees, how pages
-//! are split, draws, and what isn't understood.
+//! are split, draws, memory that is refused, and what isn't understood.
 #![tactic(auto)]
 
 #[cfg(test)]
@@ -18,6 +18,8 @@ mod rows;
 mod several_users;
 #[cfg(test)]
 mod splits;
+#[cfg(test)]
+mod stops;
 #[cfg(test)]
 mod terminals;
 #[cfg(test)]

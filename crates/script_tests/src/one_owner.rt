@@ -171,6 +171,25 @@ client 1
 |                    |
 |0 ?                 |
 |                    | / cursor hidden
+= a denial is told once for all keys of an event, and is cut at the edge of the last row
+command own - multiuser on
+command own - acladd bob
+open own 24 80 0 sh => opened 0 0
+attach own 4 20 => attached 0
+attach bob 4 20 => attached 1
+command own - aclchg bob -w 0
+keys 1 xy => say 1 denied: w on window 0: entry bob -w / ok
+draw 1 => deliver 1 reset .. / ok
+client 0
+|                    |
+|                    |
+|0 sh                |
+|                    | / cursor 1 1
+client 1
+|                    |
+|                    |
+|0 sh                |
+|denied: w on window | / cursor 1 1
 = keys go on in the window that a command among them selects, however they are cut
 open own 2 5 0 zero => opened 0 0
 open own 2 5 0 one => opened 1 1

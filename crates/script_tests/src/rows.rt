@@ -5,7 +5,7 @@ use crate::{draws, one_owner, several_users, splits, views};
 use std::alloc::{AllocError, Global};
 
 /// Three windows of the owner, and a client of each of four users; bob and eve show window 2.
-const FOUR_CLIENTS: &str = r"command own - multiuser on
+pub const FOUR_CLIENTS: &str = r"command own - multiuser on
 command own - acladd ann,bob,eve
 open own 24 80 0 zero => opened 0 0
 open own 24 80 0 one => opened 1 1
@@ -19,7 +19,7 @@ keys 3 \01:select 2\0d
 ";
 
 /// A client that was drawn, with `hi` in its window of 2 by 5.
-const DRAWN: &str = r"open own 2 5 0 sh => opened 0 0
+pub const DRAWN: &str = r"open own 2 5 0 sh => opened 0 0
 attach own 4 20 => attached 0
 output 0 hi
 draw 0 => deliver 0 reset .. / ok
@@ -88,7 +88,7 @@ fn rows_are_printed(rt: HostRuntime) {
 }
 
 /// 40 windows, of which none may be opened more before one is closed.
-fn put_windows(text: &mut String) -> Result<(), AllocError> {
+pub fn put_windows(text: &mut String) -> Result<(), AllocError> {
     for window in 0..40u32 {
         write!(text, "open own 2 5 0 w => opened {window} {window}\n")?;
     }

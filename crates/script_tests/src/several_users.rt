@@ -22,6 +22,11 @@ keys 2 \01:writelock on\0d
 keys 2 \01:select 0\0d
 keys 3 \01:select 2\0d
 keys 3 x => say 3 denied: window 2 locked by bob / ok
+= a window that is opened where locks begin as on is locked by its opener
+command own - defwritelock on
+open own 24 80 0 new => opened 3 3
+keys 2 \01:select 3\0d
+keys 2 x => say 2 denied: window 3 locked by own / ok
 = a client that goes leaves, and its lock with it
 keys 3 \01:writelock on\0d
 detach 3 => gone client 3 0 / ok
@@ -41,6 +46,13 @@ command own - windows => text 0 zero  1 one  2 two
 = a bound command acts only where x is granted on it
 command own - aclchg bob -x kill
 keys 2 \01k => say 2 denied: x on kill: entry bob -x / ok
+command own - windows => text 0 zero  1 one  2 two
+= a command is refused to a user without x on it, and to one without x on its window
+command own - aclchg bob -x kill
+command bob 0 kill => refused denied: x on kill: entry bob -x
+command own - aclchg bob +x-r kill
+command own - aclchg bob -x 0
+command bob 0 kill => refused denied: x on window 0: entry bob -x
 command own - windows => text 0 zero  1 one  2 two
 = a list of users is changed wholly or not at all
 command own - aclchg bob,own -r 2 => refused acl: 2
@@ -72,6 +84,13 @@ command own - aclgrp bob ann
 command own - aclgrp bob => text bob: ann,eve
 command own - acldel ann => gone client 1 1 / ok
 command own - aclgrp bob => text bob: eve
+= a user has eight leaders at most, and one who is there keeps his place
+command own - acladd a,b,c,d,e,f,g,h,i
+keys 0 \01:aclgrp bob a\0d\01:aclgrp bob b\0d\01:aclgrp bob c\0d\01:aclgrp bob d\0d
+keys 0 \01:aclgrp bob e\0d\01:aclgrp bob f\0d\01:aclgrp bob g\0d\01:aclgrp bob h\0d
+command own - aclgrp bob i => refused acl: 7
+command own - aclgrp bob a
+command own - aclgrp bob => text bob: a,b,c,d,e,f,g,h
 = a client of another size is drawn anew
 output 2 hi
 draw 2 => deliver 2 reset .. / ok

@@ -1,0 +1,52 @@
+//! A table of windows: a window that is refused changes nothing. Run as it stands the test here meets
+//! no refusal; `tools/refusals` runs it once for each of its allocations, which is refused then. So
+//! at most one is refused in a run, and a second try never is.
+
+use windows::{WindowSize, Windows};
+use std::alloc::Global;
+
+/// Serials, numbers and titles.
+static WINDOWS: [(u32, u8, &str); 5] = [
+    (0, 0, "zero"),
+    (1, 1, "one"),
+    (2, 2, "two"),
+    (7, 3, "seven"),
+    (8, 4, "eight"),
+];
+
+const SIZE: WindowSize = WindowSize {
+    rows: 2,
+    columns: 5,
+    keep: 1,
+};
+
+/// The number of a window that is opened, by a second try where the first one is refused. None if
+/// the refused one has left a window.
+fn opened(windows: &mut Windows, alloc: Global, serial: u32, title: &str) -> Option<u8> {
+    let before = windows.len();
+    match windows.open(alloc, serial, SIZE, title) {
+        Ok(number) => Some(number),
+        Err(_) if windows.len() == before => windows.open(alloc, serial, SIZE, title).ok(),
+        Err(_) => None,
+    }
+}
+
+/// Whether windows get the lowest free numbers, also one that was given before.
+fn are_opened(alloc: Global) -> bool {
+    let mut windows = Windows::new(alloc);
+    for (serial, number, title) in &WINDOWS {
+        if opened(&mut windows, alloc, *serial, title) != Some(*number) {
+            return false;
+        }
+    }
+    windows.close(1).is_ok()
+        && opened(&mut windows, alloc, 9, "nine") == Some(1)
+        && windows.len() == WINDOWS.len()
+        && windows.by_name("nine").is_some()
+        && windows.get(1).is_none()
+}
+
+#[test]
+fn windows_are_opened_though_refused_once(rt: HostRuntime) {
+    assert!(rt; are_opened(rt.alloc()));
+}
