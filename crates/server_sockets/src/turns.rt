@@ -6,8 +6,7 @@ use crate::winding::wind_up;
 use mio::{Events, Poll, Registry, Token};
 use server_log::Log;
 use server_loop::{
-    End, Gate, LULL, Loop, News, NewsLine, Pace, Peers, Pending, Reads, SessionSeat, Submitted,
-    Writes,
+    End, Gate, Loop, News, NewsLine, Pace, Peers, Pending, Reads, SessionSeat, Submitted, Writes,
 };
 use server_system::{UsersSource, Wired};
 use server_users::Users;
@@ -51,6 +50,11 @@ impl Pacing<'_> {
         Ok(())
     }
 
+    // How long the loop sleeps at most, though nothing is to be done.
+    fn longest_sleep(&self) -> Option<Duration> {
+        self.pace.longest_sleep(&self.shared.busy)
+    }
+
     // A turn's reads are done. Whether its draws wait.
     fn read(&mut self, now: Option<Duration>, reads: Reads) -> io::Result<bool> {
         let is_news = self.pace.note(&self.shared.busy, now, reads.is_much);
@@ -91,9 +95,9 @@ impl Watch<'_> {
     fn timeout(&self, pending: Pending) -> Option<Duration> {
         if pending == Pending::Work || self.has_more() {
             Some(Duration::ZERO)
-        } else if self.pacing.pace.expects_more() {
-            Some(Duration::from_millis(LULL))
-        } else if pending == Pending::Retry || self.is_stuck() || self.pacing.pace.is_holding() {
+        } else if let Some(longest) = self.pacing.longest_sleep() {
+            Some(longest)
+        } else if pending == Pending::Retry || self.is_stuck() {
             Some(Duration::from_millis(PAUSE))
         } else if pending == Pending::Patience {
             Some(Duration::from_millis(LOOK))
