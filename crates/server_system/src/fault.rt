@@ -21,6 +21,8 @@ pub enum ServeFault {
     Taken,
     #[error("the socket's path is a file, and no socket: name another")]
     NoSocket,
+    #[error("{0} is no plain file: remove it, or name another socket")]
+    NoLock(String),
     #[error("the socket isn't made: {0}")]
     Socket(io::Error),
     #[error("out of memory")]
@@ -39,6 +41,11 @@ pub enum ServeFault {
 }
 
 impl ServeFault {
+    /// Whether a file that is read again may be sound though it didn't change.
+    pub fn is_passing(&self) -> bool {
+        matches!(self, ServeFault::NoFile(_) | ServeFault::NoMemory)
+    }
+
     /// What is wrong with the trail's file at this path.
     pub fn of_trail(alloc: Global, path: &str, fault: JournalFault) -> ServeFault {
         match String::from_str(alloc, path) {
