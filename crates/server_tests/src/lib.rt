@@ -16,6 +16,8 @@ mod many;
 #[cfg(test)]
 mod plays;
 #[cfg(test)]
+mod rations;
+#[cfg(test)]
 mod refusals;
 #[cfg(test)]
 mod rows;
