@@ -182,11 +182,12 @@ where
     let files = host.runtime;
     let mut places = Places::new(alloc);
     places.fill(rt, usize::from(asked.loops.clamp(1, 8)), listener)?;
-    let journal = journal(files, alloc, asked.trail, users.owner())?;
     let known = (users.owner(), seen);
+    let shared = shared(rt, asked, files, known, places.loop_handles)?;
+    let journal = journal(files, alloc, asked.trail, users.owner())?;
     let server = Server {
         common: Common {
-            shared: shared(rt, asked, files, known, places.loop_handles)?,
+            shared,
             gate: host.gate,
         },
         files,

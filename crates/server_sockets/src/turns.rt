@@ -275,6 +275,8 @@ fn take_turns<'a, J: SessionSeat + Drop, G: Gate + Drop, R: Clock + Wait>(
     for _ in rt.forever() {
         begin_turn(rt, watch, own)?;
         if own.peers.has_held() {
+            // A look that ends behind this wakes the loop.
+            watch.loop_handle.await_look();
             look_at_users(rt, shared, &mut count, own);
         }
         turn(rt, watch.loop_handle, &mut watch.pacing, own)?;
