@@ -39,7 +39,7 @@ def admit(server):
     with open(server.users, "ab") as users:
         for name, token in (GUEST, STRANGER):
             users.write(name + b" " + token + b"\n")
-    for line in (b"multiuser on", b"aclumask ?-rwx ??-x", b"aclchg eve -rwx #?"):
+    for line in (b"multiuser on", b"aclumask ?-rwx ??-x", b"aclchg eve -rwx #?", b"aclumask eve-rwx"):
         assert server.give(line).endswith(b"g\0\1\0"), line
 
 
