@@ -41,11 +41,6 @@ pub enum ServeFault {
 }
 
 impl ServeFault {
-    /// Whether a file that is read again may be sound though it didn't change.
-    pub fn is_passing(&self) -> bool {
-        matches!(self, ServeFault::NoFile(_) | ServeFault::NoMemory)
-    }
-
     /// What is wrong with the trail's file at this path.
     pub fn of_trail(alloc: Global, path: &str, fault: JournalFault) -> ServeFault {
         match String::from_str(alloc, path) {

@@ -78,29 +78,45 @@ impl Seen {
             failed: None,
         }
     }
+
+    // The file was found so, and read, or it wasn't for this fault. Whether that is news. What can't
+    // be read is told once, and read again at the next look.
+    fn is_news(&mut self, found: Option<Stamp>, fault: Option<&ServeFault>) -> bool {
+        match fault {
+            Some(ServeFault::NoMemory) => true,
+            Some(ServeFault::NoFile(_)) => {
+                let was_told = self.failed == Some(found);
+                self.stamp = None;
+                self.failed = Some(found);
+                !was_told
+            }
+            _ => {
+                self.stamp = found;
+                self.failed = None;
+                true
+            }
+        }
+    }
 }
 
 impl UsersFile<'_> {
     /// The users, or why they can't be had, unless all is as it was seen last, or that was told
-    /// before. A file that couldn't be read is read again at the next look.
+    /// before.
     pub fn look(&self, seen: &mut Seen) -> Option<Result<Users, ServeFault>> {
         let found = fs::metadata(&self.files, self.path).ok();
         let found = found.map(|found| Stamp::of(&found));
         if found == seen.stamp {
             return None;
         }
-        seen.stamp = found;
-        match self.read() {
-            Err(fault) if fault.is_passing() => {
-                seen.stamp = None;
-                let was_told = seen.failed == Some(found);
-                seen.failed = Some(found);
-                if was_told { None } else { Some(Err(fault)) }
-            }
-            read => {
-                seen.failed = None;
-                Some(read.map(|(users, _stamp)| users))
-            }
+        let read = self.read().map(|(users, _stamp)| users);
+        let fault = match &read {
+            Ok(_) => None,
+            Err(fault) => Some(fault),
+        };
+        if seen.is_news(found, fault) {
+            Some(read)
+        } else {
+            None
         }
     }
 }

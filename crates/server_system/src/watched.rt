@@ -49,6 +49,21 @@ struct Looks {
     is_over: bool,
 }
 
+impl Looks {
+    // The users of a sound file with this owner count; otherwise they stay. Either is told.
+    fn take(&mut self, owner: UserId, found: Result<Users, ServeFault>) {
+        match found {
+            Ok(users) if users.owner() == owner => {
+                self.users = Some(users);
+                self.count = self.count.saturating_add(1);
+                self.told = Some(Told::Anew);
+            }
+            Ok(_) => self.told = Some(Told::OtherOwner),
+            Err(fault) => self.told = Some(Told::Faulty(fault)),
+        }
+    }
+}
+
 /// What a loop learns of who may connect.
 #[derive(Drop)]
 pub struct Known {
@@ -117,20 +132,13 @@ impl Watched {
         !looks.is_over
     }
 
-    // The users of a sound file with this owner count; otherwise they stay. Either is told.
+    // A look is done, and found this, if anything is new.
     fn end(&self, rt: &impl Wait, found: Option<Result<Users, ServeFault>>) {
         let mut looks = self.looks.lock(rt);
         looks.done = looks.begun;
-        looks.told = match found {
-            Some(Ok(users)) if users.owner() == self.owner => {
-                looks.users = Some(users);
-                looks.count = looks.count.saturating_add(1);
-                Some(Told::Anew)
-            }
-            Some(Ok(_)) => Some(Told::OtherOwner),
-            Some(Err(fault)) => Some(Told::Faulty(fault)),
-            None => return,
-        };
+        if let Some(found) = found {
+            looks.take(self.owner, found);
+        }
     }
 
     // Looks at the file, again and again where memory is refused.
@@ -141,9 +149,9 @@ impl Watched {
             path: self.path.as_str(),
         };
         for _ in rt.forever() {
-            match file.look(seen) {
-                Some(Err(ServeFault::NoMemory)) => {}
-                found => return found,
+            let found = file.look(seen);
+            if !matches!(&found, Some(Err(ServeFault::NoMemory))) {
+                return found;
             }
             thread::sleep(rt, Duration::from_millis(PAUSE));
         }

@@ -20,7 +20,7 @@ const BOB: usize = 4;
 const LETTERS: usize = 1_500;
 
 // Bob's client types its letters at once, may not type, waits some seconds, and then may type.
-fn acts(letters: &[u8]) -> [Act<'_>; 18] {
+fn acts(letters: &[u8]) -> [Act<'_>; 19] {
     [
         Act::SetTime(0, 0),
         Act::Connect(Habit::Whole, WINDOW),
@@ -39,6 +39,7 @@ fn acts(letters: &[u8]) -> [Act<'_>; 18] {
         Act::Turns(20),
         Act::Note(0),
         Act::Connect(Habit::Whole, GIVE),
+        Act::Turns(2),
         Act::SetTime(6, 0),
     ]
 }
