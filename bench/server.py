@@ -258,6 +258,87 @@ def typing(server):
     return [Pour(shell, b""), Pour(client, frame(KEYS, b"x" * 8000) * 8)]
 
 
+class Flood:
+    """A window that is written to without a lull, by a process of its own: a thread of this one has lulls, in which
+    all draws go."""
+
+    def __init__(self, path):
+        self.peer = Peer(path, window(0))
+        data = output(b"".join(b"%09d abcdefghijklmnopqrstuvwxyz\r\n" % number for number in range(4000)))
+        self.writer = os.fork()
+        if not self.writer:
+            try:
+                self.peer.socket.settimeout(None)
+                while True:
+                    self.peer.socket.sendall(data)
+            finally:
+                os._exit(0)
+
+    def stop(self):
+        os.kill(self.writer, 9)
+        os.waitpid(self.writer, 0)
+        self.peer.socket.close()
+
+
+def draws_within(clients, seconds):
+    """For each client how often it was drawn, and the longest time in which it wasn't, in milliseconds."""
+    begin = time.perf_counter()
+    times = {client.socket: [0.0] for client in clients}
+    with selectors.DefaultSelector() as ready:
+        for client in clients:
+            ready.register(client.socket, selectors.EVENT_READ)
+        while (now := time.perf_counter() - begin) < seconds:
+            for key, _ in ready.select(seconds - now):
+                key.fileobj.recv(1 << 20)
+                times[key.fileobj].append(time.perf_counter() - begin)
+    return [(len(at) - 1, 1000 * max(b - a for a, b in zip(at, at[1:] + [seconds]))) for at in times.values()]
+
+
+def draws_beside(words, floods, clients, seconds=3):
+    """How often a second the client is drawn that is drawn least, and the longest time in milliseconds in which one
+    isn't, beside windows that print without a lull; and how late, at most, it is drawn what another window prints."""
+    with Server(words, clients) as server:
+        # The clients show the window of number 0, which is the server's own: it is the quiet one.
+        poured = [Flood(server.path) for _ in range(floods)]
+        for client in server.clients[1:]:
+            client.send(frame(KEYS, b"\x011"))
+        draws_within(server.clients, 0.5)
+        found = draws_within(server.clients[1:], seconds)
+        looker, late = server.clients[0].socket, []
+        for number in range(20):
+            draws_within(server.clients, 0.03)
+            begin = time.perf_counter()
+            server.window.send(output(b"line %d\r\n" % number))
+            looker.settimeout(5)
+            looker.recv(1 << 20)
+            late.append((time.perf_counter() - begin) * 1000)
+        for flood in poured:
+            flood.stop()
+    return min(it[0] for it in found) / seconds, max(it[1] for it in found), max(late)
+
+
+def echoes_in_turn(words, keys=2000):
+    """The median of a key's echo with one loop and with two, in microseconds, where each key is typed to both."""
+    one, two_loops = argparse.Namespace(**vars(words)), argparse.Namespace(**vars(words))
+    one.loops, two_loops.loops = 1, 2
+    with Server(one, 1) as first, Server(two_loops, 1) as second:
+        found = {first: [], second: []}
+        for server in found:
+            server.clients[0].until(DRAW)
+        for place in range(keys):
+            letter = b"ABCDEFGHIJKLMNOPQRSTUVWXYZ"[place % 26:][:1]
+            home = b"\r" if place % 60 == 0 else b""
+            for server in (first, second) if place % 2 else (second, first):
+                client, shell = server.clients[0], server.window
+                start = time.perf_counter_ns()
+                client.send(frame(KEYS, letter))
+                shell.until(INPUT, letter)
+                shell.send(frame(OUTPUT, home + letter))
+                client.until(DRAW, letter)
+                found[server].append((time.perf_counter_ns() - start) / 1000)
+        return [statistics.median(it) for it in found.values()]
+
+
 def at_rest(words, clients, idle):
     """The memory in MB beside a window that keeps 2,000 lines, and milliseconds used while idle."""
     with Server(words, clients, keep=2000) as server:
@@ -332,6 +413,15 @@ def main():
     for count, asked in ((1, "200 and 2000"), (8, "500 and 2000")):
         tail(f"a key, beside {count} windows that print", times_beside(words, printing(count)), "us", asked)
     tail("a key, beside a client that types", times_beside(words, typing), "us", "500 and 5000")
+    echoes = echoes_in_turn(words)
+    row("an echo with one loop, in turn with", f"{echoes[0]:.1f}", "us")
+    row("  an echo with two", f"{echoes[1]:.1f}", "us", f"{echoes[1] / echoes[0]:.2f} times; asked: at most 1.13")
+    for floods in (1, 8):
+        for clients in (3, 24):
+            draws, gap, late = draws_beside(words, floods, clients)
+            row(f"draws a second, {clients} clients, {floods} windows print", f"{draws:.0f}", "", "asked: at least 30")
+            row("  the longest time without a draw", f"{gap:.0f}", "ms", "asked: at most 100")
+            row("  a line of a quiet window", f"{late:.0f}", "ms", "asked: at most 50")
     costs = {}
     for clients in (1, 8, 64):
         wall, busy = megabyte_times(words, clients)

@@ -52,7 +52,7 @@ def command(line, number=0xff):
 class Server:
     """A server in a folder of its own, perhaps with so many descriptors, or with a log, which is read here."""
 
-    def __init__(self, loops=2, descriptors=None, log=False):
+    def __init__(self, loops=2, descriptors=None, log=False, words=()):
         self.folder = tempfile.TemporaryDirectory()
         self.path = f"{self.folder.name}/socket"
         self.users = Path(self.folder.name, "users")
@@ -61,7 +61,7 @@ class Server:
         self.errors = subprocess.PIPE if log else open(f"{self.folder.name}/errors", "w+b")
         limit = (lambda: resource.setrlimit(resource.RLIMIT_NOFILE, (descriptors, descriptors))) if descriptors else None
         self.program = subprocess.Popen(
-            [WORDS.muxd, "--socket", self.path, "--users", self.users, "--loops", str(loops), *["--log"] * log],
+            [WORDS.muxd, "--socket", self.path, "--users", self.users, "--loops", str(loops), *["--log"] * log, *words],
             stdout=subprocess.PIPE, stderr=self.errors, preexec_fn=limit)
         self.errors = self.program.stderr or self.errors
         assert self.program.stdout.readline() == b"muxd: ready\n", "the server isn't ready"
@@ -363,8 +363,81 @@ def unread_log():
               f"{told} told, {left_out} left out")
 
 
+class Flood:
+    """A window that is written to without a lull, from memory, by a process of its own until it is stopped.
+
+    A loop of this process would pause now and then, and a pseudo-terminal has lulls: each lets all draws through."""
+
+    def __init__(self, server):
+        self.shell = server.connect(window())
+        assert welcome(self.shell)
+        line = b"".join(b"%09d abcdefghijklmnopqrstuvwxyz\r\n" % number for number in range(200))
+        data = frame(b"O", line[:8192]) * 16
+        self.writer = os.fork()
+        if not self.writer:
+            try:
+                self.shell.settimeout(None)
+                while True:
+                    self.shell.sendall(data)
+            finally:
+                os._exit(0)
+        self.reader = threading.Thread(target=all_of, args=(self.shell,), daemon=True)
+        self.reader.start()
+
+    def stop(self):
+        os.kill(self.writer, 9)
+        os.waitpid(self.writer, 0)
+        self.shell.close()
+
+
+def draws_within(clients, seconds):
+    """For each client the times, from now on, at which it was drawn, and how long the longest wait was."""
+    begin = time.monotonic()
+    times = {it: [0.0] for it in clients}
+    while (now := time.monotonic() - begin) < seconds:
+        for it in select.select(clients, [], [], seconds - now)[0]:
+            it.recv(1 << 20)
+            times[it].append(time.monotonic() - begin)
+    return [(len(at) - 1, max(b - a for a, b in zip(at, at[1:] + [seconds]))) for at in times.values()]
+
+
+def drawn_in_a_flood():
+    """Each client that reads is drawn while windows flood, whatever loops there are and wherever it is."""
+    for loops in (1, 2, 4, 8):
+        for floods in (1, 8):
+            for crowd in (1, 24):
+                with Server(loops=loops) as server:
+                    # Each client shows window 0, the first one to flood.
+                    poured = [Flood(server) for _ in range(floods)]
+                    quiet = server.connect(window())
+                    assert welcome(quiet)
+                    clients = [server.connect(attach()) for _ in range(max(crowd, loops))]
+                    assert all(welcome(it) for it in clients)
+                    draws_within(clients, 0.5)
+                    found = draws_within(clients, 2)
+                    fewest, longest = min(it[0] for it in found), max(it[1] for it in found)
+                    # A client that looks at the quiet window alone, on any loop.
+                    looker = clients[-1]
+                    looker.sendall(frame(b"K", b"\x01%d" % floods) if floods < 10 else b"")
+                    draws_within(clients, 0.5)
+                    late = []
+                    for number in range(8):
+                        draws_within(clients, 0.05)
+                        quiet.sendall(frame(b"O", b"line %d\r\n" % number))
+                        sent = time.monotonic()
+                        late.append(time.monotonic() - sent if has_come(looker, 2) else 2)
+                    for it in poured:
+                        it.stop()
+                what = f"{loops} loops, {floods} floods, {len(clients)} clients"
+                check(f"{what}: at least {WORDS.draws} draws a second, gaps of at most {WORDS.gap} ms",
+                      fewest >= 2 * WORDS.draws and longest <= WORDS.gap / 1000,
+                      f"{fewest} draws in 2 s, {longest * 1000:.0f} ms")
+                check(f"{what}: a quiet window's line within {WORDS.late} ms", max(late) <= WORDS.late / 1000,
+                      f"{max(late) * 1000:.0f} ms")
+
+
 PARTS = (dead_window, ends_behind_frames, winding_up, at_once, one_who_floods, few_descriptors, strangers, told_to_go,
-         unread_log)
+         unread_log, drawn_in_a_flood)
 
 
 def main():
@@ -373,6 +446,9 @@ def main():
     reader = argparse.ArgumentParser(description=__doc__)
     reader.add_argument("--muxd", default=os.environ.get("MUXD", str(top / "bin/muxd")), help="the server's program")
     reader.add_argument("--tries", type=int, default=100, help="how often servers are started at once")
+    reader.add_argument("--draws", type=int, default=20, help="how many draws a second are asked for in a flood")
+    reader.add_argument("--gap", type=float, default=150, help="how many ms may lie between two of them")
+    reader.add_argument("--late", type=float, default=100, help="within how many ms a quiet window's line is drawn")
     names = [play.__name__ for play in PARTS]
     reader.add_argument("parts", nargs="*", metavar="PART", help=f"what is played, of {', '.join(names)}")
     WORDS = reader.parse_args()

@@ -1,5 +1,5 @@
-//! `muxd --socket PATH --users PATH [--setup PATH] [--trail PATH] [--loops N] [--log]`: serves a session
-//! that users share.
+//! `muxd --socket PATH --users PATH [--setup PATH] [--trail PATH] [--loops N] [--user-clients N]
+//! [--user-windows N] [--log]`: serves a session that users share.
 #![tactic(auto)]
 
 use program_words::{given, not_given};

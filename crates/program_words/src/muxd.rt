@@ -53,6 +53,26 @@ static MUXD: Program = Program {
             help: "How many loops serve, 1 to 8",
         },
         Word {
+            name: "user-clients",
+            kind: Kind::Number {
+                value: "N",
+                least: 1,
+                most: 64,
+                need: Need::Free,
+            },
+            help: "How many clients one user may have, 1 to 64",
+        },
+        Word {
+            name: "user-windows",
+            kind: Kind::Number {
+                value: "N",
+                least: 1,
+                most: 40,
+                need: Need::Free,
+            },
+            help: "How many windows one user may have, 1 to 40",
+        },
+        Word {
             name: "trail",
             kind: Kind::Text {
                 value: "PATH",

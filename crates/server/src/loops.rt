@@ -3,10 +3,10 @@
 use server_loop::{End, Gate};
 use server_session::{Begun as Roll, LoopBody, Recorder, Seat, Seated, SharedSession, Trail};
 use server_sockets::{Common, LoopStart, run_loop};
-use server_system::{Setup, UsersSource};
+use server_system::{Place, Setup};
 use server_trail::{Cause, Journal};
 use std::alloc::Global;
-use std::rt::Stderr;
+use std::rt::{HostRuntime, Stderr};
 use std::sync::Wait;
 use std::time::Clock;
 
@@ -21,8 +21,10 @@ fn cause_of(end: End) -> Option<Cause> {
 
 /// The loops of a server.
 #[derive(Drop)]
-pub struct Server<'a, G, U> {
-    pub common: Common<G, U>,
+pub struct Server<'a, G> {
+    pub common: Common<G>,
+    pub files: HostRuntime,
+    pub place: &'a Place<'a>,
     /// What the owner commands before anybody connects.
     pub setup: Setup<'a>,
     /// Is told who comes and goes.
@@ -31,11 +33,10 @@ pub struct Server<'a, G, U> {
     pub journal: Option<Journal<'a>>,
 }
 
-impl<R, G, U> LoopBody<LoopStart, R> for Server<'_, G, U>
+impl<R, G> LoopBody<LoopStart, R> for Server<'_, G>
 where
     R: Clock + Wait,
     G: Gate + Copy + Sync + Drop,
-    U: UsersSource + Sync + Drop,
 {
     fn run<L: Roll>(
         &self,
@@ -81,6 +82,11 @@ where
             let cause = self.common.shared.over.get().copied().and_then(cause_of);
             journal.end(rt, recorder, written, cause);
         }
+    }
+
+    // Nobody can connect, and another server may take the place while the trail is read back.
+    fn leave(&self, rt: &R) {
+        self.place.leave(rt, &self.files);
     }
 
     fn compare(&self, rt: &R, trail: &Trail) {

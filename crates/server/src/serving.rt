@@ -6,9 +6,9 @@ use clap::ArgMatches;
 use mio::net::UnixListener;
 use program_words::{of_server, tell};
 use server_loop::{End, Gate, Open};
-use server_session::{LoopsFault, Start, keep};
-use server_sockets::{Common, LoopStart, Places, Shared};
-use server_system::{Place, ServeFault, Setup, Stamp, UsersFile, UsersSource, Watched};
+use server_session::{Limits, LoopsFault, Start, keep};
+use server_sockets::{Common, LoopHandle, LoopStart, Places, Shared, start_watching};
+use server_system::{Place, Seen, ServeFault, Setup, Stamp, UsersFile, Watched};
 use server_trail::Journal;
 use server_users::Users;
 use std::alloc::Global;
@@ -17,7 +17,7 @@ use std::io;
 use std::io::Write;
 use std::net::Net;
 use std::rt::HostRuntime;
-use std::sync::Wait;
+use std::sync::{Arc, Wait};
 use std::thread::Threads;
 use std::time::Clock;
 
@@ -40,6 +40,7 @@ struct Asked<'a> {
     setup: Option<&'a str>,
     trail: Option<&'a str>,
     loops: u8,
+    limits: Limits,
     tells: bool,
 }
 
@@ -52,6 +53,10 @@ impl<'a> Asked<'a> {
             setup: matches.get_str("setup"),
             trail: matches.get_str("trail"),
             loops: matches.get_one::<u8>("loops").unwrap_or(1),
+            limits: Limits {
+                clients: matches.get_one::<u8>("user-clients"),
+                windows: matches.get_one::<u8>("user-windows"),
+            },
             tells: matches.get_flag("log"),
         }
     }
@@ -90,16 +95,15 @@ fn outcome(end: Option<End>, agrees: bool, file: Option<ServeFault>) -> Result<(
 }
 
 // Serves a new session on a listener, until it ends.
-fn serve_on<R, G, U, O>(
+fn serve_on<R, G, O>(
     rt: &R,
     start: Start<LoopStart>,
-    server: &Server<G, U>,
+    server: &Server<G>,
     output: &mut O,
 ) -> Result<(), ServeFault>
 where
     R: Clock + Threads + Wait + Sync,
     G: Gate + Copy + Sync + Drop,
-    U: UsersSource + Sync + Drop,
     O: Write,
 {
     let alloc = start.alloc;
@@ -107,6 +111,7 @@ where
         writeln!(output, "muxd: ready")?;
         output.flush()
     });
+    server.common.shared.watched.stop(rt);
     if let (Err(_), Some(journal)) = (&kept, &server.journal) {
         journal.remove();
     }
@@ -138,42 +143,63 @@ fn journal<'a>(
     }
 }
 
+// What the loops share. The thread that looks at who may connect is started.
+fn shared<R: Clock + AllocGlobal + Threads + Wait + Copy + Send + 'static>(
+    rt: &R,
+    asked: &Asked,
+    files: HostRuntime,
+    (owner, seen): (UserId, Stamp),
+    loop_handles: Vec<LoopHandle>,
+) -> Result<Shared, ServeFault> {
+    let alloc = rt.alloc();
+    let file = UsersFile {
+        files,
+        alloc,
+        path: asked.users,
+    };
+    let watched = Arc::new(alloc, Watched::new(file, owner)?)?;
+    let loop_handles = Arc::new(alloc, loop_handles)?;
+    let shared = Shared::new(alloc, loop_handles, watched, asked.tells);
+    start_watching(rt, &shared, Seen::read(seen))?;
+    Ok(shared)
+}
+
 // Serves these users on a listener, behind what the owner commands at first.
 fn begin<R, G, O>(
     rt: &R,
     asked: &Asked,
     host: Host<G>,
     (users, seen, setup): (Users, Stamp, Setup),
-    listener: UnixListener,
+    (place, listener): (&Place, UnixListener),
     output: &mut O,
 ) -> Result<(), ServeFault>
 where
-    R: Clock + Net + AllocGlobal + Threads + Wait + Sync,
+    R: Clock + Net + AllocGlobal + Threads + Wait + Copy + Send + Sync + 'static,
     G: Gate + Copy + Sync + Drop,
     O: Write,
 {
     let alloc = rt.alloc();
+    let files = host.runtime;
     let mut places = Places::new(alloc);
     places.fill(rt, usize::from(asked.loops.clamp(1, 8)), listener)?;
-    let journal = journal(host.runtime, alloc, asked.trail, users.owner())?;
-    let watched = Watched::new(alloc, seen, users.owner());
+    let known = (users.owner(), seen);
+    let shared = shared(rt, asked, files, known, places.loop_handles)?;
+    let journal = journal(files, alloc, asked.trail, users.owner())?;
     let server = Server {
         common: Common {
-            shared: Shared::new(alloc, places.loop_handles, watched, asked.tells),
-            users: UsersFile {
-                files: host.runtime,
-                alloc,
-                path: asked.users,
-            },
+            shared,
             gate: host.gate,
         },
+        files,
+        place,
         setup,
-        log: host.runtime.stderr(),
+        log: files.stderr(),
         journal,
     };
     let start = Start {
         alloc,
         users,
+        limits: asked.limits,
         places: places.starts,
     };
     serve_on(rt, start, &server, output)
@@ -187,7 +213,16 @@ fn run<R, G, O, E>(
     errors: &mut E,
 ) -> Result<(), ServeFault>
 where
-    R: Clock + Net + Files<File = File> + AllocGlobal + Threads + Wait + Sync,
+    R: Clock
+        + Net
+        + Files<File = File>
+        + AllocGlobal
+        + Threads
+        + Wait
+        + Copy
+        + Send
+        + Sync
+        + 'static,
     G: Gate + Copy + Sync + Drop,
     O: Write,
     E: Write,
@@ -208,8 +243,10 @@ where
     }
     let setup = Setup::read(rt, asked.setup)?;
     let (place, listener) = Place::listen(rt, alloc, asked.socket)?;
-    let served = begin(rt, asked, host, (users, seen, setup), listener, output);
-    place.leave(rt);
+    let files = host.runtime;
+    let begun = (users, seen, setup);
+    let served = begin(rt, asked, host, begun, (&place, listener), output);
+    place.leave(rt, &files);
     served
 }
 
@@ -217,7 +254,16 @@ where
 /// status to exit with: 0; 1 for a fault; 2 where the words aren't understood.
 pub fn serve<R, O>(rt: &R, runtime: HostRuntime, words: &[String], output: &mut O) -> u8
 where
-    R: Clock + Net + Files<File = File> + AllocGlobal + Threads + Wait + Sync,
+    R: Clock
+        + Net
+        + Files<File = File>
+        + AllocGlobal
+        + Threads
+        + Wait
+        + Copy
+        + Send
+        + Sync
+        + 'static,
     O: Write,
 {
     let gate = Open;
@@ -234,7 +280,16 @@ pub fn serve_through<R, G, O, E>(
     errors: &mut E,
 ) -> u8
 where
-    R: Clock + Net + Files<File = File> + AllocGlobal + Threads + Wait + Sync,
+    R: Clock
+        + Net
+        + Files<File = File>
+        + AllocGlobal
+        + Threads
+        + Wait
+        + Copy
+        + Send
+        + Sync
+        + 'static,
     G: Gate + Copy + Sync + Drop,
     O: Write,
     E: Write,

@@ -1,5 +1,6 @@
 //! What a loop tells of who comes and goes.
 
+use crate::seat::GuestKind;
 use acl::UserId;
 use attach_proto::Why;
 
@@ -12,6 +13,16 @@ pub enum Guest {
     Window(UserId, u8),
 }
 
+impl Guest {
+    /// Whose it is, and what.
+    pub fn owner(self) -> (UserId, GuestKind) {
+        match self {
+            Guest::Client(user, _) => (user, GuestKind::Client),
+            Guest::Window(user, _) => (user, GuestKind::Window),
+        }
+    }
+}
+
 /// What happened. Nothing that was typed or printed is told.
 #[derive(Clone, Copy, Debug, PartialEq, Eq)]
 pub enum News {
@@ -22,8 +33,8 @@ pub enum News {
     Done(UserId),
     /// A user gave a command, which was refused.
     Refused(UserId),
-    /// Somebody had a wrong token, or is no user; so many did by now.
-    WrongToken(u64),
+    /// Somebody had a wrong token, or is no user.
+    WrongToken,
     /// A connection sent what is no first message.
     Misfit,
     /// The trail has so many hundredths of its most entries.

@@ -2,7 +2,7 @@
 
 use crate::frames::gone_frame;
 use crate::inbox::Inbox;
-use crate::news::{Guest, News};
+use crate::news::Guest;
 use acl::UserId;
 use attach_proto::{Reader, Side, Why};
 use server_turn::Turn;
@@ -52,10 +52,10 @@ pub enum Stage {
 pub enum Awaits {
     /// To be looked at, though no event will tell of it.
     Work,
-    /// That its user may cause more entries.
+    /// That its user may cause more entries, or a look at who may connect.
     Ration,
-    /// To be looked at for the first time.
-    FirstWork,
+    /// That a look at who may connect is asked for.
+    Look,
     /// The end of its patience.
     End,
 }
@@ -81,8 +81,11 @@ pub struct Peer<S> {
     /// Its other end was closed.
     pub has_hung_up: bool,
     pub inbox: Inbox,
-    /// What it asked for waits until its user may cause more entries.
+    /// What it asked for waits until its user may cause more entries, or for a look at who may
+    /// connect.
     pub is_held: bool,
+    /// The look at who may connect that its first message waits for.
+    pub look: Option<u64>,
     /// Whom it brought, as long as it is there.
     pub guest: Option<Guest>,
     // Why it was told to go.
@@ -112,8 +115,9 @@ impl<S: Drop> Peer<S> {
             is_extra,
             has_more: true,
             has_hung_up: false,
-            inbox: Inbox::new(Vec::new(alloc)),
+            inbox: Inbox::new(alloc),
             is_held: false,
+            look: None,
             guest: None,
             why: None,
             awaited: None,
@@ -143,18 +147,23 @@ impl<S: Drop> Peer<S> {
         self.leave();
     }
 
+    /// Whether there may be something to read. Behind what is no frame nothing is.
+    pub fn has_more(&self) -> bool {
+        self.has_more && !self.inbox.is_broken()
+    }
+
     /// Whether it is still sent what the session says.
     pub fn listens(&self) -> bool {
         self.stage == Stage::Open || self.stage == Stage::Leaving
     }
 
-    /// What is to be told of it, once it goes.
-    pub fn farewell(&mut self) -> Option<News> {
+    /// Whom it brought, and why it was told to go, once it goes.
+    pub fn farewell(&mut self) -> Option<(Guest, Option<Why>)> {
         if self.listens() {
             return None;
         }
         let guest = self.guest.take()?;
-        Some(News::Went(guest, self.why))
+        Some((guest, self.why))
     }
 
     /// Whether its first message didn't come, or wasn't done yet.
@@ -164,7 +173,7 @@ impl<S: Drop> Peer<S> {
 
     /// Whether something is to be done with it, though no event will tell of it.
     pub fn is_due(&self) -> bool {
-        let has_work = self.has_more || !self.inbox.is_empty();
+        let has_work = self.has_more() || !self.inbox.is_empty();
         has_work && self.stage == Stage::Open && !self.is_held
     }
 
@@ -173,7 +182,7 @@ impl<S: Drop> Peer<S> {
         match what {
             Awaits::Work => self.is_due(),
             Awaits::Ration => self.is_held,
-            Awaits::FirstWork => self.is_new() && self.is_due(),
+            Awaits::Look => self.is_new() && self.is_held && self.look.is_none(),
             Awaits::End => self.is_awaited(),
         }
     }
@@ -203,7 +212,7 @@ impl<S: Drop> Peer<S> {
 
     /// Whether nothing is to be done with it until something comes from it or is put into it.
     pub fn is_at_rest(&self) -> bool {
-        let has_work = self.has_more || self.is_held || !self.inbox.is_empty();
+        let has_work = self.has_more() || self.is_held || !self.inbox.is_empty();
         let is_guest = self.role != Role::Stranger && self.leaves == Role::Stranger;
         is_guest && self.stage == Stage::Open && !has_work && self.turn.unsent() == 0
     }

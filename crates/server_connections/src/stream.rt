@@ -1,6 +1,7 @@
 //! Reads and writes of one connection.
 
-use crate::peer::{Peer, Stage};
+use crate::inbox::Asked;
+use crate::peer::{Peer, Role, Stage};
 use std::io::{ErrorKind, Read, Write};
 
 /// What a read came to.
@@ -17,12 +18,19 @@ pub enum Came {
 
 impl<S: Read + Write + Drop> Peer<S> {
     // Adds the messages that are whole with these bytes, which the next read is to follow if it
-    // has more.
+    // has more. A window's are done without delay.
     fn feed(&mut self, bytes: &[u8], has_more: bool) {
-        let is_read = self.reader.feed(bytes, &mut self.inbox.messages).is_ok();
-        self.inbox.messages.reverse();
-        self.inbox.is_broken = !is_read;
-        self.has_more = is_read && has_more;
+        if matches!(self.role, Role::Window(_)) {
+            self.inbox.take_all(&mut self.reader, bytes);
+        } else {
+            self.inbox.take(&mut self.reader, bytes);
+        }
+        self.has_more = has_more;
+    }
+
+    /// Takes out what it asks for next.
+    pub fn next_asked(&mut self) -> Option<Asked> {
+        self.inbox.next(&mut self.reader)
     }
 
     /// Reads once, where all that was read before is done. Where less came than fits, nothing is

@@ -8,7 +8,7 @@ mod requests;
 mod turn;
 
 pub use news_line::NewsLine;
-pub use pace::{LULL, Pace};
+pub use pace::Pace;
 pub use server_peers::{
     Answer, End, Gate, Guest, News, Open, Peers, Pending, SeatFault, SessionSeat, Submitted,
 };

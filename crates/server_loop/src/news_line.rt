@@ -8,7 +8,7 @@ use std::fmt::{Display, Formatter};
 
 /// A user's name, as it is told.
 #[derive(Clone, Copy)]
-struct Name(UserId);
+pub(crate) struct Name(pub(crate) UserId);
 
 impl Display for Name {
     fn fmt<W: fmt::Write>(&self, f: &mut Formatter<W>) -> fmt::Result {
@@ -43,9 +43,9 @@ fn cause(why: Option<Why>) -> &'static str {
     }
 }
 
-/// News, as it is told.
+/// News, as it is told, and how many wrong tokens there were by now.
 #[derive(Clone, Copy)]
-pub struct NewsLine(pub News);
+pub struct NewsLine(pub News, pub u64);
 
 impl Display for NewsLine {
     fn fmt<W: fmt::Write>(&self, f: &mut Formatter<W>) -> fmt::Result {
@@ -54,7 +54,7 @@ impl Display for NewsLine {
             News::Went(guest, why) => write!(f, "{} went: {}", Named(guest), cause(why)),
             News::Done(user) => write!(f, "a command of {}", Name(user)),
             News::Refused(user) => write!(f, "a command of {} was refused", Name(user)),
-            News::WrongToken(count) => write!(f, "unknown user or wrong token: {count} by now"),
+            News::WrongToken => write!(f, "unknown user or wrong token: {} by now", self.1),
             News::Misfit => write!(f, "a connection sent no first message"),
             News::Filled(percent) => write!(f, "the trail is full to {percent} percent"),
         }

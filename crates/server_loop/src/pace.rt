@@ -7,9 +7,9 @@ use std::time::Duration;
 // the last.
 const MOST: u64 = 20;
 
-/// Where much came, and no more for so many milliseconds, it is over. As long the draws of a crowd
-/// wait for the next ones.
-pub const LULL: u64 = 1;
+// Where much came, and no more for so many milliseconds, it is over. As long the draws of a crowd
+// wait for the next ones.
+const LULL: u64 = 1;
 
 // So many clients that are drawn in one turn are a crowd.
 const CROWD: usize = 8;
@@ -24,6 +24,8 @@ pub struct Pace {
     drawn: Option<Duration>,
     // When the draws that wait began to.
     since: Option<Duration>,
+    // How long they do at most, from the last turn on.
+    left: Duration,
 }
 
 // The time of what was lately, if that isn't over. Without a clock it is.
@@ -43,12 +45,8 @@ impl Pace {
             awaits_echo: false,
             drawn: None,
             since: None,
+            left: Duration::ZERO,
         }
-    }
-
-    /// Whether draws wait, though no event may tell when they are to be asked for.
-    pub fn is_holding(&self) -> bool {
-        self.since.is_some()
     }
 
     /// Whether much comes to this loop.
@@ -56,9 +54,24 @@ impl Pace {
         self.much.is_some()
     }
 
-    /// Whether more may come at once.
-    pub fn expects_more(&self) -> bool {
+    // Whether more may come at once.
+    fn expects_more(&self) -> bool {
         self.is_busy() || self.awaits_echo || self.drawn.is_some()
+    }
+
+    /// How long the loop sleeps at most, though no event may tell when draws are to be asked for. A
+    /// loop to which much comes tells the others of no output, so these look by themselves: those
+    /// whose draws don't wait at once, as the next ones begin to.
+    pub fn longest_sleep(&self, busy: &AtomicU64) -> Option<Duration> {
+        if self.expects_more() {
+            Some(Duration::from_millis(LULL))
+        } else if self.since.is_some() {
+            Some(self.left)
+        } else if 0 < busy.load(Ordering::SeqCst) {
+            Some(Duration::from_millis(LULL))
+        } else {
+            None
+        }
     }
 
     /// So many clients were drawn in this turn.
@@ -104,6 +117,12 @@ impl Pace {
                 Some(_) => None,
             },
             _ => None,
+        };
+        self.left = match (now, self.since) {
+            (Some(now), Some(since)) => {
+                Duration::from_millis(MOST).saturating_sub(now.saturating_sub(since))
+            }
+            _ => Duration::ZERO,
         };
         self.since.is_some()
     }

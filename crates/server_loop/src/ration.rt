@@ -39,17 +39,24 @@ impl Rations {
         }
     }
 
-    /// Whether a user may cause one more entry now, which is then counted.
-    pub fn takes(&mut self, user: UserId, now: Duration) -> Result<bool, AllocError> {
-        let until = now.saturating_add(self.period);
-        let Some(ration) = self.list.iter_mut().find(|ration| ration.user == user) else {
-            self.list.push(Ration { user, until })?;
-            return Ok(true);
-        };
-        if ration.until.saturating_sub(now) > self.burst {
-            return Ok(false);
+    /// Whether a user may cause one more entry now.
+    pub fn may(&self, user: UserId, now: Duration) -> bool {
+        match self.list.iter().find(|ration| ration.user == user) {
+            Some(ration) => ration.until.saturating_sub(now) <= self.burst,
+            None => true,
         }
-        ration.until = ration.until.max(now).saturating_add(self.period);
-        Ok(true)
+    }
+
+    /// Counts so many entries of a user.
+    pub fn count(&mut self, user: UserId, now: Duration, entries: u32) -> Result<(), AllocError> {
+        let taken = self.period.saturating_mul(entries);
+        match self.list.iter_mut().find(|ration| ration.user == user) {
+            Some(ration) => ration.until = ration.until.max(now).saturating_add(taken),
+            None => {
+                let until = now.saturating_add(taken);
+                self.list.push(Ration { user, until })?;
+            }
+        }
+        Ok(())
     }
 }

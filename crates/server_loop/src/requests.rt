@@ -1,12 +1,15 @@
 //! What peers ask for.
 
+use crate::news_line::Name;
 use crate::turn::{Loop, PIECE, Went};
 use acl::UserId;
 use attach_proto::{Message, Text, Token, Why};
 use command_lang::{Command, FaultKind, parse};
-use server_peers::{Asked, Gate, Guest, News, Role, Sending, SessionSeat, Unanswered};
-use server_users::authenticate;
-use session_model::{Event, Refusal};
+use server_peers::{
+    Answer, Asked, Gate, Guest, GuestKind, News, Role, Sending, SessionSeat, Unanswered,
+};
+use server_users::{Outcome, UNIT, authenticate, price};
+use session_model::{Done, Event, Refusal};
 use std::alloc::{AllocError, Global};
 use std::io::{Read, Write};
 use std::sync::Wait;
@@ -27,6 +30,31 @@ fn is_quit(alloc: Global, line: &[u8]) -> Result<bool, AllocError> {
         Ok(Command::Quit) => Ok(true),
         Err(fault) if fault.kind == FaultKind::NoMemory => Err(AllocError),
         _ => Ok(false),
+    }
+}
+
+// To how many entries of the trail an event leads: a client goes, too.
+fn entries_of(event: Event) -> u16 {
+    match event {
+        Event::Attach { .. } => 2,
+        _ => 1,
+    }
+}
+
+// How many bytes of an event the trail keeps.
+fn kept_of(event: Event) -> usize {
+    match event {
+        Event::Command { line, .. } => line.len(),
+        Event::Open { title, .. } => title.len(),
+        _ => 0,
+    }
+}
+
+// How many bytes of keys were read.
+fn taken_of(answer: &Answer) -> usize {
+    match &answer.reply {
+        Ok(done) => done.taken,
+        Err(_) => 0,
     }
 }
 
@@ -63,31 +91,48 @@ impl<S: Read + Write + Drop, G: Gate + Drop, J: SessionSeat + Drop> Loop<S, G, J
         }
     }
 
-    // Whether a user may cause one more entry. Where there is no memory to count them he may.
-    fn may_enter(&mut self, user: UserId) -> bool {
-        self.rations.takes(user, self.now).unwrap_or(true)
+    // Tries a step for a user, and counts what comes of it. There is no answer yet while the user has
+    // to wait. Where there is no memory to count entries, they aren't.
+    fn try_for(
+        &mut self,
+        rt: &impl Wait,
+        user: UserId,
+        event: Event,
+    ) -> Result<Option<Answer>, Unanswered> {
+        let entries = entries_of(event);
+        let cost = price(entries, kept_of(event));
+        if !self.rations.may(user, self.now) || !self.peers.pay(rt, user, self.now, cost) {
+            return Ok(None);
+        }
+        let _ = self.rations.count(user, self.now, cost / UNIT);
+        let answer = self.peers.submit(rt, event);
+        let outcome = match &answer {
+            Ok(answer) => answer.outcome,
+            Err(_) => Outcome::Untaken,
+        };
+        self.peers.settle(rt, user, cost, outcome);
+        match answer {
+            Ok(answer) => Ok(Some(answer)),
+            Err(unanswered) => Err(unanswered),
+        }
     }
 
     // A step reads up to the first command; the rest is the next step's.
     fn keys(&mut self, rt: &impl Wait, key: usize, client: u32, asked: &mut Asked) -> Went {
-        if let Some(user) = self.peers.user_of(key) {
-            if !self.may_enter(user) {
-                return Went::Held;
-            }
-        }
-        self.has_typed = true;
+        let Some(user) = self.peers.user_of(key) else {
+            return Went::Done;
+        };
         let bytes = asked.rest();
-        let taken = match self.peers.submit(rt, Event::Keys { client, bytes }) {
-            Ok(answer) => match &answer.reply {
-                Ok(done) => done.taken,
-                Err(_) => 0,
-            },
+        let taken = match self.try_for(rt, user, Event::Keys { client, bytes }) {
+            Ok(None) => return Went::Held,
+            Ok(Some(answer)) => taken_of(&answer),
             Err(Unanswered::NoMemory) => {
                 self.peers.fault(rt, key);
                 0
             }
             Err(Unanswered::Over) => 0,
         };
+        self.has_typed = true;
         asked.done = asked.done.saturating_add(taken);
         if taken == 0 || asked.rest().is_empty() {
             Went::Done
@@ -132,6 +177,14 @@ impl<S: Read + Write + Drop, G: Gate + Drop, J: SessionSeat + Drop> Loop<S, G, J
         }
     }
 
+    // Whether who may connect was looked at since the connection's first message came.
+    fn may_judge(&self, key: usize) -> bool {
+        match self.looked {
+            Some(looked) => self.peers.look_of(key).is_some_and(|look| look <= looked),
+            None => true,
+        }
+    }
+
     // The first message of a connection.
     fn begin(&mut self, rt: &impl Wait, key: usize, message: &Message) -> Went {
         let (Message::Attach { token, name, .. }
@@ -141,9 +194,11 @@ impl<S: Read + Write + Drop, G: Gate + Drop, J: SessionSeat + Drop> Loop<S, G, J
             self.peers.fault(rt, key);
             return Went::Done;
         };
+        if !self.may_judge(key) {
+            return Went::Held;
+        }
         let Some(user) = self.user_of(name, token) else {
-            self.wrong_tokens = self.wrong_tokens.saturating_add(1);
-            self.peers.tell(News::WrongToken(self.wrong_tokens));
+            self.peers.tell(News::WrongToken);
             self.turn_away(rt, key, UNKNOWN);
             return Went::Done;
         };
@@ -151,15 +206,11 @@ impl<S: Read + Write + Drop, G: Gate + Drop, J: SessionSeat + Drop> Loop<S, G, J
             self.turn_away(rt, key, NO_ROOM);
             return Went::Done;
         }
-        if !self.may_enter(user) {
-            return Went::Held;
-        }
         self.peers.set_user(key, user);
-        self.begin_as(rt, Newcomer { key, user }, message);
-        Went::Done
+        self.begin_as(rt, Newcomer { key, user }, message)
     }
 
-    fn begin_as(&mut self, rt: &impl Wait, newcomer: Newcomer, message: &Message) {
+    fn begin_as(&mut self, rt: &impl Wait, newcomer: Newcomer, message: &Message) -> Went {
         let user = newcomer.user;
         match message {
             Message::Attach { rows, columns, .. } => {
@@ -168,7 +219,7 @@ impl<S: Read + Write + Drop, G: Gate + Drop, J: SessionSeat + Drop> Loop<S, G, J
                     rows: *rows,
                     columns: *columns,
                 };
-                self.join(rt, newcomer, event)
+                self.join(rt, newcomer, GuestKind::Client, event)
             }
             Message::Window {
                 rows,
@@ -184,61 +235,84 @@ impl<S: Read + Write + Drop, G: Gate + Drop, J: SessionSeat + Drop> Loop<S, G, J
                     keep: *keep,
                     title: title.as_str(),
                 };
-                self.join(rt, newcomer, event)
+                self.join(rt, newcomer, GuestKind::Window, event)
             }
             Message::Command { window, line, .. } => {
                 self.command(rt, newcomer, *window, line.as_slice())
             }
-            _ => {}
+            _ => Went::Done,
         }
     }
 
-    // A connection becomes a client or a window.
-    fn join(&mut self, rt: &impl Wait, newcomer: Newcomer, event: Event) {
+    // A connection becomes a client or a window, unless its user has as many as a user may have.
+    fn join(&mut self, rt: &impl Wait, newcomer: Newcomer, kind: GuestKind, event: Event) -> Went {
         let Newcomer { key, user } = newcomer;
-        let answer = match self.peers.submit(rt, event) {
+        if let Some(most) = self.peers.add(rt, user, kind) {
+            self.say_too_many(rt, newcomer, kind, most);
+            return Went::Done;
+        }
+        let answer = match self.try_for(rt, user, event) {
             Ok(answer) => answer,
             Err(unanswered) => {
                 let why = self.why_unanswered(unanswered);
                 self.peers.dismiss(key, why);
-                return;
+                self.peers.remove(rt, user, kind);
+                return Went::Done;
             }
         };
+        let Some(answer) = answer else {
+            self.peers.remove(rt, user, kind);
+            return Went::Held;
+        };
         match &answer.reply {
-            Ok(done) => {
-                let (role, guest) = match event {
-                    Event::Open { .. } => {
-                        (Role::Window(done.made), Guest::Window(user, done.number))
-                    }
-                    _ => (Role::Client(done.made), Guest::Client(user, done.made)),
-                };
-                self.peers.let_in(key, role, guest);
-                self.peers.send(rt, key, Sending::Welcome(done.number));
-            }
+            Ok(done) => self.let_in(rt, newcomer, kind, done),
             Err(refusal) => {
                 self.say_refusal(rt, key, refusal);
                 self.peers.dismiss(key, Why::Fault);
+                self.peers.remove(rt, user, kind);
             }
         }
+        Went::Done
+    }
+
+    fn let_in(&mut self, rt: &impl Wait, newcomer: Newcomer, kind: GuestKind, done: &Done) {
+        let Newcomer { key, user } = newcomer;
+        let (role, guest) = match kind {
+            GuestKind::Window => (Role::Window(done.made), Guest::Window(user, done.number)),
+            GuestKind::Client => (Role::Client(done.made), Guest::Client(user, done.made)),
+        };
+        self.peers.let_in(key, role, guest);
+        self.peers.send(rt, key, Sending::Welcome(done.number));
     }
 
     // No effect tells of a `quit` where nothing is open and nobody attached, so its line is read
     // here too.
-    fn command(&mut self, rt: &impl Wait, newcomer: Newcomer, window: Option<u8>, line: &[u8]) {
+    fn command(
+        &mut self,
+        rt: &impl Wait,
+        newcomer: Newcomer,
+        window: Option<u8>,
+        line: &[u8],
+    ) -> Went {
         let Newcomer { key, user } = newcomer;
-        let event = Event::Command { user, window, line };
         let Ok(is_quit) = is_quit(self.alloc, line) else {
             self.peers.dismiss(key, Why::Fault);
-            return;
+            return Went::Done;
         };
-        let answer = match self.peers.submit(rt, event) {
-            Ok(answer) => answer,
+        match self.try_for(rt, user, Event::Command { user, window, line }) {
+            Ok(None) => return Went::Held,
+            Ok(Some(answer)) => self.tell_answer(rt, newcomer, &answer, is_quit),
             Err(unanswered) => {
                 let why = self.why_unanswered(unanswered);
                 self.peers.dismiss(key, why);
-                return;
             }
-        };
+        }
+        Went::Done
+    }
+
+    // What a command was answered.
+    fn tell_answer(&mut self, rt: &impl Wait, newcomer: Newcomer, answer: &Answer, is_quit: bool) {
+        let Newcomer { key, user } = newcomer;
         self.peers.send(rt, key, Sending::Welcome(0));
         match &answer.reply {
             Ok(done) => {
@@ -256,6 +330,19 @@ impl<S: Read + Write + Drop, G: Gate + Drop, J: SessionSeat + Drop> Loop<S, G, J
                 self.say_refusal(rt, key, refusal);
                 self.peers.dismiss(key, Why::Fault);
             }
+        }
+    }
+
+    // Its user has as many clients or windows as a user may have.
+    fn say_too_many(&mut self, rt: &impl Wait, newcomer: Newcomer, kind: GuestKind, most: u8) {
+        let Newcomer { key, user } = newcomer;
+        let what = match kind {
+            GuestKind::Client => "clients",
+            GuestKind::Window => "windows",
+        };
+        match format!(in self.alloc; "too many {what} of {}: at most {most}", Name(user)) {
+            Ok(text) => self.turn_away(rt, key, &text),
+            Err(_) => self.peers.dismiss(key, Why::Fault),
         }
     }
 

@@ -27,7 +27,7 @@ pub(crate) enum Went {
     Done,
     /// A rest of it is to be done.
     Part,
-    /// It waits until its user may cause more entries.
+    /// It waits until its user may cause more entries, or for a look at who may connect.
     Held,
 }
 
@@ -58,6 +58,9 @@ pub struct Loop<S, G, J> {
     pub peers: Peers<S, G, J>,
     /// Who may connect, where that isn't who might at first.
     pub users: Option<Users>,
+    /// The number of the look at who may connect from which that is known; None where nobody looks
+    /// again.
+    pub looked: Option<u64>,
     pub(crate) rations: Rations,
     /// The time of this turn.
     pub now: Duration,
@@ -68,8 +71,6 @@ pub struct Loop<S, G, J> {
     pub(crate) output_left: usize,
     // The window that has its turn first.
     next: usize,
-    // How many had a wrong token.
-    pub(crate) wrong_tokens: u64,
 }
 
 impl<S: Drop, G: Drop, J: Drop> Drop for Loop<S, G, J> {
@@ -78,6 +79,7 @@ impl<S: Drop, G: Drop, J: Drop> Drop for Loop<S, G, J> {
             alloc: _,
             peers: _,
             users: _,
+            looked: _,
             rations: _,
             now: _,
             buffer: _,
@@ -85,7 +87,6 @@ impl<S: Drop, G: Drop, J: Drop> Drop for Loop<S, G, J> {
             has_much: _,
             output_left: _,
             next: _,
-            wrong_tokens: _,
         } = self;
     }
 }
@@ -97,6 +98,7 @@ impl<S: Read + Write + Drop, G: Gate + Drop, J: SessionSeat + Drop> Loop<S, G, J
             alloc,
             peers: Peers::new(alloc, seat, gate),
             users: None,
+            looked: None,
             rations: Rations::new(alloc, loops),
             now: Duration::ZERO,
             buffer: vec![in alloc; 0; READ_SIZE]?,
@@ -104,7 +106,6 @@ impl<S: Read + Write + Drop, G: Gate + Drop, J: SessionSeat + Drop> Loop<S, G, J
             has_much: false,
             output_left: PIECE,
             next: 0,
-            wrong_tokens: 0,
         })
     }
 
@@ -114,6 +115,7 @@ impl<S: Read + Write + Drop, G: Gate + Drop, J: SessionSeat + Drop> Loop<S, G, J
             alloc: _,
             peers,
             users: _,
+            looked: _,
             rations: _,
             now: _,
             buffer: _,
@@ -121,7 +123,6 @@ impl<S: Read + Write + Drop, G: Gate + Drop, J: SessionSeat + Drop> Loop<S, G, J
             has_much: _,
             output_left: _,
             next: _,
-            wrong_tokens: _,
         } = self;
         peers.into_seat()
     }

@@ -4,7 +4,7 @@ use crate::end::End;
 use crate::gate::Gate;
 use crate::peers::{Peers, Unanswered};
 use attach_proto::Why;
-use server_connections::{News, Role, SessionSeat, Stage};
+use server_connections::{Guest, News, Role, SessionSeat, Stage};
 use std::io::{Read, Write};
 use std::sync::Wait;
 use std::time::Duration;
@@ -93,7 +93,7 @@ impl<S: Read + Write + Drop, G: Gate + Drop, J: SessionSeat + Drop> Peers<S, G, 
 
     /// Of the connections whose first message isn't done, the one that came first is told to go, if
     /// there are so many or more.
-    pub fn let_oldest_go(&mut self, most: usize) {
+    pub fn let_oldest_go(&mut self, rt: &impl Wait, most: usize) {
         let mut count = 0usize;
         let mut oldest: Option<(u64, usize)> = None;
         for key in 0..self.peers.end() {
@@ -110,18 +110,18 @@ impl<S: Read + Write + Drop, G: Gate + Drop, J: SessionSeat + Drop> Peers<S, G, 
         if let Some((_, key)) = oldest {
             if count >= most {
                 self.dismiss(key, Why::Fault);
-                self.close_at_once(key);
+                self.close_at_once(rt, key);
             }
         }
     }
 
     // Writes what the connection takes, and closes it.
-    fn close_at_once(&mut self, key: usize) {
+    fn close_at_once(&mut self, rt: &impl Wait, key: usize) {
         if let Some(peer) = self.peers.touch(key) {
             peer.write();
             peer.close();
         }
-        self.sweep();
+        self.sweep(rt);
     }
 
     /// Those whose first message didn't come in time are told to go, and those that were told so
@@ -144,14 +144,21 @@ impl<S: Read + Write + Drop, G: Gate + Drop, J: SessionSeat + Drop> Peers<S, G, 
         }
     }
 
-    pub(crate) fn sweep(&mut self) {
+    // A guest left: its user may bring another one.
+    fn part(&mut self, rt: &impl Wait, guest: Guest, why: Option<Why>) {
+        let (user, kind) = guest.owner();
+        self.seat.remove(rt, user, kind);
+        self.tell(News::Went(guest, why));
+    }
+
+    pub(crate) fn sweep(&mut self, rt: &impl Wait) {
         let mut from = 0;
         for _ in 0..self.peers.end() {
             let Some(key) = self.peers.next_awake(from) else {
                 return;
             };
-            if let Some(news) = self.peers.touch(key).and_then(|peer| peer.farewell()) {
-                self.tell(news);
+            if let Some((guest, why)) = self.peers.touch(key).and_then(|peer| peer.farewell()) {
+                self.part(rt, guest, why);
             }
             self.peers.settle(key);
             from = key.saturating_add(1);
@@ -174,6 +181,6 @@ impl<S: Read + Write + Drop, G: Gate + Drop, J: SessionSeat + Drop> Peers<S, G, 
                 peer.leaves = Role::Stranger;
             }
         }
-        self.sweep();
+        self.sweep(rt);
     }
 }

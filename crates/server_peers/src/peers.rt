@@ -4,9 +4,10 @@ use crate::end::End;
 use crate::gate::Gate;
 use acl::UserId;
 use server_connections::{
-    Answer, Asked, Awaits, Came, Connections, Guest, News, Role, SeatFault, SessionSeat, Stage,
+    Answer, Asked, Awaits, Came, Connections, Guest, GuestKind, News, Role, SeatFault, SessionSeat,
+    Stage,
 };
-use server_users::Users;
+use server_users::{Outcome, Users};
 use session_model::Event;
 use std::alloc::{AllocError, Global};
 use std::io::{Read, Write};
@@ -137,9 +138,39 @@ impl<S: Read + Write + Drop, G: Gate + Drop, J: SessionSeat + Drop> Peers<S, G, 
         self.has_waiting || self.peers.any_awaits(Awaits::Ration)
     }
 
-    /// Whether a first message may be there.
-    pub fn has_newcomer(&self) -> bool {
-        self.peers.any_awaits(Awaits::FirstWork)
+    /// Whether a first message came that waits for a look at who may connect, which nobody asked
+    /// for yet.
+    pub fn awaits_look(&self) -> bool {
+        self.peers.any_awaits(Awaits::Look)
+    }
+
+    /// The first messages that came wait for the look of this number.
+    pub fn set_look(&mut self, look: u64) {
+        for key in 0..self.peers.end() {
+            if self
+                .peers
+                .get(key)
+                .is_some_and(|it| it.awaits(Awaits::Look))
+            {
+                if let Some(peer) = self.peers.touch(key) {
+                    peer.look = Some(look);
+                }
+            }
+        }
+    }
+
+    /// The look that a first message waits for, if one was asked for.
+    pub fn look_of(&self, key: usize) -> Option<u64> {
+        match self.peers.get(key) {
+            Some(peer) => peer.look,
+            None => None,
+        }
+    }
+
+    /// Whether what a connection asked for waits: for a look at who may connect, or until its user
+    /// may cause more entries.
+    pub fn has_held(&self) -> bool {
+        self.peers.any_awaits(Awaits::Ration)
     }
 
     /// What is to be done next.
@@ -180,6 +211,27 @@ impl<S: Read + Write + Drop, G: Gate + Drop, J: SessionSeat + Drop> Peers<S, G, 
             None if self.seat.has_stopped() => Some(End::TrailFull),
             end => end,
         }
+    }
+
+    /// Pays for a step that a user is about to try, unless the user has to wait. Whether it did.
+    pub fn pay(&self, rt: &impl Wait, user: UserId, now: Duration, cost: u32) -> bool {
+        self.seat.pay(rt, user, now, cost)
+    }
+
+    /// A step that was paid for so came to this.
+    pub fn settle(&self, rt: &impl Wait, user: UserId, cost: u32, outcome: Outcome) {
+        self.seat.settle(rt, user, cost, outcome);
+    }
+
+    /// Counts one more client or window of a user, unless they have as many as a user may have.
+    /// Then the answer is how many that is.
+    pub fn add(&self, rt: &impl Wait, user: UserId, kind: GuestKind) -> Option<u8> {
+        self.seat.add(rt, user, kind)
+    }
+
+    /// Counts one client or window less of a user: it didn't come.
+    pub fn remove(&self, rt: &impl Wait, user: UserId, kind: GuestKind) {
+        self.seat.remove(rt, user, kind);
     }
 
     /// It is this time, for the entries in the trail's file.
@@ -267,7 +319,7 @@ impl<S: Read + Write + Drop, G: Gate + Drop, J: SessionSeat + Drop> Peers<S, G, 
     /// Reads once from a connection that is open, and all of whose messages are done.
     pub fn read(&mut self, key: usize, buffer: &mut [u8]) -> Came {
         match self.peers.touch(key) {
-            Some(peer) if peer.stage == Stage::Open && peer.has_more => peer.read(buffer),
+            Some(peer) if peer.stage == Stage::Open && peer.has_more() => peer.read(buffer),
             _ => Came::Nothing,
         }
     }
@@ -282,7 +334,7 @@ impl<S: Read + Write + Drop, G: Gate + Drop, J: SessionSeat + Drop> Peers<S, G, 
     /// Takes out what a connection asks for next, if it is open.
     pub fn next_asked(&mut self, key: usize) -> Option<Asked> {
         match self.peers.touch(key) {
-            Some(peer) if peer.stage == Stage::Open => peer.inbox.next(),
+            Some(peer) if peer.stage == Stage::Open => peer.next_asked(),
             _ => None,
         }
     }

@@ -197,6 +197,6 @@ impl<S: Read + Write + Drop, G: Gate + Drop, J: SessionSeat + Drop> Peers<S, G, 
         self.write_all(rt);
         self.draw_all(rt, holds_draws);
         self.drop_laggards(rt);
-        self.sweep();
+        self.sweep(rt);
     }
 }

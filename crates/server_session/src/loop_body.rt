@@ -3,6 +3,7 @@
 ghost use Rattle.std.specs.Prelude.{◌≡◌, ◌<◌, ◌≤◌};
 ghost use Rattle.acl.specs.declared.edition.Edition.TheVariants.{Second};
 
+use crate::accounts::{Accounts, Limits};
 use crate::setting_up::set_up;
 use crate::shared_session::SharedSession;
 use acl::UserId;
@@ -76,6 +77,9 @@ pub trait LoopBody<P: Drop, R> {
     /// Writes what is put down, in a thread of its own, until the loops have ended.
     fn write_trail(&self, _rt: &R, _recorder: &Recorder) {}
 
+    /// All loops have ended, and what was put down is written.
+    fn leave(&self, _rt: &R) {}
+
     /// The session is over, and this is its trail.
     fn compare(&self, _rt: &R, _trail: &Trail) {}
 }
@@ -85,6 +89,7 @@ pub trait LoopBody<P: Drop, R> {
 pub struct Start<P: Drop> {
     pub alloc: Global,
     pub users: Users,
+    pub limits: Limits,
     pub places: Vec<P>,
 }
 
@@ -171,7 +176,8 @@ fn begin<L: Roll>(
     }
 }
 
-// Where the session's trail is put down, if it is. Then the answers of these seats have entries.
+// Where the session's trail is put down, if it is. The answers of these seats have entries, by which
+// is known what came of a step.
 fn recorder<L, P, K, R>(
     rt: &R,
     alloc: Global,
@@ -184,11 +190,12 @@ where
     K: LoopBody<P, R>,
     R: Clock,
 {
-    let recorder = loop_body.recorder(alloc, seats.len())?;
-    recorder.set_time(rt);
+    let loops = seats.len();
     for seat in seats {
         seat.ask_for_entries();
     }
+    let recorder = loop_body.recorder(alloc, loops)?;
+    recorder.set_time(rt);
     Some(recorder)
 }
 
@@ -226,6 +233,7 @@ where
     let Start {
         alloc,
         users,
+        limits,
         places,
     } = start;
     let left = Mutex::new(Vec::with_capacity(alloc, loops)?);
@@ -235,6 +243,7 @@ where
         hub,
         users,
         recorder,
+        accounts: Accounts::new(alloc, owner, limits),
     };
     let kept = Kept { shared, left };
     if let Some(seat) = seats.first_mut() {
@@ -248,6 +257,7 @@ where
             places,
         };
         run_all(rt, &kept, starts, loop_body);
+        loop_body.leave(rt);
     }
     let Kept { shared, left } = kept;
     let SharedSession { hub, .. } = shared;

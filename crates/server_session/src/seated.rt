@@ -1,12 +1,13 @@
 //! A loop's seat in the session that it shares.
 
 use crate::shared_session::SharedSession;
+use acl::UserId;
 use hub::{Begun as Roll, FULL, HubFault, Seat};
-use server_connections::{Answer, SeatFault, SessionSeat};
-use server_users::Users;
-use session_model::{Effect, Event};
+use server_connections::{Answer, GuestKind, SeatFault, SessionSeat};
+use server_users::{Outcome, Users};
+use session_model::{Effect, Event, Refusal, Reply, Verdict};
 use std::sync::Wait;
-use std::time::Clock;
+use std::time::{Clock, Duration};
 
 // At so many hundredths of the trail's most entries there is news.
 const MARKS: [u8; 4] = [50, 75, 90, 99];
@@ -19,6 +20,25 @@ fn mark_at(place: usize) -> Option<u8> {
         }
     }
     None
+}
+
+// Whether a check was passed.
+fn is_passed(verdict: &Verdict) -> bool {
+    match verdict {
+        Verdict::Right { answer, .. } => *answer,
+        Verdict::Lock { user, holder, .. } => holder.is_none_or(|holder| holder == *user),
+    }
+}
+
+// What came of a step that was answered so, behind these checks.
+fn outcome_of(reply: &Reply, verdicts: &[Verdict]) -> Outcome {
+    match reply {
+        Err(Refusal::NoMemory) => Outcome::Untaken,
+        Err(_) => Outcome::Denied,
+        Ok(_) if verdicts.is_empty() => Outcome::Unchecked,
+        Ok(_) if verdicts.iter().all(|verdict| is_passed(verdict)) => Outcome::Granted,
+        Ok(_) => Outcome::Denied,
+    }
 }
 
 /// A seat, and the session that it is in.
@@ -51,15 +71,37 @@ impl<L: Roll> SessionSeat for Seated<'_, L> {
                     Some(place) => mark_at(place),
                     None => None,
                 };
+                // An entry lacks where memory for its copy was refused.
+                let outcome = match answer.entry() {
+                    Some(entry) => outcome_of(answer.reply(), entry.verdicts()),
+                    None => Outcome::Granted,
+                };
                 Ok(Answer {
                     reply: answer.into_reply(),
                     filled,
+                    outcome,
                 })
             }
             Err(HubFault::NoMemory) => Err(SeatFault::NoMemory),
             Err(HubFault::TrailFull) => Err(SeatFault::TrailFull),
             Err(HubFault::Strange) => Err(SeatFault::Strange),
         }
+    }
+
+    fn pay<R: Wait>(&self, rt: &R, user: UserId, now: Duration, cost: u32) -> bool {
+        self.shared.accounts.pay(rt, user, now, cost)
+    }
+
+    fn settle<R: Wait>(&self, rt: &R, user: UserId, cost: u32, outcome: Outcome) {
+        self.shared.accounts.settle(rt, user, cost, outcome);
+    }
+
+    fn add<R: Wait>(&self, rt: &R, user: UserId, kind: GuestKind) -> Option<u8> {
+        self.shared.accounts.add(rt, user, kind)
+    }
+
+    fn remove<R: Wait>(&self, rt: &R, user: UserId, kind: GuestKind) {
+        self.shared.accounts.remove(rt, user, kind);
     }
 
     fn set_time<R: Clock>(&self, rt: &R) {

@@ -8,6 +8,6 @@ mod places;
 mod turns;
 mod winding;
 
-pub use loop_handle::{Common, LoopStart, Shared};
+pub use loop_handle::{Common, LoopHandle, LoopStart, Shared, start_watching};
 pub use places::Places;
 pub use turns::run_loop;

@@ -5,12 +5,14 @@ use mio::net::UnixStream;
 use mio::{Poll, Registry, Waker};
 use server_log::Log;
 use server_loop::End;
-use server_system::Watched;
-use std::alloc::Global;
+use server_system::{Seen, Watched};
+use std::alloc::{AllocError, Global};
 use std::collections::VecDeque;
-use std::io;
 use std::sync::atomic::{AtomicBool, AtomicU64, Ordering};
-use std::sync::{Mutex, OnceLock};
+use std::sync::{Arc, Mutex, OnceLock, Wait};
+use std::thread::Threads;
+use std::time::Clock;
+use std::{io, thread};
 
 /// A connection on its way to its loop.
 #[derive(Drop)]
@@ -27,6 +29,8 @@ pub struct LoopHandle {
     pub handed: Mutex<VecDeque<Handed>>,
     is_asleep: AtomicBool,
     has_news: AtomicBool,
+    // It waits for a look at who may connect.
+    awaits_look: AtomicBool,
 }
 
 impl LoopHandle {
@@ -36,6 +40,21 @@ impl LoopHandle {
             handed: Mutex::new(handed),
             is_asleep: AtomicBool::new(false),
             has_news: AtomicBool::new(false),
+            awaits_look: AtomicBool::new(false),
+        }
+    }
+
+    /// The loop is to be woken behind the next look at who may connect.
+    pub fn await_look(&self) {
+        self.awaits_look.store(true, Ordering::SeqCst);
+    }
+
+    // Such a look is done.
+    fn tell_look(&self) -> io::Result<()> {
+        if self.awaits_look.swap(false, Ordering::SeqCst) {
+            self.wake()
+        } else {
+            Ok(())
         }
     }
 
@@ -69,11 +88,13 @@ impl LoopHandle {
 /// What the loops share beside their session.
 #[derive(Drop)]
 pub struct Shared {
-    pub loop_handles: Vec<LoopHandle>,
+    pub loop_handles: Arc<Vec<LoopHandle>, Global>,
     pub over: OnceLock<End>,
     /// To how many loops much comes.
     pub busy: AtomicU64,
-    pub watched: Watched,
+    pub watched: Arc<Watched, Global>,
+    /// How many had a wrong token.
+    pub wrong_tokens: AtomicU64,
     pub log: Log,
     /// Whether it is told who comes and goes.
     pub tells: bool,
@@ -81,10 +102,8 @@ pub struct Shared {
 
 /// What the loops of a server stand on.
 #[derive(Drop)]
-pub struct Common<G, U> {
+pub struct Common<G> {
     pub shared: Shared,
-    /// Who may connect.
-    pub users: U,
     /// Is told of each call that a loop submits.
     pub gate: G,
 }
@@ -102,8 +121,8 @@ pub struct LoopStart {
 impl Shared {
     pub fn new(
         alloc: Global,
-        loop_handles: Vec<LoopHandle>,
-        watched: Watched,
+        loop_handles: Arc<Vec<LoopHandle>, Global>,
+        watched: Arc<Watched, Global>,
         tells: bool,
     ) -> Shared {
         let log = Log::new(alloc, loop_handles.len());
@@ -112,6 +131,7 @@ impl Shared {
             over: OnceLock::new(),
             busy: AtomicU64::new(0),
             watched,
+            wrong_tokens: AtomicU64::new(0),
             log,
             tells,
         }
@@ -129,9 +149,42 @@ impl Shared {
     /// The server ends: the first cause holds. All loops are woken.
     pub fn end(&self, end: End) -> io::Result<()> {
         let _ = self.over.try_set(end);
-        for loop_handle in &self.loop_handles {
+        for loop_handle in self.loop_handles.iter() {
             loop_handle.wake()?;
         }
         Ok(())
+    }
+}
+
+// Looks at who may connect whenever that is asked for, until nobody asks any more.
+fn watch<R: Clock + Wait>(rt: &R, watched: &Watched, seen: Seen, loop_handles: &[LoopHandle]) {
+    let mut seen = seen;
+    for _ in rt.forever() {
+        if !watched.look(rt, &mut seen) {
+            return;
+        }
+        for loop_handle in loop_handles {
+            let _ = loop_handle.tell_look();
+        }
+    }
+}
+
+/// Starts the thread that looks at who may connect. Nobody waits for its end: the file's disk may
+/// hang.
+pub fn start_watching<R: Threads + Clock + Wait + Copy + Send + 'static>(
+    rt: &R,
+    shared: &Shared,
+    seen: Seen,
+) -> io::Result<()> {
+    let watched = Arc::try_clone(&shared.watched)?;
+    let loop_handles = Arc::try_clone(&shared.loop_handles)?;
+    let rt_there = *rt;
+    let started = thread::spawn(rt, move || {
+        let rt = rt_there;
+        watch(&rt, &watched, seen, &loop_handles);
+    });
+    match started {
+        Ok(_) => Ok(()),
+        Err(error) => Err(io::Error::from(AllocError::from(error))),
     }
 }

@@ -4,17 +4,15 @@ use crate::acceptor::Acceptor;
 use crate::loop_handle::{Common, LoopHandle, LoopStart, Shared};
 use crate::winding::wind_up;
 use mio::{Events, Poll, Registry, Token};
-use server_log::Log;
 use server_loop::{
-    End, Gate, LULL, Loop, News, NewsLine, Pace, Peers, Pending, Reads, SessionSeat, Submitted,
-    Writes,
+    End, Gate, Loop, News, NewsLine, Pace, Peers, Pending, Reads, SessionSeat, Submitted, Writes,
 };
-use server_system::{UsersSource, Wired};
-use server_users::Users;
+use server_system::Wired;
 use std::alloc::Global;
 use std::io;
-use std::io::ErrorKind;
+use std::io::{ErrorKind, Read, Write};
 use std::sync::Wait;
+use std::sync::atomic::Ordering;
 use std::time::{Clock, Duration};
 
 /// The token of a loop's waker.
@@ -49,6 +47,11 @@ impl Pacing<'_> {
             self.shared.wake_others(self.me)?;
         }
         Ok(())
+    }
+
+    // How long the loop sleeps at most, though nothing is to be done.
+    fn longest_sleep(&self) -> Option<Duration> {
+        self.pace.longest_sleep(&self.shared.busy)
     }
 
     // A turn's reads are done. Whether its draws wait.
@@ -91,9 +94,9 @@ impl Watch<'_> {
     fn timeout(&self, pending: Pending) -> Option<Duration> {
         if pending == Pending::Work || self.has_more() {
             Some(Duration::ZERO)
-        } else if self.pacing.pace.expects_more() {
-            Some(Duration::from_millis(LULL))
-        } else if pending == Pending::Retry || self.is_stuck() || self.pacing.pace.is_holding() {
+        } else if let Some(longest) = self.pacing.longest_sleep() {
+            Some(longest)
+        } else if pending == Pending::Retry || self.is_stuck() {
             Some(Duration::from_millis(PAUSE))
         } else if pending == Pending::Patience {
             Some(Duration::from_millis(LOOK))
@@ -155,7 +158,7 @@ fn admit<'a, J: SessionSeat + Drop, G: Gate + Drop>(
     peers: &mut Peers<Wired<'a>, G, J>,
 ) {
     if watch.is_stuck() {
-        peers.let_oldest_go(1);
+        peers.let_oldest_go(rt, 1);
     }
     let share = watch.share();
     for _ in 0..u64::MAX {
@@ -163,7 +166,7 @@ fn admit<'a, J: SessionSeat + Drop, G: Gate + Drop>(
             return;
         };
         let most = if handed.is_extra { 1 } else { share };
-        peers.let_oldest_go(most);
+        peers.let_oldest_go(rt, most);
         let token = Token(peers.next_key().saturating_add(FIRST));
         if let Ok(wired) = Wired::new(watch.registry, token, handed.stream) {
             let _ = peers.admit(wired, handed.is_extra);
@@ -193,9 +196,15 @@ fn sort<J: SessionSeat + Drop, G: Gate + Drop>(
 }
 
 /// Tells what happened.
-pub fn tell_news<R: Clock + Wait>(rt: &R, log: &Log, happened: Vec<News>) {
+pub fn tell_news<R: Clock + Wait>(rt: &R, shared: &Shared, happened: Vec<News>) {
     for news in happened {
-        log.put(rt, &NewsLine(news));
+        let before = match news {
+            News::WrongToken => shared.wrong_tokens.fetch_add(1, Ordering::SeqCst),
+            _ => 0,
+        };
+        shared
+            .log
+            .put(rt, &NewsLine(news, before.saturating_add(1)));
     }
 }
 
@@ -218,61 +227,71 @@ fn begin_turn<'a, J: SessionSeat + Drop, G: Gate + Drop, R: Clock + Wait>(
 // One turn: what came is read and done, and what comes of it is written.
 fn turn<J: SessionSeat + Drop, G: Gate + Drop, R: Clock + Wait>(
     rt: &R,
+    loop_handle: &LoopHandle,
     pacing: &mut Pacing,
     own: &mut Loop<Wired, G, J>,
 ) -> io::Result<()> {
     let now = rt.monotonic().ok();
     own.peers.set_time(rt);
     let reads = own.read_all(rt);
+    if own.peers.awaits_look() {
+        loop_handle.await_look();
+        own.peers.set_look(pacing.shared.watched.ask(rt));
+    }
     let holds_draws = pacing.read(now, reads)?;
     let writes = own.end_turn(rt, holds_draws);
     pacing.written(now, writes)?;
-    tell_news(rt, &pacing.shared.log, own.peers.take_news());
+    tell_news(rt, pacing.shared, own.peers.take_news());
     match writes.end {
         Some(end) => pacing.shared.end(end),
         None => Ok(()),
     }
 }
 
-// Who may connect may have changed.
-fn look_at_users<G, U: UsersSource, R: Clock + Wait>(
+// Who may connect may have changed since the users of this count.
+fn look_at_users<S: Read + Write + Drop, J: SessionSeat + Drop, G: Gate + Drop, R: Clock + Wait>(
     rt: &R,
-    common: &Common<G, U>,
+    shared: &Shared,
     count: &mut u64,
-    users: &mut Option<Users>,
+    own: &mut Loop<S, G, J>,
 ) {
-    let Shared { watched, log, .. } = &common.shared;
-    if let Some(newest) = watched.newest(rt, log, &common.users, count) {
-        *users = Some(newest);
+    if let Some(known) = shared.watched.newest(rt, &shared.log, count) {
+        own.looked = Some(known.look);
+        if known.users.is_some() {
+            own.users = known.users;
+        }
     }
 }
 
 // Turns until the server ends.
-fn take_turns<'a, J: SessionSeat + Drop, G: Gate + Drop, U: UsersSource, R: Clock + Wait>(
+fn take_turns<'a, J: SessionSeat + Drop, G: Gate + Drop, R: Clock + Wait>(
     rt: &R,
-    common: &Common<G, U>,
+    shared: &Shared,
     watch: &mut Watch<'a>,
     own: &mut Loop<Wired<'a>, G, J>,
 ) -> io::Result<()> {
     let mut count = 0;
+    own.looked = Some(0);
     for _ in rt.forever() {
         begin_turn(rt, watch, own)?;
-        if own.peers.has_newcomer() {
-            look_at_users(rt, common, &mut count, &mut own.users);
+        if own.peers.has_held() {
+            // A look that ends behind this wakes the loop.
+            watch.loop_handle.await_look();
+            look_at_users(rt, shared, &mut count, own);
         }
-        turn(rt, &mut watch.pacing, own)?;
-        if let Some(end) = common.shared.over.get() {
-            return wind_up(rt, &common.shared.log, watch, &mut own.peers, *end);
+        turn(rt, watch.loop_handle, &mut watch.pacing, own)?;
+        if let Some(end) = shared.over.get() {
+            return wind_up(rt, shared, watch, &mut own.peers, *end);
         }
     }
     Ok(())
 }
 
 // A loop with this seat, until the server ends: its seat.
-fn run_seat<J: SessionSeat + Drop, G: Gate + Copy + Drop, U: UsersSource, R: Clock + Wait>(
+fn run_seat<J: SessionSeat + Drop, G: Gate + Copy + Drop, R: Clock + Wait>(
     rt: &R,
     alloc: Global,
-    common: &Common<G, U>,
+    common: &Common<G>,
     watch: &mut Watch,
     seat: J,
 ) -> io::Result<J> {
@@ -285,17 +304,17 @@ fn run_seat<J: SessionSeat + Drop, G: Gate + Copy + Drop, U: UsersSource, R: Clo
     gate.stand_at(watch.pacing.me);
     let mut own: Loop<Wired, G, J> = Loop::new(alloc, seat, gate, loop_handles.len())?;
     own.peers.tells = *tells;
-    match take_turns(rt, common, watch, &mut own) {
+    match take_turns(rt, &common.shared, watch, &mut own) {
         Ok(()) => Ok(own.into_seat()),
         Err(error) => Err(error),
     }
 }
 
 /// One loop, until the server ends: its seat.
-pub fn run_loop<J: SessionSeat + Drop, G: Gate + Copy + Drop, U: UsersSource, R: Clock + Wait>(
+pub fn run_loop<J: SessionSeat + Drop, G: Gate + Copy + Drop, R: Clock + Wait>(
     rt: &R,
     alloc: Global,
-    common: &Common<G, U>,
+    common: &Common<G>,
     seat: J,
     start: LoopStart,
 ) -> io::Result<J> {

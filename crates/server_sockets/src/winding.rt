@@ -1,7 +1,7 @@
 //! How a loop ends.
 
+use crate::loop_handle::Shared;
 use crate::turns::{Watch, tell_news};
-use server_log::Log;
 use server_loop::{End, Gate, Peers, SessionSeat};
 use server_system::Wired;
 use std::io;
@@ -28,7 +28,7 @@ fn is_late<R: Clock>(rt: &R, began: Option<Duration>, pauses: u64) -> bool {
 /// happened is told.
 pub fn wind_up<J: SessionSeat + Drop, G: Gate + Drop, R: Clock + Wait>(
     rt: &R,
-    log: &Log,
+    shared: &Shared,
     watch: &mut Watch,
     peers: &mut Peers<Wired, G, J>,
     end: End,
@@ -43,6 +43,6 @@ pub fn wind_up<J: SessionSeat + Drop, G: Gate + Drop, R: Clock + Wait>(
         watch.wait(Some(Duration::from_millis(PAUSE)))?;
         peers.finish(rt, end);
     }
-    tell_news(rt, log, peers.take_news());
+    tell_news(rt, shared, peers.take_news());
     Ok(())
 }

@@ -9,7 +9,7 @@ use crate::streams::{Habit, Near};
 use hub_record::{Filed, KeptRef};
 use server_loop::{Gate, Loop, SessionSeat};
 use server_session::{
-    Begun as Roll, LoopBody, LoopsFault, Seat, Seated, SharedSession, Start, Trail, keep,
+    Begun as Roll, Limits, LoopBody, LoopsFault, Seat, Seated, SharedSession, Start, Trail, keep,
 };
 use server_users::{Users, UsersFault};
 use std::alloc::Global;
@@ -104,7 +104,7 @@ fn perform_one<G: Gate + Drop, J: SessionSeat + Drop>(
             own.now = Duration::from_secs(second);
             own.expire();
         }
-        Act::LetOldestGo(most) => own.peers.let_oldest_go(most),
+        Act::LetOldestGo(most) => own.peers.let_oldest_go(rt, most),
         Act::Finish(end) => own.peers.finish(rt, end),
         Act::Note(first) => outside.note(standing(own), first)?,
         _ => outside.perform(act)?,
@@ -260,6 +260,7 @@ pub fn perform(rt: &impl System, loops: usize, acts: &[Act]) -> Result<Seen, Sto
     let start = Start {
         alloc,
         users: users(alloc)?,
+        limits: Limits::none(),
         places,
     };
     let playing = Playing {

@@ -21,6 +21,8 @@ pub enum ServeFault {
     Taken,
     #[error("the socket's path is a file, and no socket: name another")]
     NoSocket,
+    #[error("{0} is no plain file: remove it, or name another socket")]
+    NoLock(String),
     #[error("the socket isn't made: {0}")]
     Socket(io::Error),
     #[error("out of memory")]

@@ -6,10 +6,12 @@ mod fault;
 mod setup_file;
 mod socket;
 mod users_file;
+mod watched;
 mod wired;
 
 pub use fault::ServeFault;
 pub use setup_file::Setup;
 pub use socket::Place;
-pub use users_file::{Stamp, UsersFile, UsersSource, Watched};
+pub use users_file::{Seen, Stamp, UsersFile};
+pub use watched::{Known, Watched};
 pub use wired::Wired;

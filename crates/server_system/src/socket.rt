@@ -6,7 +6,8 @@ use std::alloc::Global;
 use std::fs::{File, Files, OpenOptions, TryLockError};
 use std::io::ErrorKind;
 use std::net::Net;
-use std::os::unix::fs::{FileTypeExt, OpenOptionsExt};
+use std::os::unix::fs::{FileTypeExt, MetadataExt, OpenOptionsExt};
+use std::sync::{Mutex, Wait};
 use std::{fs, io};
 
 /// The path of a server's socket, which the server alone makes, replaces and removes that holds
@@ -14,7 +15,8 @@ use std::{fs, io};
 #[derive(Drop)]
 pub struct Place<'a> {
     path: &'a str,
-    _lock: File,
+    // None once it was left.
+    lock: Mutex<Option<File>>,
 }
 
 // Whether there is a socket. Another file is a fault.
@@ -39,14 +41,48 @@ fn is_served<R: Net>(rt: &R, path: &str) -> Result<bool, ServeFault> {
     }
 }
 
-fn lock<R: Files<File = File>>(rt: &R, alloc: Global, path: &str) -> Result<File, ServeFault> {
-    let name = format!(in alloc; "{path}.lock")?;
+// Whether the file is the one of this name, which is no link.
+fn is_its_file<R: Files>(rt: &R, file: &File, name: &str) -> io::Result<bool> {
+    let named = fs::symlink_metadata(rt, name)?;
+    let opened = file.metadata()?;
+    let is_same = named.dev() == opened.dev() && named.ino() == opened.ino();
+    Ok(is_same && named.file_type().is_file())
+}
+
+// Opens a lock's file that is there, unless it is a link, or no file that could be made here. What is
+// opened in the meantime isn't written to.
+fn open_there<R: Files<File = File>>(rt: &R, name: String) -> Result<File, ServeFault> {
+    let found = fs::symlink_metadata(rt, name.as_str()).map_err(ServeFault::Socket)?;
+    if !found.file_type().is_file() {
+        return Err(ServeFault::NoLock(name));
+    }
     let file = OpenOptions::new()
         .write(true)
-        .create(true)
-        .mode(0o600)
         .open(rt, name.as_str())
         .map_err(ServeFault::Socket)?;
+    match is_its_file(rt, &file, name.as_str()) {
+        Ok(true) => Ok(file),
+        Ok(false) => Err(ServeFault::NoLock(name)),
+        Err(error) => Err(ServeFault::Socket(error)),
+    }
+}
+
+// Makes the lock's file, through no link, or opens the one that is there.
+fn open_lock<R: Files<File = File>>(rt: &R, name: String) -> Result<File, ServeFault> {
+    let made = OpenOptions::new()
+        .write(true)
+        .create_new(true)
+        .mode(0o600)
+        .open(rt, name.as_str());
+    match made {
+        Ok(file) => Ok(file),
+        Err(error) if error.kind() == ErrorKind::AlreadyExists => open_there(rt, name),
+        Err(error) => Err(ServeFault::Socket(error)),
+    }
+}
+
+fn lock<R: Files<File = File>>(rt: &R, alloc: Global, path: &str) -> Result<File, ServeFault> {
+    let file = open_lock(rt, format!(in alloc; "{path}.lock")?)?;
     match file.try_lock() {
         Ok(()) => Ok(file),
         Err(TryLockError::WouldBlock) => Err(ServeFault::Taken),
@@ -71,11 +107,16 @@ impl Place<'_> {
             fs::remove_file(rt, path).map_err(ServeFault::Socket)?;
         }
         let listener = UnixListener::bind(rt, path).map_err(ServeFault::Socket)?;
-        Ok((Place { path, _lock: lock }, listener))
+        let lock = Mutex::new(Some(lock));
+        Ok((Place { path, lock }, listener))
     }
 
-    /// The socket goes with its server. That it can't be removed is no fault of the session.
-    pub fn leave<R: Files>(self, rt: &R) {
-        let _: io::Result<()> = fs::remove_file(rt, self.path);
+    /// Removes the socket, once, and then lets the lock go: another server may listen there. That it
+    /// can't be removed is no fault of the session.
+    pub fn leave<F: Files>(&self, rt: &impl Wait, files: &F) {
+        let lock = self.lock.lock(rt).take();
+        if lock.is_some() {
+            let _: io::Result<()> = fs::remove_file(files, self.path);
+        }
     }
 }

@@ -1,34 +1,17 @@
-//! The users' file, which is read anew when it has changed.
+//! The users' file, and whether it has changed.
 
 use crate::fault::ServeFault;
-use acl::UserId;
-use server_log::Log;
 use server_users::Users;
 use std::alloc::Global;
-use std::fmt::{Display, Formatter};
+use std::fs;
 use std::fs::Metadata;
 use std::os::unix::fs::MetadataExt;
 use std::rt::HostRuntime;
-use std::sync::{Mutex, Wait};
-use std::time::Clock;
-use std::{fmt, fs};
 
 // Modes of a file: those of its group and of all others.
 const OTHERS_READ: u32 = 0o044;
 
 const OTHERS_WRITE: u32 = 0o022;
-
-const OTHER_OWNER: &str = "the users' file has another owner: who may connect stays as it was";
-
-// Why the users stay.
-#[derive(Drop)]
-struct Stays(ServeFault);
-
-impl Display for Stays {
-    fn fmt<W: fmt::Write>(&self, f: &mut Formatter<W>) -> fmt::Result {
-        write!(f, "{}: who may connect stays as it was", self.0)
-    }
-}
 
 /// What tells that a file isn't the one that was read.
 #[derive(Clone, Copy, Debug, PartialEq, Eq)]
@@ -57,12 +40,6 @@ impl Stamp {
     }
 }
 
-/// What is to be looked at, where who may connect may have changed.
-pub trait UsersSource {
-    /// The users, or why they can't be had, unless all is as it was seen last; then nothing.
-    fn look(&self, seen: &mut Option<Stamp>) -> Option<Result<Users, ServeFault>>;
-}
-
 /// A file of users.
 #[derive(Clone, Copy)]
 pub struct UsersFile<'p> {
@@ -84,90 +61,62 @@ impl UsersFile<'_> {
     }
 }
 
-impl UsersSource for UsersFile<'_> {
-    fn look(&self, seen: &mut Option<Stamp>) -> Option<Result<Users, ServeFault>> {
+/// How a users' file was found last.
+#[derive(Clone, Copy, Debug)]
+pub struct Seen {
+    // As it was when it was read; None where there was none, or where it is to be read again.
+    stamp: Option<Stamp>,
+    // Where reading it failed, how it was then, which was told.
+    failed: Option<Option<Stamp>>,
+}
+
+impl Seen {
+    /// It was read.
+    pub fn read(stamp: Stamp) -> Seen {
+        Seen {
+            stamp: Some(stamp),
+            failed: None,
+        }
+    }
+
+    // The file was found so, and read, or it wasn't for this fault. Whether that is news. What can't
+    // be read is told once, and read again at the next look.
+    fn is_news(&mut self, found: Option<Stamp>, fault: Option<&ServeFault>) -> bool {
+        match fault {
+            Some(ServeFault::NoMemory) => true,
+            Some(ServeFault::NoFile(_)) => {
+                let was_told = self.failed == Some(found);
+                self.stamp = None;
+                self.failed = Some(found);
+                !was_told
+            }
+            _ => {
+                self.stamp = found;
+                self.failed = None;
+                true
+            }
+        }
+    }
+}
+
+impl UsersFile<'_> {
+    /// The users, or why they can't be had, unless all is as it was seen last, or that was told
+    /// before.
+    pub fn look(&self, seen: &mut Seen) -> Option<Result<Users, ServeFault>> {
         let found = fs::metadata(&self.files, self.path).ok();
         let found = found.map(|found| Stamp::of(&found));
-        if found == *seen {
+        if found == seen.stamp {
             return None;
         }
-        *seen = found;
-        Some(self.read().map(|(users, _stamp)| users))
-    }
-}
-
-// The users' file as it was looked at last.
-#[derive(Drop)]
-struct Last {
-    stamp: Option<Stamp>,
-    // How many sound ones there were behind the first, and the users of the last of them.
-    count: u64,
-    users: Option<Users>,
-}
-
-impl Last {
-    // Its users count where it is sound and has this owner; otherwise they stay. Either is told.
-    fn take<R: Clock + Wait>(
-        &mut self,
-        rt: &R,
-        log: &Log,
-        owner: UserId,
-        found: Result<Users, ServeFault>,
-    ) {
-        match found {
-            Ok(users) if users.owner() == owner => {
-                log.put(rt, &"the users' file is read anew");
-                self.users = Some(users);
-                self.count = self.count.saturating_add(1);
-            }
-            Ok(_) => log.put(rt, &OTHER_OWNER),
-            Err(ServeFault::NoMemory) => self.stamp = None,
-            Err(fault) => log.put(rt, &Stays(fault)),
+        let read = self.read().map(|(users, _stamp)| users);
+        let fault = match &read {
+            Ok(_) => None,
+            Err(fault) => Some(fault),
+        };
+        if seen.is_news(found, fault) {
+            Some(read)
+        } else {
+            None
         }
-    }
-}
-
-/// The users' file, which one loop reads for all of them.
-#[derive(Drop)]
-pub struct Watched {
-    alloc: Global,
-    owner: UserId,
-    last: Mutex<Last>,
-}
-
-impl Watched {
-    /// The file that was read at first, with its owner, who is the session's.
-    pub fn new(alloc: Global, stamp: Stamp, owner: UserId) -> Watched {
-        Watched {
-            alloc,
-            owner,
-            last: Mutex::new(Last {
-                stamp: Some(stamp),
-                count: 0,
-                users: None,
-            }),
-        }
-    }
-
-    /// Looks at the file. The users of the last sound one, where they aren't those of this count,
-    /// which a loop had last. Without memory it gets them the next time.
-    pub fn newest<R: Clock + Wait, U: UsersSource>(
-        &self,
-        rt: &R,
-        log: &Log,
-        source: &U,
-        count: &mut u64,
-    ) -> Option<Users> {
-        let mut guard = self.last.lock(rt);
-        let last = &mut *guard;
-        if let Some(found) = source.look(&mut last.stamp) {
-            last.take(rt, log, self.owner, found);
-        }
-        if last.count == *count {
-            return None;
-        }
-        let users = last.users.as_ref()?.copy(self.alloc).ok()?;
-        *count = last.count;
-        Some(users)
     }
 }

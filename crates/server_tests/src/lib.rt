@@ -1,6 +1,6 @@
 //! Tests of a server's loops: how they end, what refused memory does, an attachment after a broken
-//! one, two of them side by side, who has his turn when, streams that are slow, wait, fail or end
-//! at each place, and made-up bytes.
+//! one, two of them side by side, who has his turn when, what is rationed, streams that are slow,
+//! wait, fail or end at each place, and made-up bytes.
 #![tactic(auto)]
 
 #[cfg(test)]
@@ -15,6 +15,8 @@ mod made_up;
 mod many;
 #[cfg(test)]
 mod plays;
+#[cfg(test)]
+mod rations;
 #[cfg(test)]
 mod refusals;
 #[cfg(test)]

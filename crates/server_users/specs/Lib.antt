@@ -1,2 +1,3 @@
+pub mod Allowances
 pub mod Entries
 pub mod Stands

@@ -1,0 +1,189 @@
+//! The users' file while a server runs.
+
+use crate::fault::ServeFault;
+use crate::users_file::{Seen, UsersFile};
+use acl::UserId;
+use server_log::Log;
+use server_users::Users;
+use std::alloc::{AllocError, Global};
+use std::fmt::{Display, Formatter};
+use std::rt::HostRuntime;
+use std::sync::{Condvar, Mutex, Wait};
+use std::time::{Clock, Duration};
+use std::{fmt, thread};
+
+// Without memory the file is looked at again after so many milliseconds.
+const PAUSE: u64 = 20;
+
+// What is told of a file that was read.
+#[derive(Drop)]
+enum Told {
+    Anew,
+    OtherOwner,
+    Faulty(ServeFault),
+}
+
+impl Display for Told {
+    fn fmt<W: fmt::Write>(&self, f: &mut Formatter<W>) -> fmt::Result {
+        match self {
+            Told::Anew => f.write_str("the users' file is read anew"),
+            Told::OtherOwner => f.write_str(
+                "the users' file has another owner: who may connect stays as it was",
+            ),
+            Told::Faulty(fault) => write!(f, "{fault}: who may connect stays as it was"),
+        }
+    }
+}
+
+// The looks at the file, counted from 1.
+#[derive(Drop)]
+struct Looks {
+    // The last one that somebody waits for.
+    wanted: u64,
+    begun: u64,
+    done: u64,
+    // How many sound files there were behind the first, and the users of the last of them.
+    count: u64,
+    users: Option<Users>,
+    told: Option<Told>,
+    is_over: bool,
+}
+
+impl Looks {
+    // The users of a sound file with this owner count; otherwise they stay. Either is told.
+    fn take(&mut self, owner: UserId, found: Result<Users, ServeFault>) {
+        match found {
+            Ok(users) if users.owner() == owner => {
+                self.users = Some(users);
+                self.count = self.count.saturating_add(1);
+                self.told = Some(Told::Anew);
+            }
+            Ok(_) => self.told = Some(Told::OtherOwner),
+            Err(fault) => self.told = Some(Told::Faulty(fault)),
+        }
+    }
+}
+
+/// What a loop learns of who may connect.
+#[derive(Drop)]
+pub struct Known {
+    /// The last look that is done.
+    pub look: u64,
+    /// The users, where they aren't those that the loop has.
+    pub users: Option<Users>,
+}
+
+/// The users' file, which a thread of its own looks at when somebody connects: no loop waits for the
+/// file's disk.
+#[derive(Drop)]
+pub struct Watched {
+    files: HostRuntime,
+    alloc: Global,
+    path: String,
+    owner: UserId,
+    looks: Mutex<Looks>,
+    asked: Condvar,
+}
+
+impl Watched {
+    /// A file that was read once, with its owner, who is the session's.
+    pub fn new(file: UsersFile, owner: UserId) -> Result<Watched, AllocError> {
+        Ok(Watched {
+            files: file.files,
+            alloc: file.alloc,
+            path: String::from_str(file.alloc, file.path)?,
+            owner,
+            looks: Mutex::new(Looks {
+                wanted: 0,
+                begun: 0,
+                done: 0,
+                count: 0,
+                users: None,
+                told: None,
+                is_over: false,
+            }),
+            asked: Condvar::new(),
+        })
+    }
+
+    /// Asks for a look that begins from now on: its number.
+    pub fn ask(&self, rt: &impl Wait) -> u64 {
+        let mut looks = self.looks.lock(rt);
+        let look = looks.begun.saturating_add(1);
+        looks.wanted = look;
+        drop(looks);
+        self.asked.notify_one();
+        look
+    }
+
+    /// Nobody waits for a look any more.
+    pub fn stop(&self, rt: &impl Wait) {
+        self.looks.lock(rt).is_over = true;
+        self.asked.notify_one();
+    }
+
+    // Waits until a look is asked for, and begins it. Whether there is one.
+    fn begin(&self, rt: &impl Wait) -> bool {
+        let looks = self.looks.lock(rt);
+        let mut looks = self
+            .asked
+            .wait_while(rt, looks, |it| { !it.is_over && it.wanted <= it.begun });
+        looks.begun = looks.begun.saturating_add(1);
+        !looks.is_over
+    }
+
+    // A look is done, and found this, if anything is new.
+    fn end(&self, rt: &impl Wait, found: Option<Result<Users, ServeFault>>) {
+        let mut looks = self.looks.lock(rt);
+        looks.done = looks.begun;
+        if let Some(found) = found {
+            looks.take(self.owner, found);
+        }
+    }
+
+    // Looks at the file, again and again where memory is refused.
+    fn found<R: Clock + Wait>(&self, rt: &R, seen: &mut Seen) -> Option<Result<Users, ServeFault>> {
+        let file = UsersFile {
+            files: self.files,
+            alloc: self.alloc,
+            path: self.path.as_str(),
+        };
+        for _ in rt.forever() {
+            let found = file.look(seen);
+            if !matches!(&found, Some(Err(ServeFault::NoMemory))) {
+                return found;
+            }
+            thread::sleep(rt, Duration::from_millis(PAUSE));
+        }
+        unreachable!()
+    }
+
+    /// Looks at the file once that is asked for. Whether it was.
+    pub fn look<R: Clock + Wait>(&self, rt: &R, seen: &mut Seen) -> bool {
+        if !self.begin(rt) {
+            return false;
+        }
+        let found = self.found(rt, seen);
+        self.end(rt, found);
+        true
+    }
+
+    /// What is known now, for a loop that has the users of this count. Without memory it learns
+    /// nothing.
+    pub fn newest<R: Clock + Wait>(&self, rt: &R, log: &Log, count: &mut u64) -> Option<Known> {
+        let mut looks = self.looks.lock(rt);
+        if let Some(told) = looks.told.take() {
+            log.put(rt, &told);
+        }
+        let users = if looks.count == *count {
+            None
+        } else {
+            Some(looks.users.as_ref()?.copy(self.alloc).ok()?)
+        };
+        *count = looks.count;
+        Some(Known {
+            look: looks.done,
+            users,
+        })
+    }
+}

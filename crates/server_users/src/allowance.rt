@@ -1,0 +1,125 @@
+//! What a user may try in vain.
+
+ghost use Rattle.std.specs.Prelude.{◌≡◌, ◌↔◌, ◌<◌, ◌+◌, ◌*◌, ◌/◌, IsTrue, min, true, false};
+ghost use Rattle.server_users.specs.Allowances.{fresh, paid, settled, stands_at};
+
+use std::marker::Model;
+
+/// What came of a step that a user tried.
+#[derive(Clone, Copy, Debug, PartialEq, Eq)]
+pub enum Outcome {
+    /// It was done, and rights or locks were checked for it.
+    Granted,
+    /// It was done, and nothing was checked for it.
+    Unchecked,
+    /// It was refused, or a right or a lock stood against it.
+    Denied,
+    /// The session took no step.
+    Untaken,
+}
+
+/// A unit comes back after so many milliseconds.
+pub const UNIT: u32 = 1_000;
+
+// All that a user may spend comes back in so many milliseconds: 1,000 units.
+const MOST: u64 = 1_000_000;
+
+// The trail keeps so many bytes of a step for each further unit.
+const BYTES: u32 = 128;
+
+// No frame of a peer has more bytes.
+const LONGEST: u32 = 65_535;
+
+/// What a step costs: a unit for each entry of the trail to which it leads, and one more for every
+/// 128 bytes that the trail keeps of it.
+pub fn price(entries: u16, bytes: usize) -> u32
+    ensures { result ≡ 1000 * (entries + min bytes 65535 / 128) }
+{
+    let bytes = bytes.min(LONGEST as usize) as u32;
+    UNIT * (u32::from(entries) + bytes / BYTES)
+}
+
+/// What a user may try in vain: 1,000 units at once, then one a second. Each step is paid for before
+/// it is tried. One that is granted gives back its cost, and that of the unchecked steps before it.
+#[derive(Debug)]
+pub struct Allowance {
+    spent: u64,
+    lent: u64,
+    seen: u64,
+}
+
+impl Drop for Allowance {
+    fn drop(self) {
+        let Allowance {
+            spent: _,
+            lent: _,
+            seen: _,
+        } = self;
+    }
+}
+
+impl Model for Allowance {
+    ghost use Rattle.std.specs.Prelude.{◌≡◌, ◌≤◌, ◌<◌};
+    ghost use Rattle.server_users.specs.Allowances.{Purse};
+
+    ghost Value = { Purse };
+
+    ghost view = { λ a. record { spent = a.spent; lent = a.lent; seen = a.seen } };
+
+    ghost invariant = { λ a. (a.lent ≤ a.spent) × (a.spent < 8589934592) };
+}
+
+impl Allowance {
+    /// Nothing is spent.
+    pub fn new() -> Allowance
+        ensures { result ≡ fresh }
+    {
+        Allowance {
+            spent: 0,
+            lent: 0,
+            seen: 0,
+        }
+    }
+
+    // Takes back what came back up to this time, in milliseconds.
+    fn pass(&mut self, now: u64)
+        ensures { self.new ≡ stands_at now self.old }
+    {
+        self.spent = self.spent.saturating_sub(now.saturating_sub(self.seen));
+        self.lent = self.lent.min(self.spent);
+        self.seen = self.seen.max(now);
+    }
+
+    /// Pays for a step at this time, in milliseconds, unless all is spent. Whether it did.
+    pub fn pay(&mut self, now: u64, cost: u32) -> bool
+        ensures answer { IsTrue result ↔ ((stands_at now self.old).spent < 1000000) }
+        ensures paid { result ≡ true → self.new ≡ paid cost (stands_at now self.old) }
+        ensures unpaid { result ≡ false → self.new ≡ stands_at now self.old }
+    {
+        self.pass(now);
+        if self.spent >= MOST {
+            return false;
+        }
+        self.spent += u64::from(cost);
+        true
+    }
+
+    /// A step that was paid for so came to this.
+    pub fn settle(&mut self, cost: u32, outcome: Outcome)
+        ensures { self.new ≡ settled outcome cost self.old }
+    {
+        let cost = u64::from(cost);
+        match outcome {
+            Outcome::Granted => {
+                self.spent = self.spent.saturating_sub(cost + self.lent);
+                self.lent = 0;
+            }
+            Outcome::Unchecked => self.lent = (self.lent + cost).min(self.spent),
+            Outcome::Denied => {}
+            Outcome::Untaken => {
+                self.spent = self.spent.saturating_sub(cost);
+                self.lent = self.lent.min(self.spent);
+            }
+        }
+    }
+}
