@@ -24,6 +24,16 @@ const AT: Word = Word {
     help: "The last entry that counts; else all do",
 };
 
+/// Users who may be confined on windows to come.
+const CONFINED: Word = Word {
+    name: "confined",
+    kind: Kind::Text {
+        value: "USERS",
+        need: Need::Free,
+    },
+    help: "Whether these users get no bit on windows to come, and what says otherwise",
+};
+
 /// The file of a way.
 const FILE: Word = Word {
     name: "file",
@@ -63,7 +73,7 @@ static MUX_TRAIL: Program = Program {
         Way {
             name: "who",
             about: "Prints who may do what, and who holds which lock",
-            words: &[OWNER, AT, FILE],
+            words: &[OWNER, AT, CONFINED, FILE],
         },
         Way {
             name: "why",

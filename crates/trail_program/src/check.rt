@@ -1,8 +1,9 @@
 //! How a trail's file ends.
 
-use std::alloc::Global;
+use std::alloc::{AllocError, Global};
 use std::io::{self, BufRead};
 use trail_audit::{Audit, Came, Ended, Halt, Wrong, next_line, read_end, read_entries};
+use trail_lines::Unread;
 
 /// How a file ends.
 #[derive(Clone, Copy)]
@@ -21,21 +22,56 @@ pub enum Finish {
     Stopped { line: u64, wrong: Wrong },
 }
 
+impl Finish {
+    /// Whether something is wrong in the file.
+    pub fn is_bad(self) -> bool {
+        match self {
+            Finish::Ended { .. } | Finish::Open | Finish::Torn => false,
+            Finish::Miscounted { .. } | Finish::Continued { .. } | Finish::Stopped { .. } => true,
+        }
+    }
+}
+
+/// What a line says that begins as a last one does, if it is one behind so many entries.
+fn end_in(alloc: Global, count: u64, line: &[u8]) -> Result<Option<Ended>, AllocError> {
+    match read_end(alloc, line) {
+        Ok(ended) if ended.entries == count => Ok(Some(ended)),
+        Ok(_) | Err(Unread::Malformed) => Ok(None),
+        Err(Unread::NoMemory) => Err(AllocError),
+    }
+}
+
 /// What a line tells that begins as a last one does, and whether nothing stands behind it.
-fn finish_of<R: BufRead>(
+fn finish_in<R: BufRead>(
     alloc: Global,
     count: u64,
     number: u64,
     reader: &mut R,
     line: &mut Vec<u8>,
 ) -> io::Result<Finish> {
-    let finish = match read_end(alloc, line.as_slice()) {
-        Ok(ended) if ended.entries == count => Finish::Ended { ended },
-        _ => return Ok(Finish::Miscounted { line: number }),
+    let Some(ended) = end_in(alloc, count, line.as_slice())? else {
+        return Ok(Finish::Miscounted { line: number });
     };
     match next_line(reader, line)? {
-        Came::Nothing => Ok(finish),
+        Came::Nothing => Ok(Finish::Ended { ended }),
         Came::Whole | Came::Torn => Ok(Finish::Continued { line: number }),
+    }
+}
+
+/// How a file ends, of which so many entries were read, where this halted the reading; `line` is
+/// what it was halted by.
+pub fn finish_of<R: BufRead>(
+    alloc: Global,
+    count: u64,
+    halt: Halt,
+    reader: &mut R,
+    line: &mut Vec<u8>,
+) -> io::Result<Finish> {
+    match halt {
+        Halt::Nothing => Ok(Finish::Open),
+        Halt::Torn => Ok(Finish::Torn),
+        Halt::Last { line: number } => finish_in(alloc, count, number, reader, line),
+        Halt::Stopped { line, wrong } => Ok(Finish::Stopped { line, wrong }),
     }
 }
 
@@ -46,12 +82,6 @@ pub fn check_lines<R: BufRead>(
     reader: &mut R,
 ) -> io::Result<Finish> {
     let mut line = Vec::new(alloc);
-    match read_entries(audit, reader, &mut line)? {
-        Halt::Nothing => Ok(Finish::Open),
-        Halt::Torn => Ok(Finish::Torn),
-        Halt::Last { line: number } => {
-            finish_of(alloc, audit.count(), number, reader, &mut line)
-        }
-        Halt::Stopped { line, wrong } => Ok(Finish::Stopped { line, wrong }),
-    }
+    let halt = read_entries(audit, reader, &mut line)?;
+    finish_of(alloc, audit.count(), halt, reader, &mut line)
 }

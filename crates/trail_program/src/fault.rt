@@ -10,6 +10,7 @@ pub enum Fault {
     NoHeader(u64),
     NoLine(u64),
     NoPlace(u64),
+    NoUsers,
     Changed,
 }
 
@@ -22,6 +23,7 @@ impl Display for Fault {
             }
             Fault::NoLine(line) => write!(f, "line {line}: no line of a trail is spelled so"),
             Fault::NoPlace(count) => write!(f, "it has {count} entries"),
+            Fault::NoUsers => f.write_str("--confined takes names of users, with commas between"),
             Fault::Changed => f.write_str("it was changed while it was read"),
         }
     }

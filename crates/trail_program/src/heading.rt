@@ -2,9 +2,10 @@
 
 use crate::fault::Fault;
 use acl::{Edition, UserId};
-use std::alloc::Global;
-use std::io::BufRead;
+use std::alloc::{AllocError, Global};
+use std::io::{self, BufRead};
 use trail_audit::{Came, next_line, read_header};
+use trail_lines::Unread;
 
 /// What the first line of a file says of its trail.
 #[derive(Clone, Copy)]
@@ -23,7 +24,8 @@ fn heading_in(alloc: Global, line: &[u8]) -> Result<Heading, Fault> {
             owner: header.owner,
             ms: header.ms,
         }),
-        Err(_) => Err(Fault::NoHeader(1)),
+        Err(Unread::Malformed) => Err(Fault::NoHeader(1)),
+        Err(Unread::NoMemory) => Err(Fault::Io(io::Error::from(AllocError))),
     }
 }
 

@@ -1,20 +1,35 @@
 //! A pass over a file's entries, as far as one place.
 
+use crate::check::{Finish, finish_of};
 use crate::fault::Fault;
 use crate::heading::heading_of;
 use acl::{Edition, Leaders, UserId};
-use std::alloc::{AllocError, Global};
+use std::alloc::Global;
 use std::io::{self, BufRead, BufReader, Read};
-use trail_audit::{Audit, Halt};
-use trail_rights::{Decider, Led, Question, Sight, Watch, watch_entries};
+use trail_audit::Audit;
+use trail_rights::{Decider, Led, Question, Sight, Watch, powers_of, settings_of, watch_entries};
 
-/// What a pass looks for beside rights and locks.
+/// What a pass looks for beside rights, locks and leaders.
+#[derive(Clone, Copy)]
+pub enum Looks {
+    Nothing,
+    /// What decides a bit of the user and of these leaders of his.
+    Reasons {
+        question: Question,
+        leaders: Leaders,
+    },
+    /// Masks and presets.
+    Settings,
+    /// Masks, and what decides who may open windows or change rights.
+    Confinement,
+}
+
+/// What a pass looks for.
 #[derive(Clone, Copy)]
 pub struct Search<'a> {
-    /// The users whose leaders it looks for.
+    /// The users whose leaders, and what else it looks for, it looks for.
     pub users: &'a [UserId],
-    /// What decides a bit of the user and of these leaders of his.
-    pub reasons: Option<(Question, Leaders)>,
+    pub looks: Looks,
     /// The place of the last entry that it reads.
     pub last: u64,
 }
@@ -24,7 +39,8 @@ pub struct Search<'a> {
 pub struct Pass {
     pub owner: UserId,
     pub watch: Watch,
-    pub halt: Halt,
+    /// How the file ends, where it was read to its end.
+    pub finish: Finish,
 }
 
 impl Pass {
@@ -65,15 +81,20 @@ fn sight_of(
     owner: UserId,
     search: &Search<'_>,
 ) -> io::Result<Sight> {
-    let deciders = match search.reasons {
-        Some((question, leaders)) => deciders_of(alloc, owner, question, leaders)?,
-        None => Vec::new(alloc),
-    };
     let mut leds = Vec::new(alloc);
     for user in search.users {
         leds.push(Led::new(*user))?;
     }
-    Ok(Sight::new(alloc, edition, deciders, leds))
+    let deciders = match search.looks {
+        Looks::Reasons { question, leaders } => deciders_of(alloc, owner, question, leaders)?,
+        Looks::Confinement => powers_of(alloc, owner, search.users)?,
+        Looks::Nothing | Looks::Settings => Vec::new(alloc),
+    };
+    let settlers = match search.looks {
+        Looks::Settings | Looks::Confinement => settings_of(alloc, search.users)?,
+        Looks::Nothing | Looks::Reasons { .. } => Vec::new(alloc),
+    };
+    Ok(Sight::new(alloc, edition, deciders, leds, settlers))
 }
 
 /// A watch that has read nothing.
@@ -88,15 +109,16 @@ fn watch_of(
     Ok(Watch::new(audit, sight))
 }
 
-/// Reads entries as far as the place `last`.
+/// Reads entries as far as the place `last`, and says how the file ends where it ends before.
 fn watch_lines<R: BufRead>(
     alloc: Global,
     watch: &mut Watch,
     reader: &mut R,
     last: u64,
-) -> io::Result<Halt> {
+) -> io::Result<Finish> {
     let mut line = Vec::new(alloc);
-    watch_entries(watch, reader, &mut line, last)
+    let halt = watch_entries(watch, reader, &mut line, last)?;
+    finish_of(alloc, watch.audit().count(), halt, reader, &mut line)
 }
 
 /// Reads what a reader has.
@@ -109,8 +131,12 @@ fn pass_over<R: BufRead>(
     let heading = heading_of(alloc, reader)?;
     let owner = owner.unwrap_or(heading.owner);
     let mut watch = watch_of(alloc, heading.edition, owner, search)?;
-    let halt = watch_lines(alloc, &mut watch, reader, search.last)?;
-    Ok(Pass { owner, watch, halt })
+    let finish = watch_lines(alloc, &mut watch, reader, search.last)?;
+    Ok(Pass {
+        owner,
+        watch,
+        finish,
+    })
 }
 
 /// Reads a file, of the owner that its first line names where no other is given.

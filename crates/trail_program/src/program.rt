@@ -147,13 +147,13 @@ fn tell_fault<E: Write>(fault: Fault, path: &str, errors: &mut E) -> u8 {
     let _ = writeln!(errors, "mux-trail: {path}: {fault}");
     match fault {
         Fault::NoHeader(_) | Fault::NoLine(_) => ILLEGAL,
-        Fault::Io(_) | Fault::NoPlace(_) | Fault::Changed => TROUBLE,
+        Fault::Io(_) | Fault::NoPlace(_) | Fault::NoUsers | Fault::Changed => TROUBLE,
     }
 }
 
 /// `mux-trail check|show|who|why FILE`: the status is 0 for a legal file that is whole, and for what
 /// was shown; 1 for a file that isn't legal, 2 for words or a file that can't be read, 3 for legal
-/// entries without a last line.
+/// entries without a last line, and 4 for users who aren't confined.
 pub fn trail<R: Clock + Files + AllocGlobal, W: Write, E: Write>(
     rt: &R,
     words: &[String],

@@ -21,6 +21,9 @@ pub const TROUBLE: u8 = 2;
 /// The entries are legal, and no last line stands behind them.
 const UNENDED: u8 = 3;
 
+/// The users aren't confined on windows to come, for a bit at least.
+pub const UNCONFINED: u8 = 4;
+
 /// Writes that no session of the owner has a trail, where an entry isn't legal.
 fn tell_illegal<W: Write>(wrong: Wrong, owner: UserId, output: &mut W) -> io::Result<()> {
     if wrong == Wrong::Illegal {
@@ -30,7 +33,7 @@ fn tell_illegal<W: Write>(wrong: Wrong, owner: UserId, output: &mut W) -> io::Re
 }
 
 /// Writes what is wrong with an entry's line.
-pub fn tell_wrong<W: Write>(
+fn tell_wrong<W: Write>(
     line: u64,
     wrong: Wrong,
     place: u64,

@@ -2,25 +2,28 @@
 //! looks for.
 
 use crate::fault::Fault;
-use crate::pass::{Pass, Search, read_pass};
-use crate::tell::{ILLEGAL, LEGAL, tell_wrong};
-use crate::words::Asked;
-use acl::{Leaders, UserId};
+use crate::pass::{Looks, Pass, Search, read_pass};
+use crate::tell::{ILLEGAL, LEGAL, UNCONFINED, tell_finish};
+use crate::words::{Asked, users_named};
+use acl::UserId;
 use std::alloc::Global;
 use std::io::{self, Read, Write};
 use std::rt::Files;
 use std::{fs, slice};
-use trail_audit::Halt;
-use trail_rights::{Question, users_of, write_reasons, write_rights};
+use trail_rights::{
+    Question, failing_of, users_of, write_confinement, write_reasons, write_rights,
+};
 
 /// What a first pass has found.
 #[derive(Drop)]
 struct Found {
     count: u64,
-    /// The users whose leaders the second pass looks for.
+    /// The users for whom the second pass looks.
     users: Vec<UserId>,
-    /// What is asked, and the leaders of the user who is asked about.
-    reasons: Option<(Question, Leaders)>,
+    /// What it looks for.
+    looks: Looks,
+    /// The users of whom it is asked whether they are confined.
+    confined: Vec<UserId>,
 }
 
 /// The user who is asked about, if one is.
@@ -38,7 +41,11 @@ fn found_of_one(alloc: Global, question: Question, first: &Pass) -> io::Result<F
     Ok(Found {
         count: first.count(),
         users,
-        reasons: Some((question, first.leaders())),
+        looks: Looks::Reasons {
+            question,
+            leaders: first.leaders(),
+        },
+        confined: Vec::new(alloc),
     })
 }
 
@@ -48,15 +55,40 @@ fn found_of_all(alloc: Global, first: &Pass) -> io::Result<Found> {
     Ok(Found {
         count: first.count(),
         users,
-        reasons: None,
+        looks: Looks::Settings,
+        confined: Vec::new(alloc),
+    })
+}
+
+/// What the entries of a pass say of all users, and of those of whom it is asked whether they are
+/// confined.
+fn found_of_some(alloc: Global, confined: Vec<UserId>, first: &Pass) -> io::Result<Found> {
+    let mut users = users_of(alloc, first.watch.audit().replay())?;
+    for user in &confined {
+        if !users.as_slice().contains(user) {
+            users.push(*user)?;
+        }
+    }
+    Ok(Found {
+        count: first.count(),
+        users,
+        looks: Looks::Confinement,
+        confined,
     })
 }
 
 /// What the entries of a pass say that a second one has to know.
-fn found_of(alloc: Global, asked: Asked<'_>, first: &Pass) -> io::Result<Found> {
-    match asked.question {
-        Some(question) => found_of_one(alloc, question, first),
-        None => found_of_all(alloc, first),
+fn found_of(alloc: Global, asked: Asked<'_>, first: &Pass) -> Result<Found, Fault> {
+    if let Some(question) = asked.question {
+        return Ok(found_of_one(alloc, question, first)?);
+    }
+    let Some(names) = asked.confined else {
+        return Ok(found_of_all(alloc, first)?);
+    };
+    match users_named(alloc, names) {
+        Ok(Some(users)) => Ok(found_of_some(alloc, users, first)?),
+        Ok(None) => Err(Fault::NoUsers),
+        Err(error) => Err(Fault::Io(io::Error::from(error))),
     }
 }
 
@@ -68,8 +100,8 @@ fn found_in<W: Write>(
     output: &mut W,
 ) -> Result<Option<Found>, Fault> {
     let count = first.count();
-    if let Halt::Stopped { line, wrong } = first.halt {
-        tell_wrong(line, wrong, count, first.owner, output)?;
+    if first.finish.is_bad() {
+        tell_finish(first.finish, count, first.owner, output)?;
         return Ok(None);
     }
     if let Some(place) = asked.place
@@ -77,10 +109,8 @@ fn found_in<W: Write>(
     {
         return Err(Fault::NoPlace(count));
     }
-    match found_of(alloc, asked, first) {
-        Ok(found) => Ok(Some(found)),
-        Err(error) => Err(Fault::Io(error)),
-    }
+    let found = found_of(alloc, asked, first)?;
+    Ok(Some(found))
 }
 
 /// Makes the first pass.
@@ -92,7 +122,7 @@ fn look<F: Read + Drop, W: Write>(
 ) -> Result<Option<Found>, Fault> {
     let search = Search {
         users: users_asked(&asked.question),
-        reasons: None,
+        looks: Looks::Nothing,
         last: asked.place.unwrap_or(u64::MAX),
     };
     let first = read_pass(alloc, asked.owner, file, &search)?;
@@ -101,15 +131,34 @@ fn look<F: Read + Drop, W: Write>(
 
 /// Whether a second pass has found what the first one had.
 fn is_unchanged(found: &Found, second: &Pass) -> bool {
-    let same_leaders = match found.reasons {
-        Some((_, leaders)) => second.leaders() == leaders,
-        None => true,
+    let same_leaders = match found.looks {
+        Looks::Reasons { leaders, .. } => second.leaders() == leaders,
+        _ => true,
     };
     second.count() == found.count && same_leaders
 }
 
-/// Writes the rights after the entries of a second pass, or what decides the bit that is asked
-/// about.
+/// Writes whether users are confined, and gives the status to exit with.
+fn write_confined<W: Write>(
+    alloc: Global,
+    users: &[UserId],
+    second: &Pass,
+    output: &mut W,
+) -> Result<u8, Fault> {
+    let Some(failing) = failing_of(alloc, &second.watch, users).map_err(io::Error::from)? else {
+        return Err(Fault::Changed);
+    };
+    let failing = failing.as_slice();
+    write_confinement(alloc, second.owner, &second.watch, failing, output)?;
+    Ok(if failing.is_empty() {
+        LEGAL
+    } else {
+        UNCONFINED
+    })
+}
+
+/// Writes the rights after the entries of a second pass, what decides the bit that is asked about, or
+/// whether users are confined.
 fn write_answer<W: Write>(
     alloc: Global,
     found: &Found,
@@ -119,14 +168,15 @@ fn write_answer<W: Write>(
     if !is_unchanged(found, second) {
         return Err(Fault::Changed);
     }
-    let written = match found.reasons {
-        Some((question, _)) => write_reasons(alloc, second.owner, &second.watch, question, output),
-        None => write_rights(alloc, second.owner, &second.watch, output),
-    };
-    match written {
-        Ok(()) => Ok(LEGAL),
-        Err(error) => Err(Fault::Io(error)),
+    let (owner, watch) = (second.owner, &second.watch);
+    match found.looks {
+        Looks::Reasons { question, .. } => write_reasons(alloc, owner, watch, question, output)?,
+        Looks::Confinement => {
+            return write_confined(alloc, found.confined.as_slice(), second, output);
+        }
+        Looks::Settings | Looks::Nothing => write_rights(alloc, owner, watch, output)?,
     }
+    Ok(LEGAL)
 }
 
 /// Makes the second pass, over what the first one has read: what stands behind that doesn't count.
@@ -139,14 +189,15 @@ fn answer<F: Read + Drop, W: Write>(
 ) -> Result<u8, Fault> {
     let search = Search {
         users: found.users.as_slice(),
-        reasons: found.reasons,
+        looks: found.looks,
         last: found.count.saturating_sub(1),
     };
     let second = read_pass(alloc, asked.owner, file, &search)?;
     write_answer(alloc, found, &second, output)
 }
 
-/// Writes who may do what, or which acts decide the bit that is asked about.
+/// Writes who may do what, whether users are confined, or which acts decide the bit that is asked
+/// about.
 pub fn ask<R: Files + AllocGlobal, W: Write>(
     rt: &R,
     asked: Asked<'_>,

@@ -3,9 +3,9 @@
 use crate::show::Form;
 use acl::UserId;
 use clap::{ArgMatches, Error};
-use line_fields::read_u64;
+use line_fields::{cut, read_u64};
 use program_words::of_trail;
-use std::alloc::Global;
+use std::alloc::{AllocError, Global};
 use trail_rights::Question;
 
 /// What is done with a file.
@@ -30,6 +30,8 @@ pub struct Asked<'a> {
     pub place: Option<u64>,
     /// The question of `why`.
     pub question: Option<Question>,
+    /// The names of the users of `who --confined`.
+    pub confined: Option<&'a str>,
     pub form: Form,
 }
 
@@ -40,6 +42,7 @@ pub struct Given<'a> {
     path: &'a str,
     owner: Option<&'a str>,
     place: Option<&'a str>,
+    confined: Option<&'a str>,
     user: &'a str,
     bit: &'a str,
     object: &'a str,
@@ -54,6 +57,7 @@ impl<'a> Given<'a> {
             path: matches.get_str("file").unwrap_or(""),
             owner: matches.get_str("owner"),
             place: matches.get_str("at"),
+            confined: matches.get_str("confined"),
             user: matches.get_str("user").unwrap_or(""),
             bit: matches.get_str("bit").unwrap_or(""),
             object: matches.get_str("object").unwrap_or(""),
@@ -90,6 +94,33 @@ fn place_of(place: Option<&str>) -> Result<Option<u64>, &'static str> {
         },
         None => Ok(None),
     }
+}
+
+/// The first name of a list, whose names commas part, and what stands behind its comma.
+fn first_name(names: &[u8]) -> (&[u8], Option<&[u8]>) {
+    match cut(names, b',') {
+        Some((name, rest)) => (name, Some(rest)),
+        None => (names, None),
+    }
+}
+
+/// The users of a list of names; none where something in it is no name.
+pub fn users_named(alloc: Global, names: &str) -> Result<Option<Vec<UserId>>, AllocError> {
+    let mut users = Vec::new(alloc);
+    let mut rest = Some(names.as_bytes());
+    // There is no name without a byte.
+    for _ in 0..=names.len() {
+        let Some(names) = rest else {
+            break;
+        };
+        let (name, behind) = first_name(names);
+        let Some(user) = UserId::of(name) else {
+            return Ok(None);
+        };
+        users.push(user)?;
+        rest = behind;
+    }
+    Ok(Some(users))
 }
 
 /// The question of `why`: other ways have none.
@@ -129,6 +160,7 @@ pub fn asked_of(given: Given<'_>) -> Result<Asked<'_>, &'static str> {
         owner,
         place,
         question,
+        confined: given.confined,
         form: if given.is_json {
             Form::Json
         } else {

@@ -1,5 +1,5 @@
 -- A decider looks for the latest act that decides.
-use Rattle.std.proofs.Common.{◌≡◌, ◌∙◌, Bool, true, false, ◌&&◌, ◌||◌, List, [], ◌∷◌, ◌++◌, Option, Some, None, refl, ap, sym, subst}
+use Rattle.std.proofs.Common.{◌≡◌, ◌∙◌, Bool, true, false, ◌&&◌, ◌||◌, [], ◌∷◌, Option, Some, None, refl, ap, sym, subst}
 use Rattle.std.specs.Prelude.{cond, is_some, unwrap_or}
 use Rattle.acl.specs.declared.act.Act.{Act}
 use Rattle.acl.specs.declared.act.Act.TheVariants as act
@@ -7,12 +7,12 @@ use Rattle.acl.specs.declared.act.Object.{Object}
 use Rattle.acl.specs.declared.act.Object.TheVariants.{Window, Command}
 use Rattle.acl.specs.declared.bits.Bit.{Bit}
 use Rattle.acl.specs.declared.user_id.UserId.{UserId}
-use Rattle.acl.specs.History.{History, decided, decision, greeting, opening, has, there, is_open, is_known, mask, preset_of, decides_open, decides_known}
+use Rattle.acl.specs.History.{History, decided, decision, greeting, has, there, is_open, is_known, mask, decides_open, decides_known}
 use Rattle.acl.specs.Same.{same_user, same_bit, same_object}
 use Rattle.trail_rights.specs.declared.mark.Mark.{Mark}
 use Rattle.trail_rights.specs.declared.decider.Decider.{Decider}
 use Rattle.trail_rights.specs.Marks.{Marked, acts_in}
-use Rattle.trail_rights.specs.Deciding.{deciding, decides, there_after, decider_after, HasDecided, NoneDecides, IsLatest, IsDecided, DecidingIsLatest}
+use Rattle.trail_rights.specs.Deciding.{deciding, decides, there_after, decider_after, HasDecided, IsDecided, DecidingIsLatest}
 
 decided_some : (b x : Bool) → is_some (decided b x) ≡ b
 decided_some true x = refl

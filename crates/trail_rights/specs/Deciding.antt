@@ -1,5 +1,5 @@
 -- The act that decides a user's bit on an object.
-use Rattle.std.specs.Prelude.{◌≡◌, ℕ, Bool, true, false, ◌&&◌, ◌||◌, if◌then◌else◌, List, [], ◌∷◌, ◌++◌}
+use Rattle.std.specs.Prelude.{◌≡◌, Bool, false, ◌&&◌, ◌||◌, if◌then◌else◌, List, [], ◌∷◌, ◌++◌}
 use Rattle.std.specs.Prelude.{Option, Some, None, is_some, unwrap_or}
 use Rattle.acl.specs.declared.act.Act.{Act}
 use Rattle.acl.specs.declared.act.Act.TheVariants.{Known, Gone, Set, Opened}
@@ -7,7 +7,7 @@ use Rattle.acl.specs.declared.act.Object.{Object}
 use Rattle.acl.specs.declared.act.Object.TheVariants.{Window, Command}
 use Rattle.acl.specs.declared.bits.Bit.{Bit}
 use Rattle.acl.specs.declared.user_id.UserId.{UserId}
-use Rattle.acl.specs.History.{History, decision, has, there, latest, decides_known, decides_open}
+use Rattle.acl.specs.History.{decision, has, there, latest, decides_known, decides_open}
 use Rattle.acl.specs.Same.{same_user, same_bit, same_object}
 use Rattle.trail_rights.specs.declared.mark.Mark.{Mark}
 use Rattle.trail_rights.specs.declared.decider.Decider.{Decider}
@@ -79,3 +79,10 @@ pub record HasDecided (owner : UserId) (marked : Marked) (d : Decider) : Type 0 
   pub listed : d.listed ≡ latest (decides_known d.user) false (acts_in marked)
   pub there_is : d.there ≡ there (acts_in marked) d.object
   pub found : d.found ≡ deciding owner marked d.user d.bit d.object
+
+-- what the first has found that looks for a user's bit on an object
+abbrev pub found_in : List Decider → UserId → Bit → Object → Option (Mark × Act)
+found_in [] u bit object = None
+found_in (d ∷ deciders) u bit object =
+    if same_user u d.user && same_bit bit d.bit && same_object object d.object then d.found
+    else found_in deciders u bit object

@@ -1,5 +1,5 @@
 -- The leaders of one user.
-use Rattle.std.specs.Prelude.{◌≡◌, ℕ, nat_le, if◌then◌else◌, List, [], length, Option, Some, None, IfSome}
+use Rattle.std.specs.Prelude.{◌≡◌, nat_le, if◌then◌else◌, List, [], ◌∷◌, length, Option, Some, None, IfSome}
 use Rattle.acl.specs.declared.act.Act.{Act}
 use Rattle.acl.specs.declared.act.Act.TheVariants.{Grouped}
 use Rattle.acl.specs.declared.edition.Edition.{Edition}
@@ -20,6 +20,11 @@ led_by edition a u before = Some (leaders_after edition a u before)
 
 abbrev pub led_after : Edition → Act → Led → Led
 led_after edition a l = record l { leaders = l.leaders >>= led_by edition a l.user }
+
+-- the leaders of a user, by the first that looks for them
+abbrev pub leaders_in : List Led → UserId → Option (List UserId)
+leaders_in [] u = None
+leaders_in (l ∷ leds) u = if same_user l.user u then l.leaders else leaders_in leds u
 
 -- the leaders after these acts, where they were never more than eight
 abbrev pub HasLed : Edition → History → Led → Type 0

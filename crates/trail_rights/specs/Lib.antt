@@ -2,5 +2,7 @@ pub mod Marks
 pub mod Deciding
 pub mod Leading
 pub mod Windows
+pub mod Settling
+pub mod Confining
 pub mod Seeing
 pub mod Watching

@@ -1,5 +1,5 @@
 -- What is seen of the acts so far.
-use Rattle.std.specs.Prelude.{◌≡◌, List, Ok, Err, Result}
+use Rattle.std.specs.Prelude.{◌≡◌}
 use Rattle.std.specs.List.{AllByRecursion}
 use Rattle.acl.specs.declared.edition.Edition.{Edition}
 use Rattle.acl.specs.declared.user_id.UserId.{UserId}
@@ -8,9 +8,10 @@ use Rattle.trail_rights.specs.declared.sight.Sight.{Sight}
 use Rattle.trail_rights.specs.Marks.{Marked, acts_in}
 use Rattle.trail_rights.specs.Deciding.{HasDecided}
 use Rattle.trail_rights.specs.Leading.{HasLed}
+use Rattle.trail_rights.specs.Settling.{HasSettled}
 use Rattle.trail_rights.specs.Windows.{windows_of}
 
--- clients, windows, what decides and who leads, after these acts
+-- clients, windows, what decides, who leads and what is set, after these acts
 pub record HasSeen (s : Sight) (edition : Edition) (owner : UserId) (marked : Marked)
     : Type 0 where
   pub edition_is : s.edition ≡ edition
@@ -18,6 +19,7 @@ pub record HasSeen (s : Sight) (edition : Edition) (owner : UserId) (marked : Ma
   pub windows : s.windows.items ≡ windows_of (acts_in marked)
   pub deciders : AllByRecursion (HasDecided owner marked) s.deciders.items
   pub leds : AllByRecursion (HasLed edition (acts_in marked)) s.leds.items
+  pub settlers : AllByRecursion (HasSettled marked) s.settlers.items
 
 -- what it saw before, and then more
 abbrev pub Sees : Sight → Sight → (Marked → Marked) → Type 0

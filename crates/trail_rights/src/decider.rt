@@ -3,7 +3,8 @@
 ghost use Rattle.std.specs.Prelude.{◌≡◌, ◌||◌, ◌&&◌, []};
 ghost use Rattle.acl.specs.Same.{same_user, same_bit, same_object};
 ghost use Rattle.acl.specs.History.{decides_known, decides_open};
-ghost use Rattle.trail_rights.specs.Deciding.{HasDecided, decides, decider_after, there_after};
+ghost use Rattle.trail_rights.specs.Deciding.{HasDecided, decides, decider_after, found_in};
+ghost use Rattle.trail_rights.specs.Deciding.{there_after};
 
 use crate::mark::Mark;
 use acl::{Act, Bit, Object, UserId};
@@ -23,7 +24,7 @@ pub struct Decider {
 }
 
 /// Whether the act makes the user known, or gone.
-fn decides_known(user: UserId, act: &Act) -> Option<bool>
+pub fn decides_known(user: UserId, act: &Act) -> Option<bool>
     ensures { result ≡ decides_known user act.now }
 {
     match *act {
@@ -164,4 +165,16 @@ impl Decider {
             ..self
         }
     }
+}
+
+/// What decides a user's bit on an object, by the first that looks for it.
+pub fn found_in(deciders: &[Decider], user: UserId, bit: Bit, object: Object) -> Option<(Mark, Act)>
+    ensures { result ≡ found_in deciders.now user bit object }
+{
+    for decider in deciders {
+        if decider.is_asked(user, bit, object) {
+            return decider.found;
+        }
+    }
+    None
 }

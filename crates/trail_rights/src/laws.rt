@@ -1,6 +1,8 @@
 //! Laws of the definitions. Each function here does nothing; its contract says what holds.
 
+ghost use Rattle.trail_rights.specs.Confining.{ConfinementIsDecided};
 ghost use Rattle.trail_rights.specs.Deciding.{DecidingIsLatest};
+ghost use Rattle.trail_rights.specs.Settling.{SettlingIsLatest};
 ghost use Rattle.trail_rights.specs.Windows.{OpenAreListed};
 
 /// What was found to decide a bit is the latest act that does: it gives the bit its value, and none
@@ -8,6 +10,20 @@ ghost use Rattle.trail_rights.specs.Windows.{OpenAreListed};
 pub fn latest_decides()
     ensures { DecidingIsLatest }
 {}
+
+/// What was found to give a setting its value is the latest act that does, and none behind it gives
+/// one; where none was found the setting has its first value.
+pub fn latest_settles()
+    ensures { SettlingIsLatest }
+{}
+
+/// Users are confined on windows to come, for a bit, exactly where none of the premises that fail
+/// concerns it.
+pub fn confinement_is_decided()
+    ensures { ConfinementIsDecided }
+{
+    acl::users_listed();
+}
 
 /// The windows that are listed are those that are open.
 pub fn open_are_listed()

@@ -2,7 +2,7 @@
 
 ghost use Rattle.std.specs.Prelude.{◌≡◌, []};
 ghost use Rattle.acl.specs.declared.edition.Edition.{Edition};
-ghost use Rattle.trail_rights.specs.Leading.{HasLed, led_after, led_by};
+ghost use Rattle.trail_rights.specs.Leading.{HasLed, leaders_in, led_after, led_by};
 
 use acl::{Act, Edition, Leaders, UserId};
 
@@ -72,4 +72,16 @@ impl Led {
         };
         Led { leaders, ..self }
     }
+}
+
+/// The leaders of a user, by the first that looks for them.
+pub fn leaders_in(leds: &[Led], user: UserId) -> Option<Leaders>
+    ensures { result ≡ leaders_in leds.now user }
+{
+    for led in leds {
+        if led.user == user {
+            return led.leaders;
+        }
+    }
+    None
 }

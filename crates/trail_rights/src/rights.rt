@@ -1,15 +1,17 @@
 //! Rights and locks after the acts of a history.
 
-ghost use Rattle.std.specs.Prelude.{◌≡◌, true, IfSome};
+ghost use Rattle.std.specs.Prelude.{◌≡◌, ◌++◌, true, IfOk, IfSome, OnOk};
+ghost use Rattle.std.specs.Prelude.{option_to_list};
 ghost use Rattle.acl.specs.declared.edition.Edition.{Edition};
 ghost use Rattle.acl.specs.declared.user_id.UserId.{UserId};
-ghost use Rattle.acl.specs.History.{History, may, there};
+ghost use Rattle.acl.specs.History.{History, may, there, users_of};
 ghost use Rattle.writelock.specs.Holding.{holder};
 ghost use Rattle.hub_check.specs.Following.{StandsAfter};
 
 use acl::{Bit, Object, UserId};
 use hub_check::Replay;
 use session_model::Verdict;
+use std::alloc::{AllocError, Global};
 
 /// Whether the user has the bit on the object, which is there.
 pub fn may(replay: &Replay, user: UserId, bit: Bit, object: Object) -> bool
@@ -54,4 +56,27 @@ pub fn holder(replay: &Replay, owner: UserId, window: u32) -> Option<Option<User
         }
     }
     None
+}
+
+/// Appends a user, if there is one.
+fn push_user(user: Option<UserId>, users: &mut Vec<UserId>) -> Result<(), AllocError>
+    ensures { OnOk result (users.new.items ≡ users.old.items ++ option_to_list user) }
+{
+    if let Some(user) = user {
+        users.push(user)?;
+    }
+    Ok(())
+}
+
+/// The known users in the order in which they became known, the owner first.
+pub fn users_of(alloc: Global, replay: &Replay) -> Result<Vec<UserId>, AllocError>
+    ensures { (edition : Edition) (owner : UserId) (h : History) →
+        StandsAfter replay.now edition owner h →
+        IfOk result (λ users. users.items ≡ users_of owner h) }
+{
+    let mut users = Vec::new(alloc);
+    for place in 0..replay.user_count() {
+        push_user(replay.user_at(place), &mut users)?;
+    }
+    Ok(users)
 }

@@ -9,17 +9,20 @@ ghost use Rattle.trail_lines.specs.Entries.{said};
 ghost use Rattle.trail_rights.specs.Marks.{marked_by, marked_with};
 ghost use Rattle.trail_rights.specs.Deciding.{HasDecided, decider_after};
 ghost use Rattle.trail_rights.specs.Leading.{HasLed, led_after};
+ghost use Rattle.trail_rights.specs.Settling.{HasSettled};
 ghost use Rattle.trail_rights.specs.Windows.{windows_after, without_window};
 ghost use Rattle.trail_rights.specs.Seeing.{HasSeen, Sees};
 
 use crate::decider::Decider;
 use crate::led::Led;
 use crate::mark::{Mark, mark_among};
+use crate::settler::{Settler, settle_all};
 use acl::{Act, Edition, UserId};
 use std::alloc::{AllocError, Global};
 use trail_lines::Line;
 
-/// Clients, open windows, what decides some bits and who leads some users, by the acts so far.
+/// Clients, open windows, what decides some bits, who leads some users and the values of some
+/// settings, by the acts so far.
 #[derive(Drop)]
 pub struct Sight {
     edition: Edition,
@@ -27,6 +30,7 @@ pub struct Sight {
     windows: Vec<u32>,
     deciders: Vec<Decider>,
     leds: Vec<Led>,
+    settlers: Vec<Settler>,
 }
 
 /// Without this client.
@@ -89,10 +93,18 @@ fn lead_all(leds: &mut Vec<Led>, edition: Edition, act: &Act)
 }
 
 impl Sight {
-    /// No act so far: it looks for what decides these bits, and who leads these users.
-    pub fn new(alloc: Global, edition: Edition, deciders: Vec<Decider>, leds: Vec<Led>) -> Sight
+    /// No act so far: it looks for what decides these bits, who leads these users, and what gives
+    /// settings their values.
+    pub fn new(
+        alloc: Global,
+        edition: Edition,
+        deciders: Vec<Decider>,
+        leds: Vec<Led>,
+        settlers: Vec<Settler>,
+    ) -> Sight
         ensures { (owner : UserId) → AllByRecursion (HasDecided owner []) deciders.items →
-            AllByRecursion (HasLed edition []) leds.items → HasSeen result edition owner [] }
+            AllByRecursion (HasLed edition []) leds.items →
+            AllByRecursion (HasSettled []) settlers.items → HasSeen result edition owner [] }
     {
         Sight {
             edition,
@@ -100,6 +112,7 @@ impl Sight {
             windows: Vec::new(alloc),
             deciders,
             leds,
+            settlers,
         }
     }
 
@@ -111,6 +124,7 @@ impl Sight {
         follow_windows(&mut self.windows, act)?;
         decide_all(&mut self.deciders, mark, act);
         lead_all(&mut self.leds, self.edition, act);
+        settle_all(&mut self.settlers, mark, act);
         Ok(())
     }
 
@@ -152,5 +166,12 @@ impl Sight {
         ensures { result.now ≡ self.now.leds.items }
     {
         self.leds.as_slice()
+    }
+
+    /// What gives the settings that it looks for their values.
+    pub fn settlers(&self) -> &[Settler]
+        ensures { result.now ≡ self.now.settlers.items }
+    {
+        self.settlers.as_slice()
     }
 }

@@ -1,6 +1,6 @@
 //! Names and times as they are told.
 
-use acl::UserId;
+use acl::{Bit, UserId};
 use jiff::Timestamp;
 use std::fmt::{self, Display, Formatter};
 use std::str;
@@ -8,6 +8,15 @@ use std::str;
 /// A name as text.
 pub fn text_of(user: &UserId) -> &str {
     str::from_utf8(user.as_bytes()).unwrap_or("?")
+}
+
+/// The letter of a bit.
+pub fn letter_of(bit: Bit) -> char {
+    match bit {
+        Bit::Read => 'r',
+        Bit::Write => 'w',
+        Bit::Execute => 'x',
+    }
 }
 
 /// A time in milliseconds since 1970, in the form of RFC 3339.

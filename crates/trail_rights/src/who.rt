@@ -1,25 +1,15 @@
 //! Who may do what after a file's entries.
 
 use crate::led::Led;
-use crate::rights::{holder, may};
-use crate::texts::text_of;
+use crate::masks::{write_masks, write_newcomer};
+use crate::rights::{holder, may, users_of};
+use crate::texts::{letter_of, text_of};
 use crate::watch::Watch;
 use acl::{Bit, CommandName, Leaders, Object, UserId};
 use command_lang::name_text;
 use hub_check::Replay;
-use std::alloc::{AllocError, Global};
+use std::alloc::Global;
 use std::io::{self, Write};
-
-/// The known users, the owner first.
-pub fn users_of(alloc: Global, replay: &Replay) -> Result<Vec<UserId>, AllocError> {
-    let mut users = Vec::new(alloc);
-    for place in 0..replay.user_count() {
-        if let Some(user) = replay.user_at(place) {
-            users.push(user)?;
-        }
-    }
-    Ok(users)
-}
 
 /// Writes a user's leaders.
 fn write_leaders<W: Write>(leaders: Leaders, output: &mut W) -> io::Result<()> {
@@ -47,13 +37,10 @@ fn write_users<W: Write>(leds: &[Led], output: &mut W) -> io::Result<()> {
 
 /// The letter of a bit that a user has, or a hyphen.
 fn letter(replay: &Replay, user: UserId, bit: Bit, object: Object) -> char {
-    if !may(replay, user, bit, object) {
-        return '-';
-    }
-    match bit {
-        Bit::Read => 'r',
-        Bit::Write => 'w',
-        Bit::Execute => 'x',
+    if may(replay, user, bit, object) {
+        letter_of(bit)
+    } else {
+        '-'
     }
 }
 
@@ -123,7 +110,7 @@ fn write_commands<W: Write>(replay: &Replay, user: UserId, output: &mut W) -> io
     writeln!(output)
 }
 
-/// Writes windows with their holders and the users' rights, and the users' commands.
+/// Writes windows with their holders and the users' rights, and the users' commands and masks.
 fn write_objects<W: Write>(
     owner: UserId,
     watch: &Watch,
@@ -137,11 +124,15 @@ fn write_objects<W: Write>(
     for user in users {
         write_commands(replay, *user, output)?;
     }
-    Ok(())
+    for user in users {
+        write_masks(watch.sight().settlers(), users, *user, output)?;
+    }
+    write_newcomer(watch.sight().settlers(), output)
 }
 
 /// Writes how many entries there are, users with their leaders, windows with their holders and
-/// rights, and commands.
+/// rights, commands, masks, and what a name gets that becomes known now. The watch has looked for
+/// `settings_of` these users.
 pub fn write_rights<W: Write>(
     alloc: Global,
     owner: UserId,

@@ -1,6 +1,5 @@
 //! Which act decides a user's bit on an object.
 
-use crate::decider::Decider;
 use crate::mark::Mark;
 use crate::rights::may;
 use crate::texts::{When, text_of};
@@ -91,11 +90,15 @@ fn write_act<W: Write>(alloc: Global, mark: Mark, act: &Act, output: &mut W) -> 
     output.write_all(text.as_slice())
 }
 
-/// Writes what decides a user's bit.
-fn write_decider<W: Write>(alloc: Global, decider: &Decider, output: &mut W) -> io::Result<()> {
-    let user = decider.user();
+/// Writes the act that was found to decide for a user, and whence it came.
+pub fn write_found<W: Write>(
+    alloc: Global,
+    user: UserId,
+    found: Option<(Mark, Act)>,
+    output: &mut W,
+) -> io::Result<()> {
     write!(output, "{}: ", text_of(&user))?;
-    match decider.found() {
+    match found {
         Some((mark, act)) => write_act(alloc, mark, &act, output),
         None => writeln!(output, "no act decides"),
     }
@@ -131,7 +134,7 @@ pub fn write_reasons<W: Write>(
     }
     write_answer(watch.audit().replay(), owner, question, output)?;
     for decider in watch.sight().deciders() {
-        write_decider(alloc, decider, output)?;
+        write_found(alloc, decider.user(), decider.found(), output)?;
     }
     Ok(())
 }

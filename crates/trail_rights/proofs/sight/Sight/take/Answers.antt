@@ -1,4 +1,4 @@
-use Rattle.std.proofs.Common.{◌≡◌, ◌∙◌, ap, sym, subst}
+use Rattle.std.proofs.Common.{◌∙◌, ap, subst}
 use Rattle.writelock.specs.Holding.{clients_of}
 use Rattle.trail_lines.specs.Entries.{said}
 use Rattle.trail_rights.specs.Marks.{marked_by, mark_among, acts_in}

@@ -1,4 +1,4 @@
-use Rattle.std.proofs.Common.{◌++◌, ◌∷◌, [], ap, sym, subst}
+use Rattle.std.proofs.Common.{[], sym, subst}
 use Rattle.trail_lines.specs.Entries.{said}
 use Rattle.trail_audit.specs.Reading.{HasRead}
 use Rattle.trail_rights.specs.Marks.{entries_in, marked_after}

@@ -1,0 +1,199 @@
+//! What acts set beside rights.
+
+ghost use Rattle.std.specs.Prelude.{◌≡◌, ◌||◌, [], None, true, false, map};
+ghost use Rattle.acl.specs.Same.{same_user, same_bit, same_preset};
+ghost use Rattle.acl.specs.History.{decided, decides_mask, decides_preset};
+ghost use Rattle.trail_rights.specs.Settling.{HasSettled, same_setting, settler_after};
+ghost use Rattle.trail_rights.specs.Settling.{settler_in, settles};
+
+use crate::decider::decides_known;
+use crate::mark::Mark;
+use acl::{Act, Bit, PresetKind, UserId};
+
+/// What acts set: its value is that of the latest act that gives one.
+#[derive(Clone, Copy)]
+pub enum Setting {
+    /// Whether the user was made known; the owner needs no act for it.
+    Listed { user: UserId },
+    /// Whether the user gets the bit on windows that `by` opens later.
+    Mask { by: UserId, user: UserId, bit: Bit },
+    /// Whether a name that becomes known gets the bit on open windows, or on commands.
+    Preset { kind: PresetKind, bit: Bit },
+}
+
+/// Looks for the latest act that gives a setting its value.
+#[derive(Clone, Copy)]
+pub struct Settler {
+    setting: Setting,
+    value: bool,
+    found: Option<(Mark, Act)>,
+}
+
+/// Whether masks of a user, or for him, begin anew.
+fn begins(named: UserId, by: UserId, user: UserId) -> Option<bool>
+    ensures { result ≡ decided (same_user named by || same_user named user) true }
+{
+    if named == by || named == user {
+        Some(true)
+    } else {
+        None
+    }
+}
+
+/// What the act says of a mask.
+fn decides_mask(by: UserId, user: UserId, bit: Bit, act: &Act) -> Option<bool>
+    ensures { result ≡ decides_mask by user bit act.now }
+{
+    match *act {
+        Act::Masked {
+            by: giver,
+            user: named,
+            bit: given,
+            value,
+        } => if giver == by && named == user && given == bit {
+            Some(value)
+        } else {
+            None
+        },
+        Act::Known { user: named } => begins(named, by, user),
+        Act::Gone { user: named } => begins(named, by, user),
+        _ => None,
+    }
+}
+
+/// What the act says of a preset.
+fn decides_preset(kind: PresetKind, bit: Bit, act: &Act) -> Option<bool>
+    ensures { result ≡ decides_preset kind bit act.now }
+{
+    match *act {
+        Act::Preset {
+            kind: named,
+            bit: given,
+            value,
+        } => if named == kind && given == bit {
+            Some(value)
+        } else {
+            None
+        },
+        _ => None,
+    }
+}
+
+/// What the act says of a setting.
+fn settles(setting: Setting, act: &Act) -> Option<bool>
+    ensures { result ≡ settles setting act.now }
+{
+    match setting {
+        Setting::Listed { user } => decides_known(user, act),
+        Setting::Mask { by, user, bit } => decides_mask(by, user, bit, act),
+        Setting::Preset { kind, bit } => decides_preset(kind, bit, act),
+    }
+}
+
+/// Whether the settings are the same.
+fn is_same(setting: Setting, other: Setting) -> bool
+    ensures { result ≡ same_setting setting other }
+{
+    match (setting, other) {
+        (Setting::Listed { user }, Setting::Listed { user: named }) => user == named,
+        (
+            Setting::Mask { by, user, bit },
+            Setting::Mask {
+                by: giver,
+                user: named,
+                bit: given,
+            },
+        ) => by == giver && user == named && bit == given,
+        (
+            Setting::Preset { kind, bit },
+            Setting::Preset {
+                kind: named,
+                bit: given,
+            },
+        ) => kind == named && bit == given,
+        _ => false,
+    }
+}
+
+impl Settler {
+    /// No act so far.
+    pub fn new(setting: Setting) -> Settler
+        ensures settled { HasSettled [] result }
+        ensures setting { result.setting ≡ setting }
+    {
+        Settler {
+            setting,
+            value: !matches!(setting, Setting::Listed { .. }),
+            found: None,
+        }
+    }
+
+    /// What it looks for.
+    pub fn setting(&self) -> Setting
+        ensures { result ≡ self.now.setting }
+    {
+        self.setting
+    }
+
+    /// The setting's value.
+    pub fn value(&self) -> bool
+        ensures { result ≡ self.now.value }
+    {
+        self.value
+    }
+
+    /// The act that gave it, with its mark, if one did.
+    pub fn found(&self) -> Option<(Mark, Act)>
+        ensures { result ≡ self.now.found }
+    {
+        self.found
+    }
+
+    /// After one act more.
+    pub fn after(self, mark: Mark, act: &Act) -> Settler
+        ensures { result ≡ settler_after mark act.now self }
+    {
+        match settles(self.setting, act) {
+            Some(value) => Settler {
+                value,
+                found: Some((mark, *act)),
+                ..self
+            },
+            None => self,
+        }
+    }
+}
+
+/// The first that looks for a setting.
+pub fn settler_in(settlers: &[Settler], setting: Setting) -> Option<Settler>
+    ensures { result ≡ settler_in settlers.now setting }
+{
+    for settler in settlers {
+        if is_same(settler.setting, setting) {
+            return Some(*settler);
+        }
+    }
+    None
+}
+
+/// Whether an act may give a setting a value.
+fn may_settle(act: &Act) -> bool
+    ensures { result ≡ false → (s : Setting) → settles s act.now ≡ None }
+{
+    matches!(
+        *act,
+        Act::Known { .. } | Act::Gone { .. } | Act::Masked { .. } | Act::Preset { .. }
+    )
+}
+
+/// Each settler after one act more.
+pub fn settle_all(settlers: &mut Vec<Settler>, mark: Mark, act: &Act)
+    ensures { settlers.new.items ≡ map (settler_after mark act.now) settlers.old.items }
+{
+    if !may_settle(act) {
+        return;
+    }
+    for settler in settlers.iter_mut() {
+        *settler = settler.after(mark, act);
+    }
+}
