@@ -1,0 +1,54 @@
+-- What one byte more does to input in which a byte leaves.
+use Rattle.std.proofs.Common.{◌≡◌, ℕ, ◌==◌, Bool, true, false, cond, List, [], ◌∷◌, ◌++◌, refl, sym, ap, ◌∙◌, if◌then◌else◌, append-nil}
+use Rattle.client_words.specs.declared.leaving.Stage.{Stage}
+use Rattle.client_words.specs.declared.leaving.Stage.TheVariants.{Reading, Waiting, Left}
+use Rattle.client_words.specs.Leaving.{sent, stage}
+
+abbrev pub next : ℕ → Stage → ℕ → Stage
+next byte Reading y = if y == byte then Waiting else Reading
+next byte Waiting y = if y == byte then Reading else Left
+next byte Left y = Left
+
+abbrev pub more : ℕ → Stage → ℕ → List ℕ
+more byte Reading y = if y == byte then [] else y ∷ []
+more byte Waiting y = if y == byte then byte ∷ [] else []
+more byte Left y = []
+
+pub stage-more : (byte : ℕ) (xs : List ℕ) (y : ℕ) → stage byte (xs ++ y ∷ []) ≡ next byte (stage byte xs) y
+unfolding stage
+stage-more byte [] y = refl
+stage-more byte (x ∷ []) y = go (x == byte) refl
+  where
+    go : (b : Bool) → x == byte ≡ b → stage byte (x ∷ y ∷ []) ≡ next byte (stage byte (x ∷ [])) y
+    go true h = rw h refl
+    go false h = rw h refl
+stage-more byte (x ∷ z ∷ rest) y = go (x == byte) (z == byte) refl refl (stage-more byte rest y) (stage-more byte (z ∷ rest) y)
+  where
+    go : (b d : Bool) → x == byte ≡ b → z == byte ≡ d
+        → stage byte (rest ++ y ∷ []) ≡ next byte (stage byte rest) y
+        → stage byte (z ∷ rest ++ y ∷ []) ≡ next byte (stage byte (z ∷ rest)) y
+        → stage byte (x ∷ z ∷ rest ++ y ∷ []) ≡ next byte (stage byte (x ∷ z ∷ rest)) y
+    go true true h k e f = rw (h, k) e
+    go true false h k e f = rw (h, k) refl
+    go false d h k e f = rw h f
+
+pub sent-more : (byte : ℕ) (xs : List ℕ) (y : ℕ) → sent byte (xs ++ y ∷ []) ≡ sent byte xs ++ more byte (stage byte xs) y
+unfolding sent stage
+sent-more byte [] y = refl
+sent-more byte (x ∷ []) y = go (x == byte) (y == byte) refl refl
+  where
+    go : (b d : Bool) → x == byte ≡ b → y == byte ≡ d
+        → sent byte (x ∷ y ∷ []) ≡ sent byte (x ∷ []) ++ more byte (stage byte (x ∷ [])) y
+    go true true h k = rw (h, k) refl
+    go true false h k = rw (h, k) refl
+    go false true h k = rw (h, k) refl
+    go false false h k = rw (h, k) refl
+sent-more byte (x ∷ z ∷ rest) y = go (x == byte) (z == byte) refl refl (sent-more byte rest y) (sent-more byte (z ∷ rest) y)
+  where
+    go : (b d : Bool) → x == byte ≡ b → z == byte ≡ d
+        → sent byte (rest ++ y ∷ []) ≡ sent byte rest ++ more byte (stage byte rest) y
+        → sent byte (z ∷ rest ++ y ∷ []) ≡ sent byte (z ∷ rest) ++ more byte (stage byte (z ∷ rest)) y
+        → sent byte (x ∷ z ∷ rest ++ y ∷ []) ≡ sent byte (x ∷ z ∷ rest) ++ more byte (stage byte (x ∷ z ∷ rest)) y
+    go true true h k e f = rw (h, k) (ap (λ (l : List ℕ). byte ∷ l) e)
+    go true false h k e f = rw (h, k) refl
+    go false d h k e f = rw h (ap (λ (l : List ℕ). x ∷ l) f)
