@@ -1,5 +1,5 @@
-pub mod Leaving
 pub mod Numbers
+pub mod Pairs
 pub mod Parts
 pub mod Shown
 pub mod Sizes

@@ -122,7 +122,10 @@ impl Told<'_> {
             ),
             Fault::NoAnswer => {
                 let wait = self.words.wait;
-                write!(f, "no answer from {socket} within {wait} s: it may come later (--wait)")
+                write!(
+                    f,
+                    "no answer from {socket} within {wait} s: it may come later (--wait)"
+                )
             }
             _ => write!(
                 f,
@@ -135,10 +138,7 @@ impl Told<'_> {
     fn token<W: fmt::Write>(&self, f: &mut fmt::Formatter<W>) -> fmt::Result {
         let token = self.words.token;
         match self.fault {
-            Fault::Writable => write!(
-                f,
-                "others may write the token's file: chmod go-w {token}"
-            ),
+            Fault::Writable => write!(f, "others may write the token's file: chmod go-w {token}"),
             _ => write!(
                 f,
                 "no token in {token}: it must have 64 digits of 0 to 9, a to f, and no more"

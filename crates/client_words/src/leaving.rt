@@ -47,7 +47,7 @@ impl LeaveReader {
     fn take(&mut self, byte: u8) -> Option<u8>
         ensures sent { (before : List ℕ) → HasRead self.old before
             → sent self.old.byte (before ++ byte ∷ [])
-                ≡ sent self.old.byte before ++ option_to_list result }
+            ≡ sent self.old.byte before ++ option_to_list result }
         ensures stands { (before : List ℕ) → HasRead self.old before
             → HasRead self.new (before ++ byte ∷ []) }
         ensures byte { self.new.byte ≡ self.old.byte }

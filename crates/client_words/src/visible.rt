@@ -1,6 +1,6 @@
 //! Text of another program for a terminal: control characters are written as `\xNN`.
 
-ghost use Rattle.std.specs.Prelude.{◌≡◌, ◌×◌, ◌++◌, ◌<◌, ℕ, List, IfOk, OnOk, if◌then◌else◌, false, [], ◌∷◌};
+ghost use Rattle.std.specs.Prelude.{◌≡◌, ◌++◌, ◌<◌, ℕ, List, IfOk, OnOk, if◌then◌else◌, false, [], ◌∷◌};
 ghost use Rattle.std.specs.List.{list_any};
 ghost use Rattle.client_words.specs.Visible.{is_control, is_lead, is_second, digit, escaped, shown, visible, has_c1, put_now, holds_after};
 

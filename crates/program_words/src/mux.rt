@@ -49,16 +49,14 @@ static MUX: Program = Program {
     version: Some(VERSION),
     about: "Joins a session that muxd serves",
     example: Some(EXAMPLE),
-    words: &[
-        Word {
-            name: "socket",
-            kind: Kind::Text {
-                value: "PATH",
-                need: Need::Needed,
-            },
-            help: "The server's socket",
+    words: &[Word {
+        name: "socket",
+        kind: Kind::Text {
+            value: "PATH",
+            need: Need::Needed,
         },
-    ],
+        help: "The server's socket",
+    }],
     ways: &[
         Way {
             name: "attach",

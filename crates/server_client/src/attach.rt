@@ -21,11 +21,7 @@ fn start_showing<
     R: Net + Threads + Wait + Clock + Copy + Send + 'static,
     I: Read + Send + Drop + 'static,
     O: Write + Send + Drop + 'static,
->(
-    rt: &R,
-    shared: &Arc<Shared<I, O>, Global>,
-    door: Option<Door>,
-) -> Result<(), AllocError> {
+>(rt: &R, shared: &Arc<Shared<I, O>, Global>, door: Option<Door>) -> Result<(), AllocError> {
     let theirs = Arc::try_clone(shared)?;
     let rt_there = *rt;
     let started = thread::spawn(rt, move || {

@@ -56,9 +56,9 @@ pub fn wait_for_answer<R: Wait + Clock, I, O>(
 ) -> Ending {
     let most = Duration::from_secs(u64::from(seconds));
     let standing = shared.standing.lock(rt);
-    let (mut standing, waited) = shared.news.wait_timeout_while(rt, standing, most, |s| {
-        s.end.is_none() && !s.is_over
-    });
+    let (mut standing, waited) = shared
+        .news
+        .wait_timeout_while(rt, standing, most, |s| { s.end.is_none() && !s.is_over });
     if waited.timed_out() {
         standing.end_by(Err(Fault::NoAnswer));
     }
@@ -99,12 +99,7 @@ fn tell_left<E: Write>(ending: &Ending, words: &Words<'_>, errors: &mut E) {
 }
 
 /// Says why a peer ended. The answer is the status to exit with.
-pub fn tell_end<E: Write>(
-    alloc: Global,
-    ending: &Ending,
-    words: &Words<'_>,
-    errors: &mut E,
-) -> u8 {
+pub fn tell_end<E: Write>(alloc: Global, ending: &Ending, words: &Words<'_>, errors: &mut E) -> u8 {
     if ending.has_dropped {
         let _ = writeln!(
             errors,

@@ -110,8 +110,9 @@ fn leave<
     let _ = send_detach(rt, shared);
     let most = Duration::from_millis(ANSWER);
     let standing = shared.standing.lock(rt);
-    let (mut standing, _) =
-        shared.news.wait_timeout_while(rt, standing, most, |s| s.end.is_none());
+    let (mut standing, _) = shared
+        .news
+        .wait_timeout_while(rt, standing, most, |s| s.end.is_none());
     let mut ending = standing.take_ending();
     ending.has_left = true;
     ending

@@ -169,12 +169,7 @@ fn send_last<
     R: Threads + Wait + Copy + Send + 'static,
     I: Read + Send + Drop + 'static,
     O: Write + Send + Drop + 'static,
->(
-    rt: &R,
-    shared: &Arc<Shared<I, O>, Global>,
-    lines: &mut SizeLines,
-    bytes: &[u8],
-) -> bool {
+>(rt: &R, shared: &Arc<Shared<I, O>, Global>, lines: &mut SizeLines, bytes: &[u8]) -> bool {
     let Ok(size) = lines.feed(bytes) else {
         return false;
     };
@@ -210,11 +205,7 @@ fn send_sizes<
     R: Threads + Wait + Copy + Send + 'static,
     I: Read + Send + Drop + 'static,
     O: Write + Send + Drop + 'static,
->(
-    rt: &R,
-    shared: &Arc<Shared<I, O>, Global>,
-    file: &mut File,
-) -> Result<(), AllocError> {
+>(rt: &R, shared: &Arc<Shared<I, O>, Global>, file: &mut File) -> Result<(), AllocError> {
     let mut lines = SizeLines::new(shared.alloc);
     let mut buffer = vec![in shared.alloc; 0; LONGEST]?;
     for _ in 0..u64::MAX {
