@@ -1,6 +1,6 @@
 //! `mux`: a client, a window, a command, or a question whether the server answers.
 
-use crate::ending::{Ending, tell_end, tell_fault, wait_for_answer, wait_for_end};
+use crate::ending::{Ending, tell_end, tell_fault, tell_unseen, wait_for_answer, wait_for_end};
 use crate::leaving::wait_or_leave;
 use crate::opening::{Door, prepare, warn_of_token};
 use crate::showing::show;
@@ -95,6 +95,10 @@ pub fn client<
     warn_of_token(rt, words.token, errors);
     match run(rt, &words, input, output) {
         Ok(ending) => tell_end(rt.alloc(), &ending, &words, errors),
-        Err(fault) => tell_fault(fault, &words, errors),
+        Err(fault) => {
+            let status = tell_fault(fault, &words, errors);
+            tell_unseen(&words, errors);
+            status
+        }
     }
 }

@@ -20,6 +20,7 @@ pub struct Ending {
     pub has_dropped: bool,
     /// The user left by the byte for it.
     pub has_left: bool,
+    pub was_welcome: bool,
 }
 
 impl Standing {
@@ -35,6 +36,7 @@ impl Standing {
             said: self.said.take(),
             has_dropped: self.has_dropped,
             has_left: false,
+            was_welcome: self.is_welcome,
         }
     }
 }
@@ -98,7 +100,7 @@ fn tell_left<E: Write>(ending: &Ending, words: &Words<'_>, errors: &mut E) {
     };
 }
 
-/// Says why a peer ended. The answer is the status to exit with.
+/// Says what there is to say of a peer's end. The answer is the status to exit with.
 pub fn tell_end<E: Write>(alloc: Global, ending: &Ending, words: &Words<'_>, errors: &mut E) -> u8 {
     if ending.has_dropped {
         let _ = writeln!(
@@ -107,6 +109,22 @@ pub fn tell_end<E: Write>(alloc: Global, ending: &Ending, words: &Words<'_>, err
             words.sizes.unwrap_or("--sizes")
         );
     }
+    let status = tell_cause(alloc, ending, words, errors);
+    if !ending.was_welcome {
+        tell_unseen(words, errors);
+    }
+    status
+}
+
+/// Says that a client drew nothing.
+pub fn tell_unseen<E: Write>(words: &Words<'_>, errors: &mut E) {
+    if words.why {
+        let _ = errors.write_all(b"mux: nothing was shown\n");
+    }
+}
+
+// Says why a peer ended. The answer is the status to exit with.
+fn tell_cause<E: Write>(alloc: Global, ending: &Ending, words: &Words<'_>, errors: &mut E) -> u8 {
     if ending.has_left {
         tell_left(ending, words, errors);
         return 0;

@@ -16,7 +16,7 @@ use std::time::{Clock, Duration};
 const WELCOME: u64 = 50;
 
 // How long the byte waits for its second.
-const PAIR: u64 = 280;
+const PAIR: u64 = 250;
 
 // How long the server may take to let the client go.
 const ANSWER: u64 = 100;
