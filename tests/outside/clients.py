@@ -383,7 +383,7 @@ def nested():
             it.read(0.5)
             for name, words in ways:
                 it.type(f"clear; {words} </dev/tty; echo status $?\r".encode())
-                check(f"refused {name}", it.shows(b"status 1", 5) and b"is a window of the session" in it.out[-3000:],
+                check(f"refused {name}", it.shows(b"status 1", 5) and b"is a window of the session" in plain(it.out[-3000:]),
                       str(it.out[-300:]))
             it.type(f"clear; {' '.join(attach_words(other))}\r".encode())
             it.read(1)

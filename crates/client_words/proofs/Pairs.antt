@@ -1,5 +1,5 @@
 -- What one byte more does to input in which a byte leaves.
-use Rattle.std.proofs.Common.{◌≡◌, ℕ, ◌==◌, eq-eqb, Bool, true, false, cond, List, [], ◌∷◌, ◌++◌, refl, sym, ap, ◌∙◌, if◌then◌else◌, append-nil}
+use Rattle.std.proofs.Common.{◌≡◌, ℕ, ◌==◌, Bool, true, false, List, [], ◌∷◌, ◌++◌, refl, sym, ap, ◌∙◌, if◌then◌else◌}
 use Rattle.client_words.specs.declared.leaving.Stage.{Stage}
 use Rattle.client_words.specs.declared.leaving.Stage.TheVariants.{Reading, Waiting, Left}
 use Rattle.client_words.specs.Leaving.{sent, stage}

@@ -1,6 +1,6 @@
-use Rattle.std.proofs.Common.{◌≡◌, ◌+◌, ◌++◌, ◌∷◌, [], ℕ, List, length, drop, get_or, if◌then◌else◌, true, false, refl, ap, ap₂, sym, ◌∙◌, append-nil, append_assoc, arith, drop-cons}
+use Rattle.std.proofs.Common.{◌≡◌, ◌+◌, ◌++◌, ◌∷◌, [], ℕ, List, drop, get_or, true, false, ap, ap₂, sym, ◌∙◌, append-nil, append_assoc, arith}
 use Rattle.std.proofs.lemmas.Grind.{common_steps}
-use Rattle.client_words.specs.Visible.{visible, put_now, holds_after}
+use Rattle.client_words.specs.Visible.{put_now, holds_after}
 use Rattle.client_words.proofs.Shown.{from, from-more, from-end}
 use Rattle.client_words.proofs.visible.put_visible.Goals as goal
 

@@ -1,4 +1,3 @@
-use Rattle.std.proofs.Common.{refl}
 use Rattle.client_words.proofs.Pairs.{reads-nothing}
 use Rattle.client_words.proofs.leaving.LeaveReader.new.Goals as goal
 
