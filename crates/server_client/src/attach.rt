@@ -2,14 +2,13 @@
 
 use crate::ending::{Ending, tell_end, tell_fault, tell_unseen, wait_for_answer, wait_for_end};
 use crate::leaving::wait_or_leave;
-use crate::opening::{Door, prepare, warn_of_token};
+use crate::opening::{Connects, Door, prepare, warn_of_token};
 use crate::showing::show;
 use crate::standing::Shared;
 use client_words::{Fault, Way, Words, words_of};
 use std::alloc::{AllocError, Global};
 use std::fs::{File, Files};
 use std::io::{Read, Write};
-use std::net::Net;
 use std::sync::{Arc, Wait};
 use std::thread;
 use std::thread::Threads;
@@ -18,7 +17,7 @@ use std::time::Clock;
 // Starts a thread that connects, reads the socket and writes; or without a door one that does so only
 // while the writing of the first takes long.
 fn start_showing<
-    R: Net + Threads + Wait + Clock + Copy + Send + 'static,
+    R: Connects + Threads + Wait + Clock + Copy + Send + 'static,
     I: Read + Send + Drop + 'static,
     O: Write + Send + Drop + 'static,
 >(rt: &R, shared: &Arc<Shared<I, O>, Global>, door: Option<Door>) -> Result<(), AllocError> {
@@ -49,7 +48,7 @@ fn wait<
 
 // Starts the threads of a peer, and waits for its end.
 fn join<
-    R: Net + Clock + Threads + Wait + Copy + Send + 'static,
+    R: Connects + Clock + Threads + Wait + Copy + Send + 'static,
     I: Read + Send + Drop + 'static,
     O: Write + Send + Drop + 'static,
 >(
@@ -66,7 +65,7 @@ fn join<
 }
 
 fn run<
-    R: Net + Files<File = File> + Clock + Threads + Wait + AllocGlobal + Copy + Send + 'static,
+    R: Connects + Files<File = File> + Clock + Threads + Wait + AllocGlobal + Copy + Send + 'static,
     I: Read + Send + Drop + 'static,
     O: Write + Send + Drop + 'static,
 >(rt: &R, words: &Words<'_>, input: I, output: O) -> Result<Ending, Fault> {
@@ -82,7 +81,7 @@ fn run<
 /// `mux`: a client of the server. The first word is the program's name. The answer is the status to
 /// exit with: 0; 1 for a fault; 2 where the words aren't understood.
 pub fn client<
-    R: Net + Files<File = File> + Clock + Threads + Wait + AllocGlobal + Copy + Send + 'static,
+    R: Connects + Files<File = File> + Clock + Threads + Wait + AllocGlobal + Copy + Send + 'static,
     I: Read + Send + Drop + 'static,
     O: Write + Send + Drop + 'static,
     E: Write,

@@ -13,3 +13,4 @@ mod taking;
 mod watching;
 
 pub use attach::client;
+pub use opening::Connects;

@@ -6,7 +6,7 @@ use client_words::{Fault, Part, Way, Words};
 use std::alloc::Global;
 use std::fs::{File, OpenOptions};
 use std::io::{ErrorKind, Write};
-use std::net::{Net, Shutdown};
+use std::net::Shutdown;
 use std::os::fd::AsRawFd;
 use std::os::unix::fs::MetadataExt;
 use std::os::unix::net::UnixStream;
@@ -108,6 +108,17 @@ impl Files {
     }
 }
 
+/// Who connects to a server's socket. (A thread can't be handed `Net`, which has types of its own.)
+pub trait Connects {
+    fn reach(&self, socket: &str) -> io::Result<UnixStream>;
+}
+
+impl Connects for HostRuntime {
+    fn reach(&self, socket: &str) -> io::Result<UnixStream> {
+        UnixStream::connect(self, socket)
+    }
+}
+
 /// Where a connection is made, and what it begins with.
 #[derive(Drop)]
 pub struct Door {
@@ -140,8 +151,8 @@ impl Door {
     }
 
     /// Makes the connection.
-    pub fn open<R: Net>(&self, rt: &R) -> Result<UnixStream, Fault> {
-        match UnixStream::connect(rt, self.socket.as_str()) {
+    pub fn open<R: Connects>(&self, rt: &R) -> Result<UnixStream, Fault> {
+        match rt.reach(self.socket.as_str()) {
             Ok(stream) => match self.begin(&stream) {
                 Ok(()) => Ok(stream),
                 Err(error) => Err(Fault::Refused(Part::Stream, error)),

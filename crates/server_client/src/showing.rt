@@ -1,6 +1,6 @@
 //! What comes from the server: read, and written where it belongs.
 
-use crate::opening::Door;
+use crate::opening::{Connects, Door};
 use crate::outgoing::let_out;
 use crate::sending::start_sources;
 use crate::standing::{Intake, Outlet, Shared, Standing};
@@ -9,7 +9,6 @@ use attach_proto::{LONGEST, Why};
 use client_words::{Fault, Part};
 use std::alloc::{AllocError, Global};
 use std::io::{Read, Write};
-use std::net::Net;
 use std::sync::{Arc, Wait};
 use std::thread::Threads;
 use std::time::Clock;
@@ -199,7 +198,7 @@ fn pass_on<
 }
 
 // Connects. Only one thread does.
-fn connect<R: Net, I, O>(rt: &R, shared: &Shared<I, O>, door: &Door) -> Result<(), Fault> {
+fn connect<R: Connects, I, O>(rt: &R, shared: &Shared<I, O>, door: &Door) -> Result<(), Fault> {
     let stream = door.open(rt)?;
     match shared.stream.try_set(stream) {
         Ok(_) => Ok(()),
@@ -210,7 +209,7 @@ fn connect<R: Net, I, O>(rt: &R, shared: &Shared<I, O>, door: &Door) -> Result<(
 /// Connects, and reads and writes until the peer ends; without a door it stands in, while another
 /// thread's writing takes long.
 pub fn show<
-    R: Net + Threads + Wait + Clock + Copy + Send + 'static,
+    R: Connects + Threads + Wait + Clock + Copy + Send + 'static,
     I: Read + Send + Drop + 'static,
     O: Write + Send + Drop + 'static,
 >(rt: &R, shared: &Arc<Shared<I, O>, Global>, door: Option<Door>) {
