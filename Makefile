@@ -62,7 +62,7 @@ examples:
 	            | cmp - $${script%.mux}.out || exit 1; \
 	    done; \
 	done
-	@tools/pictures docs/TEACHING.md
+	@tools/pictures docs/TEACHING.md docs/pictures/*.svg
 	@echo "make examples: $(words $(wildcard examples/*.mux contrib/policies/*.mux)) scripts and the pictures agree"
 
 # Scripts, programs in Python and Perl, terminal descriptions and man pages: Debian's shellcheck, ncurses-bin and mandoc.

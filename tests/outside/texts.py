@@ -268,6 +268,9 @@ class Play:
 def first_session(play):
     """docs/FIRST-SESSION.md: two terminals of 8 lines by 44 columns."""
     on = play.on
+    for line in ("mux-share --give cole", "mux-share --take", "mux-share --with eve --for 30m", "mux-share --drop cole",
+                 "mux-share --end", "mux-join dana@host"):
+        play.text.leave(line, "tests/outside/share plays it, with three accounts")
     on.open("ann", 8, 44)
     on.open("bob", 8, 44)
     for line in ("mkdir -m 700 ~/first && cd ~/first",

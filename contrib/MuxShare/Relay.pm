@@ -1,0 +1,94 @@
+# One connection of a guest, in a process of its own: it puts the guest's own name and token into the first frame, and
+# then copies bytes both ways between the guest and muxd.
+package MuxShare::Relay;
+use strict;
+use warnings;
+use Exporter qw(import);
+use POSIX ();
+use MuxShare::Wire;
+
+our @EXPORT = qw(ATTACHED relay);
+
+# How many terminals a guest may have, how long a first frame may take, and how long its payload is at most.
+use constant { TERMINALS => 4, FIRST_FRAME => 10, LONGEST => 8192 };
+# Frames of muxd's protocol.
+use constant { ATTACH => 0x41, COMMAND => 0x43, SAY => 0x73, WELCOME => 0x79, GONE => 0x67 };
+use constant { DONE => "\0", REFUSED => "\6" };
+# An ATTACH has lines and columns in two bytes each, 64 digits of a token, and a name.
+use constant SIZE => 4;
+use constant SHORTEST_ATTACH => SIZE + 64 + 1;
+# The status of a relay whose guest was attached; else it is another one.
+use constant ATTACHED => 0;
+
+sub leave { my ($status) = @_; POSIX::_exit($status) }
+
+sub refuse {
+    my ($client, $why) = @_;
+    write_all($client, frame(SAY, $why) . frame(GONE, REFUSED));
+    leave(1);
+}
+
+# Returns the first frame's kind and payload.  Whoever is too slow or too long is left.
+sub first_frame {
+    my ($client) = @_;
+    local $SIG{ALRM} = 'DEFAULT';
+    alarm FIRST_FRAME;
+    my $head = read_exactly($client, 3) // leave(1);
+    my ($kind, $length) = unpack 'Cn', $head;
+    leave(1) if $length > LONGEST;
+    my $payload = read_exactly($client, $length) // leave(1);
+    alarm 0;
+    return ($kind, $payload);
+}
+
+# Copies what muxd sends until either side ends, in a process of its own.
+sub copy_back {
+    my ($server, $client) = @_;
+    my $process = fork;
+    leave(1) unless defined $process;
+    return $process if $process;
+    while (sysread($server, my $bytes, 65536)) { write_all($client, $bytes) or last }
+    shutdown($_, 2) for $client, $server;
+    leave(0);
+}
+
+# Copies what the guest sends until either side ends, or until the keeper is gone (its pipe LIFE ends).
+sub copy_forth {
+    my ($client, $server, $life) = @_;
+    while (1) {
+        my $ready = '';
+        vec($ready, fileno $_, 1) = 1 for $client, $life;
+        select($ready, undef, undef, undef) > 0 or next;
+        last if vec($ready, fileno $life, 1);
+        my $count = sysread($client, my $bytes, 65536);
+        last unless $count;
+        write_all($server, $bytes) or last;
+    }
+}
+
+# Serves one connection, CLIENT, of a guest, and ends this process.  SOCKET is muxd's, TOKEN the guest's, WAIT the seconds
+# until the guest may join again or 0, ATTACHED_NOW how many terminals they have, JOINED is called once they are in.
+sub relay {
+    my (%of) = @_;
+    my ($kind, $payload) = first_frame($of{client});
+    if ($kind == COMMAND) {
+        # mux-join asks whether it would be let in.  The session isn't asked.
+        write_all($of{client}, frame(WELCOME, "\0") . frame(SAY, 'welcome') . frame(GONE, DONE));
+        leave(1);
+    }
+    refuse($of{client}, 'guests can attach, and nothing else')
+        if $kind != ATTACH || length $payload < SHORTEST_ATTACH;
+    refuse($of{client}, 'you have ' . TERMINALS . ' terminals here already: leave one first')
+        if $of{attached_now} >= TERMINALS;
+    refuse($of{client}, "you joined too often: try again in $of{wait} s") if $of{wait};
+    my $server = connected($of{socket}) // leave(1);
+    write_all($server, frame(ATTACH, substr($payload, 0, SIZE) . $of{token} . $of{name})) or leave(1);
+    $of{joined}->();
+    my $back = copy_back($server, $of{client});
+    copy_forth($of{client}, $server, $of{life});
+    shutdown($server, 2);
+    waitpid($back, 0);
+    leave(ATTACHED);
+}
+
+1;

@@ -1,0 +1,92 @@
+# Sockets, frames and processes: what the parts of mux-door share.
+package MuxShare::Wire;
+use strict;
+use warnings;
+use Errno qw(EINTR);
+use Exporter qw(import);
+use POSIX ();
+use Socket qw(PF_UNIX SOCK_STREAM SOL_SOCKET SO_PEERCRED pack_sockaddr_un);
+
+our @EXPORT = qw(NOBODY fault log_line connected peer_uid write_all read_exactly frame spawn pause);
+
+# The uid that the kernel shows for every account of a foreign user namespace, so it names nobody in particular.
+use constant NOBODY => 65534;
+
+# Ends this program with a message and a status (default: 1).
+sub fault {
+    my ($text, $status) = @_;
+    print STDERR "mux-share: $text\n";
+    exit($status // 1);
+}
+
+# Writes a line with the time to standard error, which is the session's log once the keeper runs.
+sub log_line {
+    my ($text) = @_;
+    print STDERR POSIX::strftime('%Y-%m-%dT%H:%M:%SZ', gmtime), " $text\n";
+}
+
+# Returns a connection to a Unix socket, or undef.
+sub connected {
+    my ($path) = @_;
+    socket(my $socket, PF_UNIX, SOCK_STREAM, 0) or return;
+    connect($socket, pack_sockaddr_un($path)) or return;
+    return $socket;
+}
+
+# Returns the uid of the other end as the kernel knows it: whoever connected, or whoever began to listen.
+sub peer_uid {
+    my ($socket) = @_;
+    my $answer = getsockopt($socket, SOL_SOCKET, SO_PEERCRED) or return NOBODY;
+    my (undef, $uid) = unpack 'iII', $answer;
+    return $uid;
+}
+
+# Returns whether all bytes were written.
+sub write_all {
+    my ($to, $bytes) = @_;
+    my $done = 0;
+    while ($done < length $bytes) {
+        my $count = syswrite($to, $bytes, length($bytes) - $done, $done);
+        next if !defined $count && $! == EINTR;
+        return 0 unless $count;
+        $done += $count;
+    }
+    return 1;
+}
+
+# Returns exactly LENGTH bytes, or undef where fewer come before the end.
+sub read_exactly {
+    my ($from, $length) = @_;
+    my $bytes = '';
+    while (length $bytes < $length) {
+        my $count = sysread($from, $bytes, $length - length $bytes, length $bytes);
+        next if !defined $count && $! == EINTR;
+        return unless $count;
+    }
+    return $bytes;
+}
+
+# Returns a frame of muxd's protocol: its kind, the length of its payload in two bytes, the payload.
+sub frame {
+    my ($kind, $payload) = @_;
+    return chr($kind) . pack('n', length $payload) . $payload;
+}
+
+# Starts a program, after BEFORE was called in the new process, and returns the process.
+sub spawn {
+    my ($before, @words) = @_;
+    my $process = fork;
+    die "can't start a process: $!\n" unless defined $process;
+    return $process if $process;
+    $SIG{$_} = 'DEFAULT' for qw(CHLD TERM HUP INT PIPE);
+    $before->() if $before;
+    exec { $words[0] } @words or POSIX::_exit(127);
+}
+
+# Waits for a part of a second.
+sub pause {
+    my ($seconds) = @_;
+    select(undef, undef, undef, $seconds);
+}
+
+1;
