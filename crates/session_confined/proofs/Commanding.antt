@@ -24,7 +24,7 @@ use Rattle.command_lang.specs.needs.Needs.{Needs}
 use Rattle.regions.specs.Layouts.{Arrangement}
 use Rattle.session_model.specs.declared.check.Check.TheVariants.{Right as right, Unlocked as unlocked}
 use Rattle.session_model.specs.declared.message.Message.{Message}
-use Rattle.session_model.specs.Checks.{first_fault, checks_by, window_checks, where_needed}
+use Rattle.session_model.specs.Checks.{first_fault, checks_by}
 use Rattle.session_model.specs.Commands.{does, caller_client, mask_entries}
 use Rattle.session_model.specs.Deeds.{Deed, removes, is_of, entering, hearing, without_windows}
 use Rattle.session_model.specs.Naming.{names_of, new_leader_of}
@@ -52,7 +52,7 @@ use Rattle.session_confined.proofs.Leaving.{Leaves, left_where, parted, turned, 
 use Rattle.session_confined.proofs.Calming.{moves, IsCalm, KeepsWindow}
 use Rattle.session_confined.proofs.Sparing.{split_all, both_all, Alone, alone, takes_rights, mask_all, Silent}
 use Rattle.session_confined.proofs.Sparing.{listing_silent, any_window, not_true, Others, Elsewhere, others_part}
-use Rattle.session_confined.proofs.Sparing.{calm_left, others_left, elsewhere_left, listing_calm}
+use Rattle.session_confined.proofs.Sparing.{calm_left, others_left, elsewhere_left, listing_calm, lock_free}
 
 module _ (t : Tables) (w : ℕ) (x : UserId) where
   abbrev CalmActs : List Act → Type 0
@@ -187,31 +187,6 @@ module _ (t : Tables) (fit : AreFit t) (w : ℕ) (x : UserId) (held : holder_in 
 
     -- ---- writelock
 
-    lock_free : (o : Option Window) → IsOn o w → (n : Needs) → n.lock ≡ true → (write : Bool) → n.write ≡ write
-        → first_fault t (window_checks g.caller.user n (option_map (λ (y : Window). y.serial) o)) ≡ None
-        → same_user x g.caller.user ≡ true
-    lock_free None on n locks write writes is = absurd on
-    lock_free (Some y) on n locks write writes is = ap (stops_nobody_but g.caller.user)
-        (sym held ∙ ap (holder_in t) (sym on))
-        ∙ free (n.lock) locks write
-        (ap
-        (λ b. first_fault t
-        (right g.caller.user Execute (object.Window y.serial) ∷
-        (where_needed b (right g.caller.user Write (object.Window y.serial) ∷ []) ++ where_needed n.lock
-        (unlocked g.caller.user y.serial ∷ [])))) (sym writes) ∙ is) where
-          free : (l : Bool) → l ≡ true → (b : Bool)
-              → first_fault t
-              (right g.caller.user Execute (object.Window y.serial) ∷
-              (where_needed b (right g.caller.user Write (object.Window y.serial) ∷ []) ++ where_needed l
-              (unlocked g.caller.user y.serial ∷ []))) ≡ None
-              → stops_nobody_but g.caller.user (holder_in t y.serial) ≡ true
-          free false not b is = absurd (cc (not))
-          free true l false is = first_passed (stops_nobody_but g.caller.user (holder_in t y.serial)) _ _
-              (then_passed (may_in t g.caller.user Execute (object.Window y.serial)) _ _ is)
-          free true l true is = first_passed (stops_nobody_but g.caller.user (holder_in t y.serial)) _ _
-              (then_passed (may_in t g.caller.user Write (object.Window y.serial)) _ _
-              (then_passed (may_in t g.caller.user Execute (object.Window y.serial)) _ _ is))
-
     apart : same_user x g.caller.user ≡ false
     apart = sides (same_user x g.caller.user) refl where
       sides : (b : Bool) → same_user x g.caller.user ≡ b → b ≡ false
@@ -228,11 +203,11 @@ module _ (t : Tables) (fit : AreFit t) (w : ℕ) (x : UserId) (held : holder_in 
 
       locked : (m : LockMode) → first_fault t (checks_by t g.caller (of_lock m)) ≡ None → IsOn g.caller.window w → ⊥
       locked Off is here = contradicts (same_user x g.caller.user)
-          (lock_free g.caller.window here (of_lock Off) refl false refl is) apart
+          (lock_free t w x g.caller.user held g.caller.window here (of_lock Off) refl false refl is) apart
       locked Auto is here = contradicts (same_user x g.caller.user)
-          (lock_free g.caller.window here (of_lock Auto) refl true refl is) apart
+          (lock_free t w x g.caller.user held g.caller.window here (of_lock Auto) refl true refl is) apart
       locked On is here = contradicts (same_user x g.caller.user)
-          (lock_free g.caller.window here (of_lock On) refl true refl is) apart
+          (lock_free t w x g.caller.user held g.caller.window here (of_lock On) refl true refl is) apart
 
       test : (b : Bool) → (n == w) ≡ b → b ≡ false
       test false is = refl

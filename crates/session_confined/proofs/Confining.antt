@@ -185,6 +185,22 @@ gated_confines start t e users bit g (inr some) c theirs before = absurd
 
 -- ---- every run
 
+-- on what stood, without masks
+gated_stays : (start t : Tables) (e : Entry) (guests : UserId → Bool) → Grows t e.acts (after t e)
+    → RightsAreGated t e → GrantsAreTheirs guests t e → Remains start t guests → Remains start (after t e) guests
+gated_stays start t e guests g (inl same) theirs before = step_remains start t e.acts (after t e) guests g same before
+gated_stays start t e guests g (inr some) theirs before =
+    absurd (none_granted t guests (commands_of t e.event) before.contained.as_before theirs some)
+
+pub stays : Below → (start : Tables) (later : List Entry) (guests : UserId → Bool) → AreGuests start guests
+    → IsRunFrom start later → AllSteps (GrantsAreTheirs guests) start later
+    → Remains start (tables_from start later) guests
+stays laws start [] guests are run theirs = remains laws start [] guests are tt tt
+stays laws start (e ∷ past) guests are run theirs =
+    let t : Tables = tables_from start past in
+    gated_stays start t e guests (grows laws t e run.1) (gated laws t e run.1) theirs.1
+    (stays laws start past guests are run.0 theirs.0)
+
 confines : Below → (start : Tables) (later : List Entry) (users : UserId → Bool) (bit : Bit) → AreGuests start users
     → AreShutOut start users bit → IsRunFrom start later → AllSteps (GrantsAreTheirs users) start later
     → Confines start (tables_from start later) users bit

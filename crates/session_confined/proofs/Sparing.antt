@@ -20,6 +20,15 @@ use Rattle.writelock.specs.LockTable.{frees}
 use Rattle.command_lang.specs.command.Command.{Command as Order}
 use Rattle.command_lang.specs.command.Command.TheVariants as command
 use Rattle.session_model.specs.Promises.{IsOn}
+use Rattle.session_model.specs.declared.check.Check.TheVariants.{Right as right, Unlocked as unlocked}
+use Rattle.session_model.specs.Checks.{first_fault, window_checks, where_needed}
+use Rattle.session_model.specs.Rights.{may_in, holder_in}
+use Rattle.command_lang.specs.needs.Needs.{Needs}
+use Rattle.std.specs.Option.{option_map}
+use Rattle.acl.specs.declared.act.Object.TheVariants as object
+use Rattle.acl.specs.declared.bits.Bit.TheVariants.{Write, Execute}
+use Rattle.writelock.specs.LockTable.{stops_nobody_but}
+use Rattle.session_guests.proofs.Gating.{first_passed, then_passed}
 use Rattle.session_model.specs.Sound.{Rises, AreFit}
 use Rattle.session_model.specs.Tables.{Tables, Window, Client}
 use Rattle.session_model.specs.Trace.{Closed}
@@ -200,3 +209,32 @@ module _ (t : Tables) (fit : AreFit t) (w : ℕ) (x : UserId) where
         (all_weaken (Own d.serial d.user) (λ (c : Client). (c.serial == d.serial) ≡ true → same_user c.user x ≡ false)
         t.clients (λ c his here. ap (λ u. same_user u x) (his here) ∙ other) own),
   )
+
+-- ---- the check of a lock
+
+-- whoever passes it on the window is the holder
+module _ (t : Tables) (w : ℕ) (x u : UserId) (held : holder_in t w ≡ Some x) where
+  pub lock_free : (o : Option Window) → IsOn o w → (n : Needs) → n.lock ≡ true → (write : Bool) → n.write ≡ write
+      → first_fault t (window_checks u n (option_map (λ (y : Window). y.serial) o)) ≡ None
+      → same_user x u ≡ true
+  lock_free None on n locks write writes is = absurd on
+  lock_free (Some y) on n locks write writes is = ap (stops_nobody_but u)
+      (sym held ∙ ap (holder_in t) (sym on))
+      ∙ free (n.lock) locks write
+      (ap
+      (λ b. first_fault t
+      (right u Execute (object.Window y.serial) ∷
+      (where_needed b (right u Write (object.Window y.serial) ∷ []) ++ where_needed n.lock
+      (unlocked u y.serial ∷ [])))) (sym writes) ∙ is) where
+        free : (l : Bool) → l ≡ true → (b : Bool)
+            → first_fault t
+            (right u Execute (object.Window y.serial) ∷
+            (where_needed b (right u Write (object.Window y.serial) ∷ []) ++ where_needed l
+            (unlocked u y.serial ∷ []))) ≡ None
+            → stops_nobody_but u (holder_in t y.serial) ≡ true
+        free false not b is = absurd (cc (not))
+        free true l false is = first_passed (stops_nobody_but u (holder_in t y.serial)) _ _
+            (then_passed (may_in t u Execute (object.Window y.serial)) _ _ is)
+        free true l true is = first_passed (stops_nobody_but u (holder_in t y.serial)) _ _
+            (then_passed (may_in t u Write (object.Window y.serial)) _ _
+            (then_passed (may_in t u Execute (object.Window y.serial)) _ _ is))

@@ -3,16 +3,18 @@
 //! law: its contract says what holds of every step and of every run.
 #![tactic(auto)]
 
-ghost use Rattle.session_confined.specs.Confined.{StepsConfine, GuestsAreConfined};
+ghost use Rattle.session_confined.specs.Confined.{StepsConfine, GuestsAreConfined, GuestsStayContained};
 ghost use Rattle.session_confined.specs.Keeping.{LocksStay, LocksStayInRuns};
 
 /// Confinement on windows to come. Users have x on no command that changes rights; they and their
 /// leaders are known and may not open windows; and whoever may open windows masks a bit for each
 /// of them. Then none of these users has this bit on any window that is opened later, as long as
-/// nobody else is granted such a command; and all of these premises still hold afterwards.
+/// nobody else is granted such a command; and all of these premises still hold afterwards. On what
+/// was there, rights stay as they are even without masks (`contained`).
 pub fn guests_are_confined()
     ensures step { StepsConfine }
     ensures run { GuestsAreConfined }
+    ensures contained { GuestsStayContained }
 {
     session_laws::steps_keep_promise();
     session_laws::commands_do_their_rows();
