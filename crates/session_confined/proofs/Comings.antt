@@ -1,7 +1,7 @@
 -- Which windows come in a step.
 use Rattle.std.proofs.Common.{subst, ◌≡◌, ℕ, ◌+◌, Bool, true, false, List, [], ◌∷◌, Some, None, Ok, Err, refl, ap, sym}
 use Rattle.std.proofs.Common.{◌∙◌, inl, inr}
-use Rattle.std.specs.Prelude.{if◌then◌else◌, ◌==◌, ◌||◌, ◌&&◌, ◌⊎◌, is_ok, Option}
+use Rattle.std.specs.Prelude.{◌==◌, ◌||◌, ◌⊎◌, is_ok, Option}
 use Rattle.acl.specs.declared.user_id.UserId.{UserId}
 use Rattle.acl.specs.declared.act.Act.{Act}
 use Rattle.acl.specs.declared.bits.Bit.{Bit}

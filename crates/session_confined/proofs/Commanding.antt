@@ -3,26 +3,22 @@ use Rattle.std.proofs.Common.{◌≡◌, ℕ, Bool, true, false, not, List, [], 
 use Rattle.std.proofs.Common.{◌∙◌, subst, map, filter}
 use Rattle.std.specs.Prelude.{◌==◌}
 use Rattle.std.specs.List.{AllByRecursion}
-use Rattle.std.specs.Option.{option_map, option_and_then}
+use Rattle.std.specs.Option.{option_and_then}
 use Rattle.acl.specs.declared.user_id.UserId.{UserId}
-use Rattle.acl.specs.declared.bits.Bit.TheVariants.{Write, Execute}
 use Rattle.acl.specs.declared.entries.MaskEntry.{MaskEntry}
 use Rattle.acl.specs.Commands.{mask_acts}
 use Rattle.acl.specs.declared.act.Act.{Act}
 use Rattle.acl.specs.declared.act.Act.TheVariants as act
 use Rattle.acl.specs.declared.act.LockMode.{LockMode}
 use Rattle.acl.specs.declared.act.LockMode.TheVariants.{Off, Auto, On}
-use Rattle.acl.specs.declared.act.Object.TheVariants as object
 use Rattle.acl.specs.Names.{named_by}
 use Rattle.acl.specs.Same.{same_user}
 use Rattle.acl.proofs.StandsForLemmas.{same_user-true}
-use Rattle.writelock.specs.LockTable.{frees, stops_nobody_but}
+use Rattle.writelock.specs.LockTable.{frees}
 use Rattle.command_lang.specs.command.Command.{Command as Order}
 use Rattle.command_lang.specs.command.Command.TheVariants as command
 use Rattle.command_lang.specs.Needs.{needs, of_lock}
-use Rattle.command_lang.specs.needs.Needs.{Needs}
 use Rattle.regions.specs.Layouts.{Arrangement}
-use Rattle.session_model.specs.declared.check.Check.TheVariants.{Right as right, Unlocked as unlocked}
 use Rattle.session_model.specs.declared.message.Message.{Message}
 use Rattle.session_model.specs.Checks.{first_fault, checks_by}
 use Rattle.session_model.specs.Commands.{does, caller_client, mask_entries}
@@ -31,7 +27,7 @@ use Rattle.session_model.specs.Naming.{names_of, new_leader_of}
 use Rattle.session_model.specs.Outcomes.{left_acts}
 use Rattle.session_model.specs.Given.{Given}
 use Rattle.session_model.specs.Promises.{IsOn, unread}
-use Rattle.session_model.specs.Rights.{may_in, holder_in}
+use Rattle.session_model.specs.Rights.{holder_in}
 use Rattle.session_model.specs.Sound.{AreFit}
 use Rattle.session_model.specs.Tables.{Tables, Window, Client, client_at, with_client, with_layout, focused}
 use Rattle.session_model.specs.Tables.{known_users}
@@ -45,7 +41,6 @@ use Rattle.session_guests.proofs.Listing.{is_listing, AllListing, change_list, a
 use Rattle.session_guests.proofs.Rows.{IsCaller}
 use Rattle.session_guests.proofs.Steps.{with_clients}
 use Rattle.session_guests.proofs.Events.{all_left}
-use Rattle.session_guests.proofs.Gating.{first_passed, then_passed}
 use Rattle.session_guests.proofs.Staying.{Own, IsOf, unique, all_mapped, own_read}
 use Rattle.session_confined.specs.Keeping.{FreesBy}
 use Rattle.session_confined.proofs.Leaving.{Leaves, left_where, parted, turned, shut}

@@ -31,7 +31,6 @@ use Rattle.writelock.specs.LockTable.{stops_nobody_but}
 use Rattle.session_guests.proofs.Gating.{first_passed, then_passed}
 use Rattle.session_model.specs.Sound.{Rises, AreFit}
 use Rattle.session_model.specs.Tables.{Tables, Window, Client}
-use Rattle.session_model.specs.Trace.{Closed}
 use Rattle.session_laws.proofs.Lists.{contradicts, equal, all_weaken, all_append, all_map}
 use Rattle.session_guests.proofs.Listing.{is_listing}
 use Rattle.session_guests.proofs.Harmless.{NoneOf}
