@@ -14,7 +14,7 @@ static THINGS: [Thing; 5] = [
 ];
 
 /// How many orders there are of five things.
-const ORDERS: usize = 4;
+const ORDERS: usize = 120;
 
 /// The order of a number below 120: the first thing is one of five, the next one of the four that
 /// are left, and so on.
