@@ -13,8 +13,10 @@ static THINGS: [Thing; 5] = [
     Thing::Returns,
 ];
 
-/// How many orders there are of five things.
+/// How many orders there are of five things, and how many of them begin with the same thing.
 const ORDERS: usize = 120;
+
+const ALIKE: usize = 24;
 
 /// The order of a number below 120: the first thing is one of five, the next one of the four that
 /// are left, and so on.
@@ -32,7 +34,7 @@ fn order_of(number: usize) -> [Thing; 5] {
 /// In how many orders something was found.
 #[derive(Clone, Copy, PartialEq, Eq, Debug)]
 struct Found {
-    /// Somebody had a right that nothing gives, after some command.
+    /// Somebody had a right that nothing gives, after an opening or in the end of a script.
     too_much: usize,
     /// A known user lacked in the end what the file gives.
     lacking: usize,
@@ -41,6 +43,13 @@ struct Found {
     /// Acts didn't follow those before them.
     lost: usize,
 }
+
+const NONE: Found = Found {
+    too_much: 0,
+    lacking: 0,
+    astray: 0,
+    lost: 0,
+};
 
 fn play(alloc: Global, form: Form, number: usize, found: &mut Found) -> Result<(), AllocError> {
     let mut stage = Stage::new(alloc)?;
@@ -55,15 +64,20 @@ fn play(alloc: Global, form: Form, number: usize, found: &mut Found) -> Result<(
     Ok(())
 }
 
-fn found_in_all(alloc: Global, form: Form) -> Result<Found, AllocError> {
-    let mut found = Found {
-        too_much: 0,
-        lacking: 0,
-        astray: 0,
-        lost: 0,
-    };
+/// What is found in all orders.
+fn found_in_all(alloc: Global) -> Result<Found, AllocError> {
+    let mut found = NONE;
     for number in 0..ORDERS {
-        play(alloc, form, number, &mut found)?;
+        play(alloc, Form::Whole, number, &mut found)?;
+    }
+    Ok(found)
+}
+
+/// What is found in the 24 orders in which ann returns first, if some commands are left out.
+fn found_without(alloc: Global, form: Form) -> Result<Found, AllocError> {
+    let mut found = NONE;
+    for number in 0..ALIKE {
+        play(alloc, form, 5 * number + 4, &mut found)?;
     }
     Ok(found)
 }
@@ -76,36 +90,47 @@ fn all_differ() -> bool {
             }
         }
     }
-    true
+    order_of(4)[0] == Thing::Returns
 }
 
 #[test]
-fn orders_differ(_rt: HostRuntime) {
-    assert!(_rt; all_differ());
+fn orders_differ(rt: HostRuntime) {
+    assert!(rt; all_differ());
 }
 
-/// In no order anybody has a bit too much after any command, lacks one in the end, or types where
-/// the file gives no w.
+/// In no order somebody has a bit too much, lacks one in the end, or types where the file gives no
+/// w.
 #[test]
 fn rights_are_the_files_in_every_order(rt: HostRuntime) {
-    let found = found_in_all(rt.alloc(), Form::Whole);
-    assert_eq!(rt; found, Ok(Found { too_much: 0, lacking: 0, astray: 0, lost: 0 }));
+    assert_eq!(rt; found_in_all(rt.alloc()), Ok(NONE));
 }
 
 /// Without the mask before an opening the guest of a killed `mux-guest` has rwx on a console that is
-/// opened next: so it is in the orders in which a console is opened between Killed and Comes. Of the
-/// 24 orders of these two and the consoles, 12 have Killed before Comes, in 6 of which they stand
-/// side by side; ann may return at five places.
+/// opened then. So it is if a console is opened between Killed and Comes: 12 of 24 orders have
+/// Killed before Comes, and in 6 of these they stand side by side.
 #[test]
 fn a_missing_mask_is_seen(rt: HostRuntime) {
-    let found = found_in_all(rt.alloc(), Form::WithoutMask);
-    assert_eq!(rt; found, Ok(Found { too_much: 30, lacking: 0, astray: 0, lost: 0 }));
+    let found = found_without(rt.alloc(), Form::WithoutMask);
+    assert_eq!(rt;
+        found,
+        Ok(Found {
+            too_much: 6,
+            ..NONE
+        })
+    );
 }
 
-/// Without what the file gives after an opening bob and wall have nothing, and ann what she gets
-/// when she returns, unless web1 is opened after that.
+/// Without what the file gives after an opening nobody has anything in the end: also not ann, who
+/// got it when she returned, since web1 is opened after that.
 #[test]
 fn missing_grants_are_seen(rt: HostRuntime) {
-    let found = found_in_all(rt.alloc(), Form::WithoutGrants);
-    assert_eq!(rt; found, Ok(Found { too_much: 0, lacking: 120, astray: 60, lost: 0 }));
+    let found = found_without(rt.alloc(), Form::WithoutGrants);
+    assert_eq!(rt;
+        found,
+        Ok(Found {
+            lacking: 24,
+            astray: 24,
+            ..NONE
+        })
+    );
 }

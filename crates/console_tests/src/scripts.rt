@@ -114,19 +114,23 @@ fn returns(stage: &mut Stage) -> Result<(), AllocError> {
     Ok(())
 }
 
-/// What happens.
+/// `mux-guest`, which refuses a guest who is known, and is killed after its first command.
+fn is_killed(stage: &mut Stage) -> Result<(), AllocError> {
+    if !stage.knows(GUEST)? {
+        stage.own(&["aclchg ", GUEST, " -rwx #?"])?;
+    }
+    Ok(())
+}
+
+/// What happens; then rights are compared with the file.
 pub fn happens(stage: &mut Stage, form: Form, thing: Thing) -> Result<(), AllocError> {
     match thing {
-        Thing::First => reopen(stage, form, 0),
-        Thing::Second => reopen(stage, form, 1),
-        Thing::Killed => {
-            // It refuses a guest who is known.
-            if !stage.knows(GUEST)? {
-                stage.own(&["aclchg ", GUEST, " -rwx #?"])?;
-            }
-            Ok(())
-        }
-        Thing::Comes => comes(stage),
-        Thing::Returns => returns(stage),
+        Thing::First => reopen(stage, form, 0)?,
+        Thing::Second => reopen(stage, form, 1)?,
+        Thing::Killed => is_killed(stage)?,
+        Thing::Comes => comes(stage)?,
+        Thing::Returns => returns(stage)?,
     }
+    stage.look();
+    Ok(())
 }

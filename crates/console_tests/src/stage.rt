@@ -30,7 +30,7 @@ pub struct Stage {
     open: [Option<u32>; 2],
     /// The window that the guest may read.
     pub read: Option<u32>,
-    /// Whether somebody had a right that nothing gives, after some command.
+    /// Whether somebody had a right that nothing gives, after an opening or in the end of a script.
     pub has_too_much: bool,
     /// Whether some acts didn't follow those before them.
     pub is_lost: bool,
@@ -80,7 +80,6 @@ impl Stage {
             window: None,
             line: line.as_bytes(),
         })?;
-        self.look();
         Ok(made.is_some())
     }
 
@@ -167,7 +166,7 @@ impl Stage {
     }
 
     /// Notes whether a known user, but for the owner, who is the first, has too much now.
-    fn look(&mut self) {
+    pub fn look(&mut self) {
         for place in 1..self.replay.user_count() {
             if let Some(user) = self.replay.user_at(place) {
                 self.has_too_much = self.has_too_much || self.has_too_much(user);

@@ -18,8 +18,8 @@ static KEYS: [&[u8]; 4] = [
 fn types(stage: &mut Stage, user: UserId, effects: &mut Vec<Effect>) -> Result<(), AllocError> {
     let attached = stage.step(Event::Attach {
         user,
-        rows: 24,
-        columns: 80,
+        rows: 4,
+        columns: 20,
     })?;
     let Some(client) = attached else {
         return Ok(());
