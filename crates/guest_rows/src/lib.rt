@@ -1,9 +1,14 @@
-//! Worked rows of the laws of guests: guests that the laws speak of, and what others could do,
-//! computed from the definitions. Each function here does nothing; its contract has the rows.
+//! Worked rows of the laws of guests: guests that the laws speak of, what others could do, and what
+//! frees a lock, computed from the definitions. Each function here does nothing; its contract has
+//! the rows.
 #![tactic(auto)]
 
+ghost use Rattle.guest_rows.specs.Consoles as consoles;
 ghost use Rattle.guest_rows.specs.Guests as guests;
 ghost use Rattle.guest_rows.specs.Hiding as hiding;
+ghost use Rattle.guest_rows.specs.LateComers as late;
+ghost use Rattle.guest_rows.specs.Locks as locks;
+ghost use Rattle.guest_rows.specs.Operators as operators;
 ghost use Rattle.guest_rows.specs.Watching as watching;
 
 /// bob, who has x on no command that changes rights, is a guest, and what he asks for changes
@@ -35,4 +40,46 @@ pub fn hidden_output()
 pub fn spectators()
     ensures watches { watching.BobWatches }
     ensures reads { watching.HeReads }
+{}
+
+/// Confinement, if only the owner opens consoles and rights come from a file: two users of the file
+/// and a guest are shut out for r, w and x. A console that is opened again gives nobody a bit
+/// before the file's lines are given, also not to a user who became known by hand.
+pub fn consoles()
+    ensures granted { consoles.Granted }
+    ensures guests { consoles.AreGuestsThen }
+    ensures shut_out { consoles.AllShutOut }
+    ensures reopened { consoles.Reopened }
+    ensures by_hand { consoles.ByHand }
+{}
+
+/// Confinement, if four users open windows: those who watch the operators get neither w nor x on
+/// windows to come, whoever of own, ann, bob and console opens them.
+pub fn several_openers()
+    ensures guests { operators.WatchersAreGuests }
+    ensures no_write { operators.NoneTypes }
+    ensures no_execute { operators.NoneActs }
+    ensures come { operators.Come }
+{}
+
+/// A guest who becomes known after console gave its masks has r, w and x on what console opens. So
+/// the law of confinement doesn't hold without its premise on masks. Once console masks the guest,
+/// too, nothing comes.
+pub fn late_comers()
+    ensures guest { late.IsGuest }
+    ensures unmasked { late.Unmasked }
+    ensures reopened { late.Reopened }
+    ensures needed { late.MasksAreNeeded }
+    ensures mended { late.Mended }
+    ensures nothing { late.NothingComes }
+{}
+
+/// eve holds the lock of window 2. Each way that the law of locks lists frees it, by an act on her
+/// rights or on her leader's, and other steps of others leave it.
+pub fn locks_that_stay()
+    ensures holds { locks.Holds }
+    ensures freed { locks.Freed }
+    ensures by_leaders { locks.ByLeaders }
+    ensures keeps { locks.Keeps }
+    ensures own_keeps { locks.OwnKeeps }
 {}

@@ -1,1 +1,2 @@
 pub mod PoliciesComputed
+pub mod TrapsComputed

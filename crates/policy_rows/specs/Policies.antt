@@ -10,7 +10,7 @@ use Rattle.acl.specs.declared.command_name.CommandName.{CommandName}
 use Rattle.acl.specs.declared.command_name.CommandName.TheVariants as name
 use Rattle.acl.specs.declared.act.Object.TheVariants as object
 use Rattle.command_lang.specs.Names.{all_names}
-use Rattle.session_model.specs.Trace.{Command, Open}
+use Rattle.session_model.specs.Trace.{Command, Open, Closed}
 use Rattle.session_model.specs.Tables.{Tables, Window, fresh}
 use Rattle.session_model.specs.Rights.{may_in}
 use Rattle.session_model.specs.Events.{outcome}
@@ -64,6 +64,9 @@ all = true ∷ true ∷ true ∷ []
 abbrev pub InBoth : (Edition → Type 0) → Type 0
 InBoth P = P First × P Second
 
+abbrev pub closes : ℕ → Tables → Tables
+closes window t = (outcome t (Closed window)).tables
+
 -- ---- support
 
 abbrev pub sue : UserId
@@ -73,8 +76,9 @@ abbrev pub support : List (List ℕ)
 support =
     codes "multiuser on"
     ∷ codes "aclumask ?-rwx ??-x"
-    ∷ codes "aclchg sue +x detach,next,prev,scrollview"
-    ∷ codes "aclumask sue-rwx" ∷ []
+    ∷ codes "aclchg sue -rwx ?"
+    ∷ codes "aclumask sue-rwx"
+    ∷ codes "aclchg sue +x detach,next,prev,scrollview" ∷ []
 
 -- then the owner opens shop, lets sue read it, and opens letters; and lets her type for a while
 abbrev pub supported : Edition → Tables
@@ -88,6 +92,10 @@ typing e = by own (supported e) (codes "aclchg sue +w shop")
 abbrev pub taken_back : Edition → Tables
 taken_back e = by own (typing e) (codes "aclchg sue -w shop")
 
+-- shop's program ends, and the owner opens shop again
+abbrev pub shop_again : Edition → Tables
+shop_again e = opens own (codes "shop") (closes 0 (typing e))
+
 abbrev pub sues_commands : List CommandName
 sues_commands = name.Detach ∷ name.Next ∷ name.Prev ∷ name.Scrollview ∷ []
 
@@ -97,6 +105,7 @@ Support e =
     × (on_windows (supported e) sue ≡ reads ∷ nothing ∷ [])
     × (on_windows (typing e) sue ≡ reads_and_types ∷ nothing ∷ [])
     × (on_windows (taken_back e) sue ≡ reads ∷ nothing ∷ [])
+    × (on_windows (shop_again e) sue ≡ nothing ∷ nothing ∷ [])
     × (on_commands (taken_back e) sue ≡ sues_commands)
 
 -- ---- class
@@ -107,12 +116,16 @@ pia = user (codes "pia")
 abbrev pub ben : UserId
 ben = user (codes "ben")
 
+abbrev pub kay : UserId
+kay = user (codes "kay")
+
 abbrev pub class : List (List ℕ)
 class =
     codes "multiuser on"
     ∷ codes "aclumask ?-wx ??-x"
-    ∷ codes "aclchg pia,ben,kay +x detach,next,prev,scrollview"
-    ∷ codes "aclumask -wx" ∷ []
+    ∷ codes "aclchg pia,ben,kay -rwx ?"
+    ∷ codes "aclumask -wx"
+    ∷ codes "aclchg pia,ben,kay +x detach,next,prev,scrollview" ∷ []
 
 -- then the owner opens board and answers, hands the turn to pia, and from her to ben
 abbrev pub taught : Edition → Tables
@@ -128,6 +141,10 @@ turn_of_pia e = turn_of (codes "pia") (taught e)
 abbrev pub turn_of_ben : Edition → Tables
 turn_of_ben e = turn_of (codes "ben") (turn_of_pia e)
 
+-- board's program ends during ben's turn, and the owner opens board again
+abbrev pub board_again : Edition → Tables
+board_again e = opens own (codes "board") (closes 0 (turn_of_ben e))
+
 abbrev pub Class : Edition → Type 0
 Class e =
     (are_done (fresh e own) class ≡ true)
@@ -136,6 +153,8 @@ Class e =
     × (on_windows (turn_of_pia e) ben ≡ reads ∷ reads ∷ [])
     × (on_windows (turn_of_ben e) pia ≡ reads ∷ reads ∷ [])
     × (on_windows (turn_of_ben e) ben ≡ reads_and_types ∷ reads ∷ [])
+    × (on_windows (turn_of_ben e) kay ≡ reads ∷ reads ∷ [])
+    × (on_windows (board_again e) ben ≡ reads ∷ reads ∷ [])
     × (on_commands (turn_of_ben e) ben ≡ sues_commands)
 
 -- ---- operators
@@ -149,27 +168,43 @@ bob = user (codes "bob")
 abbrev pub jo : UserId
 jo = user (codes "jo")
 
+abbrev pub kim : UserId
+kim = user (codes "kim")
+
 abbrev pub ops : List (List ℕ)
 ops =
     codes "multiuser on"
+    ∷ codes "aclumask ?-wx ??-x"
     ∷ codes "acladd ann,bob"
     ∷ codes "aclchg ann,bob -x screen,acladd,aclchg,acldel,aclgrp"
-    ∷ codes "aclumask ?-wx ??-x"
-    ∷ codes "aclchg jo,kim +x detach,select,next,prev,other,scrollview,windows"
-    ∷ codes "aclumask jo,kim-wx" ∷ []
+    ∷ codes "aclchg jo,kim -wx ?"
+    ∷ codes "aclumask jo,kim-wx"
+    ∷ codes "aclchg jo,kim +x detach,select,next,prev,other,scrollview,windows" ∷ []
 
--- then ann and bob give their masks, the owner takes aclumask from them and gives them screen
+-- then ann and bob give their masks
+abbrev pub both_mask : Edition → Tables
+both_mask e =
+    by bob (by ann (by_own (fresh e own) ops) (codes "aclumask jo,kim-wx"))
+    (codes "aclumask jo,kim-wx")
+
+-- the owner takes aclumask from them, gives them screen, and sets the presets again
+abbrev pub taken : List (List ℕ)
+taken =
+    codes "aclchg ann,bob -x aclumask"
+    ∷ codes "aclchg ann,bob +x screen"
+    ∷ codes "aclumask ?-wx ??-x" ∷ []
+
 abbrev pub masked : Edition → Tables
-masked e =
-    by_own
-    (by bob (by ann (by_own (fresh e own) ops) (codes "aclumask jo,kim-wx"))
-    (codes "aclumask jo,kim-wx"))
-    (codes "aclchg ann,bob -x aclumask" ∷ codes "aclchg ann,bob +x screen" ∷ [])
+masked e = by_own (both_mask e) taken
 
 -- and each of the three opens a window
 abbrev pub operated : Edition → Tables
 operated e =
     opens bob (codes "db") (opens ann (codes "web") (opens own (codes "log") (masked e)))
+
+-- ann's program ends, and she opens her window again
+abbrev pub web_again : Tables → Tables
+web_again t = opens ann (codes "web") (closes 1 t)
 
 abbrev pub may_change_rights : Tables → UserId → List CommandName
 may_change_rights t who =
@@ -180,7 +215,9 @@ abbrev pub Ops : Edition → Type 0
 Ops e =
     (are_done (fresh e own) ops ≡ true)
     × (is_ok (outcome (by_own (fresh e own) ops) (Open ann 24 80 0 (codes "early"))).reply ≡ false)
+    × (are_done (both_mask e) taken ≡ true)
     × (on_windows (operated e) jo ≡ reads ∷ reads ∷ reads ∷ [])
+    × (on_windows (web_again (operated e)) kim ≡ reads ∷ reads ∷ reads ∷ [])
     × (on_commands (operated e) jo
     ≡ name.Detach ∷ name.Select ∷ name.Next ∷ name.Prev ∷ name.Other ∷ name.Scrollview
     ∷ name.Windows ∷ [])

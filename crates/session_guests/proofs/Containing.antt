@@ -35,7 +35,7 @@ pub record Grows (t : Tables) (acts : List Act) (u : Tables) : Type 0 where
   pub opened : AllByRecursion (IsNew t.next_window) acts
   pub next : t.next_window ≤ u.next_window
 
-same_le : (m n : ℕ) → m ≡ n → m ≤ n
+pub same_le : (m n : ℕ) → m ≡ n → m ≤ n
 same_le m n is = omega (arith, is)
 
 plain_new : (t : Tables) (event : EventValue) (a : Act) → IsActIn t event a → IsNew t.next_window a
@@ -75,7 +75,7 @@ grows laws t e step = on (steps_of laws t e step) where
   on (inr (inr some)) = some_grows t e (commands_of t e.event) some
 
 -- what stood before isn't opened
-not_opened : (n w : ℕ) (acts : List Act) → AllByRecursion (IsNew n) acts → nat_lt w n ≡ true → list_any (opens_window w) acts ≡ false
+pub not_opened : (n w : ℕ) (acts : List Act) → AllByRecursion (IsNew n) acts → nat_lt w n ≡ true → list_any (opens_window w) acts ≡ false
 not_opened n w [] all before = refl
 not_opened n w (act.Opened by v ∷ acts) all before =
     let le : n ≤ v = all.0 in
@@ -123,7 +123,7 @@ same_lists t u v a b = record {
   presets = λ kind bit. b.presets kind bit ∙ a.presets kind bit;
 }
 
-step_remains : (start t : Tables) (acts : List Act) (u : Tables) (guests : UserId → Bool) → Grows t acts u → SameRights t u acts → Remains start t guests → Remains start u guests
+pub step_remains : (start t : Tables) (acts : List Act) (u : Tables) (guests : UserId → Bool) → Grows t acts u → SameRights t u acts → Remains start t guests → Remains start u guests
 step_remains start t acts u guests g same r = record {
   contained = record {
     rights = record {

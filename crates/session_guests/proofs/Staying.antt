@@ -61,36 +61,36 @@ use Rattle.session_guests.proofs.Parting.{did_x}
 abbrev pub Own : ℕ → UserId → Client → Type 0
 Own s user d = (d.serial == s) ≡ true → d.user ≡ user
 
-above : (n s : ℕ) (user : UserId) (cs : List Client) → n ≡ s → AllByRecursion (λ m. n < m) (map (λ (c : Client). c.serial) cs) → AllByRecursion (Own s user) cs
+pub above : (n s : ℕ) (user : UserId) (cs : List Client) → n ≡ s → AllByRecursion (λ m. n < m) (map (λ (c : Client). c.serial) cs) → AllByRecursion (Own s user) cs
 above n s user [] is all = tt
 above n s user (c ∷ cs) is all =
     let less : n < c.serial = all.0 in
     ((λ at. let same : c.serial ≡ s = equal c.serial s at in absurd (omega (arith, less, same, is))), above n s user cs is all.1)
 
-unique : (cs : List Client) (next s : ℕ) (c : Client) → Rises (map (λ (d : Client). d.serial) cs) next → row_of (λ (d : Client). d.serial) cs s ≡ Some c → AllByRecursion (Own s c.user) cs
+pub unique : (cs : List Client) (next s : ℕ) (c : Client) → Rises (map (λ (d : Client). d.serial) cs) next → row_of (λ (d : Client). d.serial) cs s ≡ Some c → AllByRecursion (Own s c.user) cs
 unique [] next s c rise is = tt
 unique (r ∷ cs) next s c rise is = on (r.serial == s) refl is (unique cs next s c rise.2) where
   on : (b : Bool) → (r.serial == s) ≡ b → (if b then Some r else row_of (λ (d : Client). d.serial) cs s) ≡ Some c → (row_of (λ (d : Client). d.serial) cs s ≡ Some c → AllByRecursion (Own s c.user) cs) → AllByRecursion (Own s c.user) (r ∷ cs)
   on true at is more = let same : r ≡ c = cc (is) in ((λ _. ap (λ (d : Client). d.user) same), above r.serial s c.user cs (equal r.serial s at) rise.1)
   on false at is more = ((λ here. contradicts (r.serial == s) here at), more is)
 
-all_reverse : {A : Type 0} (P : A → Type 0) (xs : List A) → AllByRecursion P xs → AllByRecursion P (reverse xs)
+pub all_reverse : {A : Type 0} (P : A → Type 0) (xs : List A) → AllByRecursion P xs → AllByRecursion P (reverse xs)
 all_reverse P [] all = tt
 all_reverse P (x ∷ xs) all = subst (AllByRecursion P) (sym (reverse-append (x ∷ []) xs)) (all_append P (reverse xs) (x ∷ []) (all_reverse P xs all.1) (all.0, tt))
 
-all_mapped : {A B : Type 0} (P : B → Type 0) (f : A → B) (xs : List A) → AllByRecursion P (map f xs) → AllByRecursion (λ x. P (f x)) xs
+pub all_mapped : {A B : Type 0} (P : B → Type 0) (f : A → B) (xs : List A) → AllByRecursion P (map f xs) → AllByRecursion (λ x. P (f x)) xs
 all_mapped P f [] all = tt
 all_mapped P f (x ∷ xs) all = (all.0, all_mapped P f xs all.1)
 
-own_read : (t : Tables) (cs : List Client) (s : ℕ) (user : UserId) → SameClients t cs → AllByRecursion (Own s user) t.clients → AllByRecursion (Own s user) cs
+pub own_read : (t : Tables) (cs : List Client) (s : ℕ) (user : UserId) → SameClients t cs → AllByRecursion (Own s user) t.clients → AllByRecursion (Own s user) cs
 own_read t cs s user same all = all_mapped (Own s user) unread cs (subst (AllByRecursion (Own s user)) (sym same) (all_map (Own s user) unread t.clients all))
 
-focus_read : (cs : List Client) (x : UserId) (w : ℕ) → is_in_focus cs x w ≡ is_in_focus (map unread cs) x w
+pub focus_read : (cs : List Client) (x : UserId) (w : ℕ) → is_in_focus cs x w ≡ is_in_focus (map unread cs) x w
 focus_read [] x w = refl
 focus_read (c ∷ cs) x w = ap (λ b. shows x w c || b) (focus_read cs x w)
 
 -- who gives a command by a client
-abbrev IsOf : Tables → Caller → Type 0
+abbrev pub IsOf : Tables → Caller → Type 0
 IsOf t k = (s : ℕ) → k.client ≡ Some s → (c : Client) × (client_at t s ≡ Some c) × (c.user ≡ k.user)
 
 line_of : (t : Tables) (user : UserId) (number : Option ℕ) (o : Option Order) → AllByRecursion (λ (g : Given). IsOf t g.caller) (with_order (line_caller t user number) o)
@@ -101,7 +101,7 @@ keys_of : (t : Tables) (c : Client) (o : Option Order) → client_at t c.serial 
 keys_of t c None at = tt
 keys_of t c (Some order) at = ((λ s is. (c, (let same : c.serial ≡ s = cc (is) in ap (client_at t) (sym same) ∙ at), refl)), tt)
 
-callers : (t : Tables) (event : EventValue) → AllByRecursion (λ (g : Given). IsOf t g.caller) (commands_of t event)
+pub callers : (t : Tables) (event : EventValue) → AllByRecursion (λ (g : Given). IsOf t g.caller) (commands_of t event)
 callers t (Command user number bytes) = on (is_known t user) where
   on : (b : Bool) → AllByRecursion (λ (g : Given). IsOf t g.caller) (if b then with_order (line_caller t user number) (ok_of (read_line bytes)) else [])
   on true = line_of t user number (ok_of (read_line bytes))

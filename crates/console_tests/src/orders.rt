@@ -1,0 +1,136 @@
+//! Each order of five things.
+
+use crate::scripts::{Form, Thing, begin, happens};
+use crate::stage::Stage;
+use crate::typing::all_reach_their_own;
+use std::alloc::{AllocError, Global};
+
+static THINGS: [Thing; 5] = [
+    Thing::First,
+    Thing::Second,
+    Thing::Killed,
+    Thing::Comes,
+    Thing::Returns,
+];
+
+/// How many orders there are of five things, and how many of them begin with the same thing.
+const ORDERS: usize = 120;
+
+const ALIKE: usize = 24;
+
+/// The order of a number below 120: the first thing is one of five, the next one of the four that
+/// are left, and so on.
+fn order_of(number: usize) -> [Thing; 5] {
+    let mut order = THINGS;
+    let mut rest = number;
+    for place in 0..5usize {
+        let left = 5 - place;
+        order.swap(place, place + rest % left);
+        rest /= left;
+    }
+    order
+}
+
+/// In how many orders something was found.
+#[derive(Clone, Copy, PartialEq, Eq, Debug)]
+struct Found {
+    /// Somebody had a right that nothing gives, after an opening or in the end of a script.
+    too_much: usize,
+    /// A known user lacked in the end what the file gives.
+    lacking: usize,
+    /// What somebody typed in the end didn't reach just the consoles on which the file gives w.
+    astray: usize,
+    /// Acts didn't follow those before them.
+    lost: usize,
+}
+
+const NONE: Found = Found {
+    too_much: 0,
+    lacking: 0,
+    astray: 0,
+    lost: 0,
+};
+
+fn play(alloc: Global, form: Form, number: usize, found: &mut Found) -> Result<(), AllocError> {
+    let mut stage = Stage::new(alloc)?;
+    begin(&mut stage, form)?;
+    for thing in &order_of(number) {
+        happens(&mut stage, form, *thing)?;
+    }
+    found.too_much += usize::from(stage.has_too_much);
+    found.lacking += usize::from(stage.lacks()?);
+    found.astray += usize::from(!all_reach_their_own(&mut stage)?);
+    found.lost += usize::from(stage.is_lost);
+    Ok(())
+}
+
+/// What is found in all orders.
+fn found_in_all(alloc: Global) -> Result<Found, AllocError> {
+    let mut found = NONE;
+    for number in 0..ORDERS {
+        play(alloc, Form::Whole, number, &mut found)?;
+    }
+    Ok(found)
+}
+
+/// What is found in the 24 orders in which ann returns first, if some commands are left out.
+fn found_without(alloc: Global, form: Form) -> Result<Found, AllocError> {
+    let mut found = NONE;
+    for number in 0..ALIKE {
+        play(alloc, form, 5 * number + 4, &mut found)?;
+    }
+    Ok(found)
+}
+
+fn all_differ() -> bool {
+    for number in 0..ORDERS {
+        for other in 0..number {
+            if order_of(number) == order_of(other) {
+                return false;
+            }
+        }
+    }
+    order_of(4)[0] == Thing::Returns
+}
+
+#[test]
+fn orders_differ(rt: HostRuntime) {
+    assert!(rt; all_differ());
+}
+
+/// In no order somebody has a bit too much, lacks one in the end, or types where the file gives no
+/// w.
+#[test]
+fn rights_are_the_files_in_every_order(rt: HostRuntime) {
+    assert_eq!(rt; found_in_all(rt.alloc()), Ok(NONE));
+}
+
+/// Without the mask before an opening the guest of a killed `mux-guest` has rwx on a console that is
+/// opened then. So it is if a console is opened between Killed and Comes: 12 of 24 orders have
+/// Killed before Comes, and in 6 of these they stand side by side.
+#[test]
+fn a_missing_mask_is_seen(rt: HostRuntime) {
+    let found = found_without(rt.alloc(), Form::WithoutMask);
+    assert_eq!(rt;
+        found,
+        Ok(Found {
+            too_much: 6,
+            ..NONE
+        })
+    );
+}
+
+/// Without what the file gives after an opening nobody has anything in the end: also not ann, who
+/// got it when she returned, since web1 is opened after that.
+#[test]
+fn missing_grants_are_seen(rt: HostRuntime) {
+    let found = found_without(rt.alloc(), Form::WithoutGrants);
+    assert_eq!(rt;
+        found,
+        Ok(Found {
+            lacking: 24,
+            astray: 24,
+            ..NONE
+        })
+    );
+}

@@ -1,0 +1,136 @@
+//! The commands that the scripts of `contrib/` give. Each script is played as a whole, since a lock
+//! keeps them apart: `mux-rights`, `mux-console` and `mux-guest`.
+
+use crate::rights::{COMMANDS, GRANTS, GUEST, TITLES};
+use crate::stage::Stage;
+use session_model::Event;
+use std::alloc::AllocError;
+
+/// Which commands are left out, so that it is seen whether the comparison finds that.
+#[derive(Clone, Copy, PartialEq, Eq)]
+pub enum Form {
+    Whole,
+    /// Without the mask before an opening.
+    WithoutMask,
+    /// Without what the file gives after an opening.
+    WithoutGrants,
+}
+
+/// What happens to the consoles.
+#[derive(Clone, Copy, PartialEq, Eq)]
+pub enum Thing {
+    /// The program of web1 ends, and it is opened again.
+    First,
+    /// The same of web2.
+    Second,
+    /// `mux-guest` is killed after its first command.
+    Killed,
+    /// `mux-guest` lets the guest read web1; what a killed one left is removed before.
+    Comes,
+    /// ann is removed, and comes back by `mux-rights`.
+    Returns,
+}
+
+/// `mux-rights FILE setup`, and then both consoles are opened.
+pub fn begin(stage: &mut Stage, form: Form) -> Result<(), AllocError> {
+    stage.own(&["multiuser on"])?;
+    stage.own(&["aclumask ?-rwx"])?;
+    stage.own(&["aclumask ??-rwx"])?;
+    for (name, commands) in &COMMANDS {
+        stage.own(&["aclchg ", name, " -rwx ?"])?;
+        stage.own(&["aclchg ", name, " +x ", commands])?;
+    }
+    stage.own(&["aclumask -rwx"])?;
+    for place in 0..TITLES.len() {
+        reopen(stage, form, place)?;
+    }
+    Ok(())
+}
+
+/// `mux-console`: closes the console of this place, if it is open, and opens it again.
+fn reopen(stage: &mut Stage, form: Form, place: usize) -> Result<(), AllocError> {
+    let Some(title) = TITLES.get(place) else {
+        return Ok(());
+    };
+    if let Some(window) = stage.closed(place) {
+        stage.step(Event::Closed { window })?;
+    }
+    if form != Form::WithoutMask {
+        stage.own(&["aclumask -rwx"])?;
+    }
+    stage.open(place, title)?;
+    stage.own(&["aclumask -rwx"])?;
+    stage.own(&["aclchg * -rwx ", title])?;
+    if form == Form::WithoutGrants {
+        return Ok(());
+    }
+    give_on(stage, title, None)
+}
+
+/// The file's lines for a console, or those for one user. A line for a user who isn't known is left
+/// out: aclchg would make the name known.
+fn give_on(stage: &mut Stage, title: &str, name: Option<&str>) -> Result<(), AllocError> {
+    for grant in &GRANTS {
+        let is_meant = match name {
+            Some(name) => grant.user == name,
+            None => true,
+        };
+        if grant.title == title && is_meant && stage.own(&["aclumask ", grant.user, "-rwx"])? {
+            stage.own(&["aclchg ", grant.user, " +", grant.bits, " ", title])?;
+        }
+    }
+    Ok(())
+}
+
+/// Makes a name known without any right, masks it, and gives it commands.
+fn admit(stage: &mut Stage, name: &str, commands: &str) -> Result<(), AllocError> {
+    stage.own(&["aclchg ", name, " -rwx #?"])?;
+    stage.own(&["aclumask ", name, "-rwx"])?;
+    stage.own(&["aclchg ", name, " -rwx #"])?;
+    stage.own(&["aclgrp ", name, " none"])?;
+    stage.own(&["aclchg ", name, " +x ", commands])?;
+    Ok(())
+}
+
+/// `mux-guest --read web1 guest1`.
+fn comes(stage: &mut Stage) -> Result<(), AllocError> {
+    if stage.knows(GUEST)? {
+        stage.read = None;
+        stage.own(&["acldel ", GUEST])?;
+    }
+    admit(stage, GUEST, "detach,next,prev,scrollview")?;
+    stage.read = stage.opened(0);
+    stage.own(&["aclchg ", GUEST, " +r web1"])?;
+    Ok(())
+}
+
+/// `acldel ann`, and `mux-rights FILE user ann`.
+fn returns(stage: &mut Stage) -> Result<(), AllocError> {
+    stage.own(&["acldel ann"])?;
+    admit(stage, "ann", "detach,select,next,prev")?;
+    for title in &TITLES {
+        give_on(stage, title, Some("ann"))?;
+    }
+    Ok(())
+}
+
+/// `mux-guest`, which refuses a guest who is known, and is killed after its first command.
+fn is_killed(stage: &mut Stage) -> Result<(), AllocError> {
+    if !stage.knows(GUEST)? {
+        stage.own(&["aclchg ", GUEST, " -rwx #?"])?;
+    }
+    Ok(())
+}
+
+/// What happens; then rights are compared with the file.
+pub fn happens(stage: &mut Stage, form: Form, thing: Thing) -> Result<(), AllocError> {
+    match thing {
+        Thing::First => reopen(stage, form, 0)?,
+        Thing::Second => reopen(stage, form, 1)?,
+        Thing::Killed => is_killed(stage)?,
+        Thing::Comes => comes(stage)?,
+        Thing::Returns => returns(stage)?,
+    }
+    stage.look();
+    Ok(())
+}

@@ -1,0 +1,75 @@
+//! What users can type in the end, by their keys and not by what the lists say.
+
+use crate::rights::{COMMANDS, GUEST, TITLES, gives};
+use crate::stage::{Stage, user};
+use acl::{Bit, UserId};
+use session_model::{Effect, Event};
+use std::alloc::AllocError;
+
+/// A user goes to each console, by its title and by the next one, and types there.
+static KEYS: [&[u8]; 4] = [
+    b"\x01:select web1\rx",
+    b"\x01nx",
+    b"\x01:select web2\rx",
+    b"\x01nx",
+];
+
+/// Attaches a client of the user, which types; what it does outside is appended.
+fn types(stage: &mut Stage, user: UserId, effects: &mut Vec<Effect>) -> Result<(), AllocError> {
+    let attached = stage.step(Event::Attach {
+        user,
+        rows: 4,
+        columns: 20,
+    })?;
+    let Some(client) = attached else {
+        return Ok(());
+    };
+    let mut replies = Vec::new(stage.alloc);
+    for bytes in &KEYS {
+        let ran = stage
+            .session
+            .run(&[Event::Keys { client, bytes }], effects, &mut replies);
+        if ran.stopped {
+            return Err(AllocError);
+        }
+    }
+    Ok(())
+}
+
+fn is_typed(effects: &[Effect], window: u32) -> bool {
+    for effect in effects {
+        if let Effect::Input(typed, _) = effect {
+            if *typed == window {
+                return true;
+            }
+        }
+    }
+    false
+}
+
+/// Whether what a user types reaches just the consoles on which the file gives w.
+fn reaches_its_own(stage: &mut Stage, name: &str) -> Result<bool, AllocError> {
+    let mut effects = Vec::new(stage.alloc);
+    types(stage, user(name)?, &mut effects)?;
+    for (place, title) in TITLES.iter().enumerate() {
+        let wanted = gives(name.as_bytes(), Bit::Write, title);
+        let found = match stage.opened(place) {
+            Some(window) => is_typed(effects.as_slice(), window),
+            None => false,
+        };
+        if wanted != found {
+            return Ok(false);
+        }
+    }
+    Ok(true)
+}
+
+/// Whether that is so of all users of the file and of the guest.
+pub fn all_reach_their_own(stage: &mut Stage) -> Result<bool, AllocError> {
+    for (name, _) in &COMMANDS {
+        if !reaches_its_own(stage, name)? {
+            return Ok(false);
+        }
+    }
+    reaches_its_own(stage, GUEST)
+}

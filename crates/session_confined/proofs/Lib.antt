@@ -1,0 +1,8 @@
+pub mod Comings
+pub mod Confining
+pub mod Leaving
+pub mod Calming
+pub mod Sparing
+pub mod Commanding
+pub mod Happening
+pub mod Keeping

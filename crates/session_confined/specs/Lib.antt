@@ -1,0 +1,2 @@
+pub mod Confined
+pub mod Keeping
