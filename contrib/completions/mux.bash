@@ -17,7 +17,7 @@ _mux() {
     local program=$1 current=$2 previous=$3 words='' verb=''
     COMPREPLY=()
     case $previous in
-    --socket | --users | --setup | --token | --sizes | --trail)
+    --socket | --users | --setup | --token | --sizes | --trail | --rights | --trails | --lock)
         mapfile -t COMPREPLY < <(compgen -f -- "$current")
         compopt -o filenames 2>/dev/null
         return
@@ -26,7 +26,12 @@ _mux() {
     --show) words='own' ;;
     --loops) words='1 2 3 4 5 6 7 8' ;;
     --term) words='mux mux-8color vt220' ;;
+    --login)
+        mapfile -t COMPREPLY < <(compgen -u -- "$current")
+        return
+        ;;
     --user | --rows | --cols | --title | --keep | --window | --read | --session | --for | --owner | --at) return ;;
+    --presets) return ;;
     *)
         # mux and mux-trail have subcommands, each with options of its own
         if [[ ${program##*/} == mux || ${program##*/} == mux-trail ]]; then
@@ -49,4 +54,5 @@ _mux() {
 }
 
 complete -F _mux -o bashdefault -o default muxd mux muxsim mux-trail vtcat \
-    mux-attach mux-command mux-guest mux-over-ssh mux-pty mux-shell mux-turn mux-watch muxd-wait new-token
+    mux-attach mux-command mux-console mux-guest mux-over-ssh mux-pty mux-rights mux-shell mux-turn mux-watch muxd-run \
+    muxd-stop muxd-wait new-token
