@@ -17,7 +17,7 @@ _mux() {
     local program=$1 current=$2 previous=$3 words='' verb=''
     COMPREPLY=()
     case $previous in
-    --socket | --users | --setup | --token | --sizes | --trail)
+    --socket | --users | --setup | --token | --sizes | --trail | --rights | --trails | --lock)
         mapfile -t COMPREPLY < <(compgen -f -- "$current")
         compopt -o filenames 2>/dev/null
         return
@@ -27,7 +27,12 @@ _mux() {
     --loops) words='1 2 3 4 5 6 7 8' ;;
     --term) words='mux mux-8color vt220' ;;
     --leave) words='none' ;;
+    --login)
+        mapfile -t COMPREPLY < <(compgen -u -- "$current")
+        return
+        ;;
     --user | --rows | --cols | --title | --keep | --window | --read | --session | --for | --wait | --owner | --at) return ;;
+    --presets) return ;;
     *)
         # mux and mux-trail have subcommands, each with options of its own
         if [[ ${program##*/} == mux || ${program##*/} == mux-trail ]]; then

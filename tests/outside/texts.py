@@ -222,7 +222,8 @@ class Play:
 
     def real(self, line):
         """Paths of the system are folders of the play's own."""
-        return re.sub(r"/(srv|etc/mux|run/mux)/(?=\w)", self.on.far + "/", line)
+        line = re.sub(r"/(var/lib/mux|etc/mux|run/mux)(?=/\w)", self.on.far + r"/\1", line)
+        return re.sub(r"(?<![\w/])/srv/(?=\w)", self.on.far + "/", line)
 
     def run(self, pane, line):
         """A command line that ends, of a user or of root, or one of the prose."""
@@ -545,57 +546,69 @@ def operating(play):
     """docs/OPERATING.md: what its units start is started by hand."""
     on = play.on
     text = play.text
-    system = "it needs systemd, or changes the system; what the unit starts is started here by hand"
-    for line in ("muxd --setup FILE", "muxsim --setup FILE", "mux-guest --read web1 guest1"):
-        text.leave(line, "tests/outside/policies plays it")
-    for line in ("new-token ann", "loginctl enable-linger", "systemctl --user enable --now muxd",
-                 "setsid -f mux-shell --user ann --title shell"):
-        text.leave("$ " + line, system)
-    text.leave("# useradd --system --shell /usr/sbin/nologin mux", system)
+    for path in ("var/lib/mux/ops", "etc/mux/ops", "run/mux/ops"):
+        os.makedirs(os.path.join(on.far, path))
+    for name in ("own", "ann", "bob", "wall"):
+        on_far = play.real("/var/lib/mux/ops/users")
+        subprocess.run([os.path.join(TOP, "contrib/new-token"), "--users", on_far, name], check=True,
+                       stdout=subprocess.DEVNULL)
+    rights = play.real("/etc/mux/ops/rights")
+    shutil.copy(os.path.join(TOP, "contrib/rights.example"), rights)
+    os.chmod(rights, 0o644)
+
+    def left(line):
+        """Lines that change the system; tests/outside/consoles plays what they set up."""
+        why = "it needs systemd, another login or another host; tests/outside/consoles plays what it sets up"
+        for words, better in (("tic ", "make lint compiles it"), ("mux-over-ssh", "tests/outside/terminals plays it"),
+                              ("muxsim --setup", "tests/outside/policies plays it"),
+                              ("muxd --setup", "tests/outside/policies plays it"),
+                              ("mux-trail", "tests/outside/trailfile plays it"),
+                              ("muxd --trail", "tests/outside/trailfile plays it")):
+            if words in line:
+                why = better
+        text.leave(line, why)
+
+    def leave_until(line):
+        """Passes over the lines of blocks up to this one."""
+        while text.lines and text.lines[0][0] != line:
+            left(text.lines[0][0])
+
     on.open("root")
-    os.mkdir(os.path.join(on.far, "ops"))
-    play.run("root", "for name in own console wall ann bob guest1 guest2; do"
-             " new-token --users /etc/mux/ops/users $name; done")
-    text.leave("# systemctl enable --now muxd@ops", system)
-    on.run("root", play.real("(umask 007; setsid -f muxd --socket /run/mux/ops/socket --users /etc/mux/ops/users"
-                             " > /run/mux/log 2>&1)"))
-    play.run("root", "export MUX_SOCKET=/run/mux/ops/socket")
-    on.run("root", "muxd-wait")
-    play.run("root", 'own() { mux-command --user own --token /etc/mux/ops/own.token "$@"; }')
-    play.run("root", "own multiuser on")
-    for line in ("useradd --system --create-home --groups dialout,ops mux-console",
-                 "install -d -m 700 /etc/mux/console",
-                 "printf '%s\\n' GROUP=ops 'COMMAND=ssh -e none -tt admin@web1' > /etc/mux/console/web1.conf",
-                 "ln -s /etc/mux/ops/console.token /etc/mux/console/web1.token",
-                 "systemctl enable --now mux-console@web1"):
-        text.leave("# " + line, system)
-    for line in ("own 'aclumask ?-wx ??-x'",
-                 "own 'aclchg ann,bob +x detach,select,next,prev,other,scrollview,windows'",
-                 "own 'aclchg console +x screen,aclumask'",
-                 "mux-command --user console --token /etc/mux/ops/console.token 'aclumask -wx'",
-                 "own 'aclchg console -x aclumask'"):
-        play.run("root", line)
-        on.run("root", "echo status $?", ["status 0"])
-        on.run("root", "clear")
-    console = play.real("setsid -f mux-shell --user console --token /etc/mux/ops/console.token --title web1 -- cat")
-    on.run("root", console)
-    on.run("root", play.real("muxd-wait --window web1 --user console --token /etc/mux/ops/console.token; clear"))
-    on.run("root", play.real("mux-command --user ann --token /etc/mux/ops/ann.token windows"), ["0 web1"])
+    on.run("root", "export MUX_USER=own; cd")
+    leave_until("$ export MUX_SOCKET=/run/mux/ops/socket")
+    text.leave(text.lines[0][0], "it is played below")
+    on.run("root", play.real("(umask 007; setsid -f muxd-run --socket /run/mux/ops/socket --users /var/lib/mux/ops/users"
+                             " --rights /etc/mux/ops/rights > ~/log 2>&1); muxd-wait --socket /run/mux/ops/socket"))
+    leave_until("# export MUX_SOCKET=/run/mux/ops/socket MUX_TOKEN=/var/lib/mux/ops/own.token MUX_LOCK=/etc/mux/ops")
+    play.run("root", text.lines[0][0][2:])
+    play.run("root", 'own() { mux-rights /etc/mux/ops/rights command "$@"; }')
+    on.run("root", "setsid -f mux-shell --title web1 -- cat; muxd-wait --window web1")
+    on.run("root", play.real("clear; mux-rights /etc/mux/ops/rights window web1; echo status $?"), ["status 0"])
+    play.run("root", "own windows")
+    on.shows("root", "^0 web1")
     on.open("ann")
     on.run("ann", play.real("export MUX_SOCKET=/run/mux/ops/socket"))
-    on.type("ann", play.real("mux-attach --user ann --token /etc/mux/ops/ann.token\n"))
+    on.type("ann", play.real("mux-attach --user ann --token /var/lib/mux/ops/ann.token\n"))
     on.shows("ann", "^0 web1")
-    on.type("ann", "x")
-    on.shows("ann", "^denied: w on window 0: entry ann -w")
-    text.take("own 'aclchg ann +w web1'")
-    on.run("root", "own 'aclchg ann +w web1'")
     on.type("ann", "hello wall\n")
     on.shows("ann", "^hello wall")
-    for line in ("own 'aclumask ?-rwx ??-x'", "own 'aclchg wall +r web1'", "own 'aclchg wall +x select'",
-                 "own 'aclumask wall-rwx'"):
-        play.run("root", line)
+    play.run("root", "own wall 'back at three'")
+    on.shows("ann", "^own: back at three")
+    # A name that becomes known by own has nothing on windows that open later.
+    on.run("root", "own aclchg carl +x next; setsid -f mux-shell --title later -- cat; muxd-wait --window later; clear")
+    on.run("root", play.real("new-token --users /var/lib/mux/ops/users carl; own aclchg carl +x windows; clear;"
+                             " mux-command --user carl --token /var/lib/mux/ops/carl.token windows"), ["0 ?  1 ?"])
+    line = "mux-guest --read web1 guest1"
+    play.text.take("# " + line)
+    on.type("root", line + "\n")
+    on.shows("root", "^guest1 reads web1 for 30m")
+    before = on.prompts("root")
+    on.keys("root", "C-c")
+    on.wait("root", "end of mux-guest", lambda: on.prompts("root") > before)
+    on.run("root", "clear; own aclgrp guest1", ["acl: 1"])
+    leave_until("$ mux-watch --user wall --token wall.token --window web1")
     on.open("wall")
-    on.run("wall", play.real("export MUX_SOCKET=/run/mux/ops/socket; cd /etc/mux/ops"))
+    on.run("wall", play.real("export MUX_SOCKET=/run/mux/ops/socket; cd /var/lib/mux/ops"))
     play.attach("wall", "mux-watch --user wall --token wall.token --window web1", "^0 web1")
     on.shows("wall", "^hello wall")
     on.type("wall", "x")
@@ -606,33 +619,20 @@ def operating(play):
     on.tmux("resize-window", "-t", "texts:wall", "-x", "60", "-y", "12")
     time.sleep(1)
     on.shows("wall", "^again")
-    for line in ("make install", "loginctl enable-linger", "systemctl stop", "systemctl edit muxd@ops"):
-        text.leave(line, system)
-    for line in ("# install -d -m 700 -o mux /var/log/mux", "# trail=/var/log/mux/ops-$(date +%Y-%m-%dT%H%M%S).trail",
-                 "# muxd --socket /run/mux/ops/socket --users /etc/mux/ops/users --trail $trail",
-                 "# mux-trail check $trail"):
-        text.leave(line, system)
-    for line in ("muxd --trail FILE", "mux-trail who FILE", "mux-trail why FILE ann w 3", "mux-trail who --at 1200 FILE",
-                 "mux-trail show --follow FILE", "mux-trail show FILE", "mux-trail show --json FILE",
-                 "mux-trail check FILE",
-                 "mux-trail check --owner own"):
-        text.leave(line, "tests/outside/trailfile plays it")
-    text.leave("mux-shell script -f FILE", "its program's matter")
-    text.leave("tic -x /usr/local/share/mux/mux.ti", "make lint compiles it")
-    text.leave("$ infocmp -x mux-8color | ssh HOST tic -x -", "it needs another host")
-    text.leave("$ TERM=vt220 ssh HOST", "it needs another host")
-    text.leave("mux-over-ssh --user ann HOST", "tests/outside/terminals plays it")
-    text.take("own wall 'back at three'")
-    on.run("root", "own wall 'back at three'")
-    on.shows("ann", "^own: back at three")
-    on.run("root", "own quit")
-    # The wall waits for the next server, and ends by C-c with its terminal as it was.
-    on.run("root", play.real("while [ -e /run/mux/ops/socket ]; do sleep 0.1; done; setsid -f muxd --socket"
-                             " /run/mux/ops/socket --users /etc/mux/ops/users > /run/mux/log 2>&1; muxd-wait"))
-    on.run("root", "own multiuser on; own aclchg wall +r desk; own 'aclchg wall +x select'")
-    on.run("root", play.real("setsid -f mux-shell --user own --token /etc/mux/ops/own.token --title web1"
-                             " sh -c 'echo new; cat'"))
-    on.run("root", "muxd-wait --window web1 --user own --token %s/ops/own.token; own 'aclchg wall +r web1'" % on.far)
+    while text.lines:
+        left(text.lines[0][0])
+    for line in ("own multiuser off", "own multiuser on", "own acldel bob"):
+        text.take(line)
+        on.run("root", "clear; " + line + "; echo status $?", ["status 0"])
+    while text.spans:
+        left(text.spans[0])
+    # The wall says that the session ended, waits for the next one, and ends by C-c with its terminal as it was.
+    on.run("root", play.real("own quit; while [ -e /run/mux/ops/socket ]; do sleep 0.1; done"))
+    on.shows("wall", "no session: ", 4)
+    on.run("root", play.real("(umask 007; setsid -f muxd-run --socket /run/mux/ops/socket --users /var/lib/mux/ops/users"
+                             " --rights /etc/mux/ops/rights > ~/log 2>&1); muxd-wait"))
+    on.run("root", "setsid -f mux-shell --title web1 sh -c 'echo new; cat'; muxd-wait --window web1")
+    on.run("root", play.real("mux-rights /etc/mux/ops/rights window web1"))
     on.shows("wall", "^new")
     before = on.prompts("wall")
     on.keys("wall", "C-c")
