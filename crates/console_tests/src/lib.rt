@@ -11,4 +11,6 @@ mod scripts;
 #[cfg(test)]
 mod stage;
 #[cfg(test)]
+mod table;
+#[cfg(test)]
 mod typing;

@@ -1,14 +1,14 @@
 //! The file of rights, and what it gives.
 
-use acl::Bit;
-
 /// The titles of the consoles.
 pub static TITLES: [&str; 2] = ["web1", "web2"];
 
 /// A line of the file that gives bits on a console.
 pub struct Grant {
     pub user: &'static str,
-    pub bits: &'static str,
+    pub word: &'static str,
+    /// r is 1, w is 2, x is 4.
+    pub bits: u8,
     pub title: &'static str,
 }
 
@@ -16,22 +16,26 @@ pub struct Grant {
 pub static GRANTS: [Grant; 4] = [
     Grant {
         user: "ann",
-        bits: "rw",
+        word: "+rw",
+        bits: 3,
         title: "web1",
     },
     Grant {
         user: "bob",
-        bits: "r",
+        word: "+r",
+        bits: 1,
         title: "web1",
     },
     Grant {
         user: "bob",
-        bits: "r",
+        word: "+r",
+        bits: 1,
         title: "web2",
     },
     Grant {
         user: "wall",
-        bits: "r",
+        word: "+r",
+        bits: 1,
         title: "web1",
     },
 ];
@@ -46,32 +50,12 @@ pub static COMMANDS: [(&str, &str); 3] = [
 /// The name of a guest, who isn't in the file.
 pub static GUEST: &str = "guest1";
 
-fn letter_of(bit: Bit) -> u8 {
-    match bit {
-        Bit::Read => b'r',
-        Bit::Write => b'w',
-        Bit::Execute => b'x',
-    }
-}
-
-fn has_letter(bits: &str, letter: u8) -> bool {
-    for byte in bits.as_bytes() {
-        if *byte == letter {
-            return true;
-        }
-    }
-    false
-}
-
-/// Whether the file gives a user a bit on the console of this title.
-pub fn gives(user: &[u8], bit: Bit, title: &str) -> bool {
+/// The bits that the file gives a user on the console of this title.
+pub fn given(user: &[u8], title: &str) -> u8 {
     for grant in &GRANTS {
-        if grant.user.as_bytes() == user
-            && grant.title == title
-            && has_letter(grant.bits, letter_of(bit))
-        {
-            return true;
+        if grant.user.as_bytes() == user && grant.title == title {
+            return grant.bits;
         }
     }
-    false
+    0
 }

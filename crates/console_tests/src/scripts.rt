@@ -76,7 +76,7 @@ fn give_on(stage: &mut Stage, title: &str, name: Option<&str>) -> Result<(), All
             None => true,
         };
         if grant.title == title && is_meant && stage.own(&["aclumask ", grant.user, "-rwx"])? {
-            stage.own(&["aclchg ", grant.user, " +", grant.bits, " ", title])?;
+            stage.own(&["aclchg ", grant.user, " ", grant.word, " ", title])?;
         }
     }
     Ok(())
@@ -122,15 +122,13 @@ fn is_killed(stage: &mut Stage) -> Result<(), AllocError> {
     Ok(())
 }
 
-/// What happens; then rights are compared with the file.
+/// What happens.
 pub fn happens(stage: &mut Stage, form: Form, thing: Thing) -> Result<(), AllocError> {
     match thing {
-        Thing::First => reopen(stage, form, 0)?,
-        Thing::Second => reopen(stage, form, 1)?,
-        Thing::Killed => is_killed(stage)?,
-        Thing::Comes => comes(stage)?,
-        Thing::Returns => returns(stage)?,
+        Thing::First => reopen(stage, form, 0),
+        Thing::Second => reopen(stage, form, 1),
+        Thing::Killed => is_killed(stage),
+        Thing::Comes => comes(stage),
+        Thing::Returns => returns(stage),
     }
-    stage.look();
-    Ok(())
 }

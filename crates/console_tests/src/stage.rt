@@ -1,23 +1,11 @@
-//! A session whose owner gives commands, and the rights that everybody has after each of them.
+//! A session whose owner gives commands, and the rights that everybody has then.
 
-use crate::rights::{GRANTS, GUEST, TITLES, gives};
-use acl::{Bit, CommandName, Edition, Object, UserId};
-use hub_check::Replay;
+use crate::rights::{GRANTS, GUEST, TITLES, given};
+use crate::table::Table;
+use acl::UserId;
 use session_core::{Notes, Session};
-use session_model::{Event, Verdict};
+use session_model::Event;
 use std::alloc::{AllocError, Global};
-
-/// Commands that nobody but the owner may give: those that change rights, and openings.
-static OWNERS: [CommandName; 6] = [
-    CommandName::Acladd,
-    CommandName::Aclchg,
-    CommandName::Acldel,
-    CommandName::Aclgrp,
-    CommandName::Aclumask,
-    CommandName::Screen,
-];
-
-static BITS: [Bit; 3] = [Bit::Read, Bit::Write, Bit::Execute];
 
 /// A session, and the rights after its acts.
 #[derive(Drop)]
@@ -25,15 +13,13 @@ pub struct Stage {
     pub alloc: Global,
     owner: UserId,
     pub session: Session,
-    replay: Replay,
+    pub table: Table,
     /// The serials of the consoles, in the order of their titles.
     open: [Option<u32>; 2],
     /// The window that the guest may read.
     pub read: Option<u32>,
-    /// Whether somebody had a right that nothing gives, after an opening or in the end of a script.
+    /// Whether somebody had a right that nothing gives, after some command.
     pub has_too_much: bool,
-    /// Whether some acts didn't follow those before them.
-    pub is_lost: bool,
 }
 
 /// The user of a name.
@@ -48,21 +34,22 @@ impl Stage {
             alloc,
             owner,
             session: Session::new(alloc, owner).map_err(|_refusal| AllocError)?,
-            replay: Replay::new(alloc, Edition::Second, owner)?,
+            table: Table::new(),
             open: [None, None],
             read: None,
             has_too_much: false,
-            is_lost: false,
         })
     }
 
-    /// One step, whose acts are done again; the serial that it made, if it wasn't refused.
+    /// One step, after which everybody's rights are compared with what is given; the serial that it
+    /// made, if it wasn't refused.
     pub fn step(&mut self, event: Event<'_>) -> Result<Option<u32>, AllocError> {
         let mut effects = Vec::new(self.alloc);
         let mut notes = Notes::new(self.alloc);
         let reply = self.session.step(event, &mut effects, &mut notes);
-        let follows = self.replay.follow_all(notes.acts())?;
-        self.is_lost = self.is_lost || !follows;
+        for act in notes.acts() {
+            self.table.follow(*act);
+        }
         match reply {
             Ok(done) => Ok(Some(done.made)),
             Err(_refusal) => Ok(None),
@@ -80,6 +67,7 @@ impl Stage {
             window: None,
             line: line.as_bytes(),
         })?;
+        self.look();
         Ok(made.is_some())
     }
 
@@ -118,46 +106,22 @@ impl Stage {
 
     /// Whether the user of this name is known.
     pub fn knows(&self, name: &str) -> Result<bool, AllocError> {
-        Ok(self.replay.knows(user(name)?))
+        Ok(self.table.knows(user(name)?))
     }
 
-    fn has(&self, user: UserId, bit: Bit, object: Object) -> bool {
-        self.replay.is_true(Verdict::Right {
-            user,
-            bit,
-            object,
-            answer: true,
-        })
-    }
-
-    /// Whether a user may have a bit on a console: the file gives it, or it is the guest's.
-    fn is_given(&self, user: UserId, bit: Bit, title: &str, window: u32) -> bool {
-        let is_guests = user.as_bytes() == GUEST.as_bytes()
-            && matches!(bit, Bit::Read)
-            && self.read == Some(window);
-        is_guests || gives(user.as_bytes(), bit, title)
-    }
-
-    fn has_too_much_on(&self, user: UserId, title: &str, window: u32) -> bool {
-        for bit in &BITS {
-            if self.has(user, *bit, Object::Window(window))
-                && !self.is_given(user, *bit, title, window)
-            {
-                return true;
-            }
+    /// The bits that a user may have on a console: what the file gives, and r of the guest.
+    fn given_on(&self, user: UserId, title: &str, window: u32) -> u8 {
+        if user.as_bytes() == GUEST.as_bytes() && self.read == Some(window) {
+            return 1;
         }
-        false
+        given(user.as_bytes(), title)
     }
 
     fn has_too_much(&self, user: UserId) -> bool {
-        for command in &OWNERS {
-            if self.has(user, Bit::Execute, Object::Command(*command)) {
-                return true;
-            }
-        }
         for (title, open) in TITLES.iter().zip(&self.open) {
-            if let Some(window) = open {
-                if self.has_too_much_on(user, title, *window) {
+            if let Some(window) = *open {
+                let bits = self.table.bits(user, window).unwrap_or(0);
+                if bits | self.given_on(user, title, window) != self.given_on(user, title, window) {
                     return true;
                 }
             }
@@ -165,10 +129,11 @@ impl Stage {
         false
     }
 
-    /// Notes whether a known user, but for the owner, who is the first, has too much now.
-    pub fn look(&mut self) {
-        for place in 1..self.replay.user_count() {
-            if let Some(user) = self.replay.user_at(place) {
+    /// Notes whether some known user has too much now.
+    fn look(&mut self) {
+        self.has_too_much = self.has_too_much || self.table.shares_owners();
+        for place in 0..self.table.len() {
+            if let Some(user) = self.table.user_at(place) {
                 self.has_too_much = self.has_too_much || self.has_too_much(user);
             }
         }
@@ -179,24 +144,15 @@ impl Stage {
         for grant in &GRANTS {
             let user = user(grant.user)?;
             for (title, open) in TITLES.iter().zip(&self.open) {
-                if let Some(window) = open {
-                    if self.replay.knows(user) && self.lacks_on(user, title, *window) {
+                if let Some(window) = *open {
+                    let wanted = given(user.as_bytes(), title);
+                    let found = self.table.bits(user, window);
+                    if matches!(found, Some(bits) if bits | wanted != bits) {
                         return Ok(true);
                     }
                 }
             }
         }
         Ok(false)
-    }
-
-    fn lacks_on(&self, user: UserId, title: &str, window: u32) -> bool {
-        for bit in &BITS {
-            if gives(user.as_bytes(), *bit, title)
-                && !self.has(user, *bit, Object::Window(window))
-            {
-                return true;
-            }
-        }
-        false
     }
 }

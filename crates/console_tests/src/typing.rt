@@ -1,8 +1,8 @@
 //! What users can type in the end, by their keys and not by what the lists say.
 
-use crate::rights::{COMMANDS, GUEST, TITLES, gives};
+use crate::rights::{COMMANDS, GUEST, TITLES, given};
 use crate::stage::{Stage, user};
-use acl::{Bit, UserId};
+use acl::UserId;
 use session_model::{Effect, Event};
 use std::alloc::AllocError;
 
@@ -52,7 +52,7 @@ fn reaches_its_own(stage: &mut Stage, name: &str) -> Result<bool, AllocError> {
     let mut effects = Vec::new(stage.alloc);
     types(stage, user(name)?, &mut effects)?;
     for (place, title) in TITLES.iter().enumerate() {
-        let wanted = gives(name.as_bytes(), Bit::Write, title);
+        let wanted = given(name.as_bytes(), title) & 2 != 0;
         let found = match stage.opened(place) {
             Some(window) => is_typed(effects.as_slice(), window),
             None => false,

@@ -5,7 +5,6 @@ use Rattle.std.specs.List.{AllByRecursion}
 use Rattle.std.specs.Str.{is_utf8, chars}
 use Rattle.std.specs.Fmt.{digits}
 use Rattle.unicode_width.specs.Width.{char_width}
-use Rattle.acl.specs.declared.edition.Edition.{Edition}
 use Rattle.acl.specs.declared.edition.Edition.TheVariants.{First, Second}
 use Rattle.acl.specs.declared.bits.Bit.{Bit}
 use Rattle.acl.specs.declared.bits.Bit.TheVariants.{Read, Write, Execute}

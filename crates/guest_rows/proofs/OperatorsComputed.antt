@@ -5,10 +5,8 @@ use Rattle.std.specs.List.{AllByRecursion}
 use Rattle.std.specs.Str.{is_utf8, chars}
 use Rattle.std.specs.Fmt.{digits}
 use Rattle.unicode_width.specs.Width.{char_width}
-use Rattle.acl.specs.declared.edition.Edition.{Edition}
 use Rattle.acl.specs.declared.edition.Edition.TheVariants.{First, Second}
-use Rattle.acl.specs.declared.bits.Bit.{Bit}
-use Rattle.acl.specs.declared.bits.Bit.TheVariants.{Read, Write, Execute}
+use Rattle.acl.specs.declared.bits.Bit.TheVariants.{Write, Execute}
 use Rattle.acl.specs.declared.user_id.UserId.{UserId}
 use Rattle.command_lang.specs.Names.{command_named}
 use Rattle.command_lang_words.specs.Lines.{single, double, parts, line}

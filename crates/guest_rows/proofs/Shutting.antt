@@ -1,6 +1,6 @@
 -- What is computed of listed users, and of each name that became known, is what the law asks of tables.
 use Rattle.std.proofs.Common.{◌≡◌, Bool, true, false, List, [], ◌∷◌, refl, sym, subst, inl, inr}
-use Rattle.std.specs.Prelude.{◌||◌, ◌&&◌, ◌⊎◌}
+use Rattle.std.specs.Prelude.{◌||◌, ◌⊎◌}
 use Rattle.std.specs.List.{AllByRecursion}
 use Rattle.acl.specs.declared.user_id.UserId.{UserId}
 use Rattle.acl.specs.declared.bits.Bit.{Bit}

@@ -12,33 +12,39 @@ use Rattle.session_model.specs.Deeds.{unless, refused_if, given}
 use Rattle.policy_rows.specs.Policies as rows
 
 support_first : rows.Support First
-unfolding is_utf8 chars encode char_width digits command_named single double parts line words_faults unless refused_if given
+unfolding is_utf8 chars encode char_width digits command_named single double parts line words_faults
+    unless refused_if given
 support_first = (refl, refl, refl, refl, refl, refl)
 
 support_second : rows.Support Second
-unfolding is_utf8 chars encode char_width digits command_named single double parts line words_faults unless refused_if given
+unfolding is_utf8 chars encode char_width digits command_named single double parts line words_faults
+    unless refused_if given
 support_second = (refl, refl, refl, refl, refl, refl)
 
 pub support : rows.InBoth rows.Support
 support = (support_first, support_second)
 
 class_first : rows.Class First
-unfolding is_utf8 chars encode char_width digits command_named single double parts line words_faults unless refused_if given
+unfolding is_utf8 chars encode char_width digits command_named single double parts line words_faults
+    unless refused_if given
 class_first = (refl, refl, refl, refl, refl, refl, refl, refl, refl)
 
 class_second : rows.Class Second
-unfolding is_utf8 chars encode char_width digits command_named single double parts line words_faults unless refused_if given
+unfolding is_utf8 chars encode char_width digits command_named single double parts line words_faults
+    unless refused_if given
 class_second = (refl, refl, refl, refl, refl, refl, refl, refl, refl)
 
 pub class : rows.InBoth rows.Class
 class = (class_first, class_second)
 
 ops_first : rows.Ops First
-unfolding is_utf8 chars encode char_width digits command_named single double parts line words_faults unless refused_if given
+unfolding is_utf8 chars encode char_width digits command_named single double parts line words_faults
+    unless refused_if given
 ops_first = (refl, refl, refl, refl, refl, refl, refl, refl)
 
 ops_second : rows.Ops Second
-unfolding is_utf8 chars encode char_width digits command_named single double parts line words_faults unless refused_if given
+unfolding is_utf8 chars encode char_width digits command_named single double parts line words_faults
+    unless refused_if given
 ops_second = (refl, refl, refl, refl, refl, refl, refl, refl)
 
 pub ops : rows.InBoth rows.Ops

@@ -1,0 +1,244 @@
+//! Who has which bits after some acts, of a session in which the owner alone opens windows and
+//! nobody has a leader. A name that becomes known gets the presets on what is there, and its mask
+//! allows everything; what is opened starts from the masks; acts set single bits.
+
+use acl::{Act, Bit, CommandName, Object, PresetKind, UserId};
+
+/// How many windows an order opens at most, and how many users are known at most.
+const WINDOWS: usize = 8;
+
+const USERS: usize = 8;
+
+/// Commands that nobody but the owner may give: those that change rights, and openings.
+const OWNERS: [CommandName; 6] = [
+    CommandName::Acladd,
+    CommandName::Aclchg,
+    CommandName::Acldel,
+    CommandName::Aclgrp,
+    CommandName::Aclumask,
+    CommandName::Screen,
+];
+
+/// A known user: bits on windows, by serials, x on the owner's commands, and the owner's mask.
+#[derive(Clone, Copy)]
+struct Row {
+    user: UserId,
+    windows: [u8; WINDOWS],
+    commands: [bool; 6],
+    mask: u8,
+}
+
+/// The table.
+#[derive(Clone, Copy)]
+pub struct Table {
+    rows: [Option<Row>; USERS],
+    open: [bool; WINDOWS],
+    preset: u8,
+    commands: bool,
+    /// Whether an act came that this table doesn't know, or for which it has no room.
+    pub is_lost: bool,
+}
+
+/// The bit's place in a number: r is 1, w is 2, x is 4.
+pub fn place_of(bit: Bit) -> u8 {
+    match bit {
+        Bit::Read => 1,
+        Bit::Write => 2,
+        Bit::Execute => 4,
+    }
+}
+
+const ALL: u8 = 7;
+
+fn with(bits: u8, bit: Bit, value: bool) -> u8 {
+    if value {
+        bits | place_of(bit)
+    } else {
+        bits & (ALL - place_of(bit))
+    }
+}
+
+impl Row {
+    fn new(table: &Table, user: UserId) -> Row {
+        let mut windows = [0; WINDOWS];
+        for (bits, is_open) in windows.iter_mut().zip(&table.open) {
+            if *is_open {
+                *bits = table.preset;
+            }
+        }
+        Row {
+            user,
+            windows,
+            commands: [table.commands; 6],
+            mask: ALL,
+        }
+    }
+
+    fn set(&mut self, bit: Bit, object: Object, value: bool) {
+        match object {
+            Object::Window(window) => {
+                if let Some(bits) = self.windows.get_mut(window as usize) {
+                    *bits = with(*bits, bit, value);
+                }
+            }
+            Object::Command(command) => {
+                for (has, owners) in self.commands.iter_mut().zip(&OWNERS) {
+                    if *owners == command && matches!(bit, Bit::Execute) {
+                        *has = value;
+                    }
+                }
+            }
+        }
+    }
+
+    /// Whether the user may give a command that is the owner's.
+    fn has_owners(&self) -> bool {
+        for has in &self.commands {
+            if *has {
+                return true;
+            }
+        }
+        false
+    }
+}
+
+impl Table {
+    /// Before any act presets allow everything.
+    pub fn new() -> Table {
+        Table {
+            rows: [None; USERS],
+            open: [false; WINDOWS],
+            preset: ALL,
+            commands: true,
+            is_lost: false,
+        }
+    }
+
+    fn row(&mut self, user: UserId) -> Option<&mut Row> {
+        for row in &mut self.rows {
+            if let Some(row) = row {
+                if row.user == user {
+                    return Some(row);
+                }
+            }
+        }
+        None
+    }
+
+    fn know(&mut self, user: UserId) {
+        let new = Row::new(self, user);
+        for row in &mut self.rows {
+            if row.is_none() {
+                *row = Some(new);
+                return;
+            }
+        }
+        self.is_lost = true;
+    }
+
+    fn forget(&mut self, user: UserId) {
+        for row in &mut self.rows {
+            if matches!(row, Some(known) if known.user == user) {
+                *row = None;
+            }
+        }
+    }
+
+    /// A window opens, where everybody has what the mask allows, or it closes.
+    fn turn(&mut self, window: u32, is_open: bool) {
+        let place = window as usize;
+        match self.open.get_mut(place) {
+            Some(open) => *open = is_open,
+            None => self.is_lost = true,
+        }
+        for row in &mut self.rows {
+            if let Some(row) = row {
+                let mask = row.mask;
+                if let Some(bits) = row.windows.get_mut(place) {
+                    *bits = if is_open { mask } else { 0 };
+                }
+            }
+        }
+    }
+
+    /// Does an act.
+    pub fn follow(&mut self, act: Act) {
+        match act {
+            Act::Known { user } => self.know(user),
+            Act::Gone { user } => self.forget(user),
+            Act::Set {
+                user,
+                bit,
+                object,
+                value,
+            } => match self.row(user) {
+                Some(row) => row.set(bit, object, value),
+                None => self.is_lost = true,
+            },
+            Act::Masked {
+                user,
+                bit,
+                value,
+                ..
+            } => match self.row(user) {
+                Some(row) => row.mask = with(row.mask, bit, value),
+                None => self.is_lost = true,
+            },
+            Act::Preset {
+                kind: PresetKind::Windows,
+                bit,
+                value,
+            } => self.preset = with(self.preset, bit, value),
+            Act::Preset { bit, value, .. } => {
+                if matches!(bit, Bit::Execute) {
+                    self.commands = value;
+                }
+            }
+            Act::Opened { window, .. } => self.turn(window, true),
+            Act::Closed { window } => self.turn(window, false),
+            Act::Grouped { leader, .. } => self.is_lost = self.is_lost || leader.is_some(),
+            _ => {}
+        }
+    }
+
+    pub fn knows(&self, user: UserId) -> bool {
+        self.bits(user, 0).is_some()
+    }
+
+    /// The bits of a known user on a window.
+    pub fn bits(&self, user: UserId, window: u32) -> Option<u8> {
+        for row in &self.rows {
+            if let Some(row) = row {
+                if row.user == user {
+                    return row.windows.get(window as usize).copied();
+                }
+            }
+        }
+        None
+    }
+
+    /// The known user at a place.
+    pub fn user_at(&self, place: usize) -> Option<UserId> {
+        match self.rows.get(place) {
+            Some(Some(row)) => Some(row.user),
+            _ => None,
+        }
+    }
+
+    /// Whether somebody else than the owner may give a command that is the owner's.
+    pub fn shares_owners(&self) -> bool {
+        for row in &self.rows {
+            if let Some(row) = row {
+                if row.has_owners() {
+                    return true;
+                }
+            }
+        }
+        false
+    }
+
+    /// How many users there is room for.
+    pub fn len(&self) -> usize {
+        USERS
+    }
+}
