@@ -2,7 +2,6 @@
 
 ghost use Rattle.std.specs.Prelude.{◌≡◌, ◌<◌, ◌≤◌};
 
-use crate::accounts::{Accounts, Limits};
 use crate::setting_up::set_up;
 use crate::shared_session::SharedSession;
 use acl::{Edition, UserId};
@@ -76,9 +75,6 @@ pub trait LoopBody<P: Drop, R> {
     /// Writes what is put down, in a thread of its own, until the loops have ended.
     fn write_trail(&self, _rt: &R, _recorder: &Recorder) {}
 
-    /// All loops have ended, and what was put down is written.
-    fn leave(&self, _rt: &R) {}
-
     /// The session is over, and this is its trail.
     fn compare(&self, _rt: &R, _trail: &Trail) {}
 }
@@ -88,7 +84,6 @@ pub trait LoopBody<P: Drop, R> {
 pub struct Start<P: Drop> {
     pub alloc: Global,
     pub users: Users,
-    pub limits: Limits,
     pub places: Vec<P>,
 }
 
@@ -174,8 +169,8 @@ fn begin<L: Roll>(
     }
 }
 
-// Where the session's trail is put down, if it is. The answers of these seats have entries, by which
-// is known what came of a step.
+// Where the session's trail is put down, if it is. The answers of these seats have entries in any case:
+// by these is known what came of a step.
 fn recorder<L, P, K, R>(
     rt: &R,
     alloc: Global,
@@ -225,18 +220,15 @@ where
     let Start {
         alloc,
         users,
-        limits,
         places,
     } = start;
     let left = Mutex::new(Vec::with_capacity(alloc, loops)?);
-    let owner = users.owner();
-    let (hub, mut seats) = begin::<L>(alloc, blank, owner, loops)?;
+    let (hub, mut seats) = begin::<L>(alloc, blank, users.owner(), loops)?;
     let recorder = recorder::<L, P, K, R>(rt, alloc, seats.as_mut_slice(), loop_body);
     let shared = SharedSession {
         hub,
         users,
         recorder,
-        accounts: Accounts::new(alloc, owner, limits),
     };
     let kept = Kept { shared, left };
     if let Some(seat) = seats.first_mut() {
@@ -250,7 +242,6 @@ where
             places,
         };
         run_all(rt, &kept, starts, loop_body);
-        loop_body.leave(rt);
     }
     let Kept { shared, left } = kept;
     let SharedSession { hub, .. } = shared;

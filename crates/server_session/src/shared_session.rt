@@ -1,6 +1,5 @@
 //! What the loops share.
 
-use crate::accounts::Accounts;
 use hub::{Answer, Hub, HubFault, Seat};
 use server_trail::Recorder;
 use server_users::Users;
@@ -15,7 +14,6 @@ pub struct SharedSession<L: Roll> {
     pub users: Users,
     /// None where no file is written.
     pub recorder: Option<Recorder>,
-    pub accounts: Accounts,
 }
 
 impl<L: Roll> SharedSession<L> {
