@@ -1,7 +1,9 @@
 //! The loops of a server, each in a thread of the session's.
 
 use server_loop::{End, Gate};
-use server_session::{Begun as Roll, LoopBody, Recorder, Seat, Seated, SharedSession, Trail};
+use server_session::{
+    Accounts, Begun as Roll, LoopBody, Recorder, Seat, Seated, SharedSession, Trail,
+};
 use server_sockets::{Common, LoopStart, run_loop};
 use server_system::{Place, Setup};
 use server_trail::{Cause, Journal};
@@ -25,6 +27,8 @@ pub struct Server<'a, G> {
     pub common: Common<G>,
     pub files: HostRuntime,
     pub place: &'a Place<'a>,
+    /// What each user has spent and holds.
+    pub accounts: Accounts,
     /// What the owner commands before anybody connects.
     pub setup: Setup<'a>,
     /// Is told who comes and goes.
@@ -46,7 +50,8 @@ where
         seat: Seat<L>,
         start: LoopStart,
     ) -> Option<Seat<L>> {
-        let left = match run_loop(rt, alloc, &self.common, Seated::new(session, seat), start) {
+        let seated = Seated::new(session, &self.accounts, seat);
+        let left = match run_loop(rt, alloc, &self.common, seated, start) {
             Ok(seated) => Some(seated.into_inner()),
             Err(_) => {
                 let _ = self.common.shared.end(End::Fault);
@@ -66,9 +71,11 @@ where
         self.common.shared.log.leave(rt);
     }
 
+    // Once the loops have ended nobody can connect, and another server may take the place.
     fn stand_by(&self, rt: &R) {
         let mut errors = self.log;
         self.common.shared.log.write_all(rt, &mut errors);
+        self.place.leave(rt, &self.files);
     }
 
     fn recorder(&self, alloc: Global, loops: usize) -> Option<Recorder> {
@@ -82,11 +89,6 @@ where
             let cause = self.common.shared.over.get().copied().and_then(cause_of);
             journal.end(rt, recorder, written, cause);
         }
-    }
-
-    // Nobody can connect, and another server may take the place while the trail is read back.
-    fn leave(&self, rt: &R) {
-        self.place.leave(rt, &self.files);
     }
 
     fn compare(&self, rt: &R, trail: &Trail) {

@@ -6,7 +6,7 @@ use clap::ArgMatches;
 use mio::net::UnixListener;
 use program_words::{of_server, tell};
 use server_loop::{End, Gate, Open};
-use server_session::{Limits, LoopsFault, Start, keep};
+use server_session::{Accounts, Limits, LoopsFault, Start, keep};
 use server_sockets::{Common, LoopHandle, LoopStart, Places, Shared, start_watching};
 use server_system::{Place, Seen, ServeFault, Setup, Stamp, UsersFile, Watched};
 use server_trail::Journal;
@@ -192,6 +192,7 @@ where
         },
         files,
         place,
+        accounts: Accounts::new(alloc, users.owner(), asked.limits),
         setup,
         log: files.stderr(),
         journal,
@@ -199,7 +200,6 @@ where
     let start = Start {
         alloc,
         users,
-        limits: asked.limits,
         places: places.starts,
     };
     serve_on(rt, start, &server, output)

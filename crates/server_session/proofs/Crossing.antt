@@ -9,12 +9,11 @@ use denote.Param.Send.{sendable}
 use Rattle.std.proofs.Crossing.{crosses}
 use Rattle.server_users.proofs.users.Users.TheSendSync as users
 use Rattle.server_trail.proofs.recorder.Recorder.TheSendSync as recorder
-use Rattle.server_session.proofs.accounts.Accounts.TheSendSync as accounts
 use Rattle.server_session.specs.contracts.shared_session.SharedSession as SharedSession
 use Rattle.server_session.specs.contracts.loop_body.Kept as Kept
 
 pub session_sync : (L : RattleType) (b : Beginnings L.Denot) (g : Ghosts L.Denot) → IsSync (SharedSession.the_row L b g)
-session_sync L b g = declared_sync (SharedSession.the_type L b g) (hub_sync L b g, (users.the_sync, (search (recorder.the_sync, sendable, crosses) depth 60, (accounts.the_sync, tt))))
+session_sync L b g = declared_sync (SharedSession.the_type L b g) (hub_sync L b g, (users.the_sync, (search (recorder.the_sync, sendable, crosses) depth 60, tt)))
 
 pub kept_sync : (L : RattleType) (b : Beginnings L.Denot) (g : Ghosts L.Denot) → IsSync (Kept.the_row L b g)
 kept_sync L b g = declared_sync (Kept.the_type L b g) (session_sync L b g, (seats_sync L g, tt))

@@ -3,7 +3,6 @@
 ghost use Rattle.std.specs.Prelude.{◌≡◌, ◌<◌, ◌≤◌};
 ghost use Rattle.acl.specs.declared.edition.Edition.TheVariants.{Second};
 
-use crate::accounts::{Accounts, Limits};
 use crate::setting_up::set_up;
 use crate::shared_session::SharedSession;
 use acl::UserId;
@@ -77,9 +76,6 @@ pub trait LoopBody<P: Drop, R> {
     /// Writes what is put down, in a thread of its own, until the loops have ended.
     fn write_trail(&self, _rt: &R, _recorder: &Recorder) {}
 
-    /// All loops have ended, and what was put down is written.
-    fn leave(&self, _rt: &R) {}
-
     /// The session is over, and this is its trail.
     fn compare(&self, _rt: &R, _trail: &Trail) {}
 }
@@ -89,7 +85,6 @@ pub trait LoopBody<P: Drop, R> {
 pub struct Start<P: Drop> {
     pub alloc: Global,
     pub users: Users,
-    pub limits: Limits,
     pub places: Vec<P>,
 }
 
@@ -176,8 +171,8 @@ fn begin<L: Roll>(
     }
 }
 
-// Where the session's trail is put down, if it is. The answers of these seats have entries, by which
-// is known what came of a step.
+// Where the session's trail is put down, if it is. The answers of these seats have entries in any case:
+// by these is known what came of a step.
 fn recorder<L, P, K, R>(
     rt: &R,
     alloc: Global,
@@ -233,7 +228,6 @@ where
     let Start {
         alloc,
         users,
-        limits,
         places,
     } = start;
     let left = Mutex::new(Vec::with_capacity(alloc, loops)?);
@@ -243,7 +237,6 @@ where
         hub,
         users,
         recorder,
-        accounts: Accounts::new(alloc, owner, limits),
     };
     let kept = Kept { shared, left };
     if let Some(seat) = seats.first_mut() {
@@ -257,7 +250,6 @@ where
             places,
         };
         run_all(rt, &kept, starts, loop_body);
-        loop_body.leave(rt);
     }
     let Kept { shared, left } = kept;
     let SharedSession { hub, .. } = shared;

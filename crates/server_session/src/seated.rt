@@ -1,5 +1,6 @@
 //! A loop's seat in the session that it shares.
 
+use crate::accounts::Accounts;
 use crate::shared_session::SharedSession;
 use acl::UserId;
 use hub::{Begun as Roll, FULL, HubFault, Seat};
@@ -41,16 +42,25 @@ fn outcome_of(reply: &Reply, verdicts: &[Verdict]) -> Outcome {
     }
 }
 
-/// A seat, and the session that it is in.
+/// A seat, the session that it is in, and its users' accounts.
 #[derive(Drop)]
 pub struct Seated<'a, L: Roll> {
     shared: &'a SharedSession<L>,
+    accounts: &'a Accounts,
     seat: Seat<L>,
 }
 
 impl<'a, L: Roll> Seated<'a, L> {
-    pub fn new(shared: &'a SharedSession<L>, seat: Seat<L>) -> Seated<'a, L> {
-        Seated { shared, seat }
+    pub fn new(
+        shared: &'a SharedSession<L>,
+        accounts: &'a Accounts,
+        seat: Seat<L>,
+    ) -> Seated<'a, L> {
+        Seated {
+            shared,
+            accounts,
+            seat,
+        }
     }
 
     /// The seat, once its loop is over.
@@ -89,19 +99,19 @@ impl<L: Roll> SessionSeat for Seated<'_, L> {
     }
 
     fn pay<R: Wait>(&self, rt: &R, user: UserId, now: Duration, cost: u32) -> bool {
-        self.shared.accounts.pay(rt, user, now, cost)
+        self.accounts.pay(rt, user, now, cost)
     }
 
     fn settle<R: Wait>(&self, rt: &R, user: UserId, cost: u32, outcome: Outcome) {
-        self.shared.accounts.settle(rt, user, cost, outcome);
+        self.accounts.settle(rt, user, cost, outcome);
     }
 
     fn add<R: Wait>(&self, rt: &R, user: UserId, kind: GuestKind) -> Option<u8> {
-        self.shared.accounts.add(rt, user, kind)
+        self.accounts.add(rt, user, kind)
     }
 
     fn remove<R: Wait>(&self, rt: &R, user: UserId, kind: GuestKind) {
-        self.shared.accounts.remove(rt, user, kind);
+        self.accounts.remove(rt, user, kind);
     }
 
     fn set_time<R: Clock>(&self, rt: &R) {

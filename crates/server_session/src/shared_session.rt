@@ -1,6 +1,5 @@
 //! What the loops share.
 
-use crate::accounts::Accounts;
 use hub::{Answer, Begun as Roll, Hub, HubFault, Seat};
 use server_trail::Recorder;
 use server_users::Users;
@@ -14,7 +13,6 @@ pub struct SharedSession<L: Roll> {
     pub users: Users,
     /// None where no file is written.
     pub recorder: Option<Recorder>,
-    pub accounts: Accounts,
 }
 
 impl<L: Roll> SharedSession<L> {

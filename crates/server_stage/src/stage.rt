@@ -9,7 +9,8 @@ use crate::streams::{Habit, Near};
 use hub_record::{Filed, KeptRef};
 use server_loop::{Gate, Loop, SessionSeat};
 use server_session::{
-    Begun as Roll, Limits, LoopBody, LoopsFault, Seat, Seated, SharedSession, Start, Trail, keep,
+    Accounts, Begun as Roll, Limits, LoopBody, LoopsFault, Seat, Seated, SharedSession, Start,
+    Trail, keep,
 };
 use server_users::{Users, UsersFault};
 use std::alloc::Global;
@@ -181,6 +182,7 @@ struct Playing<'a> {
     acts: &'a [Act<'a>],
     loops: usize,
     calls: Calls,
+    accounts: Accounts,
     left: Mutex<Left>,
 }
 
@@ -194,7 +196,7 @@ impl<R: Clock + Wait> LoopBody<usize, R> for Playing<'_> {
         place: usize,
     ) -> Option<Seat<L>> {
         let latch = self.calls.latch(rt, place == 0);
-        let seated = Seated::new(shared, seat);
+        let seated = Seated::new(shared, &self.accounts, seat);
         let mut own: Loop<Near, Latch<R>, Seated<L>> = Loop::new(
             alloc, seated, latch, self.loops,
         ).ok()?;
@@ -257,16 +259,18 @@ pub fn perform(rt: &impl System, loops: usize, acts: &[Act]) -> Result<Seen, Sto
     for place in 0..loops {
         places.push(place)?;
     }
+    let users = users(alloc)?;
+    let accounts = Accounts::new(alloc, users.owner(), Limits::none());
     let start = Start {
         alloc,
-        users: users(alloc)?,
-        limits: Limits::none(),
+        users,
         places,
     };
     let playing = Playing {
         acts,
         loops,
         calls: Calls::new(loops),
+        accounts,
         left: Mutex::new(Left::new(alloc)),
     };
     match keep(rt, start, &playing, || Ok(())) {
