@@ -1,12 +1,16 @@
 //! The thread that writes.
 
-ghost use Rattle.std.specs.Prelude.{◌≡◌, ◌≤◌, ◌++◌, ◌∷◌, [], ℕ, true, false, length, take, IfOk};
+ghost use Rattle.std.specs.Prelude.{◌≡◌, ◌≤◌, ◌+◌, ◌++◌, ◌∷◌, [], ℕ, List, true, false, length, take};
+ghost use Rattle.std.specs.Prelude.{◌==◌, ◌&&◌, ◌||◌, IfOk, is_some, vec_len};
 ghost use Rattle.std.specs.Io.KnownBytes.{Appends, Keeps};
 ghost use Rattle.trail_audit.specs.Heading.{end_text};
 ghost use Rattle.server_trail.specs.Files.{HasWritten, end_line};
+ghost use Rattle.server_trail.specs.Merging.{Placed, HasMerged, early_bytes};
 
 use crate::file::TrailFile;
+use crate::merge::Merge;
 use crate::recorder::{BLOCK, Recorder};
+use crate::stop::Stopped;
 use std::alloc::{AllocError, Global};
 use std::io::Write;
 use std::sync::Wait;
@@ -44,6 +48,21 @@ impl Written {
         ensures { result ≡ self.now.is_whole }
     {
         self.is_whole
+    }
+}
+
+// What was written of lines, where all that were ready were or not: it isn't whole where a line is
+// still early, which waits for one that never came, unless the file has stopped.
+fn written_of(merge: &Merge, is_written: bool, stopped: Option<Stopped>) -> Written
+    ensures entries { result.entries ≡ merge.now.next }
+    ensures whole { (put : List Placed) (taken : List ℕ) → HasMerged put taken merge.now →
+        result.is_whole ≡ (is_written && (is_some stopped
+        || (vec_len merge.now.ready + early_bytes merge.now == 0))) }
+{
+    let is_complete = stopped.is_some() || merge.waiting() == 0;
+    Written {
+        entries: merge.next() as u64,
+        is_whole: is_written && is_complete,
     }
 }
 
@@ -163,13 +182,7 @@ impl Recorder {
 
     // What was written, once all loops have left.
     fn written(&self, rt: &impl Wait, is_written: bool) -> Written {
-        let waiting = self.waiting.lock(rt);
-        // A line that is still early waits for one that never came.
-        let is_complete = waiting.merge.waiting() == 0 || self.stopped().is_some();
-        Written {
-            entries: waiting.merge.next() as u64,
-            is_whole: is_written && is_complete,
-        }
+        written_of(&self.waiting.lock(rt).merge, is_written, self.stopped())
     }
 
     /// Writes the lines as they come, until all loops have left. It sleeps while none is ready, and
@@ -215,9 +228,9 @@ impl Recorder {
         cause: Cause,
     ) -> bool
         ensures torn { written.is_whole ≡ false
-            → Keeps (F.contents file.old) (F.contents file.new) }
-        ensures whole { result ≡ true → (ms : ℕ) × Appends (F.contents file.old)
-            (F.contents file.new) (end_line written.entries ms cause) }
+            → Keeps (F.contents file.old) (F.contents file.new) × (result ≡ false) }
+        ensures whole { written.is_whole ≡ true → (ms : ℕ) × HasWritten (F.contents file.old)
+            (F.contents file.new) (end_line written.entries ms cause) result }
     {
         self.set_time(rt);
         let ended = Ended {

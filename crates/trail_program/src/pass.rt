@@ -7,7 +7,9 @@ use acl::{Edition, Leaders, UserId};
 use std::alloc::Global;
 use std::io::{self, BufRead, BufReader, Read};
 use trail_audit::Audit;
-use trail_rights::{Decider, Led, Question, Sight, Watch, powers_of, settings_of, watch_entries};
+use trail_rights::{
+    Decider, Led, Question, Settler, Sight, Watch, powers_of, settings_of, watch_entries,
+};
 
 /// What a pass looks for beside rights, locks and leaders.
 #[derive(Clone, Copy)]
@@ -74,6 +76,34 @@ fn deciders_of(
     Ok(deciders)
 }
 
+/// What decides the bits that a search looks for, before the first act.
+fn deciders_in(alloc: Global, owner: UserId, search: &Search<'_>) -> io::Result<Vec<Decider>> {
+    match search.looks {
+        Looks::Reasons { question, leaders } => deciders_of(alloc, owner, question, leaders),
+        Looks::Confinement => Ok(powers_of(alloc, owner, search.users)?),
+        Looks::Nothing | Looks::Settings => Ok(Vec::new(alloc)),
+    }
+}
+
+/// The settings that a search looks for, before the first act.
+fn settlers_in(alloc: Global, search: &Search<'_>) -> io::Result<Vec<Settler>> {
+    match search.looks {
+        Looks::Settings | Looks::Confinement => Ok(settings_of(alloc, search.users)?),
+        Looks::Nothing | Looks::Reasons { .. } => Ok(Vec::new(alloc)),
+    }
+}
+
+/// The leaders of users, before the first act.
+fn leds_of(alloc: Global, users: &[UserId]) -> io::Result<Vec<Led>> {
+    let mut leds = Vec::new(alloc);
+    for place in 0..users.len() {
+        if let Some(user) = users.get(place) {
+            leds.push(Led::new(*user))?;
+        }
+    }
+    Ok(leds)
+}
+
 /// A sight that has seen nothing, of what a search looks for.
 fn sight_of(
     alloc: Global,
@@ -81,19 +111,9 @@ fn sight_of(
     owner: UserId,
     search: &Search<'_>,
 ) -> io::Result<Sight> {
-    let mut leds = Vec::new(alloc);
-    for user in search.users {
-        leds.push(Led::new(*user))?;
-    }
-    let deciders = match search.looks {
-        Looks::Reasons { question, leaders } => deciders_of(alloc, owner, question, leaders)?,
-        Looks::Confinement => powers_of(alloc, owner, search.users)?,
-        Looks::Nothing | Looks::Settings => Vec::new(alloc),
-    };
-    let settlers = match search.looks {
-        Looks::Settings | Looks::Confinement => settings_of(alloc, search.users)?,
-        Looks::Nothing | Looks::Reasons { .. } => Vec::new(alloc),
-    };
+    let leds = leds_of(alloc, search.users)?;
+    let deciders = deciders_in(alloc, owner, search)?;
+    let settlers = settlers_in(alloc, search)?;
     Ok(Sight::new(alloc, edition, deciders, leds, settlers))
 }
 
