@@ -394,9 +394,9 @@ def teaching(play):
     play.run("tess", "muxd-wait")
     play.run("tess", "setsid -f mux-shell --user own --token ~/class/own.token --title lesson sudo -iu lab")
     play.run("tess", "own() { mux-command --user own --token ~/class/own.token \"$@\"; }")
-    for line in ("own multiuser on", "own 'aclumask ?-wx ??-x'",
-                 "own 'aclchg tess,ann,bob,eve +x detach,next,prev,scrollview'", "own 'aclchg tess +w lesson'",
-                 "own 'aclumask -wx tess+w'"):
+    for line in ("own multiuser on", "own 'aclumask ?-wx ??-x'", "own 'aclchg tess,ann,bob,eve -wx #?'",
+                 "own 'aclumask -wx tess+w'", "own 'aclchg tess,ann,bob,eve +x detach,next,prev,scrollview'",
+                 "own 'aclchg tess +w lesson'"):
         play.run("tess", line)
     on.open("ann")
     on.run("ann", "cd " + on.home)
@@ -426,6 +426,12 @@ def teaching(play):
     before = on.prompts("tess")
     on.keys("tess", "C-a", "d")
     on.wait("tess", "end of mux-attach", lambda: on.prompts("tess") > before)
+    # A pupil who comes late: the server that runs reads the new token.
+    for line in ("new-token --users ~/class/users fay", "own 'aclchg fay -wx #?'", "own 'aclumask fay-wx'",
+                 "own 'aclchg fay -wx #'", "own 'aclchg fay +x detach,next,prev,scrollview'"):
+        play.run("tess", line)
+    on.run("tess", "clear; mux-command --user fay --token ~/class/fay.token windows",
+           ["denied: x on windows: entry fay -x"])
     before = on.prompts("ann")
     text.take("own quit")
     on.run("tess", "own quit")
@@ -437,12 +443,12 @@ def policies(play):
     on = play.on
     text = play.text
     text.leave("mux-shell --title shop sudo -iu lab", "it is played with docs/TEACHING.md")
-    for line in ("mux-guest --read shop --for 30m sue", "muxd --setup support"):
-        if line in text.spans:
-            text.leave(line, "tests/outside/policies plays it")
+    for line in ("$ mux-guest --read shop --for 30m sue", "mux-guest --read shop --for 30m sue"):
+        text.leave(line, "tests/outside/policies plays it, for a shorter time")
     text.leave("mux-shell --title shop podman run --rm -it debian bash", "it needs podman, and fetches an image")
     on.open("own")
-    on.run("own", "for name in own sue pia ben kay ann bob jo kim; do new-token --users ~/session/users $name; done")
+    on.run("own", "for name in own sue pia ben kay fay ann bob jo lee kim; do"
+           " new-token --users ~/session/users $name; done")
     on.run("own", "export MUX_SOCKET=~/session/socket MUX_USER=own MUX_TOKEN=~/session/own.token")
     play.run("own", 'own() { mux-command --user own --token ~/session/own.token "$@"; }')
     on.run("own", "as() { name=$1; shift; mux-command --user $name --token ~/session/$name.token \"$@\"; }")
@@ -480,8 +486,8 @@ def policies(play):
 
     # stuff meets the checks of keys: with x on it for a moment, what may be typed is told by it.
     begun()
-    lines("own multiuser on", "own 'aclumask ?-rwx ??-x'", "own 'aclchg sue +r shop'", "own 'aclumask sue-rwx'",
-          "own 'aclchg sue +x detach,next,prev,scrollview'")
+    lines("own multiuser on", "own 'aclumask ?-rwx ??-x'", "own 'aclchg sue -rwx #?'", "own 'aclumask sue-rwx'",
+          "own 'aclchg sue -rwx #'", "own 'aclchg sue +x detach,next,prev,scrollview'", "own 'aclchg sue +r shop'")
     for command in ("acladd sue", "aclchg sue +w shop", "acldel own", "aclgrp sue own", "aclumask sue+rwx"):
         may_not("sue", None, command, "denied: x on %s: entry sue -x" % command.split()[0])
     may_not("sue", None, "windows", "denied: x on windows: entry sue -x")
@@ -499,18 +505,22 @@ def policies(play):
     over()
 
     begun()
-    lines("own multiuser on", "own 'aclumask ?-wx ??-x'", "own 'aclchg pia,ben,kay +x detach,next,prev,scrollview'",
-          "own 'aclumask -wx'", "own 'aclchg * -w #'", "own 'aclchg pia +w board'")
+    lines("own multiuser on", "own 'aclumask ?-wx ??-x'", "own 'aclchg pia,ben,kay -wx #?'", "own 'aclumask -wx'",
+          "own 'aclchg pia,ben,kay -wx #'", "own 'aclchg pia,ben,kay +x detach,next,prev,scrollview'",
+          "own 'aclchg * -w #'", "own 'aclchg pia +w board'", "own 'aclchg fay -wx #?'", "own 'aclumask fay-wx'",
+          "own 'aclchg fay -wx #'", "own 'aclchg fay +x detach,next,prev,scrollview'")
     opened("own", "later")
-    on.run("own", "own 'aclchg pia,ben +x #,stuff,windows'")
+    on.run("own", "own 'aclchg pia,ben,fay +x #,stuff,windows'")
     on.run("own", "clear; as ben windows", ["0 desk  1 shop  2 board  3 later"])
+    may_not("fay", "3", "stuff x", "denied: w on window 3: entry fay -w")
     may("pia", "2", "stuff x")
     may_not("pia", "3", "stuff x", "denied: w on window 3: entry pia -w")
     may_not("ben", "2", "stuff x", "denied: w on window 2: entry ben -w")
     may_not("ben", None, "aclchg ben +w board", "denied: x on aclchg: entry ben -x")
     lines("mux-turn --window board pia", "mux-turn none", "own aclgrp pia")
     may_not("pia", "2", "stuff x", "denied: w on window 2: entry pia -w")
-    lines("own 'aclchg * -w #'", "own 'aclchg pen +w #'", "own 'aclumask pen+w'", "own 'aclgrp pia pen'")
+    lines("own 'aclchg pen -rwx #?'", "own 'aclumask pen+w-x'", "own 'aclchg * -w #'", "own 'aclchg pen +w #'",
+          "own 'aclgrp pia pen'")
     may("pia", "2", "stuff x")
     lines("own 'aclgrp pia none'")
     may_not("pia", "2", "stuff x", "denied: w on window 2: entry pia -w")
@@ -518,18 +528,23 @@ def policies(play):
     may("ben", "2", "stuff x")
     over()
 
-    begun()
-    lines("own multiuser on", "own 'acladd ann,bob'", "own 'aclumask ?-wx ??-x'",
-          "own 'aclchg jo,kim +x detach,select,next,prev,other,scrollview,windows'", "own 'aclumask jo,kim-wx'",
-          "mux-command --user ann --token ~/session/ann.token 'aclumask jo,kim-wx'",
-          "mux-command --user bob --token ~/session/bob.token 'aclumask jo,kim-wx'",
-          "own 'aclchg ann,bob -x acladd,aclchg,acldel,aclgrp,aclumask'")
+    shutil.copy(os.path.join(TOP, "contrib/policies/ops"), on.home)
+    on.run("own", "setsid -f muxd --socket ~/session/socket --users ~/session/users --setup ~/ops > ~/session/log 2>&1")
+    on.run("own", "muxd-wait")
+    opened("own", "desk")
+    masks = "mux-command --user %s --token ~/session/%s.token 'aclumask %s-wx'"
+    lines(masks % ("ann", "ann", "jo,kim"), masks % ("bob", "bob", "jo,kim"), "own 'aclchg ann,bob -x aclumask'",
+          "own 'aclchg ann,bob +x screen'", "own 'aclumask ?-wx ??-x'", "own 'aclchg lee -wx #?'",
+          "own 'aclumask lee-wx'", "own 'aclchg ann,bob +x aclumask'", masks % ("ann", "ann", "lee"),
+          masks % ("bob", "bob", "lee"), "own 'aclchg ann,bob -x aclumask'", "own 'aclumask ?-wx ??-x'",
+          "own 'aclchg lee -wx #'", "own 'aclchg lee +x detach,select,next,prev,other,scrollview,windows'")
     opened("ann", "hers")
-    on.run("own", "own 'aclchg jo +x stuff,#'")
-    on.run("own", "clear; as jo windows", ["0 desk  1 shop  2 board  3 hers"])
-    may("bob", "3", "stuff x")
-    for window in "03":
-        may_not("jo", window, "stuff x", "denied: w on window %s: entry jo -w" % window)
+    on.run("own", "own 'aclchg jo,lee +x stuff,#'")
+    on.run("own", "clear; as jo windows", ["0 desk  1 hers"])
+    may("bob", "1", "stuff x")
+    for window in "01":
+        for user in ("jo", "lee"):
+            may_not(user, window, "stuff x", "denied: w on window %s: entry %s -w" % (window, user))
     may_not("ann", None, "aclchg jo +w hers", "denied: x on aclchg: entry ann -x")
     over()
     text.leave("$ muxsim --show --setup support own < support.mux", "make examples compares what it prints")
@@ -538,7 +553,8 @@ def policies(play):
     on.run("own", "cd; clear")
     play.run("own", "muxsim --trail support.trail --setup support own < support.mux > /dev/null")
     play.run("own", "mux-trail check support.trail")
-    play.run("own", "mux-trail why support.trail sue w 0")
+    play.run("own", "mux-trail why --at 20 support.trail sue w 0")
+    play.run("own", "mux-trail why support.trail sue w 2")
     on.shows("own", "^no$")
 
 

@@ -1,7 +1,7 @@
 //! The commands that the scripts of `contrib/` give. Each script is played as a whole, since a lock
 //! keeps them apart: `mux-rights`, `mux-console` and `mux-guest`.
 
-use crate::rights::{COMMANDS, GRANTS, GUEST, TITLES};
+use crate::rights::{COMMANDS, GRANTS, GUEST, Grant, TITLES};
 use crate::stage::Stage;
 use session_model::Event;
 use std::alloc::AllocError;
@@ -67,16 +67,25 @@ fn reopen(stage: &mut Stage, form: Form, place: usize) -> Result<(), AllocError>
     give_on(stage, title, None)
 }
 
-/// The file's lines for a console, or those for one user. A line for a user who isn't known is left
-/// out: aclchg would make the name known.
+/// A line of the file. It is left out if the user isn't known, since aclchg would make the name
+/// known.
+fn give(stage: &mut Stage, grant: &'static Grant) -> Result<(), AllocError> {
+    let is_known = stage.own(&["aclumask ", grant.user, "-rwx"])?;
+    if is_known {
+        stage.own(&["aclchg ", grant.user, " ", grant.word, " ", grant.title])?;
+    }
+    Ok(())
+}
+
+/// The file's lines for a console, or those for one user.
 fn give_on(stage: &mut Stage, title: &str, name: Option<&str>) -> Result<(), AllocError> {
     for grant in &GRANTS {
         let is_meant = match name {
             Some(name) => grant.user == name,
             None => true,
         };
-        if grant.title == title && is_meant && stage.own(&["aclumask ", grant.user, "-rwx"])? {
-            stage.own(&["aclchg ", grant.user, " ", grant.word, " ", title])?;
+        if grant.title == title && is_meant {
+            give(stage, grant)?;
         }
     }
     Ok(())
