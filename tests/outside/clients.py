@@ -387,8 +387,11 @@ def nested():
                 is_refused = it.shows(b"status 1", 5) and b"is a window of the session" in plain(it.out[-3000:])
                 check(f"refused {name}", is_refused, str(it.out[-300:]))
             it.type(f"clear; {' '.join(attach_words(other))}\r".encode())
-            it.read(1)
-            check("another session's page is shown", b"0 own" in other.give(b"displays"))
+            for _ in range(100):
+                it.read(0.1)
+                if b"0 own" in other.give(b"displays"):
+                    break
+            check("another session's page is shown", b"0 own" in other.give(b"displays"), str(it.out[-300:]))
             it.type(b"\x1c")
             it.read(1)
             it.type(b"clear; echo $((6 * 7))\r")
