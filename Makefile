@@ -78,8 +78,9 @@ lint:
 	cat contrib/mux.ti contrib/vt220.ti | tic -c /dev/stdin
 	cd man && mandoc -T lint *.1 *.5 *.8
 	tests/outside/empty_edits
-	tools/crates-table README.md
+	tools/crates-table docs/CRATES.md
 	tools/proved-table
+	tools/surface
 	tools/walk docs/READING.md
 	tools/prose README.md docs/*.md examples/README.md
 

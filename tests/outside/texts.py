@@ -330,9 +330,11 @@ def readme(play):
     """README.md: a first session with the defaults."""
     on = play.on
     text = play.text
-    for line in ("make try-server", "make build", "make dist", "make RT=/path/to/rt", "make demo", "make test"):
+    for line in ("mux-share --give cole", "mux-share --take", "mux-join dana@host"):
+        text.leave(line, "tests/outside/share plays it, with three accounts")
+    for line in ("make try-server", "make build", "make install PREFIX=$HOME/.local", "make uninstall", "make dist",
+                 "make test", "make RT=/path/to/rt", "make demo"):
         text.leave(line, "it builds; tests/outside/package plays what it gives")
-    text.leave("make install PREFIX=$HOME/.local", "it builds; tests/outside/package plays what it gives")
     on.open("ann")
     for line in ("new-token ann",
                  "mkdir -p -m 700 $XDG_RUNTIME_DIR/mux",
