@@ -93,11 +93,11 @@ fn settlers_in(alloc: Global, search: &Search<'_>) -> io::Result<Vec<Settler>> {
     }
 }
 
-/// The leaders of users, before the first act.
-fn leds_of(alloc: Global, users: &[UserId]) -> io::Result<Vec<Led>> {
+/// The leaders of the users of a search, before the first act.
+fn leds_of(alloc: Global, search: &Search<'_>) -> io::Result<Vec<Led>> {
     let mut leds = Vec::new(alloc);
-    for place in 0..users.len() {
-        if let Some(user) = users.get(place) {
+    for place in 0..search.users.len() {
+        if let Some(user) = search.users.get(place) {
             leds.push(Led::new(*user))?;
         }
     }
@@ -111,7 +111,7 @@ fn sight_of(
     owner: UserId,
     search: &Search<'_>,
 ) -> io::Result<Sight> {
-    let leds = leds_of(alloc, search.users)?;
+    let leds = leds_of(alloc, search)?;
     let deciders = deciders_in(alloc, owner, search)?;
     let settlers = settlers_in(alloc, search)?;
     Ok(Sight::new(alloc, edition, deciders, leds, settlers))
