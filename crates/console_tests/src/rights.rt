@@ -53,7 +53,7 @@ pub static GUEST: &str = "guest1";
 /// The bits that the file gives a user on the console of this title.
 pub fn given(user: &[u8], title: &str) -> u8 {
     for grant in &GRANTS {
-        if grant.user.as_bytes() == user && grant.title == title {
+        if grant.user.as_bytes() == user && grant.title.as_bytes() == title.as_bytes() {
             return grant.bits;
         }
     }

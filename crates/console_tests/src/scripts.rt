@@ -64,7 +64,7 @@ fn reopen(stage: &mut Stage, form: Form, place: usize) -> Result<(), AllocError>
     if form == Form::WithoutGrants {
         return Ok(());
     }
-    give_on(stage, title, None)
+    give_on(stage, title, "")
 }
 
 /// A line of the file. It is left out if the user isn't known, since aclchg would make the name
@@ -77,14 +77,11 @@ fn give(stage: &mut Stage, grant: &'static Grant) -> Result<(), AllocError> {
     Ok(())
 }
 
-/// The file's lines for a console, or those for one user.
-fn give_on(stage: &mut Stage, title: &str, name: Option<&str>) -> Result<(), AllocError> {
+/// The file's lines for a console, of one user or, without a name, of all.
+fn give_on(stage: &mut Stage, title: &str, name: &str) -> Result<(), AllocError> {
     for grant in &GRANTS {
-        let is_meant = match name {
-            Some(name) => grant.user == name,
-            None => true,
-        };
-        if grant.title == title && is_meant {
+        let is_users = name.is_empty() || grant.user.as_bytes() == name.as_bytes();
+        if is_users && grant.title.as_bytes() == title.as_bytes() {
             give(stage, grant)?;
         }
     }
@@ -118,7 +115,7 @@ fn returns(stage: &mut Stage) -> Result<(), AllocError> {
     stage.own(&["acldel ann"])?;
     admit(stage, "ann", "detach,select,next,prev")?;
     for title in &TITLES {
-        give_on(stage, title, Some("ann"))?;
+        give_on(stage, title, "ann")?;
     }
     Ok(())
 }
