@@ -170,6 +170,12 @@ def run(words, seconds=60, **more):
     return it.returncode, it.stdout, it.stderr, time.monotonic() - start
 
 
+def stop(server):
+    """Stops a server, each thread of it."""
+    server.program.send_signal(signal.SIGSTOP)
+    os.waitpid(server.program.pid, os.WUNTRACED)
+
+
 def script(name):
     return str(TOP / "contrib" / name)
 
@@ -250,7 +256,7 @@ def hanging_servers():
         it = subprocess.Popen([strain.WORDS.mux, *fake.words("--leave", "28", "--why")], stdin=subprocess.PIPE,
                               stdout=subprocess.DEVNULL, stderr=subprocess.PIPE)
         time.sleep(0.5)
-        server.program.send_signal(signal.SIGSTOP)
+        stop(server)
         it.stdin.write(b"x" * 3_000_000)
         it.stdin.flush()
         start = time.monotonic()
@@ -298,7 +304,7 @@ def stopped_server():
             it.type(" ".join(attach_words(server)).encode() + b"; echo status $?\n")
             assert it.is_drawn(), "it isn't attached"
             check("attached: raw", it.is_raw())
-            server.program.send_signal(signal.SIGSTOP)
+            stop(server)
             for keys in (b"\x01d", b"\x03", b"\x1a"):
                 it.type(keys)
                 it.read(0.3)
