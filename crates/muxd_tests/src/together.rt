@@ -48,7 +48,16 @@ fn words(alloc: Global) -> Result<Vec<String>, AllocError> {
 // Serves until somebody gives `quit`. Nothing that the server would print is looked at.
 fn serve<R>(rt: &R, runtime: HostRuntime, words: &[String], calls: &Calls) -> u8
 where
-    R: Clock + Net + Files<File = File> + AllocGlobal + Threads + Wait + Sync,
+    R: Clock
+        + Net
+        + Files<File = File>
+        + AllocGlobal
+        + Threads
+        + Wait
+        + Copy
+        + Send
+        + Sync
+        + 'static,
 {
     let mut output: Vec<u8> = Vec::new(rt.alloc());
     let mut errors: Vec<u8> = Vec::new(rt.alloc());
