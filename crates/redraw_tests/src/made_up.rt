@@ -3,7 +3,7 @@
 
 use acl::UserId;
 use emulator::{Emulator, MovedPage};
-use session_core::{Effect, Event, Session};
+use session::{Effect, Event, Session};
 use std::alloc::Global;
 
 const STEPS: u32 = 1000;

@@ -2,8 +2,8 @@
 //! no refusal; `tools/refusals` runs it once for each of its allocations, which is refused then. So
 //! at most one is refused in a run, and a second try never is.
 
-use windows::{WindowSize, Windows};
 use std::alloc::Global;
+use windows::{WindowSize, Windows, is_window_size};
 
 /// Serials, numbers and titles.
 static WINDOWS: [(u32, u8, &str); 5] = [
@@ -20,14 +20,22 @@ const SIZE: WindowSize = WindowSize {
     keep: 1,
 };
 
-/// The number of a window that is opened, by a second try where the first one is refused. None if
-/// the refused one has left a window.
+/// Opens a small window, and gives its number.
+fn open_small(windows: &mut Windows, alloc: Global, serial: u32, title: &str) -> Option<u8> {
+    if is_window_size(SIZE.rows, SIZE.columns, SIZE.keep) {
+        windows.open(alloc, serial, SIZE, title).ok()
+    } else {
+        None
+    }
+}
+
+/// The same, by a second try where the first one is refused; none if that has left a window.
 fn opened(windows: &mut Windows, alloc: Global, serial: u32, title: &str) -> Option<u8> {
     let before = windows.len();
-    match windows.open(alloc, serial, SIZE, title) {
-        Ok(number) => Some(number),
-        Err(_) if windows.len() == before => windows.open(alloc, serial, SIZE, title).ok(),
-        Err(_) => None,
+    match open_small(windows, alloc, serial, title) {
+        Some(number) => Some(number),
+        None if windows.len() == before => open_small(windows, alloc, serial, title),
+        None => None,
     }
 }
 

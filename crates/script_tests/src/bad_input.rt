@@ -242,7 +242,8 @@ fn is_torn(alloc: Global, asked: Asked) -> bool {
 /// Whether a writer that fails is told of.
 fn is_full(alloc: Global, asked: Asked) -> bool {
     let mut errors = Vec::new(alloc);
-    simulate_behind(alloc, asked, SCRIPT, &mut Full, &mut errors) == 1 && errors.starts_with(b"muxsim: ")
+    simulate_behind(alloc, asked, SCRIPT, &mut Full, &mut errors) == 1
+        && errors.starts_with(b"muxsim: ")
 }
 
 fn are_failures_told(alloc: Global) -> bool {

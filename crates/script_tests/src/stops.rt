@@ -6,7 +6,7 @@ use crate::judging::are_lines;
 use crate::rows::{DRAWN, FOUR_CLIENTS, put_windows};
 use crate::{draws, several_users, splits, views};
 use acl::UserId;
-use session_core::{Effect, Event, Reply, Session};
+use session::{Effect, Event, Reply, Session};
 use session_lines::{print_effect, print_reply, read_event};
 use std::alloc::{AllocError, Global};
 
