@@ -78,9 +78,11 @@ fn are_so(alloc: Global, session: &mut Session, text: &str) -> bool {
         if bytes.reserve(words.len()).is_err() && bytes.reserve(words.len()).is_err() {
             return false;
         }
-        match read_event(words.as_bytes(), &mut bytes) {
-            Ok(Some(event)) if prints(alloc, session, event, line) => {}
-            _ => return false,
+        let Ok(Some(event)) = read_event(words.as_bytes(), &mut bytes) else {
+            return false;
+        };
+        if !prints(alloc, session, event, line) {
+            return false;
         }
     }
     true
