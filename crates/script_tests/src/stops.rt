@@ -94,11 +94,7 @@ fn is_row_so(alloc: Global, beginning: &str, row: &str) -> bool {
     let Some(owner) = UserId::of(b"own") else {
         return false;
     };
-    let session = match Session::new(alloc, owner) {
-        Ok(session) => Ok(session),
-        Err(_) => Session::new(alloc, owner),
-    };
-    match session {
+    match Session::new(alloc, owner).or(Session::new(alloc, owner)) {
         Ok(mut session) => {
             are_so(alloc, &mut session, beginning) && are_so(alloc, &mut session, events)
         }
