@@ -381,8 +381,6 @@ class Flood:
                     self.shell.sendall(data)
             finally:
                 os._exit(0)
-        self.reader = threading.Thread(target=all_of, args=(self.shell,), daemon=True)
-        self.reader.start()
 
     def stop(self):
         os.kill(self.writer, 9)
