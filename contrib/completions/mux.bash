@@ -22,16 +22,16 @@ _mux() {
         compopt -o filenames 2>/dev/null
         return
         ;;
-    --pty) words='perl socat script' ;;
-    --show) words='own' ;;
-    --loops) words='1 2 3 4 5 6 7 8' ;;
-    --term) words='mux mux-8color vt220' ;;
     --login)
         mapfile -t COMPREPLY < <(compgen -u -- "$current")
         return
         ;;
-    --user | --rows | --cols | --title | --keep | --window | --read | --session | --for | --owner | --at) return ;;
     --presets) return ;;
+    --pty) words='perl socat script' ;;
+    --show) words='own' ;;
+    --loops) words='1 2 3 4 5 6 7 8' ;;
+    --term) words='mux mux-8color vt220' ;;
+    --user | --rows | --cols | --title | --keep | --window | --read | --session | --for | --owner | --at) return ;;
     *)
         # mux and mux-trail have subcommands, each with options of its own
         if [[ ${program##*/} == mux || ${program##*/} == mux-trail ]]; then
@@ -54,5 +54,4 @@ _mux() {
 }
 
 complete -F _mux -o bashdefault -o default muxd mux muxsim mux-trail vtcat \
-    mux-attach mux-command mux-console mux-guest mux-over-ssh mux-pty mux-rights mux-shell mux-turn mux-watch muxd-run \
-    muxd-stop muxd-wait new-token
+    mux-attach mux-command mux-guest mux-over-ssh mux-pty mux-shell mux-turn mux-watch muxd-wait new-token
