@@ -12,42 +12,58 @@ const EXAMPLE: &str = "Example, beside that of muxd:
     --rows 24 --cols 80; stty sane
   mux command --socket socket --user ann --token ann.token quit";
 
+/// Who asks: each way but ping has these.
+const USER: Word = Word {
+    name: "user",
+    kind: Kind::Text {
+        value: "NAME",
+        need: Need::Needed,
+    },
+    help: "The user's name",
+};
+
+/// The user's token.
+const TOKEN: Word = Word {
+    name: "token",
+    kind: Kind::Text {
+        value: "PATH",
+        need: Need::Needed,
+    },
+    help: "A file of the user's token: 64 digits",
+};
+
+/// How long a way waits that has one answer.
+const WAIT: Word = Word {
+    name: "wait",
+    kind: Kind::Number {
+        value: "SECONDS",
+        least: 0,
+        most: MOST,
+        need: Need::Default("30"),
+    },
+    help: "How long to wait for the answer; 0: without limit",
+};
+
 static MUX: Program = Program {
     name: "mux",
     version: Some(VERSION),
     about: "Joins a session that muxd serves",
     example: Some(EXAMPLE),
-    words: &[
-        Word {
-            name: "socket",
-            kind: Kind::Text {
-                value: "PATH",
-                need: Need::Needed,
-            },
-            help: "The server's socket",
+    words: &[Word {
+        name: "socket",
+        kind: Kind::Text {
+            value: "PATH",
+            need: Need::Needed,
         },
-        Word {
-            name: "user",
-            kind: Kind::Text {
-                value: "NAME",
-                need: Need::Needed,
-            },
-            help: "The user's name",
-        },
-        Word {
-            name: "token",
-            kind: Kind::Text {
-                value: "PATH",
-                need: Need::Needed,
-            },
-            help: "A file of the user's token: 64 digits",
-        },
-    ],
+        help: "The server's socket",
+    }],
     ways: &[
         Way {
             name: "attach",
             about: "Shows the session: keys from standard input, draws to standard output",
             words: &[
+                USER,
+                TOKEN,
                 Word {
                     name: "rows",
                     kind: Kind::Number {
@@ -79,7 +95,17 @@ static MUX: Program = Program {
                 Word {
                     name: "why",
                     kind: Kind::Flag,
-                    help: "Says on standard error why it ends, also where that is no fault",
+                    help: "Says on standard error why it ends, even if that is no fault",
+                },
+                Word {
+                    name: "leave",
+                    kind: Kind::Number {
+                        value: "BYTE",
+                        least: 0,
+                        most: 255,
+                        need: Need::Free,
+                    },
+                    help: "This byte (28 is C-\\) leaves at once, whatever the server does; typed twice it is sent once",
                 },
             ],
         },
@@ -87,6 +113,8 @@ static MUX: Program = Program {
             name: "window",
             about: "Opens a window: output from standard input, input to standard output",
             words: &[
+                USER,
+                TOKEN,
                 Word {
                     name: "rows",
                     kind: Kind::Number {
@@ -139,6 +167,9 @@ static MUX: Program = Program {
             name: "command",
             about: "Gives a command, and prints what is said to it",
             words: &[
+                USER,
+                TOKEN,
+                WAIT,
                 Word {
                     name: "window",
                     kind: Kind::Number {
@@ -155,6 +186,11 @@ static MUX: Program = Program {
                     help: "The command and its words, as one word",
                 },
             ],
+        },
+        Way {
+            name: "ping",
+            about: "Asks whether a server answers, as nobody",
+            words: &[WAIT],
         },
     ],
 };
