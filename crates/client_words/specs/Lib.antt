@@ -1,2 +1,4 @@
+pub mod Leaving
 pub mod Lines
 pub mod Stands
+pub mod Visible

@@ -3,6 +3,7 @@
 use crate::words::Words;
 use attach_proto::{Why, WriteFault};
 use std::alloc::{AllocError, AllocFailed};
+use std::io::ErrorKind;
 use std::{fmt, io};
 
 /// Why `mux` ended otherwise than well.
@@ -15,6 +16,8 @@ pub enum Fault {
     Writable,
     NoServer,
     NoServerOfOurs,
+    /// The server didn't answer in time.
+    NoAnswer,
     Ended,
     Gone(Why),
     NoMemory,
@@ -28,20 +31,48 @@ pub enum Part {
     Token,
     /// To open the sizes' file.
     Sizes,
+    /// To connect to the server.
+    Socket,
     /// To read standard input.
     Input,
+    /// To write standard output.
+    Output,
+    /// To read from the server, or to write to it.
+    Stream,
     Other,
 }
 
 impl Part {
-    // What stands before the system's words, and behind them.
-    fn texts(self) -> (&'static str, &'static str) {
+    // What could not be done, with the path that it was done to.
+    fn write<W: fmt::Write>(self, words: &Words<'_>, f: &mut fmt::Formatter<W>) -> fmt::Result {
         match self {
-            Part::Token => ("the token's file isn't read: ", ": --token names it"),
-            Part::Sizes => ("the sizes' file isn't opened: ", ": --sizes names it"),
-            Part::Input => ("standard input isn't read: ", ""),
-            Part::Other => ("", ""),
+            Part::Token => write!(f, "can't read token file {}: ", words.token),
+            Part::Sizes => write!(f, "can't open sizes file {}: ", words.sizes.unwrap_or("")),
+            Part::Socket => write!(f, "can't connect to {}: ", words.socket),
+            Part::Input => f.write_str("can't read standard input: "),
+            Part::Output => f.write_str("can't write to standard output: "),
+            Part::Stream => write!(f, "lost the server at {}: ", words.socket),
+            Part::Other => Ok(()),
         }
+    }
+
+    // What to do about it.
+    fn advice(self) -> &'static str {
+        match self {
+            Part::Token => " (set --token or MUX_TOKEN)",
+            Part::Sizes => " (set --sizes)",
+            Part::Socket => " (see the modes of the socket and its folder)",
+            Part::Input | Part::Output | Part::Stream | Part::Other => "",
+        }
+    }
+}
+
+// What the system says of an error, without the number where it has a plain name.
+fn write_error<W: fmt::Write>(error: io::Error, f: &mut fmt::Formatter<W>) -> fmt::Result {
+    match error.kind() {
+        ErrorKind::NotFound => f.write_str("no such file"),
+        ErrorKind::PermissionDenied => f.write_str("permission denied"),
+        _ => write!(f, "{error}"),
     }
 }
 
@@ -49,12 +80,12 @@ impl Part {
 pub fn gone(why: Why) -> &'static str {
     match why {
         Why::Detached => "detached",
-        Why::Removed => "the user isn't known any more",
-        Why::SingleUser => "the session is single-user now",
+        Why::Removed => "this user was removed from the session (acldel)",
+        Why::SingleUser => "the session is single-user now (multiuser off)",
         Why::Killed => "the window was killed",
         Why::Quit => "the session has ended",
-        Why::TooFarBehind => "too far behind: what the server sends is to be read sooner",
-        Why::Fault => "the server found a fault, or had no memory",
+        Why::TooFarBehind => "too far behind: the server's output wasn't read in time",
+        Why::Fault => "the server found a fault or ran out of memory: see its log",
         Why::TrailFull => "the session's trail is full: start another session",
     }
 }
@@ -67,18 +98,6 @@ impl Fault {
             _ => 1,
         }
     }
-
-    // What is said of a fault that names nothing.
-    fn text(self) -> &'static str {
-        match self {
-            Fault::TooLong => "the words are too long for the server",
-            Fault::NoToken => "the token's file hasn't 64 digits of 0 to 9, a to f",
-            Fault::NoServerOfOurs => "the server doesn't speak this protocol",
-            Fault::Ended => "the connection ended",
-            Fault::Gone(why) => gone(why),
-            _ => "out of memory",
-        }
-    }
 }
 
 /// A fault of a peer with these words, as it is told.
@@ -88,26 +107,63 @@ pub struct Told<'a> {
     pub words: &'a Words<'a>,
 }
 
+impl Told<'_> {
+    // What is said of the server at the socket.
+    fn server<W: fmt::Write>(&self, f: &mut fmt::Formatter<W>) -> fmt::Result {
+        let socket = self.words.socket;
+        match self.fault {
+            Fault::NoServer => write!(
+                f,
+                "no server at {socket}: start it with 'muxd --socket {socket} --users PATH'"
+            ),
+            Fault::NoServerOfOurs => write!(
+                f,
+                "the server at {socket} doesn't speak this protocol: is it another program or version?"
+            ),
+            Fault::NoAnswer => {
+                let wait = self.words.wait;
+                write!(
+                    f,
+                    "no answer from {socket} within {wait} s: it may come later (--wait)"
+                )
+            }
+            _ => write!(
+                f,
+                "the connection ended: the server at {socket} was stopped or can't be reached"
+            ),
+        }
+    }
+
+    // What is said of the token's file.
+    fn token<W: fmt::Write>(&self, f: &mut fmt::Formatter<W>) -> fmt::Result {
+        let token = self.words.token;
+        match self.fault {
+            Fault::Writable => write!(f, "others may write the token's file: chmod go-w {token}"),
+            _ => write!(
+                f,
+                "no token in {token}: it must have 64 digits of 0 to 9, a to f, and no more"
+            ),
+        }
+    }
+}
+
 impl fmt::Display for Told<'_> {
     fn fmt<W: fmt::Write>(&self, f: &mut fmt::Formatter<W>) -> fmt::Result {
         match self.fault {
-            Fault::Writable => write!(
-                f,
-                "others may write the token's file: chmod go-w {}",
-                self.words.token
+            Fault::TooLong => f.write_str(
+                "the arguments are too long: a name has up to 255 bytes, a command some 8,000",
             ),
-            Fault::NoServer => {
-                let socket = self.words.socket;
-                write!(
-                    f,
-                    "no server at {socket}: start it with 'muxd --socket {socket} --users PATH'"
-                )
+            Fault::Writable | Fault::NoToken => self.token(f),
+            Fault::NoServer | Fault::NoServerOfOurs | Fault::NoAnswer | Fault::Ended => {
+                self.server(f)
             }
+            Fault::Gone(why) => f.write_str(gone(why)),
+            Fault::NoMemory => f.write_str("out of memory"),
             Fault::Refused(part, error) => {
-                let (before, behind) = part.texts();
-                write!(f, "{before}{error}{behind}")
+                part.write(self.words, f)?;
+                write_error(error, f)?;
+                f.write_str(part.advice())
             }
-            other => f.write_str(other.text()),
         }
     }
 }

@@ -1,13 +1,17 @@
-//! What the words of `mux` ask, what it says of faults and refusals, and lines that say the size of a
-//! terminal.
+//! What the words of `mux` ask, what it says of faults and refusals, lines that say the size of a
+//! terminal, input in which a byte leaves, and text made visible.
 #![tactic(auto)]
 
 mod fault;
+mod leaving;
 mod refusals;
 mod size_lines;
+mod visible;
 mod words;
 
 pub use fault::{Fault, Part, Told, gone};
+pub use leaving::{LeaveReader, Stage};
 pub use refusals::explain;
 pub use size_lines::{Size, SizeLines};
+pub use visible::{nothing_controls, put_visible};
 pub use words::{Way, Words, frame_of, words_of};

@@ -9,7 +9,9 @@ use std::io::Write;
 fn bounds(way: Way) -> &'static [u8] {
     match way {
         Way::Attach => b" (4 to 200 lines by 20 to 300 columns)",
-        Way::Window | Way::Command => b" (2 to 200 lines by 2 to 300 columns, up to 2000 kept)",
+        Way::Window | Way::Command | Way::Ping => {
+            b" (2 to 200 lines by 2 to 300 columns, up to 2000 kept)"
+        }
     }
 }
 

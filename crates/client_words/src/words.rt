@@ -12,6 +12,8 @@ pub enum Way {
     Attach,
     Window,
     Command,
+    /// Nobody, who asks whether the server answers.
+    Ping,
 }
 
 impl Way {
@@ -19,6 +21,7 @@ impl Way {
         match name {
             "attach" => Way::Attach,
             "window" => Way::Window,
+            "ping" => Way::Ping,
             _ => Way::Command,
         }
     }
@@ -29,6 +32,10 @@ impl Way {
 
     pub fn is_command(self) -> bool {
         matches!(self, Way::Command)
+    }
+
+    pub fn is_ping(self) -> bool {
+        matches!(self, Way::Ping)
     }
 }
 
@@ -47,6 +54,10 @@ pub struct Words<'a> {
     pub sizes: Option<&'a str>,
     /// Whether a good end is told, too.
     pub why: bool,
+    /// The byte of the input that leaves.
+    pub leave: Option<u8>,
+    /// How many seconds an answer may take; 0 is without limit.
+    pub wait: u16,
     pub title: &'a str,
     pub keep: u16,
     pub window: Option<u8>,
@@ -73,6 +84,8 @@ impl<'a> Words<'a> {
             columns: number(matches, "cols"),
             sizes: matches.get_str("sizes"),
             why: matches.get_flag("why"),
+            leave: matches.get_one::<u8>("leave"),
+            wait: number(matches, "wait"),
             title: text(matches, "title"),
             keep: number(matches, "keep"),
             window: matches.get_one::<u8>("window"),
@@ -115,20 +128,23 @@ impl<'a> Words<'a> {
         }
     }
 
-    // The first message with this token.
-    fn first(&self, alloc: Global, token: Token) -> Result<Message, AllocError> {
+    // The first message with this token. Nobody sends none.
+    fn first(&self, alloc: Global, token: Token) -> Result<Option<Message>, AllocError> {
         let name = Text::of(alloc, self.user)?;
-        Ok(match self.way {
+        Ok(Some(match self.way {
             Way::Attach => self.attach(token, name),
             Way::Window => self.window(token, name, Text::of(alloc, self.title)?),
             Way::Command => self.command(token, name, Bytes::of(alloc, self.line.as_bytes())?),
-        })
+            Way::Ping => return Ok(None),
+        }))
     }
 
-    /// The frame of a first message with this token: unspellable where no frame holds the words.
+    /// The frame of a first message with this token, empty where there is none: unspellable where no
+    /// frame holds the words.
     pub fn first_frame(&self, alloc: Global, token: Token) -> Result<Vec<u8>, WriteFault> {
         match self.first(alloc, token) {
-            Ok(message) => frame_of(alloc, &message),
+            Ok(Some(message)) => frame_of(alloc, &message),
+            Ok(None) => Ok(Vec::new(alloc)),
             Err(error) => Err(WriteFault::from(error)),
         }
     }
