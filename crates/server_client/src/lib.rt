@@ -2,7 +2,10 @@
 #![tactic(auto)]
 
 mod attach;
+mod ending;
+mod leaving;
 mod opening;
+mod outgoing;
 mod sending;
 mod showing;
 mod standing;
@@ -10,3 +13,4 @@ mod taking;
 mod watching;
 
 pub use attach::client;
+pub use opening::Connects;

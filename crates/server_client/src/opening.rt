@@ -1,14 +1,16 @@
 //! What a connection begins with, and the files that the words name.
 
+use crate::outgoing::PATIENCE;
 use attach_proto::Token;
 use client_words::{Fault, Part, Way, Words};
 use std::alloc::Global;
-use std::fs::{File, Files, OpenOptions};
+use std::fs::{File, OpenOptions};
 use std::io::{ErrorKind, Write};
-use std::net::Net;
+use std::net::Shutdown;
 use std::os::fd::AsRawFd;
 use std::os::unix::fs::MetadataExt;
 use std::os::unix::net::UnixStream;
+use std::time::Duration;
 use std::{fs, io};
 
 // Modes of a file: those of its group and of all others.
@@ -28,7 +30,7 @@ fn judge_words(alloc: Global, words: &Words<'_>) -> Result<(), Fault> {
 }
 
 // Whether others may use a file so. A terminal or a pipe is none.
-fn is_open<R: Files<File = File>>(rt: &R, path: &str, mode: u32) -> bool {
+fn is_open<R: fs::Files<File = File>>(rt: &R, path: &str, mode: u32) -> bool {
     match fs::metadata(rt, path) {
         Ok(found) => found.is_file() && found.mode() & mode != 0,
         Err(_) => false,
@@ -36,7 +38,7 @@ fn is_open<R: Files<File = File>>(rt: &R, path: &str, mode: u32) -> bool {
 }
 
 /// Warns of a token's file that others may read.
-pub fn warn_of_token<R: Files<File = File>, E: Write>(rt: &R, path: &str, errors: &mut E) {
+pub fn warn_of_token<R: fs::Files<File = File>, E: Write>(rt: &R, path: &str, errors: &mut E) {
     if is_open(rt, path, OTHERS_READ) {
         let _ = writeln!(
             errors,
@@ -51,7 +53,7 @@ fn token_of(file: &[u8]) -> Result<Token, Fault> {
 }
 
 // The token of a file, which nobody else may write.
-fn read_token<R: Files<File = File> + AllocGlobal>(rt: &R, path: &str) -> Result<Token, Fault> {
+fn read_token<R: fs::Files<File = File> + AllocGlobal>(rt: &R, path: &str) -> Result<Token, Fault> {
     if is_open(rt, path, OTHERS_WRITE) {
         return Err(Fault::Writable);
     }
@@ -62,17 +64,17 @@ fn read_token<R: Files<File = File> + AllocGlobal>(rt: &R, path: &str) -> Result
 }
 
 // A FIFO is opened for both ways: that waits for nobody, and its last writer's end is none here.
-fn open_sizes<R: Files<File = File>>(rt: &R, way: Way, path: &str) -> io::Result<File> {
+fn open_sizes<R: fs::Files<File = File>>(rt: &R, way: Way, path: &str) -> io::Result<File> {
     let mut options = OpenOptions::new();
     match way {
         Way::Attach => options.read(true).write(true),
-        Way::Window | Way::Command => options.append(true),
+        _ => options.append(true),
     };
     options.open(rt, path)
 }
 
 // The sizes' file, where the words name one.
-fn sizes_of<R: Files<File = File>>(rt: &R, words: &Words<'_>) -> Result<Option<File>, Fault> {
+fn sizes_of<R: fs::Files<File = File>>(rt: &R, words: &Words<'_>) -> Result<Option<File>, Fault> {
     match words.sizes {
         Some(path) => match open_sizes(rt, words.way, path) {
             Ok(file) => Ok(Some(file)),
@@ -82,36 +84,23 @@ fn sizes_of<R: Files<File = File>>(rt: &R, words: &Words<'_>) -> Result<Option<F
     }
 }
 
-fn connect<R: Net>(rt: &R, path: &str) -> Result<UnixStream, Fault> {
-    match UnixStream::connect(rt, path) {
-        Ok(stream) => Ok(stream),
-        Err(error) => Err(match error.kind() {
-            ErrorKind::NotFound | ErrorKind::ConnectionRefused => Fault::NoServer,
-            _ => Fault::from(error),
-        }),
-    }
-}
-
-/// A peer of the server, from its first frame on.
+/// The sizes' files of a peer.
 #[derive(Drop)]
-pub struct Opened {
-    pub stream: UnixStream,
+pub struct Files {
     /// The file that a client's sizes are read from.
     pub asked: Option<File>,
     /// The file that a window's sizes are written to.
     pub told: Option<File>,
 }
 
-impl Opened {
-    fn of(way: Way, stream: UnixStream, sizes: Option<File>) -> Opened {
+impl Files {
+    fn of(way: Way, sizes: Option<File>) -> Files {
         match way {
-            Way::Attach => Opened {
-                stream,
+            Way::Attach => Files {
                 asked: sizes,
                 told: None,
             },
-            Way::Window | Way::Command => Opened {
-                stream,
+            _ => Files {
                 asked: None,
                 told: sizes,
             },
@@ -119,31 +108,78 @@ impl Opened {
     }
 }
 
-// A connection that begins with this frame.
-fn connect_with<R: Net>(
-    rt: &R,
-    words: &Words<'_>,
-    frame: &[u8],
-    sizes: Option<File>,
-) -> Result<Opened, Fault> {
-    let stream = connect(rt, words.socket)?;
-    let mut writer = &stream;
-    writer.write_all(frame)?;
-    Ok(Opened::of(words.way, stream, sizes))
+/// Who connects to a server's socket. (A thread can't be handed `Net`, which has types of its own.)
+pub trait Connects {
+    fn reach(&self, socket: &str) -> io::Result<UnixStream>;
+}
+
+impl Connects for HostRuntime {
+    fn reach(&self, socket: &str) -> io::Result<UnixStream> {
+        UnixStream::connect(self, socket)
+    }
+}
+
+/// Where a connection is made, and what it begins with.
+#[derive(Drop)]
+pub struct Door {
+    socket: String,
+    /// Empty for one that sends nothing.
+    frame: Vec<u8>,
+    can_leave: bool,
+}
+
+impl Door {
+    fn of(alloc: Global, words: &Words<'_>, frame: Vec<u8>) -> Result<Door, Fault> {
+        Ok(Door {
+            socket: String::from_str(alloc, words.socket)?,
+            frame,
+            can_leave: words.leave.is_some(),
+        })
+    }
+
+    // The first frame goes, and of one who sends none the end.
+    fn begin(&self, stream: &UnixStream) -> io::Result<()> {
+        if self.frame.is_empty() {
+            return stream.shutdown(Shutdown::Write);
+        }
+        let mut writer = stream;
+        writer.write_all(&self.frame)?;
+        if self.can_leave {
+            stream.set_write_timeout(Some(Duration::from_millis(PATIENCE)))?;
+        }
+        Ok(())
+    }
+
+    /// Makes the connection.
+    pub fn open<R: Connects>(&self, rt: &R) -> Result<UnixStream, Fault> {
+        match rt.reach(self.socket.as_str()) {
+            Ok(stream) => match self.begin(&stream) {
+                Ok(()) => Ok(stream),
+                Err(error) => Err(Fault::Refused(Part::Stream, error)),
+            },
+            Err(error) => Err(match error.kind() {
+                ErrorKind::NotFound | ErrorKind::ConnectionRefused => Fault::NoServer,
+                _ => Fault::Refused(Part::Socket, error),
+            }),
+        }
+    }
 }
 
 // The first frame, with the token of the file that the words name.
-fn frame_for<R: Files<File = File> + AllocGlobal>(
+fn frame_for<R: fs::Files<File = File> + AllocGlobal>(
     rt: &R,
     words: &Words<'_>,
 ) -> Result<Vec<u8>, Fault> {
+    if words.way.is_ping() {
+        return Ok(Vec::new(rt.alloc()));
+    }
     judge_words(rt.alloc(), words)?;
     let token = read_token(rt, words.token)?;
     Ok(words.first_frame(rt.alloc(), token)?)
 }
 
 // Makes /dev/null of a standard stream that is closed. The answer is whether one was.
-fn fill<R: Files<File = File>>(rt: &R, kept: &mut Vec<File>) -> io::Result<bool> {
+fn fill<R: fs::Files<File = File>>(rt: &R, kept: &mut Vec<File>) -> io::Result<bool> {
     let file = fs::open(rt, "/dev/null")?;
     if file.as_raw_fd() > 2 {
         return Ok(false);
@@ -153,7 +189,7 @@ fn fill<R: Files<File = File>>(rt: &R, kept: &mut Vec<File>) -> io::Result<bool>
 }
 
 // Standard streams that are closed are /dev/null from now on, so that nothing else becomes one.
-fn fill_closed<R: Files<File = File>>(rt: &R, kept: &mut Vec<File>) -> io::Result<()> {
+fn fill_closed<R: fs::Files<File = File>>(rt: &R, kept: &mut Vec<File>) -> io::Result<()> {
     for _ in 0..3 {
         if !fill(rt, kept)? {
             break;
@@ -162,17 +198,18 @@ fn fill_closed<R: Files<File = File>>(rt: &R, kept: &mut Vec<File>) -> io::Resul
     Ok(())
 }
 
-/// Begins a connection. What is wrong is found in the words first, then in files, then at the socket.
-/// What stands for closed streams is put into a list, and stays as long as that.
-pub fn open<R: Net + Files<File = File> + AllocGlobal>(
+/// Reads and opens the files that the words name. What is wrong is found in the words first, then in
+/// files. What stands for closed streams is put into a list, and stays as long as that.
+pub fn prepare<R: fs::Files<File = File> + AllocGlobal>(
     rt: &R,
     words: &Words<'_>,
     kept: &mut Vec<File>,
-) -> Result<Opened, Fault> {
+) -> Result<(Door, Files), Fault> {
     fill_closed(rt, kept)?;
     let frame = frame_for(rt, words)?;
+    let door = Door::of(rt.alloc(), words, frame)?;
     match sizes_of(rt, words) {
-        Ok(sizes) => connect_with(rt, words, &frame, sizes),
+        Ok(sizes) => Ok((door, Files::of(words.way, sizes))),
         Err(fault) => Err(fault),
     }
 }

@@ -2,9 +2,10 @@
 
 ghost use Rattle.std.specs.Io.{ReadsAtMost};
 
-use crate::standing::Shared;
-use attach_proto::{Bytes, Kind, LONGEST, Message, WriteFault, head_of};
-use client_words::{Fault, Part, Size, SizeLines, Way, frame_of};
+use crate::outgoing::{send, send_detach, wait_for_room};
+use crate::standing::{Shared, Typing};
+use attach_proto::{Bytes, LONGEST, Message, WriteFault};
+use client_words::{Fault, Part, Size, SizeLines, Stage, Way, frame_of};
 use std::alloc::{AllocError, Global};
 use std::fs::File;
 use std::io::{Read, Write};
@@ -29,7 +30,7 @@ fn input_frame(alloc: Global, way: Way, input: &[u8]) -> Result<Vec<u8>, WriteFa
     let bytes = Bytes::of(alloc, input)?;
     let message = match way {
         Way::Window => Message::Output(bytes),
-        Way::Attach | Way::Command => Message::Keys(bytes),
+        _ => Message::Keys(bytes),
     };
     frame_of(alloc, &message)
 }
@@ -39,72 +40,136 @@ fn size_frame(alloc: Global, size: Size) -> Result<Vec<u8>, WriteFault> {
     frame_of(alloc, &Message::Resize { rows, columns })
 }
 
-// Sends what was read. The answer is whether the socket takes more.
-fn send_input<R: Wait, J, O>(rt: &R, shared: &Shared<J, O>, input: &[u8]) -> Result<bool, Fault> {
-    match input_frame(shared.alloc, shared.way, input) {
-        // What is still to be read of the socket says why it takes no more.
-        Ok(frame) => Ok(shared.send(rt, &frame).is_ok()),
-        Err(fault) => Err(Fault::from(fault)),
+impl Typing {
+    // What is sent of the input, and how far it has come.
+    fn take(&mut self, alloc: Global, input: &[u8]) -> Result<(Vec<u8>, Stage), AllocError> {
+        let mut bytes = Vec::new(alloc);
+        self.reads = self.reads.wrapping_add(1);
+        let Some(reader) = &mut self.reader else {
+            bytes.extend_from_slice(input)?;
+            return Ok((bytes, Stage::Reading));
+        };
+        reader.feed(input, &mut bytes)?;
+        Ok((bytes, reader.stage()))
     }
 }
 
-// Reads the input once, and sends what it read. The answer is whether to go on.
-fn send_next<R: Wait, I: Read, J, O>(
+// Sends what was read. The answer is whether the socket takes more.
+fn send_input<
+    R: Threads + Wait + Copy + Send + 'static,
+    I: Read + Send + Drop + 'static,
+    O: Write + Send + Drop + 'static,
+>(rt: &R, shared: &Arc<Shared<I, O>, Global>, input: &[u8]) -> Result<bool, Fault> {
+    if input.is_empty() {
+        return Ok(true);
+    }
+    let frame = input_frame(shared.alloc, shared.way, input)?;
+    match send(rt, shared, &frame) {
+        Ok(()) => Ok(true),
+        Err(Fault::NoMemory) => Err(Fault::NoMemory),
+        // What is still to be read of the socket says why it takes no more.
+        Err(_) => Ok(false),
+    }
+}
+
+// Sends what was read, but for the byte that leaves. The answer is whether to go on.
+fn send_typed<
+    R: Threads + Wait + Copy + Send + 'static,
+    I: Read + Send + Drop + 'static,
+    O: Write + Send + Drop + 'static,
+>(rt: &R, shared: &Arc<Shared<I, O>, Global>, input: &[u8]) -> Result<bool, Fault> {
+    let mut typing = shared.typing.lock(rt);
+    let (bytes, stage) = typing.take(shared.alloc, input)?;
+    let takes = send_input(rt, shared, &bytes)?;
+    shared.tell_stage(rt, stage, typing.reads);
+    drop(typing);
+    wait_for_room(rt, shared);
+    Ok(takes && !matches!(stage, Stage::Left))
+}
+
+/// How reading the input goes on.
+#[derive(Clone, Copy)]
+enum Next {
+    Read,
+    /// The input has ended.
+    End,
+    /// The user leaves, or the socket takes no more.
+    Stop,
+}
+
+// Reads the input once, and sends what it read.
+fn send_next<
+    R: Threads + Wait + Copy + Send + 'static,
+    I: Read + Send + Drop + 'static,
+    O: Write + Send + Drop + 'static,
+>(
     rt: &R,
-    shared: &Shared<J, O>,
+    shared: &Arc<Shared<I, O>, Global>,
     input: &mut I,
     buffer: &mut [u8],
-) -> Result<bool, Fault> {
-    match read_input(input, buffer) {
-        Ok(0) => Ok(false),
-        Ok(count) => send_input(rt, shared, &buffer[..count]),
-        Err(error) => Err(Fault::Refused(Part::Input, error)),
-    }
+) -> Result<Next, Fault> {
+    let goes_on = match read_input(input, buffer) {
+        Ok(0) => return Ok(Next::End),
+        Ok(count) if shared.can_leave => send_typed(rt, shared, &buffer[..count])?,
+        Ok(count) => send_input(rt, shared, &buffer[..count])?,
+        Err(error) => return Err(Fault::Refused(Part::Input, error)),
+    };
+    Ok(if goes_on { Next::Read } else { Next::Stop })
 }
 
-// Sends what it reads, until the input ends.
-fn send_all<R: Wait, I: Read, J, O>(
-    rt: &R,
-    shared: &Shared<J, O>,
-    input: &mut I,
-) -> Result<(), Fault> {
+// Sends what it reads, until the input ends. The answer is whether that is to be told.
+fn send_all<
+    R: Threads + Wait + Copy + Send + 'static,
+    I: Read + Send + Drop + 'static,
+    O: Write + Send + Drop + 'static,
+>(rt: &R, shared: &Arc<Shared<I, O>, Global>, input: &mut I) -> Result<bool, Fault> {
     let mut buffer = vec![in shared.alloc; 0; LONGEST]?;
     for _ in 0..u64::MAX {
-        if !send_next(rt, shared, input, buffer.as_mut_slice())? {
-            break;
+        match send_next(rt, shared, input, buffer.as_mut_slice())? {
+            Next::Read => {}
+            Next::End => return Ok(true),
+            Next::Stop => return Ok(false),
         }
     }
-    Ok(())
-}
-
-// Sends that the peer goes: its frame is a head alone.
-fn send_detach<R: Wait, I, O>(rt: &R, shared: &Shared<I, O>) -> io::Result<()> {
-    shared.send(rt, &head_of(Kind::Detach, &[]))
+    Ok(true)
 }
 
 // Sends the input, and at its end that the peer goes.
-fn send_to_end<R: Wait, I: Read, J, O>(rt: &R, shared: &Shared<J, O>, input: &mut I) {
-    if let Err(fault) = send_all(rt, shared, input) {
-        shared.standing.lock(rt).input = Some(fault);
+fn send_to_end<
+    R: Threads + Wait + Copy + Send + 'static,
+    I: Read + Send + Drop + 'static,
+    O: Write + Send + Drop + 'static,
+>(rt: &R, shared: &Arc<Shared<I, O>, Global>, input: &mut I) {
+    let has_ended = match send_all(rt, shared, input) {
+        Ok(has_ended) => has_ended,
+        Err(fault) => {
+            shared.standing.lock(rt).input = Some(fault);
+            true
+        }
+    };
+    if has_ended {
+        let _ = send_detach(rt, shared);
     }
-    let _ = send_detach(rt, shared);
 }
 
 // Sends a size. The answer is whether to go on.
-fn send_size<R: Wait, I, O>(rt: &R, shared: &Shared<I, O>, size: Size) -> bool {
+fn send_size<
+    R: Threads + Wait + Copy + Send + 'static,
+    I: Read + Send + Drop + 'static,
+    O: Write + Send + Drop + 'static,
+>(rt: &R, shared: &Arc<Shared<I, O>, Global>, size: Size) -> bool {
     match size_frame(shared.alloc, size) {
-        Ok(frame) => shared.send(rt, &frame).is_ok(),
+        Ok(frame) => send(rt, shared, &frame).is_ok(),
         Err(_) => false,
     }
 }
 
 // Sends the last size of those that these bytes end. The answer is whether to go on.
-fn send_last<R: Wait, I, O>(
-    rt: &R,
-    shared: &Shared<I, O>,
-    lines: &mut SizeLines,
-    bytes: &[u8],
-) -> bool {
+fn send_last<
+    R: Threads + Wait + Copy + Send + 'static,
+    I: Read + Send + Drop + 'static,
+    O: Write + Send + Drop + 'static,
+>(rt: &R, shared: &Arc<Shared<I, O>, Global>, lines: &mut SizeLines, bytes: &[u8]) -> bool {
     let Ok(size) = lines.feed(bytes) else {
         return false;
     };
@@ -118,9 +183,13 @@ fn send_last<R: Wait, I, O>(
 }
 
 // Sends the last size of those that a read brings. The answer is whether to go on.
-fn send_read<R: Wait, I, O>(
+fn send_read<
+    R: Threads + Wait + Copy + Send + 'static,
+    I: Read + Send + Drop + 'static,
+    O: Write + Send + Drop + 'static,
+>(
     rt: &R,
-    shared: &Shared<I, O>,
+    shared: &Arc<Shared<I, O>, Global>,
     file: &mut File,
     lines: &mut SizeLines,
     buffer: &mut [u8],
@@ -132,11 +201,11 @@ fn send_read<R: Wait, I, O>(
 }
 
 // Sends the last size of those that came, until the file ends.
-fn send_sizes<R: Wait, I, O>(
-    rt: &R,
-    shared: &Shared<I, O>,
-    file: &mut File,
-) -> Result<(), AllocError> {
+fn send_sizes<
+    R: Threads + Wait + Copy + Send + 'static,
+    I: Read + Send + Drop + 'static,
+    O: Write + Send + Drop + 'static,
+>(rt: &R, shared: &Arc<Shared<I, O>, Global>, file: &mut File) -> Result<(), AllocError> {
     let mut lines = SizeLines::new(shared.alloc);
     let mut buffer = vec![in shared.alloc; 0; LONGEST]?;
     for _ in 0..u64::MAX {
@@ -147,42 +216,57 @@ fn send_sizes<R: Wait, I, O>(
     Ok(())
 }
 
-/// What a thread sends until it ends.
-#[derive(Drop)]
-pub enum Source<I> {
-    /// The input, and at its end that the peer goes.
-    Input(I),
-    /// The sizes that a file says.
-    Sizes(File),
-}
-
-impl<J: Read> Source<J> {
-    fn send<R: Wait, I, O>(&mut self, rt: &R, shared: &Shared<I, O>) {
-        match self {
-            Source::Input(input) => send_to_end(rt, shared, input),
-            Source::Sizes(file) => {
-                let _ = send_sizes(rt, shared, file);
-            }
-        }
-    }
-}
-
-/// Starts a thread that sends. It isn't joined: it may wait for its source for good, and the program
-/// ends without it.
-pub fn start_sending<
+// Starts a thread that sends the input. It isn't joined: it may wait for its source for good, and the
+// program ends without it.
+fn start_input<
     R: Threads + Wait + Copy + Send + 'static,
     I: Read + Send + Drop + 'static,
     O: Write + Send + Drop + 'static,
->(rt: &R, shared: &Arc<Shared<I, O>, Global>, source: Source<I>) -> Result<(), AllocError> {
+>(rt: &R, shared: &Arc<Shared<I, O>, Global>, input: I) -> Result<(), AllocError> {
     let theirs = Arc::try_clone(shared)?;
     let rt_there = *rt;
-    let mut source = source;
+    let mut input = input;
     let started = thread::spawn(rt, move || {
         let rt = rt_there;
-        source.send(&rt, &theirs);
+        send_to_end(&rt, &theirs, &mut input);
     });
     match started {
         Ok(_) => Ok(()),
         Err(error) => Err(AllocError::from(error)),
+    }
+}
+
+// Starts a thread that sends the sizes that a file says.
+fn start_sizes<
+    R: Threads + Wait + Copy + Send + 'static,
+    I: Read + Send + Drop + 'static,
+    O: Write + Send + Drop + 'static,
+>(rt: &R, shared: &Arc<Shared<I, O>, Global>, file: File) -> Result<(), AllocError> {
+    let theirs = Arc::try_clone(shared)?;
+    let rt_there = *rt;
+    let mut file = file;
+    let started = thread::spawn(rt, move || {
+        let rt = rt_there;
+        let _ = send_sizes(&rt, &theirs, &mut file);
+    });
+    match started {
+        Ok(_) => Ok(()),
+        Err(error) => Err(AllocError::from(error)),
+    }
+}
+
+/// Starts the threads that read a peer's sources, unless they are read.
+pub fn start_sources<
+    R: Threads + Wait + Copy + Send + 'static,
+    I: Read + Send + Drop + 'static,
+    O: Write + Send + Drop + 'static,
+>(rt: &R, shared: &Arc<Shared<I, O>, Global>) -> Result<(), AllocError> {
+    let mut sources = shared.sources.lock(rt);
+    if let Some(asked) = sources.asked.take() {
+        start_sizes(rt, shared, asked)?;
+    }
+    match sources.input.take() {
+        Some(input) => start_input(rt, shared, input),
+        None => Ok(()),
     }
 }

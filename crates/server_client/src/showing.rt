@@ -1,10 +1,12 @@
 //! What comes from the server: read, and written where it belongs.
 
-use crate::sending::{Source, start_sending};
+use crate::opening::{Connects, Door};
+use crate::outgoing::let_out;
+use crate::sending::start_sources;
 use crate::standing::{Intake, Outlet, Shared, Standing};
 use crate::watching::Turns;
 use attach_proto::{LONGEST, Why};
-use client_words::Fault;
+use client_words::{Fault, Part};
 use std::alloc::{AllocError, Global};
 use std::io::{Read, Write};
 use std::sync::{Arc, Wait};
@@ -50,13 +52,14 @@ enum Came {
 fn take_in<R: Wait, I, O>(
     rt: &R,
     shared: &Shared<I, O>,
-    intake: &mut Intake<I>,
+    intake: &mut Intake,
     bytes: &[u8],
 ) -> Result<Came, Fault> {
     let mut standing = shared.standing.lock(rt);
     let end = standing.take_read(shared.alloc, &mut intake.reader, bytes)?;
     intake.is_welcome = standing.is_welcome;
     intake.is_over = end.is_some();
+    standing.is_over = intake.is_over;
     Ok(match end {
         Some(end) => Came::End(end),
         None => Came::More,
@@ -67,16 +70,18 @@ fn take_in<R: Wait, I, O>(
 fn receive<R: Wait, I, O>(
     rt: &R,
     shared: &Shared<I, O>,
-    intake: &mut Intake<I>,
+    intake: &mut Intake,
     buffer: &mut [u8],
 ) -> Result<Came, Fault> {
     if intake.is_over {
         return Ok(Came::Nothing);
     }
-    let mut stream = &shared.stream;
+    let Some(mut stream) = shared.stream.get() else {
+        return Err(Fault::Ended);
+    };
     match stream.read(buffer) {
         Ok(count) => take_in(rt, shared, intake, &buffer[..count]),
-        Err(error) => Err(Fault::from(error)),
+        Err(error) => Err(Fault::Refused(Part::Stream, error)),
     }
 }
 
@@ -85,17 +90,15 @@ fn start<
     R: Threads + Wait + Copy + Send + 'static,
     I: Read + Send + Drop + 'static,
     O: Write + Send + Drop + 'static,
->(rt: &R, shared: &Arc<Shared<I, O>, Global>, intake: &mut Intake<I>) -> Result<(), AllocError> {
-    if !intake.is_welcome {
+>(rt: &R, shared: &Arc<Shared<I, O>, Global>, intake: &mut Intake) -> Result<(), AllocError> {
+    if !intake.is_welcome || intake.has_begun {
         return Ok(());
     }
-    if let Some(asked) = intake.asked.take() {
-        start_sending(rt, shared, Source::Sizes(asked))?;
+    intake.has_begun = true;
+    if shared.can_leave {
+        let_out(rt, shared)?;
     }
-    match intake.input.take() {
-        Some(input) => start_sending(rt, shared, Source::Input(input)),
-        None => Ok(()),
-    }
+    start_sources(rt, shared)
 }
 
 // Reads the socket once.
@@ -168,7 +171,7 @@ fn finish<R: Wait, I, O: Write>(rt: &R, shared: &Shared<I, O>, end: Result<Why, 
     }
     match write_waiting(rt, shared) {
         Ok(()) => shared.end(rt, end),
-        Err(error) => shared.end(rt, Err(Fault::from(error))),
+        Err(error) => shared.end(rt, Err(Fault::Refused(Part::Output, error))),
     }
 }
 
@@ -181,7 +184,7 @@ fn pass_on<
     let fault = match read_once(rt, shared, buffer) {
         Ok(Came::More) => match write_waiting(rt, shared) {
             Ok(()) => return true,
-            Err(error) => Fault::from(error),
+            Err(error) => Fault::Refused(Part::Output, error),
         },
         Ok(Came::End(end)) => {
             finish(rt, shared, end);
@@ -194,13 +197,28 @@ fn pass_on<
     false
 }
 
-/// Reads and writes until the peer ends; where it stands in, while another thread's writing takes long.
+// Connects. Only one thread does.
+fn connect<R: Connects, I, O>(rt: &R, shared: &Shared<I, O>, door: &Door) -> Result<(), Fault> {
+    let stream = door.open(rt)?;
+    match shared.stream.try_set(stream) {
+        Ok(_) => Ok(()),
+        Err(_) => Err(Fault::Ended),
+    }
+}
+
+/// Connects, and reads and writes until the peer ends; without a door it stands in, while another
+/// thread's writing takes long.
 pub fn show<
-    R: Threads + Wait + Clock + Copy + Send + 'static,
+    R: Connects + Threads + Wait + Clock + Copy + Send + 'static,
     I: Read + Send + Drop + 'static,
     O: Write + Send + Drop + 'static,
->(rt: &R, shared: &Arc<Shared<I, O>, Global>, stands_in: bool) {
-    let mut turns = Turns::of(stands_in);
+>(rt: &R, shared: &Arc<Shared<I, O>, Global>, door: Option<Door>) {
+    let mut turns = Turns::of(door.is_none());
+    if let Some(door) = &door {
+        if let Err(fault) = connect(rt, shared, door) {
+            return shared.end(rt, Err(fault));
+        }
+    }
     let Ok(mut buffer) = vec![in shared.alloc; 0; LONGEST] else {
         return shared.end(rt, Err(Fault::NoMemory));
     };

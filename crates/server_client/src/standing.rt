@@ -1,14 +1,12 @@
 //! What the threads of a peer share.
 
-use crate::opening::Opened;
+use crate::opening::Files;
 use attach_proto::{Reader, Side, Why};
-use client_words::{Fault, Way, Words};
+use client_words::{Fault, LeaveReader, Stage, Way, Words};
 use std::alloc::Global;
 use std::fs::File;
-use std::io;
-use std::io::Write;
 use std::os::unix::net::UnixStream;
-use std::sync::{Condvar, Mutex, Wait};
+use std::sync::{Condvar, Mutex, OnceLock, Wait};
 
 /// What waits to be written, and how the peer ended.
 #[derive(Drop)]
@@ -31,11 +29,16 @@ pub struct Standing {
     pub is_welcome: bool,
     /// What the session said last before it let the peer in.
     pub said: Option<String>,
+    /// The end was read; what came before it may still be written.
+    pub is_over: bool,
     pub end: Option<Result<Why, Fault>>,
     /// Why the input ended before its end.
     pub input: Option<Fault>,
     /// A line of the sizes' file said no size.
     pub has_dropped: bool,
+    /// How far the input has come that has a byte to leave by, and how often it was read.
+    pub stage: Stage,
+    pub reads: u64,
 }
 
 impl Standing {
@@ -51,14 +54,17 @@ impl Standing {
             is_watched: false,
             is_welcome: false,
             said: None,
+            is_over: false,
             end: None,
             input: None,
             has_dropped: false,
+            stage: Stage::Reading,
+            reads: 0,
         }
     }
 
-    // The first cause holds.
-    fn end_by(&mut self, end: Result<Why, Fault>) {
+    /// The peer ends: the first cause holds.
+    pub fn end_by(&mut self, end: Result<Why, Fault>) {
         if self.end.is_none() {
             self.end = Some(end);
         }
@@ -76,24 +82,67 @@ impl Standing {
 
 /// What a reader of the socket has.
 #[derive(Drop)]
-pub struct Intake<I> {
+pub struct Intake {
     pub reader: Reader,
-    /// The input and the sizes that are read once the peer is welcome.
-    pub input: Option<I>,
-    pub asked: Option<File>,
     pub is_welcome: bool,
+    /// The sources are read, and frames go out.
+    pub has_begun: bool,
     /// The peer's end was read: nothing behind it counts.
     pub is_over: bool,
 }
 
-impl<I> Intake<I> {
-    fn new(alloc: Global, input: I, asked: Option<File>) -> Intake<I> {
+impl Intake {
+    fn new(alloc: Global) -> Intake {
         Intake {
             reader: Reader::new(alloc, Side::Peer),
-            input: Some(input),
-            asked,
             is_welcome: false,
+            has_begun: false,
             is_over: false,
+        }
+    }
+}
+
+/// What is read once the peer is welcome, or once its server lets it wait.
+#[derive(Drop)]
+pub struct Sources<I> {
+    pub input: Option<I>,
+    /// The file of a client's sizes.
+    pub asked: Option<File>,
+}
+
+/// The input that has a byte to leave by. Is held from a reading of the input until that was sent.
+#[derive(Drop)]
+pub struct Typing {
+    pub reader: Option<LeaveReader>,
+    pub reads: u64,
+}
+
+impl Typing {
+    fn new(words: &Words<'_>) -> Typing {
+        let reader = match words.leave {
+            Some(byte) => Some(LeaveReader::new(byte)),
+            None => None,
+        };
+        Typing { reader, reads: 0 }
+    }
+}
+
+/// Frames that the socket didn't take yet.
+#[derive(Drop)]
+pub struct Outbox {
+    pub frames: Vec<u8>,
+    /// A thread writes them, or will once the peer is welcome.
+    pub is_held: bool,
+    /// The socket takes no more.
+    pub is_lost: bool,
+}
+
+impl Outbox {
+    fn new(alloc: Global, is_held: bool) -> Outbox {
+        Outbox {
+            frames: Vec::new(alloc),
+            is_held,
+            is_lost: false,
         }
     }
 }
@@ -110,38 +159,48 @@ pub struct Outlet<O> {
 pub struct Shared<I, O> {
     pub alloc: Global,
     pub way: Way,
-    pub stream: UnixStream,
+    /// Whether a byte of the input leaves, whatever the server does.
+    pub can_leave: bool,
+    pub stream: OnceLock<UnixStream>,
     /// Is held while a frame is written: a frame goes whole.
-    pub sending: Mutex<()>,
+    pub outbox: Mutex<Outbox>,
+    pub sources: Mutex<Sources<I>>,
+    pub typing: Mutex<Typing>,
     /// Is held while the socket is read, and what came is put in order.
-    pub intake: Mutex<Intake<I>>,
+    pub intake: Mutex<Intake>,
     pub outlet: Mutex<Outlet<O>>,
     pub standing: Mutex<Standing>,
-    /// The peer ended, or, behind its end, nothing waits to be written any more.
+    /// The peer ended, or, behind its end, nothing waits to be written any more; or a byte came that
+    /// may leave.
     pub news: Condvar,
     /// A writing begins that nobody watches, or the peer ended.
     pub begun: Condvar,
+    /// Fewer frames wait for the socket.
+    pub room: Condvar,
 }
 
 impl<I, O> Shared<I, O> {
     pub fn new(
         alloc: Global,
         words: &Words<'_>,
-        opened: Opened,
+        files: Files,
         input: I,
         output: O,
     ) -> Shared<I, O> {
-        let Opened {
-            stream,
-            asked,
-            told,
-        } = opened;
+        let Files { asked, told } = files;
+        let can_leave = words.leave.is_some();
         Shared {
             alloc,
             way: words.way,
-            stream,
-            sending: Mutex::new(()),
-            intake: Mutex::new(Intake::new(alloc, input, asked)),
+            can_leave,
+            stream: OnceLock::new(),
+            outbox: Mutex::new(Outbox::new(alloc, can_leave)),
+            sources: Mutex::new(Sources {
+                input: Some(input),
+                asked,
+            }),
+            typing: Mutex::new(Typing::new(words)),
+            intake: Mutex::new(Intake::new(alloc)),
             outlet: Mutex::new(Outlet {
                 output,
                 sizes: told,
@@ -149,14 +208,8 @@ impl<I, O> Shared<I, O> {
             standing: Mutex::new(Standing::new(alloc, words)),
             news: Condvar::new(),
             begun: Condvar::new(),
+            room: Condvar::new(),
         }
-    }
-
-    /// Sends one frame.
-    pub fn send<R: Wait>(&self, rt: &R, frame: &[u8]) -> io::Result<()> {
-        let _turn = self.sending.lock(rt);
-        let mut stream = &self.stream;
-        stream.write_all(frame)
     }
 
     /// The peer ends: the first cause holds.
@@ -164,5 +217,17 @@ impl<I, O> Shared<I, O> {
         self.standing.lock(rt).end_by(end);
         self.news.notify_all();
         self.begun.notify_all();
+    }
+
+    /// Tells how far the input has come that has a byte to leave by.
+    pub fn tell_stage<R: Wait>(&self, rt: &R, stage: Stage, reads: u64) {
+        let mut standing = self.standing.lock(rt);
+        let is_news = !matches!((standing.stage, stage), (Stage::Reading, Stage::Reading));
+        standing.stage = stage;
+        standing.reads = reads;
+        drop(standing);
+        if is_news {
+            self.news.notify_all();
+        }
     }
 }

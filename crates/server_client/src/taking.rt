@@ -2,7 +2,7 @@
 
 use crate::standing::Standing;
 use attach_proto::{Message, ProtoFault, Reader, Why};
-use client_words::{Fault, Way};
+use client_words::{Fault, Way, put_visible};
 use std::alloc::Global;
 use std::io::Write;
 
@@ -33,27 +33,19 @@ impl Standing {
     }
 
     fn put_line(&mut self, line: &str) -> Result<(), Fault> {
-        self.put(line.as_bytes())?;
+        put_visible(line.as_bytes(), &mut self.bytes)?;
         self.put(b"\n")
     }
 
-    // What was said to a command is its list; what was said last before a fault is why.
-    fn list(&mut self) -> Result<(), Fault> {
-        if !self.way.is_command() {
-            return Ok(());
-        }
-        match self.said.take() {
-            Some(said) => self.put_line(said.as_str()),
-            None => Ok(()),
-        }
-    }
-
-    // Once a peer is welcome, its status line says what the session says.
+    // What is said to a command is its output. Once a peer is welcome, its status line says what the
+    // session says; what was said last before that is why it isn't.
     fn hear(&mut self, alloc: Global, text: &str) -> Result<(), Fault> {
         if self.is_welcome {
             return Ok(());
         }
-        self.list()?;
+        if self.way.is_command() {
+            self.put_line(text)?;
+        }
         self.said = Some(String::from_str(alloc, text)?);
         Ok(())
     }
@@ -70,14 +62,6 @@ impl Standing {
         Ok(())
     }
 
-    // The end that the server told.
-    fn leave(&mut self, why: Why) -> Result<Option<Why>, Fault> {
-        if !matches!(why, Why::Fault) {
-            self.list()?;
-        }
-        Ok(Some(why))
-    }
-
     // Puts in order what a message brings. The answer is the end, where it is the last one.
     fn take(&mut self, alloc: Global, message: &Message) -> Result<Option<Why>, Fault> {
         let taken = match message {
@@ -85,7 +69,7 @@ impl Standing {
             Message::Draw(bytes) | Message::Input(bytes) => self.put(bytes.as_slice()),
             Message::Size { rows, columns } => self.put_size(*rows, *columns),
             Message::Say(text) => self.hear(alloc, text.as_str()),
-            Message::Gone(why) => return self.leave(*why),
+            Message::Gone(why) => return Ok(Some(*why)),
             _ => Ok(()),
         };
         match taken {
@@ -132,8 +116,11 @@ impl Standing {
         reader: &mut Reader,
         bytes: &[u8],
     ) -> Result<Option<Result<Why, Fault>>, Fault> {
+        // Any answer to nobody says that there is a server.
+        if self.way.is_ping() {
+            return Ok(Some(Ok(Why::Detached)));
+        }
         if bytes.is_empty() {
-            self.list()?;
             return Ok(Some(Err(Fault::Ended)));
         }
         match self.take_bytes(alloc, reader, bytes)? {

@@ -1,0 +1,144 @@
+//! How a peer ends, and what is said of it.
+
+use crate::standing::{Shared, Standing};
+use attach_proto::Why;
+use client_words::{Fault, Told, Words, explain, gone, put_visible};
+use std::alloc::Global;
+use std::io::Write;
+use std::sync::Wait;
+use std::time::{Clock, Duration};
+
+// How long a window's end waits for its standard output, in milliseconds.
+const LAST_WRITING: u64 = 500;
+
+/// How a peer ended.
+#[derive(Drop)]
+pub struct Ending {
+    pub end: Result<Why, Fault>,
+    /// What the session said last before it let the peer in.
+    pub said: Option<String>,
+    pub has_dropped: bool,
+    /// The user left by the byte for it.
+    pub has_left: bool,
+    pub was_welcome: bool,
+}
+
+impl Standing {
+    // Whether something is still to be read by a window's program.
+    fn is_awaited(&self) -> bool {
+        self.way.is_window() && (self.is_writing || !self.bytes.is_empty())
+    }
+
+    /// The end, which is told once.
+    pub fn take_ending(&mut self) -> Ending {
+        Ending {
+            end: self.ending(),
+            said: self.said.take(),
+            has_dropped: self.has_dropped,
+            has_left: false,
+            was_welcome: self.is_welcome,
+        }
+    }
+}
+
+/// Waits for the end; for what a window's program is still to read, not for long.
+pub fn wait_for_end<R: Wait + Clock, I, O>(rt: &R, shared: &Shared<I, O>) -> Ending {
+    let news = &shared.news;
+    let standing = news.wait_while(rt, shared.standing.lock(rt), |s| s.end.is_none());
+    let most = Duration::from_millis(LAST_WRITING);
+    let (mut standing, _) = news.wait_timeout_while(rt, standing, most, |s| s.is_awaited());
+    standing.take_ending()
+}
+
+/// Waits so many seconds for an answer, and for the end that comes with it.
+pub fn wait_for_answer<R: Wait + Clock, I, O>(
+    rt: &R,
+    shared: &Shared<I, O>,
+    seconds: u16,
+) -> Ending {
+    let most = Duration::from_secs(u64::from(seconds));
+    let standing = shared.standing.lock(rt);
+    let (mut standing, waited) = shared
+        .news
+        .wait_timeout_while(rt, standing, most, |s| { s.end.is_none() && !s.is_over });
+    if waited.timed_out() {
+        standing.end_by(Err(Fault::NoAnswer));
+    }
+    drop(standing);
+    wait_for_end(rt, shared)
+}
+
+// Says what the session said, and what that means.
+fn tell_said<E: Write>(alloc: Global, said: &str, words: &Words<'_>, errors: &mut E) {
+    let mut visible = Vec::new(alloc);
+    let _ = put_visible(said.as_bytes(), &mut visible);
+    let _ = errors.write_all(b"mux: ");
+    let _ = errors.write_all(&visible);
+    let _ = explain(said, words, errors);
+    let _ = writeln!(errors);
+}
+
+/// Says why a peer ended otherwise than well: of a fault, in the session's own words. The answer is
+/// the status to exit with.
+pub fn tell_fault<E: Write>(fault: Fault, words: &Words<'_>, errors: &mut E) -> u8 {
+    let _ = writeln!(errors, "mux: {}", Told { fault, words });
+    fault.status()
+}
+
+// What is said of a client that left.
+fn tell_left<E: Write>(ending: &Ending, words: &Words<'_>, errors: &mut E) {
+    if !words.why {
+        return;
+    }
+    let _ = match ending.end {
+        Ok(why) => writeln!(errors, "mux: {}", gone(why)),
+        Err(_) => writeln!(
+            errors,
+            "mux: left without an answer of the server at {}",
+            words.socket
+        ),
+    };
+}
+
+/// Says what there is to say of a peer's end. The answer is the status to exit with.
+pub fn tell_end<E: Write>(alloc: Global, ending: &Ending, words: &Words<'_>, errors: &mut E) -> u8 {
+    if ending.has_dropped {
+        let _ = writeln!(
+            errors,
+            "mux: lines of {} were ignored: each is ROWS COLS, 4 to 200 by 20 to 300",
+            words.sizes.unwrap_or("--sizes")
+        );
+    }
+    let status = tell_cause(alloc, ending, words, errors);
+    if !ending.was_welcome {
+        tell_unseen(words, errors);
+    }
+    status
+}
+
+/// Says that a client drew nothing.
+pub fn tell_unseen<E: Write>(words: &Words<'_>, errors: &mut E) {
+    if words.why {
+        let _ = errors.write_all(b"mux: nothing was shown\n");
+    }
+}
+
+// Says why a peer ended. The answer is the status to exit with.
+fn tell_cause<E: Write>(alloc: Global, ending: &Ending, words: &Words<'_>, errors: &mut E) -> u8 {
+    if ending.has_left {
+        tell_left(ending, words, errors);
+        return 0;
+    }
+    match (ending.end, &ending.said) {
+        (Ok(why), _) if words.why => {
+            let _ = writeln!(errors, "mux: {}", gone(why));
+            0
+        }
+        (Ok(_), _) => 0,
+        (Err(Fault::Gone(Why::Fault)), Some(said)) => {
+            tell_said(alloc, said.as_str(), words, errors);
+            1
+        }
+        (Err(fault), _) => tell_fault(fault, words, errors),
+    }
+}

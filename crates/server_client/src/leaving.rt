@@ -1,0 +1,119 @@
+//! A client that has a byte to leave by ends soon after that, whatever the server does.
+
+use crate::ending::Ending;
+use crate::outgoing::send_detach;
+use crate::sending::start_sources;
+use crate::standing::Shared;
+use client_words::Stage;
+use std::alloc::Global;
+use std::io::{Read, Write};
+use std::sync::{Arc, Wait};
+use std::thread::Threads;
+use std::time::{Clock, Duration};
+
+// How long the server may take to let the client in before the input is read all the same, in
+// milliseconds. What is typed meanwhile waits.
+const WELCOME: u64 = 50;
+
+// How long the byte waits for its second.
+const PAIR: u64 = 250;
+
+// How long the server may take to let the client go.
+const ANSWER: u64 = 100;
+
+// Reads the input once the client is let in, or soon.
+fn start_reading<
+    R: Threads + Wait + Clock + Copy + Send + 'static,
+    I: Read + Send + Drop + 'static,
+    O: Write + Send + Drop + 'static,
+>(rt: &R, shared: &Arc<Shared<I, O>, Global>) {
+    let most = Duration::from_millis(WELCOME);
+    let standing = shared.standing.lock(rt);
+    let (standing, _) = shared.news.wait_timeout_while(rt, standing, most, |s| {
+        s.end.is_none() && !s.is_over && !s.is_welcome
+    });
+    let has_ended = standing.end.is_some() || standing.is_over;
+    drop(standing);
+    if !has_ended {
+        let _ = start_sources(rt, shared);
+    }
+}
+
+// The byte came alone, unless the input was read since.
+fn settle<R: Wait, I, O>(rt: &R, shared: &Shared<I, O>, reads: u64) -> bool {
+    let mut typing = shared.typing.lock(rt);
+    if typing.reads != reads {
+        return false;
+    }
+    if let Some(reader) = &mut typing.reader {
+        reader.leave();
+    }
+    true
+}
+
+// How waiting goes on.
+#[derive(Clone, Copy)]
+enum Turn {
+    Wait,
+    Leave,
+    End,
+}
+
+// Waits for the peer's end, or for the byte and whether it leaves.
+fn wait_once<R: Wait + Clock, I, O>(rt: &R, shared: &Shared<I, O>) -> Turn {
+    let news = &shared.news;
+    let standing = news.wait_while(rt, shared.standing.lock(rt), |s| {
+        s.end.is_none() && matches!(s.stage, Stage::Reading)
+    });
+    if standing.end.is_some() {
+        return Turn::End;
+    }
+    if matches!(standing.stage, Stage::Left) {
+        return Turn::Leave;
+    }
+    let reads = standing.reads;
+    let most = Duration::from_millis(PAIR);
+    let (standing, waited) = news.wait_timeout_while(rt, standing, most, |s| {
+        s.end.is_none() && s.reads == reads
+    });
+    drop(standing);
+    if waited.timed_out() && settle(rt, shared, reads) {
+        Turn::Leave
+    } else {
+        Turn::Wait
+    }
+}
+
+/// Waits for the end of a client that has a byte to leave by.
+pub fn wait_or_leave<
+    R: Threads + Wait + Clock + Copy + Send + 'static,
+    I: Read + Send + Drop + 'static,
+    O: Write + Send + Drop + 'static,
+>(rt: &R, shared: &Arc<Shared<I, O>, Global>) -> Ending {
+    start_reading(rt, shared);
+    for _ in rt.forever() {
+        match wait_once(rt, shared) {
+            Turn::Wait => {}
+            Turn::Leave => return leave(rt, shared),
+            Turn::End => break,
+        }
+    }
+    shared.standing.lock(rt).take_ending()
+}
+
+// Says that the client goes, and gives the server a moment.
+fn leave<
+    R: Threads + Wait + Clock + Copy + Send + 'static,
+    I: Read + Send + Drop + 'static,
+    O: Write + Send + Drop + 'static,
+>(rt: &R, shared: &Arc<Shared<I, O>, Global>) -> Ending {
+    let _ = send_detach(rt, shared);
+    let most = Duration::from_millis(ANSWER);
+    let standing = shared.standing.lock(rt);
+    let (mut standing, _) = shared
+        .news
+        .wait_timeout_while(rt, standing, most, |s| s.end.is_none());
+    let mut ending = standing.take_ending();
+    ending.has_left = true;
+    ending
+}

@@ -1,0 +1,162 @@
+//! Frames that go to the server, in their order and whole.
+
+use crate::standing::{Outbox, Shared};
+use attach_proto::{Kind, head_of};
+use client_words::{Fault, Part};
+use std::alloc::{AllocError, Global};
+use std::io::{ErrorKind, Read, Write};
+use std::os::unix::net::UnixStream;
+use std::sync::{Arc, Wait};
+use std::thread::Threads;
+use std::{io, mem, thread};
+
+/// How long a socket that has a limit may take nothing, in milliseconds, before a frame waits.
+pub const PATIENCE: u64 = 20;
+
+// So many bytes may wait for the socket before the input isn't read any more.
+const MOST_AHEAD: usize = 16_777_216;
+
+// Writes some bytes: all, unless the socket has a limit and takes nothing for so long. The answer is
+// how many.
+fn write_some(stream: &UnixStream, bytes: &[u8]) -> io::Result<usize> {
+    let mut stream = stream;
+    let mut at = 0usize;
+    for _ in 0..=bytes.len() {
+        let rest = bytes.get(at..).unwrap_or(&[]);
+        if rest.is_empty() {
+            break;
+        }
+        match stream.write(rest) {
+            Ok(0) => return Err(io::Error::from(ErrorKind::WriteZero)),
+            Ok(count) => at = at.saturating_add(count),
+            Err(error) if error.kind() == ErrorKind::WouldBlock => break,
+            Err(error) if error.kind() == ErrorKind::Interrupted => {}
+            Err(error) => return Err(error),
+        }
+    }
+    Ok(at)
+}
+
+impl Outbox {
+    // Puts a frame down, or writes it. The answer is whether some of it is left that nobody writes.
+    fn put(&mut self, stream: Option<&UnixStream>, frame: &[u8]) -> Result<bool, Fault> {
+        let written = match stream {
+            _ if self.is_lost => return Err(Fault::Ended),
+            Some(stream) if !self.is_held => match write_some(stream, frame) {
+                Ok(written) => written,
+                Err(error) => return Err(Fault::Refused(Part::Stream, error)),
+            },
+            _ => 0,
+        };
+        let rest = frame.get(written..).unwrap_or(&[]);
+        if rest.is_empty() {
+            return Ok(false);
+        }
+        self.frames.extend_from_slice(rest)?;
+        Ok(!mem::replace(&mut self.is_held, true))
+    }
+
+    // What waits. None where nothing does: then no thread writes it any more.
+    fn take(&mut self, alloc: Global) -> Option<Vec<u8>> {
+        if self.frames.is_empty() {
+            self.is_held = false;
+            return None;
+        }
+        Some(mem::replace(&mut self.frames, Vec::new(alloc)))
+    }
+}
+
+// Writes frames, however long that takes.
+fn write_out<R: Wait, I, O>(rt: &R, shared: &Shared<I, O>, frames: &[u8]) -> io::Result<()> {
+    let Some(stream) = shared.stream.get() else {
+        return Err(io::Error::from(ErrorKind::NotConnected));
+    };
+    let mut at = 0usize;
+    for _ in rt.forever() {
+        let rest = frames.get(at..).unwrap_or(&[]);
+        if rest.is_empty() {
+            break;
+        }
+        at = at.saturating_add(write_some(stream, rest)?);
+    }
+    Ok(())
+}
+
+// Writes what waits, until nothing does.
+fn flush<R: Wait, I, O>(rt: &R, shared: &Shared<I, O>) {
+    for _ in rt.forever() {
+        let Some(frames) = shared.outbox.lock(rt).take(shared.alloc) else {
+            break;
+        };
+        shared.room.notify_all();
+        if write_out(rt, shared, &frames).is_err() {
+            shared.outbox.lock(rt).is_lost = true;
+            shared.room.notify_all();
+            break;
+        }
+    }
+}
+
+// Starts a thread that writes what waits.
+fn start_flushing<
+    R: Threads + Wait + Copy + Send + 'static,
+    I: Read + Send + Drop + 'static,
+    O: Write + Send + Drop + 'static,
+>(rt: &R, shared: &Arc<Shared<I, O>, Global>) -> Result<(), AllocError> {
+    let theirs = Arc::try_clone(shared)?;
+    let rt_there = *rt;
+    let started = thread::spawn(rt, move || {
+        let rt = rt_there;
+        flush(&rt, &theirs);
+    });
+    match started {
+        Ok(_) => Ok(()),
+        Err(error) => Err(AllocError::from(error)),
+    }
+}
+
+/// Sends one frame.
+pub fn send<
+    R: Threads + Wait + Copy + Send + 'static,
+    I: Read + Send + Drop + 'static,
+    O: Write + Send + Drop + 'static,
+>(rt: &R, shared: &Arc<Shared<I, O>, Global>, frame: &[u8]) -> Result<(), Fault> {
+    let is_left = shared.outbox.lock(rt).put(shared.stream.get(), frame)?;
+    if is_left {
+        start_flushing(rt, shared)?;
+    }
+    Ok(())
+}
+
+/// Sends that the peer goes: its frame is a head alone.
+pub fn send_detach<
+    R: Threads + Wait + Copy + Send + 'static,
+    I: Read + Send + Drop + 'static,
+    O: Write + Send + Drop + 'static,
+>(rt: &R, shared: &Arc<Shared<I, O>, Global>) -> Result<(), Fault> {
+    send(rt, shared, &head_of(Kind::Detach, &[]))
+}
+
+/// The peer is welcome: what waits goes out.
+pub fn let_out<
+    R: Threads + Wait + Copy + Send + 'static,
+    I: Read + Send + Drop + 'static,
+    O: Write + Send + Drop + 'static,
+>(rt: &R, shared: &Arc<Shared<I, O>, Global>) -> Result<(), AllocError> {
+    let mut outbox = shared.outbox.lock(rt);
+    outbox.is_held = !outbox.frames.is_empty();
+    let is_left = outbox.is_held;
+    drop(outbox);
+    if is_left {
+        start_flushing(rt, shared)?;
+    }
+    Ok(())
+}
+
+/// Waits while too much waits for the socket.
+pub fn wait_for_room<R: Wait, I, O>(rt: &R, shared: &Shared<I, O>) {
+    let outbox = shared.outbox.lock(rt);
+    let _ = shared.room.wait_while(rt, outbox, |outbox| {
+        outbox.frames.len() > MOST_AHEAD && !outbox.is_lost
+    });
+}
