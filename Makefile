@@ -5,7 +5,7 @@ PROGRAMS = muxd mux muxsim mux_trail vtcat
 TESTS = $(notdir $(patsubst %/,%,$(dir $(wildcard crates/*_tests/src))))
 SCRIPTS = $(shell grep -s -l -m 1 '^.!/bin/sh' contrib/*)
 
-.PHONY: demo try-server shell build try check test edits examples lint install dist
+.PHONY: demo try-server shell build try check test edits examples lint install uninstall dist
 
 # Plays a script of examples/, without any proof: about a minute.
 SCRIPT ?= first-run
@@ -73,15 +73,21 @@ lint:
 	done
 	@for file in $(shell grep -s -l -m 1 '^.!/usr/bin/perl' contrib/*); do perl -c $$file || exit 1; done
 	tic -c contrib/mux.ti
+	cat contrib/mux.ti contrib/vt220.ti | tic -c /dev/stdin
 	cd man && mandoc -T lint *.1 *.5 *.8
 	tools/crates-table README.md
 	tools/proved-table
 	tools/walk docs/READING.md
 	tools/prose README.md docs/*.md examples/README.md
 
-# Installs what make build made, with its man pages, scripts, completions, unit, terminal descriptions and documents.
+# Installs what make build proved, with its man pages, scripts, completions, units, terminal descriptions and documents.
+# As root it may not find the toolchain: sudo make install RT=$$(command -v rt).
 install:
-	@tools/dist install '$(PREFIX)' '$(DESTDIR)'
+	@RT='$(RT)' tools/dist install '$(PREFIX)' '$(DESTDIR)'
+
+# Removes what make install put there.
+uninstall:
+	@tools/dist uninstall '$(PREFIX)' '$(DESTDIR)'
 
 # Packs the same files: dist/mux-VERSION-x86_64-linux.tar.gz and dist/mux_VERSION_amd64.deb, if make build proved them.
 dist:

@@ -26,7 +26,8 @@ _mux() {
     --show) words='own' ;;
     --loops) words='1 2 3 4 5 6 7 8' ;;
     --term) words='mux mux-8color vt220' ;;
-    --user | --rows | --cols | --title | --keep | --window | --read | --session | --for | --owner | --at) return ;;
+    --leave) words='none' ;;
+    --user | --rows | --cols | --title | --keep | --window | --read | --session | --for | --wait | --owner | --at) return ;;
     *)
         # mux and mux-trail have subcommands, each with options of its own
         if [[ ${program##*/} == mux || ${program##*/} == mux-trail ]]; then
@@ -48,5 +49,8 @@ _mux() {
     mapfile -t COMPREPLY < <(compgen -W "$words" -- "$current")
 }
 
-complete -F _mux -o bashdefault -o default muxd mux muxsim mux-trail vtcat \
-    mux-attach mux-command mux-guest mux-over-ssh mux-pty mux-shell mux-turn mux-watch muxd-wait new-token
+# In a checkout the scripts are what can be run in contrib/; tools/dist writes all names here.
+_mux_names="muxd mux muxsim mux-trail vtcat $(cd -- "${BASH_SOURCE[0]%/*}/.." && find . -maxdepth 1 -type f -perm -u+x -printf '%f ')"
+# shellcheck disable=SC2086
+complete -F _mux -o bashdefault -o default $_mux_names
+unset _mux_names
