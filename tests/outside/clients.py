@@ -1,0 +1,520 @@
+#!/usr/bin/env python3
+"""Clients of servers that hang, and terminals that come back as they were: mux and the scripts that people attach with.
+
+tests/outside/clients.py [--muxd PATH] [--mux PATH] [PART..] prints a line for each check, and ends with status 1 if one
+failed.  Terminals are pseudo-terminals.  Needs bash, and tput for the part about TERM.
+"""
+
+import argparse
+import fcntl
+import os
+import pty
+import re
+import select
+import shutil
+import signal
+import socket
+import struct
+import subprocess
+import sys
+import tempfile
+import termios
+import threading
+import time
+from pathlib import Path
+
+sys.dont_write_bytecode = True
+import strain
+from strain import OWNER, TOKEN, Server, check, frame, two
+
+TOP = Path(__file__).resolve().parent.parent.parent
+LEAVE = b"\x1c"
+WELCOME = b"y\0\1\0"
+
+
+class Fake:
+    """A server that does what it is told: it accepts or not, sends this, and keeps what comes."""
+
+    def __init__(self, answer=b"", accepts=True):
+        self.folder = tempfile.TemporaryDirectory()
+        self.path = f"{self.folder.name}/socket"
+        self.token = f"{self.folder.name}/token"
+        Path(self.token).write_bytes(TOKEN + b"\n")
+        os.chmod(self.token, 0o600)
+        self.listener = socket.socket(socket.AF_UNIX)
+        self.listener.bind(self.path)
+        self.listener.listen(0 if not accepts else 5)
+        self.kept, self.data, self.is_over = [], b"", threading.Event()
+        if accepts:
+            threading.Thread(target=self.serve, args=(answer,), daemon=True).start()
+        else:
+            # the backlog is full: who connects now waits
+            for _ in range(2):
+                it = socket.socket(socket.AF_UNIX)
+                it.setblocking(False)
+                it.connect_ex(self.path)
+                self.kept.append(it)
+
+    def serve(self, answer):
+        it, _ = self.listener.accept()
+        self.kept.append(it)
+        it.sendall(answer)
+        while piece := it.recv(65536):
+            self.data += piece
+        self.is_over.set()
+
+    def __enter__(self):
+        return self
+
+    def __exit__(self, *_):
+        for it in [self.listener, *self.kept]:
+            it.close()
+        self.folder.cleanup()
+
+    def frames(self):
+        """The frames behind the first one: their kinds and payloads."""
+        data, found = self.data, []
+        while len(data) >= 3:
+            length = int.from_bytes(data[1:3], "big")
+            found.append((data[:1], data[3 : 3 + length]))
+            data = data[3 + length :]
+        return found[1:]
+
+    def typed(self):
+        return b"".join(payload for kind, payload in self.frames() if kind == b"K")
+
+    def words(self, *more):
+        who = ["--socket", self.path, "--user", "own", "--token", self.token]
+        return ["attach", *who, "--rows", "24", "--cols", "80", *more]
+
+
+def plain(data):
+    """Draws with their blanks: one that is there already is skipped."""
+    return re.sub(rb"\x1b\[1?C", b" ", data)
+
+
+class Terminal:
+    """A program on a pseudo-terminal of 24 by 80."""
+
+    def __init__(self, words, **environment):
+        self.out = b""
+        self.pid, self.fd = pty.fork()
+        if self.pid == 0:
+            os.environ.update(MUX=strain.WORDS.mux, PS1="ready> ", HOME="/nonexistent", **environment)
+            os.execvp(words[0], words)
+        fcntl.ioctl(self.fd, termios.TIOCSWINSZ, struct.pack("HHHH", 24, 80, 0, 0))
+
+    def __enter__(self):
+        return self
+
+    def __exit__(self, *_):
+        try:
+            os.kill(self.pid, signal.SIGKILL)
+            os.waitpid(self.pid, 0)
+        except (ProcessLookupError, ChildProcessError):
+            pass
+        os.close(self.fd)
+
+    def type(self, data):
+        os.write(self.fd, data)
+
+    def read(self, seconds):
+        """What comes in this time, or until the other end is gone."""
+        end, data = time.monotonic() + seconds, b""
+        while (left := end - time.monotonic()) > 0:
+            if select.select([self.fd], [], [], left)[0]:
+                try:
+                    piece = os.read(self.fd, 65536)
+                except OSError:
+                    break
+                if not piece:
+                    break
+                data += piece
+        self.out += data
+        return data
+
+    def shows(self, text, seconds=10):
+        """Whether a text comes in this time."""
+        end, data = time.monotonic() + seconds, b""
+        while text not in plain(data) and time.monotonic() < end:
+            data += self.read(0.1)
+        return text in plain(data)
+
+    def is_drawn(self):
+        """Whether the session is shown: a first draw resets the terminal."""
+        return self.shows(b"\x1bc")
+
+    def is_raw(self):
+        flags = termios.tcgetattr(self.fd)[3]
+        return not flags & (termios.ICANON | termios.ECHO)
+
+    def children(self):
+        said = subprocess.run(["ps", "-o", "pid=", "--ppid", str(self.pid)], capture_output=True, text=True).stdout
+        return [int(it) for it in said.split()]
+
+    def ends_within(self, seconds):
+        """The status, or None."""
+        end = time.monotonic() + seconds
+        while time.monotonic() < end:
+            self.read(0.02)
+            pid, status = os.waitpid(self.pid, os.WNOHANG)
+            if pid:
+                return os.waitstatus_to_exitcode(status)
+        return None
+
+
+def run(words, seconds=60, **more):
+    """Runs mux: its status, standard output and error, and how long it took."""
+    start = time.monotonic()
+    it = subprocess.run([strain.WORDS.mux, *words], capture_output=True, timeout=seconds, **more)
+    return it.returncode, it.stdout, it.stderr, time.monotonic() - start
+
+
+def stop(server):
+    """Stops a server, each thread of it."""
+    server.program.send_signal(signal.SIGSTOP)
+    os.waitpid(server.program.pid, os.WUNTRACED)
+
+
+def script(name):
+    return str(TOP / "contrib" / name)
+
+
+def token_of(server, name="own", token=TOKEN):
+    path = Path(server.folder.name, f"{name}.token")
+    path.write_bytes(token + b"\n")
+    path.chmod(0o600)
+    return str(path)
+
+
+def attach_words(server, *more):
+    return [script("mux-attach"), "--socket", server.path, "--user", "own", "--token", token_of(server), *more]
+
+
+def typed_in(fake, pieces, pause=0.02, **more):
+    """Types pieces at a client: its status and how long it took from the last one on."""
+    it = subprocess.Popen([strain.WORDS.mux, *fake.words("--leave", "28", "--why")], stdin=subprocess.PIPE,
+                          stdout=subprocess.DEVNULL, stderr=subprocess.PIPE)
+    # (it is there by then)
+    time.sleep(0.3)
+    for piece in pieces:
+        it.stdin.write(piece)
+        it.stdin.flush()
+        time.sleep(pause)
+    start = time.monotonic()
+    try:
+        status = it.wait(3)
+    except subprocess.TimeoutExpired:
+        it.kill()
+        status = None
+    took = time.monotonic() - start
+    it.stdin.close()
+    said = it.stderr.read()
+    it.stderr.close()
+    return status, took, said
+
+
+def exact_input():
+    """What is sent is the input without the byte that leaves, a pair as one, however it is cut."""
+    text = b"ab\x1c\x1ccd\x1c\x1c\x1c\x1ce\x1cf\x1c\x1cg"
+    wrong = []
+    for cut in range(len(text)):
+        with Fake(WELCOME) as fake:
+            status, _, _ = typed_in(fake, [text[:cut], text[cut:]] if cut else [text])
+            fake.is_over.wait(2)
+            if (status, fake.typed()) != (0, b"ab\x1ccd\x1c\x1ce") or fake.frames()[-1] != (b"D", b""):
+                wrong.append((cut, status, fake.frames()))
+    check("pairs are one byte, and a lone one leaves, at each cut", not wrong, str(wrong))
+    with Fake(WELCOME) as fake:
+        status, took, _ = typed_in(fake, [bytes([byte]) for byte in text[:12]], 0.005)
+        fake.is_over.wait(2)
+        check("byte by byte", (status, fake.typed()) == (0, b"ab\x1ccd\x1c\x1ce"), f"{status} {fake.typed()}")
+        check("a lone byte at the end leaves within half a second", took < 0.5, f"{took:.2f} s")
+    with Fake(WELCOME) as fake:
+        data = subprocess.Popen([strain.WORDS.mux, *fake.words()], stdin=subprocess.PIPE, stdout=subprocess.DEVNULL)
+        data.stdin.write(text)
+        data.stdin.flush()
+        time.sleep(0.7)
+        check("without the option every byte is a key", data.poll() is None and fake.typed() == text, str(fake.typed()))
+        data.kill()
+        data.wait()
+        data.stdin.close()
+
+
+def hanging_servers():
+    """The byte leaves within half a second, whatever the server does."""
+    for name, fake, before in (
+        ("a server that doesn't let it in", Fake(), b""),
+        ("a server that doesn't answer", Fake(WELCOME), b"typed"),
+        ("a full backlog", Fake(accepts=False), b""),
+    ):
+        with fake:
+            status, took, said = typed_in(fake, [before + LEAVE] if before else [LEAVE])
+            check(f"{name}: it leaves in time", status == 0 and took < 0.5, f"status {status}, {took:.2f} s")
+            check(f"{name}: and says so", b"left without an answer" in said, str(said))
+    with Server() as server:
+        fake = Fake()
+        fake.path, fake.token = server.path, token_of(server)
+        it = subprocess.Popen([strain.WORDS.mux, *fake.words("--leave", "28", "--why")], stdin=subprocess.PIPE,
+                              stdout=subprocess.DEVNULL, stderr=subprocess.PIPE)
+        time.sleep(0.5)
+        stop(server)
+        it.stdin.write(b"x" * 3_000_000)
+        it.stdin.flush()
+        start = time.monotonic()
+        it.stdin.write(LEAVE)
+        it.stdin.flush()
+        status = it.wait(5)
+        took = time.monotonic() - start
+        check("a server that is stopped, with 3 MB before the byte", status == 0 and took < 1,
+              f"{status}, {took:.2f} s")
+        it.stdin.close()
+        it.stderr.close()
+        server.program.send_signal(signal.SIGCONT)
+        fake.__exit__()
+
+
+def no_right_to_detach():
+    """Who has no x on detach leaves by the byte."""
+    with Server() as server:
+        bob = b"1" * 64
+        server.users.write_bytes(server.users.read_bytes() + b"bob " + bob + b"\n")
+        time.sleep(1.1)
+        server.give(b"multiuser on")
+        server.give(b"acladd bob")
+        server.give(b"aclchg bob -x detach")
+        token = token_of(server, "bob", bob)
+        with Terminal([script("mux-attach"), "--socket", server.path, "--user", "bob", "--token", token]) as it:
+            assert it.is_drawn(), "bob isn't attached"
+            it.type(b"\x01d")
+            check("C-a d is denied", it.shows(b"denied: x on detach"))
+            it.type(LEAVE)
+            start = time.monotonic()
+            status = it.ends_within(3)
+            check("C-\\ leaves", status == 0 and time.monotonic() - start < 1, f"{status}")
+            check("and is a detaching", b"[detached from" in it.out, str(it.out[-80:]))
+        time.sleep(0.2)
+        check("the client is gone", b"bob" not in server.give(b"displays"))
+
+
+def stopped_server():
+    """mux-attach beside a server that is stopped: only C-\\ leads out, and the terminal is as before."""
+    with Server() as server:
+        with Terminal(["bash", "--norc", "-i"]) as it:
+            it.shows(b"ready>")
+            before = termios.tcgetattr(it.fd)
+            it.type(" ".join(attach_words(server)).encode() + b"; echo status $?\n")
+            assert it.is_drawn(), "it isn't attached"
+            check("attached: raw", it.is_raw())
+            stop(server)
+            for keys in (b"\x01d", b"\x03", b"\x1a"):
+                it.type(keys)
+                it.read(0.3)
+            check("C-a d, C-c and C-z lead nowhere", it.is_raw())
+            start = time.monotonic()
+            it.type(LEAVE)
+            left = it.shows(b"which doesn't answer]", 3)
+            took = time.monotonic() - start
+            check("C-\\ leaves, and says from what", left and took < 0.8, f"{took:.2f} s")
+            check("with status 0", b"status 0" in it.out or it.shows(b"status 0", 3))
+            it.read(0.5)
+            check("the settings are as before", termios.tcgetattr(it.fd)[:4] == before[:4])
+            server.program.send_signal(signal.SIGCONT)
+
+
+def nothing_cleared():
+    """An attach that fails leaves the page as it was; one that doesn't clears it."""
+    with Server() as server:
+        for name, words in (
+            ("no server", [script("mux-attach"), "--socket", "/nope", "--token", token_of(server)]),
+            ("a wrong token", attach_words(server)[:-1] + [token_of(server, "wrong", b"2" * 64)]),
+            ("no token", attach_words(server)[:-1] + ["/nope"]),
+        ):
+            with Terminal(["sh", "-c", 'echo precious; "$@"; echo status $?', "", *words]) as it:
+                it.ends_within(5)
+                check(f"{name}: nothing is cleared", b"\x1b" not in it.out and b"status 1" in it.out, str(it.out))
+                check(f"{name}: it says what isn't there", b"/nope" in it.out or b"wrong token" in it.out, str(it.out))
+
+
+def suspended():
+    """mux-attach that is stopped and goes on: the terminal is the shell's meanwhile, then raw and drawn anew."""
+    for name, number in (("TSTP", signal.SIGTSTP), ("STOP", signal.SIGSTOP)):
+        with Server() as server, Terminal(["bash", "--norc", "-i"]) as it:
+            it.shows(b"ready>")
+            it.type(" ".join(attach_words(server)).encode() + b"\n")
+            assert it.is_drawn(), "it isn't attached"
+            group = os.getpgid(it.children()[0])
+            os.killpg(group, number)
+            check(f"{name}: the shell is back", it.shows(b"ready>"))
+            it.type(b"echo $((6 * 7))\n")
+            check(f"{name}: and echoes", it.shows(b"42"))
+            it.type(b"fg\n")
+            check(f"{name}: the page is drawn anew", it.shows(b"\x1bc", 5))
+            it.read(0.3)
+            check(f"{name}: raw again", it.is_raw())
+            it.type(b"\x01d")
+            check(f"{name}: detached", it.shows(b"[detached from"))
+
+
+def killed_script():
+    """mux-attach killed by force: its client goes, the shell has the keys, and no folder stays."""
+    for shell in (["bash", "--norc", "-i"], ["dash", "-i"]):
+        with Server() as server, tempfile.TemporaryDirectory() as room, Terminal(shell, TMPDIR=room) as it:
+            it.shows(b"ready>")
+            it.type(" ".join(attach_words(server)).encode() + b"\n")
+            assert it.is_drawn(), "it isn't attached"
+            os.kill(it.children()[0], signal.SIGKILL)
+            check(f"{shell[0]}: the shell is back", it.shows(b"ready>", 5))
+            it.read(1)
+            it.type(b"echo $((6 * 7))\n")
+            check(f"{shell[0]}: and has the keys", it.shows(b"42", 5), str(it.out[-300:]))
+            said = server.give(b"displays")
+            check(f"{shell[0]}: the client is gone", said == b"y\0\1\0s\0\0g\0\1\0", str(said))
+            check(f"{shell[0]}: no folder stays", not os.listdir(room), str(os.listdir(room)))
+
+
+def nested():
+    """mux-attach refuses to attach to the session in whose window it is."""
+    with Server() as server, Server() as other:
+        token = token_of(server)
+        common = ["--socket", server.path, "--user", "own", "--token", token]
+        shell = subprocess.Popen([script("mux-shell"), *common, "--title", "sh", "env", "PS1=in> ", "sh"],
+                                 env={**os.environ, "MUX": strain.WORDS.mux, "HOME": server.folder.name})
+        subprocess.run([script("muxd-wait"), *common, "--window", "sh"], check=True,
+                       env={**os.environ, "MUX": strain.WORDS.mux})
+        with Terminal(attach_words(server)) as it:
+            assert it.shows(b"in>"), f"no shell: {it.out[-200:]}"
+            inner = " ".join(attach_words(server))
+            link = f"{server.folder.name}/link"
+            os.symlink(server.path, link)
+            ways = (("by hand", inner), ("through a link to the socket", inner.replace(server.path, link)),
+                    ("without the environment", f"env -i PATH=\"$PATH\" MUX='{strain.WORDS.mux}' {inner}"),
+                    ("in a session of its own", f"setsid -w {inner}"))
+            for name, words in ways:
+                it.type(f"clear; {words} </dev/tty; echo status $?\r".encode())
+                is_refused = it.shows(b"status 1", 5) and b"is a window of the session" in plain(it.out[-3000:])
+                check(f"refused {name}", is_refused, str(it.out[-300:]))
+            it.type(f"clear; {' '.join(attach_words(other))}\r".encode())
+            for _ in range(100):
+                it.read(0.1)
+                if b"0 own" in other.give(b"displays"):
+                    break
+            check("another session's page is shown", b"0 own" in other.give(b"displays"), str(it.out[-300:]))
+            it.type(b"\x1c")
+            it.read(1)
+            it.type(b"clear; echo $((6 * 7))\r")
+            check("and left by C-\\ of the outer client", it.ends_within(1) is not None or b"42" in it.out)
+        server.give(b"quit")
+        shell.wait(10)
+
+
+def commands():
+    """What mux command prints, and how long it waits."""
+    with Fake() as fake:
+        status, out, err, took = run(["command", *fake.words()[1:7], "--wait", "1", "windows"])
+        check("a server that doesn't answer: a command ends in time", (status, out) == (1, b"") and 0.9 < took < 1.6,
+              f"{status} {out} {took:.2f} s")
+        check("and says how long it waited, and where", fake.path.encode() in err and b"within 1 s" in err, str(err))
+    with Fake(accepts=False) as fake:
+        status, _, err, took = run(["command", *fake.words()[1:7], "--wait", "1", "windows"])
+        check("a full backlog: the same", status == 1 and took < 1.6 and b"within 1 s" in err, f"{status} {took:.2f} s")
+        status, _, err, took = run(["ping", "--socket", fake.path, "--wait", "1"])
+        check("ping: the same", status == 1 and took < 1.6 and b"within 1 s" in err, f"{status} {took:.2f} s")
+    text = "\x1b]0;owned\x07\x1b[31mred\n\x7f \x85 é \\".encode()
+    with Fake(b"s" + two(len(text)) + text + b"s\0\3two" + b"g\0\1\0") as fake:
+        status, out, err, _ = run(["command", *fake.words()[1:7], "windows"])
+        check("control characters are visible, and a text is a line", (status, err) == (0, b"") and
+              out == "\\x1b]0;owned\\x07\\x1b[31mred\\x0a\\x7f \\x85 é \\\ntwo\n".encode(), str((status, out, err)))
+    with Fake(b"s" + two(len(text)) + text + b"g\0\1\6") as fake:
+        status, out, err, _ = run(["command", *fake.words()[1:7], "windows"])
+        check("also of a refusal, on both", status == 1 and b"\x1b" not in out + err and out.count(b"\n") == 1 and
+              err.startswith(b"mux: \\x1b]0;"), str((out, err)))
+    with Server() as server:
+        words = ["command", "--socket", server.path, "--user", "own", "--token", token_of(server)]
+        check("a refusal is on standard output, what its number means on standard error",
+              run([*words, "windows x"])[:3] == (1, b"line: 3 at 8\n", b"mux: line: 3 at 8 (a word too many: x)\n"),
+              str(run([*words, "windows x"])))
+        check("one without a number, too", run([*words, "kill"])[:3] == (1, b"no window\n", b"mux: no window\n"),
+              str(run([*words, "kill"])))
+        check("a command that is done", run([*words, "multiuser on"])[:3] == (0, b"", b""))
+        said = run([*words, "displays"])
+        check("one that says something", said[:3] == (0, b"\n", b""), str(said))
+        it = subprocess.run([script("mux-command"), *words[1:], "windows", "x"], capture_output=True,
+                            env={**os.environ, "MUX": strain.WORDS.mux})
+        is_said = (it.returncode, it.stdout) == (1, b"") and b"a word too many" in it.stderr
+        check("mux-command says a refusal once", is_said, str(it))
+
+
+def waits():
+    """muxd-wait keeps to its time, and leaves no line in the log."""
+    environment = {**os.environ, "MUX": strain.WORDS.mux}
+    for name, fake in (("accepts and says nothing", Fake()), ("has a full backlog", Fake(accepts=False))):
+        for more in ([], ["--window", "sh", "--user", "own", "--token", fake.token]):
+            start = time.monotonic()
+            it = subprocess.run([script("muxd-wait"), "--socket", fake.path, "--for", "2", *more], capture_output=True,
+                                timeout=30, env=environment)
+            took = time.monotonic() - start
+            kept = it.returncode == 1 and 1.5 < took < 3.5
+            check(f"a server that {name}: 2 s{', of a window' if more else ''}", kept,
+                  f"{it.returncode}, {took:.1f} s, {it.stderr}")
+        fake.__exit__()
+    with Server(log=True) as server:
+        for _ in range(3):
+            it = subprocess.run([script("muxd-wait"), "--socket", server.path], capture_output=True, env=environment)
+            check("a server that serves", (it.returncode, it.stdout, it.stderr) == (0, b"", b""), str(it))
+        server.give(b"quit")
+        said = server.errors.read()
+        check("and nothing of it in the log", said.count(b"\n") == 1 and b"a command of own" in said, str(said))
+
+
+def terms():
+    """A window has colours without anything installed, and what leaves it has a plain vt220."""
+    if not shutil.which("tput"):
+        print("left out: the terminal's description, since there is no tput")
+        return
+    with Server() as server, tempfile.TemporaryDirectory() as room:
+        link = f"{room}/a link"
+        os.symlink(script("mux-shell"), link)
+        common = ["--socket", server.path, "--user", "own", "--token", token_of(server)]
+        say = 'printf "%s " "$TERM" "$(tput colors)" "$(TERMINFO_DIRS= tput colors)" "$COLORTERM" "$MUX_SESSION" >"$1"'
+        environment = {**os.environ, "MUX": strain.WORDS.mux, "HOME": room}
+        for gone in ("TERMINFO", "TERMINFO_DIRS", "XDG_CACHE_HOME", "COLORTERM"):
+            environment.pop(gone, None)
+        found = os.stat(server.path)
+        mark = f"{os.uname().nodename}:{found.st_dev}:{found.st_ino}"
+        for words, said in (
+            ([], f"vt220 8 -1 8color {mark}"),
+            (["--term", "vt220"], f"vt220 -1 -1  {mark}"),
+            (["--term", "mux-8color"], f"mux-8color 8  8color {mark}"),
+        ):
+            subprocess.run([link, *common, *words, "sh", "-c", say, "", f"{room}/said"], env=environment, timeout=20)
+            got = Path(room, "said").read_text()
+            check(f"mux-shell {' '.join(words)}, called through a link", got == f"{said} ", got)
+
+
+PARTS = (exact_input, hanging_servers, no_right_to_detach, stopped_server, nothing_cleared, suspended, killed_script,
+         nested, commands, waits, terms)
+
+
+def main():
+    reader = argparse.ArgumentParser(description=__doc__)
+    reader.add_argument("--muxd", default=os.environ.get("MUXD", str(TOP / "bin/muxd")), help="the server's program")
+    reader.add_argument("--mux", default=os.environ.get("MUX", str(TOP / "bin/mux")), help="the client's program")
+    names = [play.__name__ for play in PARTS]
+    reader.add_argument("parts", nargs="*", metavar="PART", help=f"what is played, of {', '.join(names)}")
+    strain.WORDS = words = reader.parse_args()
+    for name in words.parts:
+        if name not in names:
+            reader.error(f"no part has the name {name}")
+    for play in PARTS:
+        if words.parts and play.__name__ not in words.parts:
+            continue
+        try:
+            play()
+        except (AssertionError, OSError, subprocess.TimeoutExpired) as error:
+            check(f"{play.__name__} is played to its end", False, f"{type(error).__name__}: {error}")
+    sys.exit(1 if strain.failed else 0)
+
+
+if __name__ == "__main__":
+    main()
