@@ -195,6 +195,8 @@ def typed_in(fake, pieces, pause=0.02, **more):
     """Types pieces at a client: its status and how long it took from the last one on."""
     it = subprocess.Popen([strain.WORDS.mux, *fake.words("--leave", "28", "--why")], stdin=subprocess.PIPE,
                           stdout=subprocess.DEVNULL, stderr=subprocess.PIPE)
+    # (it is there by then)
+    time.sleep(0.3)
     for piece in pieces:
         it.stdin.write(piece)
         it.stdin.flush()
@@ -383,11 +385,11 @@ def nested():
         with Terminal(attach_words(server)) as it:
             assert it.shows(b"in>"), f"no shell: {it.out[-200:]}"
             inner = " ".join(attach_words(server))
-            ways = (("by hand", inner), ("through a link to the socket", inner.replace(server.path, "link")),
+            link = f"{server.folder.name}/link"
+            os.symlink(server.path, link)
+            ways = (("by hand", inner), ("through a link to the socket", inner.replace(server.path, link)),
                     ("without the environment", f"env -i PATH=\"$PATH\" MUX='{strain.WORDS.mux}' {inner}"),
                     ("in a session of its own", f"setsid -w {inner}"))
-            it.type(f"ln -sf {server.path} link; clear\r".encode())
-            it.read(0.5)
             for name, words in ways:
                 it.type(f"clear; {words} </dev/tty; echo status $?\r".encode())
                 is_refused = it.shows(b"status 1", 5) and b"is a window of the session" in plain(it.out[-3000:])
