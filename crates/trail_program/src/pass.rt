@@ -15,11 +15,6 @@ use trail_rights::{
 #[derive(Clone, Copy)]
 pub enum Looks {
     Nothing,
-    /// What decides a bit of the user and of these leaders of his.
-    Reasons {
-        question: Question,
-        leaders: Leaders,
-    },
     /// Masks and presets.
     Settings,
     /// Masks, and what decides who may open windows or change rights.
@@ -31,6 +26,8 @@ pub enum Looks {
 pub struct Search<'a> {
     /// The users whose leaders, and what else it looks for, it looks for.
     pub users: &'a [UserId],
+    /// What decides a bit of the user and of these leaders of his.
+    pub reasons: Option<(Question, Leaders)>,
     pub looks: Looks,
     /// The place of the last entry that it reads.
     pub last: u64,
@@ -76,10 +73,9 @@ fn deciders_of(
     Ok(deciders)
 }
 
-/// What decides the bits that a search looks for, before the first act.
-fn deciders_in(alloc: Global, owner: UserId, search: &Search<'_>) -> io::Result<Vec<Decider>> {
+/// What decides who may open windows or change rights, where a search looks for that.
+fn powers_in(alloc: Global, owner: UserId, search: &Search<'_>) -> io::Result<Vec<Decider>> {
     match search.looks {
-        Looks::Reasons { question, leaders } => deciders_of(alloc, owner, question, leaders),
         Looks::Confinement => Ok(powers_of(alloc, owner, search.users)?),
         Looks::Nothing | Looks::Settings => Ok(Vec::new(alloc)),
     }
@@ -89,19 +85,8 @@ fn deciders_in(alloc: Global, owner: UserId, search: &Search<'_>) -> io::Result<
 fn settlers_in(alloc: Global, search: &Search<'_>) -> io::Result<Vec<Settler>> {
     match search.looks {
         Looks::Settings | Looks::Confinement => Ok(settings_of(alloc, search.users)?),
-        Looks::Nothing | Looks::Reasons { .. } => Ok(Vec::new(alloc)),
+        Looks::Nothing => Ok(Vec::new(alloc)),
     }
-}
-
-/// The leaders of the users of a search, before the first act.
-fn leds_of(alloc: Global, search: &Search<'_>) -> io::Result<Vec<Led>> {
-    let mut leds = Vec::new(alloc);
-    for place in 0..search.users.len() {
-        if let Some(user) = search.users.get(place) {
-            leds.push(Led::new(*user))?;
-        }
-    }
-    Ok(leds)
 }
 
 /// A sight that has seen nothing, of what a search looks for.
@@ -111,8 +96,14 @@ fn sight_of(
     owner: UserId,
     search: &Search<'_>,
 ) -> io::Result<Sight> {
-    let leds = leds_of(alloc, search)?;
-    let deciders = deciders_in(alloc, owner, search)?;
+    let deciders = match search.reasons {
+        Some((question, leaders)) => deciders_of(alloc, owner, question, leaders)?,
+        None => powers_in(alloc, owner, search)?,
+    };
+    let mut leds = Vec::new(alloc);
+    for user in search.users {
+        leds.push(Led::new(*user))?;
+    }
     let settlers = settlers_in(alloc, search)?;
     Ok(Sight::new(alloc, edition, deciders, leds, settlers))
 }

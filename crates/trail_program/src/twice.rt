@@ -5,7 +5,7 @@ use crate::fault::Fault;
 use crate::pass::{Looks, Pass, Search, read_pass};
 use crate::tell::{ILLEGAL, LEGAL, UNCONFINED, tell_finish};
 use crate::words::{Asked, users_named};
-use acl::UserId;
+use acl::{Leaders, UserId};
 use std::alloc::Global;
 use std::io::{self, Read, Write};
 use std::rt::Files;
@@ -20,7 +20,9 @@ struct Found {
     count: u64,
     /// The users for whom the second pass looks.
     users: Vec<UserId>,
-    /// What it looks for.
+    /// What is asked, and the leaders of the user who is asked about.
+    reasons: Option<(Question, Leaders)>,
+    /// What else it looks for.
     looks: Looks,
     /// The users of whom it is asked whether they are confined.
     confined: Vec<UserId>,
@@ -41,10 +43,8 @@ fn found_of_one(alloc: Global, question: Question, first: &Pass) -> io::Result<F
     Ok(Found {
         count: first.count(),
         users,
-        looks: Looks::Reasons {
-            question,
-            leaders: first.leaders(),
-        },
+        reasons: Some((question, first.leaders())),
+        looks: Looks::Nothing,
         confined: Vec::new(alloc),
     })
 }
@@ -55,6 +55,7 @@ fn found_of_all(alloc: Global, first: &Pass) -> io::Result<Found> {
     Ok(Found {
         count: first.count(),
         users,
+        reasons: None,
         looks: Looks::Settings,
         confined: Vec::new(alloc),
     })
@@ -72,6 +73,7 @@ fn found_of_some(alloc: Global, confined: Vec<UserId>, first: &Pass) -> io::Resu
     Ok(Found {
         count: first.count(),
         users,
+        reasons: None,
         looks: Looks::Confinement,
         confined,
     })
@@ -122,6 +124,7 @@ fn look<F: Read + Drop, W: Write>(
 ) -> Result<Option<Found>, Fault> {
     let search = Search {
         users: users_asked(&asked.question),
+        reasons: None,
         looks: Looks::Nothing,
         last: asked.place.unwrap_or(u64::MAX),
     };
@@ -131,9 +134,9 @@ fn look<F: Read + Drop, W: Write>(
 
 /// Whether a second pass has found what the first one had.
 fn is_unchanged(found: &Found, second: &Pass) -> bool {
-    let same_leaders = match found.looks {
-        Looks::Reasons { leaders, .. } => second.leaders() == leaders,
-        _ => true,
+    let same_leaders = match found.reasons {
+        Some((_, leaders)) => second.leaders() == leaders,
+        None => true,
     };
     second.count() == found.count && same_leaders
 }
@@ -168,15 +171,17 @@ fn write_answer<W: Write>(
     if !is_unchanged(found, second) {
         return Err(Fault::Changed);
     }
-    let (owner, watch) = (second.owner, &second.watch);
-    match found.looks {
-        Looks::Reasons { question, .. } => write_reasons(alloc, owner, watch, question, output)?,
-        Looks::Confinement => {
-            return write_confined(alloc, found.confined.as_slice(), second, output);
-        }
-        Looks::Settings | Looks::Nothing => write_rights(alloc, owner, watch, output)?,
+    if let Looks::Confinement = found.looks {
+        return write_confined(alloc, found.confined.as_slice(), second, output);
     }
-    Ok(LEGAL)
+    let written = match found.reasons {
+        Some((question, _)) => write_reasons(alloc, second.owner, &second.watch, question, output),
+        None => write_rights(alloc, second.owner, &second.watch, output),
+    };
+    match written {
+        Ok(()) => Ok(LEGAL),
+        Err(error) => Err(Fault::Io(error)),
+    }
 }
 
 /// Makes the second pass, over what the first one has read: what stands behind that doesn't count.
@@ -189,6 +194,7 @@ fn answer<F: Read + Drop, W: Write>(
 ) -> Result<u8, Fault> {
     let search = Search {
         users: found.users.as_slice(),
+        reasons: found.reasons,
         looks: found.looks,
         last: found.count.saturating_sub(1),
     };
