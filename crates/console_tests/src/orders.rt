@@ -29,17 +29,34 @@ const COMES: usize = 3;
 
 const RETURNS: usize = 4;
 
+fn exchange(order: &mut [Thing; 5], place: usize, other: usize) {
+    if let (Some(here), Some(there)) = (order.get(place).copied(), order.get(other).copied()) {
+        if let Some(thing) = order.get_mut(place) {
+            *thing = there;
+        }
+        if let Some(thing) = order.get_mut(other) {
+            *thing = here;
+        }
+    }
+}
+
 /// The order of a number below 120: the first thing is one of five, the next one of the four that
 /// are left, and so on.
 fn order_of(number: usize) -> [Thing; 5] {
     let mut order = THINGS;
     let mut rest = number;
     for place in 0..5usize {
-        let left = 5 - place;
-        order.swap(place, place + rest % left);
-        rest /= left;
+        let left = 5usize.saturating_sub(place);
+        let other = place.saturating_add(rest.checked_rem(left).unwrap_or(0));
+        exchange(&mut order, place, other);
+        rest = rest.checked_div(left).unwrap_or(0);
     }
     order
+}
+
+/// The number of an order that begins with the thing of a place.
+fn beginning_with(first: usize, number: usize) -> usize {
+    number.saturating_mul(THINGS.len()).saturating_add(first)
 }
 
 /// In how many orders something was found.
@@ -62,16 +79,24 @@ const NONE: Found = Found {
     lost: 0,
 };
 
+fn count(orders: &mut usize, is_one: bool) {
+    if is_one {
+        *orders = orders.saturating_add(1);
+    }
+}
+
 fn play(alloc: Global, form: Form, number: usize, found: &mut Found) -> Result<(), AllocError> {
     let mut stage = Stage::new(alloc)?;
     begin(&mut stage, form)?;
     for thing in &order_of(number) {
         happens(&mut stage, form, *thing)?;
     }
-    found.too_much += usize::from(stage.has_too_much);
-    found.lacking += usize::from(stage.lacks()?);
-    found.astray += usize::from(!all_reach_their_own(&mut stage)?);
-    found.lost += usize::from(stage.table.is_lost);
+    let lacks = stage.lacks()?;
+    let reach = all_reach_their_own(&mut stage)?;
+    count(&mut found.too_much, stage.has_too_much);
+    count(&mut found.lacking, lacks);
+    count(&mut found.astray, !reach);
+    count(&mut found.lost, stage.table.is_lost);
     Ok(())
 }
 
@@ -79,7 +104,7 @@ fn play(alloc: Global, form: Form, number: usize, found: &mut Found) -> Result<(
 fn found_in(alloc: Global, form: Form, first: usize) -> Result<Found, AllocError> {
     let mut found = NONE;
     for number in 0..ALIKE {
-        play(alloc, form, 5 * number + first, &mut found)?;
+        play(alloc, form, beginning_with(first, number), &mut found)?;
     }
     Ok(found)
 }
@@ -99,7 +124,7 @@ fn all_differ() -> bool {
 fn begin_alike() -> bool {
     for (first, thing) in THINGS.iter().enumerate() {
         for number in 0..ALIKE {
-            if order_of(5 * number + first)[0] != *thing {
+            if order_of(beginning_with(first, number))[0] != *thing {
                 return false;
             }
         }

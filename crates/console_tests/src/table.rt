@@ -39,22 +39,17 @@ pub struct Table {
     pub is_lost: bool,
 }
 
-/// The bit's place in a number: r is 1, w is 2, x is 4.
-pub fn place_of(bit: Bit) -> u8 {
-    match bit {
-        Bit::Read => 1,
-        Bit::Write => 2,
-        Bit::Execute => 4,
-    }
-}
-
 const ALL: u8 = 7;
 
+/// Bits in a number: r is 1, w is 2, x is 4.
 fn with(bits: u8, bit: Bit, value: bool) -> u8 {
-    if value {
-        bits | place_of(bit)
-    } else {
-        bits & (ALL - place_of(bit))
+    match (bit, value) {
+        (Bit::Read, true) => bits | 1,
+        (Bit::Read, false) => bits & 6,
+        (Bit::Write, true) => bits | 2,
+        (Bit::Write, false) => bits & 5,
+        (Bit::Execute, true) => bits | 4,
+        (Bit::Execute, false) => bits & 3,
     }
 }
 
