@@ -1,14 +1,16 @@
 //! A trail of each edition, as a hub filed it: it is legal for its owner alone, and where its last
 //! verdict is turned round, the check names that entry.
 
-ghost use Rattle.std.specs.Prelude.{◌≡◌};
+ghost use Rattle.std.specs.Prelude.{◌≡◌, IfOk};
+ghost use Rattle.session_model.specs.Trace.{begun};
+ghost use Rattle.hub_ledger.specs.Seats.{StandsFor};
 
 use crate::entries::entry_with;
-use crate::side::{Beginning, are_done, begin, close, line_of};
+use crate::steps::{are_done, line_of};
 use acl::{Bit, Edition, Object, UserId};
-use hub::{Begun, CheckFault, Trail, check_trail};
+use hub::{Begun, CheckFault, Hub, Session, Trail, check_trail};
 use hub_check::check_entries;
-use session_model::{Event, Verdict};
+use session_model::{Event, Refusal, Verdict};
 use std::alloc::Global;
 use std::marker::Brand;
 use std::sync::Wait;
@@ -50,22 +52,48 @@ fn events(owner: UserId, bob: UserId) -> [Event<'static>; 9] {
     ]
 }
 
+/// Whose session it is, of which edition, and who types in it.
+#[derive(Clone, Copy)]
+struct Beginning {
+    edition: Edition,
+    owner: UserId,
+    bob: UserId,
+}
+
+/// A session that begins so.
+fn session_of(alloc: Global, whose: Beginning) -> Result<Session, Refusal>
+    ensures { IfOk result (λ session. StandsFor (begun whose.edition whose.owner) session) }
+{
+    match whose.edition {
+        Edition::First => Session::first_edition(alloc, whose.owner),
+        Edition::Second => Session::new(alloc, whose.owner),
+    }
+}
+
 /// The trail of these events.
 fn trail_of<L: Begun, R: Wait>(
     rt: &R,
     alloc: Global,
     blank: Blank,
+    session: Session,
     whose: Beginning,
-    bob: UserId,
 ) -> Option<Trail>
     requires blank { (blank.name ≡ L.name) × (blank.parts ≡ L.parts) × (blank.parts ≡ 1) }
-    requires begun { (L.edition ≡ whose.edition) × (L.owner ≡ whose.owner) }
+    requires fresh { StandsFor (begun L.edition L.owner) session }
 {
-    let mut side = begin::<L>(alloc, blank, whose)?;
-    if !are_done(rt, &mut side, &events(whose.owner, bob)) {
+    let Ok((hub, mut seats)) = Hub::<L>::new(alloc, blank, session, 1) else {
         return None;
+    };
+    let is_done = match seats.first_mut() {
+        Some(seat) => are_done(rt, &hub, seat, &events(whose.owner, whose.bob)),
+        None => false,
+    };
+    let (trail, wrong) = hub.close(seats);
+    if is_done && wrong.is_none() {
+        Some(trail)
+    } else {
+        None
     }
-    close(side)
 }
 
 /// The verdict on bob's right to type into window 0.
@@ -78,8 +106,17 @@ fn asked(bob: UserId, answer: bool) -> Verdict {
     }
 }
 
+/// The place of the bad entry that a check names, if there is one; no answer for want of memory.
+fn bad_place(answer: Result<(), CheckFault>) -> Option<Option<usize>> {
+    match answer {
+        Ok(()) => Some(None),
+        Err(CheckFault::BadEntry { place }) => Some(Some(place)),
+        Err(CheckFault::NoMemory) => None,
+    }
+}
+
 /// What the check answers of the trail's entries, where the last one's first verdict is this.
-fn judged(alloc: Global, trail: &Trail, first: Verdict) -> Option<Result<(), CheckFault>> {
+fn judged(alloc: Global, trail: &Trail, first: Verdict) -> Option<Option<usize>> {
     let mut entries = Vec::new(alloc);
     let mut verdicts = Vec::new(alloc);
     for place in 0..trail.len() {
@@ -92,7 +129,7 @@ fn judged(alloc: Global, trail: &Trail, first: Verdict) -> Option<Result<(), Che
     }
     *verdicts.first_mut()? = first;
     entries.push(entry_with(alloc, TYPED, verdicts).ok()?).ok()?;
-    Some(check_entries(
+    bad_place(check_entries(
         alloc,
         trail.acl_edition(),
         trail.owner(),
@@ -103,22 +140,29 @@ fn judged(alloc: Global, trail: &Trail, first: Verdict) -> Option<Result<(), Che
 /// Whether the trail of an edition, which has this number, is legal for its owner alone, and bob's
 /// keys were judged so.
 fn is_right(alloc: Global, trail: &Trail, bob: UserId, number: u8, may_type: bool) -> bool {
-    let owned = check_trail(alloc, trail, trail.owner());
-    let taken = check_trail(alloc, trail, bob);
+    let owned = bad_place(check_trail(alloc, trail, trail.owner()));
+    let taken = bad_place(check_trail(alloc, trail, bob));
     let told = judged(alloc, trail, asked(bob, may_type));
     let turned = judged(alloc, trail, asked(bob, !may_type));
     trail.edition() == number
         && trail.len() == KEYS + 1
-        && owned == Ok(())
-        && taken == Err(CheckFault::BadEntry { place: 0 })
-        && told == Some(Ok(()))
-        && turned == Some(Err(CheckFault::BadEntry { place: KEYS }))
+        && owned == Some(None)
+        && taken == Some(Some(0))
+        && told == Some(None)
+        && turned == Some(Some(KEYS))
 }
 
 fn judge<R: Wait>(rt: &R, alloc: Global, edition: Edition) -> Option<bool> {
     let (owner, bob) = (UserId::of(b"root")?, UserId::of(b"bob")?);
-    let whose = Beginning { edition, owner };
-    let trail = trail_of::<Brand, R>(rt, alloc, Blank::new(1), whose, bob)?;
+    let whose = Beginning {
+        edition,
+        owner,
+        bob,
+    };
+    let Ok(session) = session_of(alloc, whose) else {
+        return None;
+    };
+    let trail = trail_of::<Brand, R>(rt, alloc, Blank::new(1), session, whose)?;
     let (number, may_type) = match edition {
         Edition::First => (1, false),
         Edition::Second => (2, true),

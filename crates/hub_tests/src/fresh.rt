@@ -1,10 +1,12 @@
 //! A seat is told what its own steps brought about.
 
 ghost use Rattle.std.specs.Prelude.{◌≡◌};
+ghost use Rattle.session_model.specs.Trace.{begun};
+ghost use Rattle.hub_ledger.specs.Seats.{StandsFor};
 
-use crate::side::{Beginning, are_done, begin, close, line_of};
-use acl::{Edition, UserId};
-use hub::Begun;
+use crate::steps::{are_done, line_of};
+use acl::UserId;
+use hub::{Begun, Hub, Seat, Session};
 use session_model::{Effect, Event};
 use std::alloc::Global;
 use std::marker::Brand;
@@ -44,43 +46,60 @@ fn is_denied(effects: &[Effect]) -> bool {
     }
 }
 
-/// Whether the seat that took a right from bob, and typed for him, takes the denial, once.
-fn is_fresh<L: Begun, R: Wait>(
+/// Whether the seat that takes a right from bob, and types for him, takes the denial, once.
+fn is_told<L: Begun, R: Wait>(
     rt: &R,
-    alloc: Global,
-    blank: Blank,
-    whose: Beginning,
+    hub: &Hub<L>,
+    seat: &mut Seat<L>,
+    owner: UserId,
     bob: UserId,
-) -> Option<bool>
-    requires blank { (blank.name ≡ L.name) × (blank.parts ≡ L.parts) × (blank.parts ≡ 1) }
-    requires begun { (L.edition ≡ whose.edition) × (L.owner ≡ whose.owner) }
-{
-    let mut side = begin::<L>(alloc, blank, whose)?;
-    let is_begun = are_done(rt, &mut side, &beginning(whose.owner, bob));
-    let _before = side.hub.take(rt, &mut side.seat);
-    let takes = line_of(whose.owner, b"aclchg bob -w 2");
+) -> bool {
+    let is_begun = are_done(rt, hub, seat, &beginning(owner, bob));
+    let _before = hub.take(rt, seat);
+    let takes = line_of(owner, b"aclchg bob -w 2");
     let types = Event::Keys {
         client: 0,
         bytes: b"x",
     };
-    let is_typed = are_done(rt, &mut side, &[takes, types]);
-    let (effects, is_marked) = side.hub.take(rt, &mut side.seat);
-    let (none, is_marked_again) = side.hub.take(rt, &mut side.seat);
-    let is_told = is_denied(effects.as_slice()) && is_marked;
+    let is_typed = are_done(rt, hub, seat, &[takes, types]);
+    let (effects, is_marked) = hub.take(rt, seat);
+    let (none, is_marked_again) = hub.take(rt, seat);
+    let is_denied = is_denied(effects.as_slice()) && is_marked;
     let is_once = none.is_empty() && !is_marked_again;
-    let trail = close(side)?;
-    Some(is_begun && is_typed && is_told && is_once && trail.len() == 9)
+    is_begun && is_typed && is_denied && is_once
+}
+
+/// Whether a seat of a new hub is told so.
+fn is_fresh<L: Begun, R: Wait>(
+    rt: &R,
+    alloc: Global,
+    blank: Blank,
+    session: Session,
+    owner: UserId,
+) -> Option<bool>
+    requires blank { (blank.name ≡ L.name) × (blank.parts ≡ L.parts) × (blank.parts ≡ 1) }
+    requires fresh { StandsFor (begun L.edition L.owner) session }
+{
+    let bob = UserId::of(b"bob")?;
+    let Ok((hub, mut seats)) = Hub::<L>::new(alloc, blank, session, 1) else {
+        return None;
+    };
+    let is_told = match seats.first_mut() {
+        Some(seat) => is_told(rt, &hub, seat, owner, bob),
+        None => false,
+    };
+    let (trail, wrong) = hub.close(seats);
+    Some(is_told && wrong.is_none() && trail.len() == 9)
 }
 
 #[test]
 fn a_seat_is_told_of_its_own_step(rt: HostRuntime) {
-    let (Some(owner), Some(bob)) = (UserId::of(b"root"), UserId::of(b"bob")) else {
-        panic!(rt; "names")
+    let Some(owner) = UserId::of(b"root") else {
+        panic!(rt; "a name")
     };
-    let whose = Beginning {
-        edition: Edition::Second,
-        owner,
+    let Ok(session) = Session::new(rt.alloc(), owner) else {
+        panic!(rt; "a session")
     };
-    let told = is_fresh::<Brand, _>(&rt, rt.alloc(), Blank::new(1), whose, bob);
+    let told = is_fresh::<Brand, _>(&rt, rt.alloc(), Blank::new(1), session, owner);
     assert_eq!(rt; told, Some(true));
 }

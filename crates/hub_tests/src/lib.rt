@@ -18,7 +18,7 @@ mod fresh;
 #[cfg(test)]
 mod many;
 #[cfg(test)]
-mod side;
+mod steps;
 #[cfg(test)]
 mod stops;
 #[cfg(test)]

@@ -3,7 +3,8 @@
 //! reply, and each step but a Draw marks both seats.
 
 ghost use Rattle.std.specs.Prelude.{◌≡◌, ◌≤◌};
-ghost use Rattle.acl.specs.declared.edition.Edition.TheVariants.{Second};
+ghost use Rattle.session_model.specs.Trace.{begun};
+ghost use Rattle.hub_ledger.specs.Seats.{StandsFor};
 
 use crate::compare::{are_same, is_same_reply, parts_of};
 use acl::UserId;
@@ -178,13 +179,10 @@ struct Pair<L: Begun> {
 }
 
 /// The second seat asks for its entries.
-fn begin<L: Begun>(alloc: Global, blank: Blank, owner: UserId) -> Option<Pair<L>>
+fn begin<L: Begun>(alloc: Global, blank: Blank, session: Session, owner: UserId) -> Option<Pair<L>>
     requires blank { (blank.name ≡ L.name) × (blank.parts ≡ L.parts) × (blank.parts ≡ 2) }
-    requires begun { (L.edition ≡ Second) × (L.owner ≡ owner) }
+    requires fresh { StandsFor (begun L.edition L.owner) session }
 {
-    let Ok(session) = Session::new(alloc, owner) else {
-        return None;
-    };
     let Ok((hub, mut seats)) = Hub::<L>::new(alloc, blank, session, 2) else {
         return None;
     };
@@ -248,13 +246,14 @@ fn is_thousand_right<L: Begun, R: Wait>(
     rt: &R,
     alloc: Global,
     blank: Blank,
+    session: Session,
     owner: UserId,
 ) -> Option<bool>
     requires blank { (blank.name ≡ L.name) × (blank.parts ≡ L.parts) × (blank.parts ≡ 2) }
-    requires begun { (L.edition ≡ Second) × (L.owner ≡ owner) }
+    requires fresh { StandsFor (begun L.edition L.owner) session }
 {
     let bob = UserId::of(b"bob")?;
-    let mut pair = begin::<L>(alloc, blank, owner)?;
+    let mut pair = begin::<L>(alloc, blank, session, owner)?;
     let counted = all_steps(rt, alloc, &mut pair, owner, bob)?;
     let Pair {
         hub,
@@ -270,6 +269,9 @@ fn seats_take_what_the_session_made(rt: HostRuntime) {
     let Some(owner) = UserId::of(b"root") else {
         panic!(rt; "a name")
     };
-    let is_right = is_thousand_right::<Brand, _>(&rt, rt.alloc(), Blank::new(2), owner);
+    let Ok(session) = Session::new(rt.alloc(), owner) else {
+        panic!(rt; "a session")
+    };
+    let is_right = is_thousand_right::<Brand, _>(&rt, rt.alloc(), Blank::new(2), session, owner);
     assert!(rt; is_right == Some(true));
 }

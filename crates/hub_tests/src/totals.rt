@@ -1,7 +1,8 @@
 //! Four threads that submit commands by one hub.
 
 ghost use Rattle.std.specs.Prelude.{◌≡◌};
-ghost use Rattle.acl.specs.declared.edition.Edition.TheVariants.{Second};
+ghost use Rattle.session_model.specs.Trace.{begun};
+ghost use Rattle.hub_ledger.specs.Seats.{StandsFor};
 
 use acl::UserId;
 use hub::{Begun, Hub, Seat, Session};
@@ -60,13 +61,15 @@ fn four<L: Begun + Send + Sync, R: Threads + Wait + Sync>(
     rt: &R,
     alloc: Global,
     blank: Blank,
+    session: Session,
     owner: UserId,
 ) -> Option<usize>
     requires blank { (blank.name ≡ L.name) × (blank.parts ≡ L.parts) × (blank.parts ≡ 4) }
-    requires begun { (L.edition ≡ Second) × (L.owner ≡ owner) }
+    requires fresh { StandsFor (begun L.edition L.owner) session }
 {
-    let session = Session::new(alloc, owner).ok()?;
-    let (hub, mut seats) = Hub::<L>::new(alloc, blank, session, 4).ok()?;
+    let Ok((hub, mut seats)) = Hub::<L>::new(alloc, blank, session, 4) else {
+        return None;
+    };
     let (Some(mut a), Some(mut b)) = (seats.pop(), seats.pop()) else {
         return None;
     };
@@ -94,6 +97,9 @@ fn each_entry_has_its_receipt(rt: HostRuntime) {
     let Some(owner) = UserId::of(b"root") else {
         panic!(rt; "a name")
     };
-    let entries = four::<Brand, _>(&rt, rt.alloc(), Blank::new(4), owner);
+    let Ok(session) = Session::new(rt.alloc(), owner) else {
+        panic!(rt; "a session")
+    };
+    let entries = four::<Brand, _>(&rt, rt.alloc(), Blank::new(4), session, owner);
     assert_eq!(rt; entries, Some(4 * EACH));
 }

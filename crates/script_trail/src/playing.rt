@@ -1,10 +1,6 @@
 //! Plays a script, and writes its trail where the words name a file for it.
 
-ghost use Rattle.std.specs.Prelude.{◌≡◌, ℕ, Bool, List, IfOk, map};
-ghost use Rattle.std.specs.String.{string_bytes};
-ghost use Rattle.acl.specs.declared.edition.Edition.{Edition as Groups};
-ghost use Rattle.acl.specs.declared.user_id.UserId.{UserId as Owner};
-ghost use Rattle.session.specs.Words.{Asks, MayHave, Simulates};
+ghost use Rattle.std.specs.Prelude.{◌≡◌};
 
 use crate::recorded::recorded;
 use session::{Asked, SetupUnread, path_of, setup_of, simulate, simulate_behind};
@@ -57,12 +53,7 @@ fn begin<'a, H: Files<File = File> + AllocGlobal>(
     rt: &H,
     words: &'a [String],
     path: &'a str,
-) -> Result<Recording<'a>, Fault<'a>>
-    ensures words { IfOk result (λ r. r.words.now ≡ words.now) }
-    ensures setup { (groups : Groups) (name : Owner) (shows : Bool)
-        → Asks (map string_bytes words.now) groups name shows
-        → IfOk result (λ r. MayHave (map string_bytes words.now) r.setup.items) }
-{
+) -> Result<Recording<'a>, Fault<'a>> {
     let setup = setup_of(rt, words)?;
     let mut options = OpenOptions::new();
     match options
@@ -88,12 +79,7 @@ impl Recording<'_> {
         reader: R,
         writer: &mut W,
         errors: &mut E,
-    ) -> io::Result<u8>
-        ensures { (groups : Groups) (name : Owner) (shows : Bool)
-            → Asks (map string_bytes self.entry.words.now) groups name shows
-            → IfOk result (λ status. Simulates groups name shows self.entry.setup.items
-            (R.remaining reader) status (W.contents writer.old) (W.contents writer.new)) }
-    {
+    ) -> io::Result<u8> {
         let Recording {
             alloc,
             words,
@@ -137,12 +123,6 @@ where
     R: Read + Drop,
     W: Write,
     E: Write,
-    // What is played, and what its status says, is as `simulate` has it.
-    ensures { (groups : Groups) (name : Owner) (shows : Bool)
-        → Asks (map string_bytes words.entry.now) groups name shows
-        → (setup : List ℕ) × MayHave (map string_bytes words.entry.now) setup
-        × Simulates groups name shows setup (R.remaining reader) result
-        (W.contents writer.old) (W.contents writer.new) }
 {
     let path = match path_of(rt.alloc(), words, "trail") {
         Ok(Some(path)) => path,

@@ -1,7 +1,9 @@
 //! The loops that share a session, each in a thread.
 
-ghost use Rattle.std.specs.Prelude.{◌≡◌, ◌<◌, ◌≤◌};
+ghost use Rattle.std.specs.Prelude.{◌≡◌, ◌<◌, ◌≤◌, IfOk};
 ghost use Rattle.acl.specs.declared.edition.Edition.TheVariants.{Second};
+ghost use Rattle.session_model.specs.Trace.{begun};
+ghost use Rattle.hub_ledger.specs.Seats.{StandsFor};
 
 use crate::setting_up::set_up;
 use crate::shared_session::SharedSession;
@@ -9,6 +11,7 @@ use acl::UserId;
 use hub::{Begun as Roll, Hub, Seat, Session, Trail};
 use server_trail::Recorder;
 use server_users::Users;
+use session_model::Refusal;
 use setup_lines::SetupFault;
 use std::alloc::{AllocError, Global};
 use std::marker::Brand;
@@ -150,6 +153,14 @@ where
     });
 }
 
+// A new session of this owner.
+fn new_session<L: Roll>(alloc: Global, owner: UserId) -> Result<Session, Refusal>
+    requires { (L.edition ≡ Second) × (L.owner ≡ owner) }
+    ensures { IfOk result (StandsFor (begun L.edition L.owner)) }
+{
+    Session::new(alloc, owner)
+}
+
 // A new session of this owner, and a seat for each loop.
 fn begin<L: Roll>(
     alloc: Global,
@@ -162,7 +173,7 @@ fn begin<L: Roll>(
     requires begun { (L.edition ≡ Second) × (L.owner ≡ owner) }
 {
     // A new session and a new hub are refused for want of memory alone.
-    let Ok(session) = Session::new(alloc, owner) else {
+    let Ok(session) = new_session::<L>(alloc, owner) else {
         return Err(LoopsFault::NoMemory);
     };
     match Hub::<L>::new(alloc, blank, session, loops) {

@@ -13,7 +13,6 @@ use Rattle.session_model.specs.Trace.{begun}
 use Rattle.setup_lines.specs.Lines.{commands_in, first_fault}
 use Rattle.session.specs.Played.{PlaysAll}
 use Rattle.session_setup.specs.Setup.{Behind}
-use Rattle.session_setup.specs.declared.Beginning.{Beginning}
 
 -- ---- muxsim [--edition N] [--setup FILE] [--show] [--trail FILE] OWNER
 
@@ -60,11 +59,6 @@ pub record Asks (words : List Text) (groups : Edition) (name : UserId) (shows : 
   pub owner_is :
       option_and_then named_by (first_of (codes "owner") (matches_of muxsim words)) ≡ Some name
   pub shows_is : one_of (codes "show") (matches_of muxsim words) ≡ Some (flag_text shows)
-
--- a session of this edition and owner
-abbrev pub BeginsWith : Edition → UserId → Option Beginning → Type 0
-BeginsWith groups name None = ⊥
-BeginsWith groups name (Some begins) = (begins.edition ≡ groups) × (begins.owner ≡ name)
 
 -- what the setup's file may have: nothing where the words name none
 abbrev pub MayHave : List Text → List ℕ → Type 0

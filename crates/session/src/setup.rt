@@ -1,12 +1,11 @@
 //! The file of a setup that the words name.
 
-ghost use Rattle.std.specs.Prelude.{◌≡◌, true, [], None, IfOk, map, codes};
+ghost use Rattle.std.specs.Prelude.{◌≡◌, true, [], None, IfOk, map, codes, option_map};
 ghost use Rattle.std.specs.String.{string_bytes};
 ghost use Rattle.clap.specs.Words.{matches_of, takes, first_of};
 ghost use Rattle.session.specs.Words.{muxsim};
 
 use crate::words::path_of;
-use std::alloc::AllocError;
 use std::fs::Files;
 use std::{fs, io};
 use thiserror::Error;
@@ -21,9 +20,19 @@ pub enum SetupUnread<'a> {
     NoMemory,
 }
 
-impl From<AllocError> for SetupUnread<'_> {
-    fn from(_e: AllocError) -> Self {
-        SetupUnread::NoMemory
+/// What a file has, if there is one; else nothing.
+fn read_of<'a, H: Files + AllocGlobal>(
+    rt: &H,
+    path: Option<&'a str>,
+) -> Result<Vec<u8>, SetupUnread<'a>>
+    ensures { option_map (λ p. p.now) path ≡ None → IfOk result (λ file. file.items ≡ []) }
+{
+    match path {
+        Some(path) => match fs::read(rt, path) {
+            Ok(file) => Ok(file),
+            Err(error) => Err(SetupUnread::File(path, error)),
+        },
+        None => Ok(Vec::new(rt.alloc())),
     }
 }
 
@@ -36,11 +45,8 @@ pub fn setup_of<'a, H: Files + AllocGlobal>(
         → first_of (codes "setup") (matches_of muxsim (map string_bytes words.now)) ≡ None
         → IfOk result (λ file. file.items ≡ []) }
 {
-    let Some(path) = path_of(rt.alloc(), words, "setup")? else {
-        return Ok(Vec::new(rt.alloc()));
-    };
-    match fs::read(rt, path) {
-        Ok(file) => Ok(file),
-        Err(error) => Err(SetupUnread::File(path, error)),
+    match path_of(rt.alloc(), words, "setup") {
+        Ok(path) => read_of(rt, path),
+        Err(_) => Err(SetupUnread::NoMemory),
     }
 }
