@@ -64,7 +64,7 @@ reads-nothing byte = record { stage = refl }
 pub reads-more : (reader : LeaveReader) (before : List ℕ) (y : ℕ) (after : Stage) → HasRead reader before → next reader.byte reader.stage y ≡ after
     → HasRead (record { byte = reader.byte; stage = after }) (before ++ y ∷ [])
 reads-more reader before y after s e = record {
-  stage = sym (stage-more reader.byte before y ∙ ap (λ (st : Stage). next reader.byte st y) (sym s.stage) ∙ e)
+  stage = sym (stage-more reader.byte before y ∙ ap (λ (st : Stage). next reader.byte st y) (sym s.stage) ∙ e);
 }
 
 pub sends-more : (reader : LeaveReader) (before : List ℕ) (y : ℕ) (put : List ℕ) → HasRead reader before → more reader.byte reader.stage y ≡ put
@@ -106,5 +106,5 @@ more-left byte st y e = rw e refl
 pub reads-same : (reader : LeaveReader) (before : List ℕ) (y : ℕ) → HasRead reader before → next reader.byte reader.stage y ≡ reader.stage
     → HasRead reader (before ++ y ∷ [])
 reads-same reader before y s e = record {
-  stage = sym (stage-more reader.byte before y ∙ ap (λ (st : Stage). next reader.byte st y) (sym s.stage) ∙ e)
+  stage = sym (stage-more reader.byte before y ∙ ap (λ (st : Stage). next reader.byte st y) (sym s.stage) ∙ e);
 }

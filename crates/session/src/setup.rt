@@ -25,7 +25,7 @@ fn read_of<'a, H: Files + AllocGlobal>(
     rt: &H,
     path: Option<&'a str>,
 ) -> Result<Vec<u8>, SetupUnread<'a>>
-    ensures { option_map (λ p. p.now) path ≡ None → IfOk result (λ file. file.items ≡ []) }
+    ensures { option_map (λ p. p.now) path.entry ≡ None → IfOk result (λ file. file.items ≡ []) }
 {
     match path {
         Some(path) => match fs::read(rt, path) {
