@@ -371,8 +371,9 @@ class Flood:
     def __init__(self, server):
         self.shell = server.connect(window())
         assert welcome(self.shell)
-        line = b"".join(b"%09d abcdefghijklmnopqrstuvwxyz\r\n" % number for number in range(200))
-        data = frame(b"O", line[:8192]) * 16
+        # Lines that differ, since a page that is the same again isn't drawn again.
+        lines = [b"%09d abcdefghijklmnopqrstuvwxyz\r\n" % number for number in range(200 * 64)]
+        data = b"".join(frame(b"O", b"".join(lines[at : at + 200])) for at in range(0, len(lines), 200))
         self.writer = os.fork()
         if not self.writer:
             try:
