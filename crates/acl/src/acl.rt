@@ -20,7 +20,7 @@ use std::marker::Model;
 /// Each list command is done whole or refused whole; the refusal is its first fault from the left,
 /// or that memory was refused. Its words for users are given as `UserId::of` answers them, none for
 /// a word that is no name. Its acts go to the end of `acts`, in order, and each to the follower
-/// once it is done. `room` is how many acts more there is room for behind them, which a caller may
+/// once it is done. `room` is how many acts more there is room for after them, which a caller may
 /// then push without a growth.
 pub struct Acl {
     lists: Lists,
@@ -113,7 +113,7 @@ impl Acl {
         self.lists.leaders_of(user)
     }
 
-    /// Whether the user has the bit on an object that is there, himself or by a leader of his, or
+    /// Whether the user has the bit on an object that is there, themselves or by a leader of theirs, or
     /// else why not.
     pub fn may(&self, user: UserId, bit: Bit, object: Object) -> Result<(), EntryDenial>
         ensures answer { (edition : Edition) (owner : UserId) (h : History) →
@@ -195,7 +195,7 @@ impl Acl {
         conclude(&mut self.lists, plan, acts, follower)
     }
 
-    /// `acldel`: takes a user away, with all that is his.
+    /// `acldel`: takes a user away, with all that is theirs.
     pub fn remove<F: Follower>(
         &mut self,
         name: Option<UserId>,
@@ -223,7 +223,7 @@ impl Acl {
     }
 
     /// `aclgrp`: gives a user a leader, or none. In the first edition a new leader takes the former
-    /// one's place; in the second he comes last, and one who is there keeps his place.
+    /// one's place; in the second they come last, and one who is there keeps their place.
     pub fn group<F: Follower>(
         &mut self,
         name: Option<UserId>,

@@ -13,7 +13,7 @@ use crate::lists::Lists;
 use acl_words::{AclFault, Act};
 
 /// The acts of a list command: whether they were planned well, from which place on they stand, and
-/// how many more there is to be room for behind them.
+/// how many more there is to be room for after them.
 #[derive(Drop)]
 pub struct Plan {
     pub planned: Result<(), AclFault>,
@@ -39,7 +39,7 @@ fn count_masked(acts: &[Act]) -> usize
         .count()
 }
 
-/// Makes room for the acts from `start` on, and behind them for so many more.
+/// Makes room for the acts from `start` on, and for `room` more after them.
 fn make_room(
     lists: &mut Lists,
     room: usize,
@@ -84,7 +84,7 @@ fn apply_all<F: Follower>(lists: &mut Lists, acts: &[Act], follower: &mut F)
     }
 }
 
-/// Does the acts that were planned where they were planned well, with room for so many more behind
+/// Does the acts that were planned where they were planned well, with room for `plan.room` more after
 /// them; else takes them back, and answers the fault.
 pub fn conclude<F: Follower>(
     lists: &mut Lists,

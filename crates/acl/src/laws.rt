@@ -29,7 +29,7 @@ pub fn windows_stay()
         AllMayFollow edition owner h acts → open_count (followed_by h acts) ≡ open_count h }
 {}
 
-/// Acts behind acts follow the history that those before leave.
+/// Acts after acts follow the history that those before leave.
 pub fn acts_in_order()
     ensures { (h : History) (before after : List Act) →
         followed_by h (before ++ after) ≡ followed_by (followed_by h before) after }

@@ -102,7 +102,7 @@ impl Lists {
         }
     }
 
-    /// Whether the user may be given this leader too: no more than eight lead him then.
+    /// Whether the user may be given this leader too: no more than eight lead them then.
     pub(crate) fn has_place(&self, user: UserId, leader: UserId) -> bool
         ensures { result ≡ nat_le (length (leaders_with (table_of self.now).edition
             (Some leader) (led_by (table_of self.now) user))) 8 }
@@ -130,7 +130,7 @@ impl Lists {
         users.iter().any(|user| self.is_granted(*user, bit, object))
     }
 
-    /// Whether the user has the bit on an object that is there, himself or by a leader of his, or
+    /// Whether the user has the bit on an object that is there, themselves or by a leader of theirs, or
     /// else why not.
     pub fn may(&self, user: UserId, bit: Bit, object: Object) -> Result<(), EntryDenial>
         ensures answer { (edition : Edition) (owner : UserId) (h : History) →
@@ -156,7 +156,7 @@ impl Lists {
         })
     }
 
-    /// A user becomes known, where room was made for him.
+    /// A user becomes known, after room was made for them.
     fn make_known(&mut self, user: UserId)
         requires { 0 < spare self.old.rows }
         ensures stands { Takes (table_of self.old) (table_of self.new) (Known user) }
@@ -190,7 +190,7 @@ impl Lists {
         }
     }
 
-    /// Gives a known user a leader, or none; at most eight lead him then.
+    /// Gives a known user a leader, or none; at most eight lead them then.
     fn set_leader(&mut self, user: UserId, leader: Option<UserId>)
         ensures stands { Takes (table_of self.old) (table_of self.new) (Grouped user leader) }
         ensures rows_room { spare self.old.rows ≤ spare self.new.rows }

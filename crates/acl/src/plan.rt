@@ -68,15 +68,15 @@ fn new_name(lists: &Lists, name: Option<UserId>) -> Result<UserId, AclFault>
     }
 }
 
-/// Whether the user is known, or one of the words before names him.
+/// Whether the user is known, or one of the words before names them.
 fn is_named(lists: &Lists, before: &[Option<UserId>], user: UserId) -> bool
     ensures { result ≡ among (with_names (users_in (table_of lists.now)) before.now) user }
 {
     lists.knows(user) || names_any(before, user)
 }
 
-/// How many users are known behind one more word of a change, where `count` are behind the words
-/// before it; or its fault.
+/// How many users are known after one more word of a change, if `count` are known after the words before
+/// it; or the word's fault.
 fn count_with(
     lists: &Lists,
     before: &[Option<UserId>],
@@ -116,7 +116,7 @@ pub fn change_fault(lists: &Lists, names: &[Option<UserId>]) -> Option<AclFault>
     None
 }
 
-/// A name that isn't known, behind the words before it, becomes known.
+/// A name that isn't known, after the words before it, becomes known.
 fn plan_known(
     lists: &Lists,
     before: &[Option<UserId>],

@@ -13,7 +13,7 @@ ghost use Rattle.acl.specs.Table.{with_right};
 use acl_words::{Bit, Bits, CommandName, Edition, Leaders, Object, Slots, UserId, WINDOWS};
 use indexmap::IndexMap;
 
-/// What a known user has, and his leaders.
+/// What a known user has, and their leaders.
 #[derive(Drop)]
 pub struct Row {
     pub commands: [Bits; CommandName::COUNT],
@@ -94,7 +94,7 @@ pub fn opening_bits(masks: &Masks, by: UserId, user: UserId) -> Bits
     }
 }
 
-/// Gives each user what he gets on the window that `by` opens in the slot.
+/// Gives each user what they get on the window that `by` opens in the slot.
 pub fn give_window(rows: &mut Rows, masks: &Masks, by: UserId, slot: usize)
     requires { slot < WINDOWS }
     ensures given { rows.new.entries ≡ map
@@ -109,7 +109,7 @@ pub fn give_window(rows: &mut Rows, masks: &Masks, by: UserId, slot: usize)
     }
 }
 
-/// Gives the user whose row it is a leader, or none, where that leaves him no more than eight.
+/// Gives the user whose row it is a leader, or none, if that leaves them no more than eight.
 pub fn regroup(row: &mut Row, edition: Edition, leader: Option<UserId>)
     ensures { length (leaders_with edition leader row.old.leaders) ≤ 8 →
         row.new ≡ record row.old { leaders = leaders_with edition leader row.old.leaders } }
@@ -119,7 +119,7 @@ pub fn regroup(row: &mut Row, edition: Edition, leader: Option<UserId>)
     }
 }
 
-/// Takes a leader away from all whom he leads.
+/// Takes a leader away from all their followers.
 pub fn forget_leader(rows: &mut Rows, gone: UserId)
     ensures forgotten { rows.new.entries
         ≡ map (λ e. (e.0, without_leader gone e.1)) rows.old.entries }

@@ -53,7 +53,7 @@ fn letter(bit: Bit) -> char
     }
 }
 
-/// The sign before a bit that is given or taken, behind one that was given or taken, or none.
+/// The sign before a bit that is given or taken, after one that was given or taken, or none.
 fn sign_before(last: Option<bool>, value: bool) -> Option<char>
     ensures { option_to_list result ≡ print.sign_before last value }
 {
@@ -198,7 +198,7 @@ fn three(alloc: Global, first: Text, second: Text, third: Text) -> Result<Texts,
     Ok(words)
 }
 
-/// The words of a user and his leader.
+/// The words of a user and their leader.
 fn group_words(alloc: Global, user: &str, leader: &Option<Leader>) -> Result<Texts, AllocError>
     ensures { IfOk result (λ w. w ≡ user.now ∷ print.leader_words leader.now) }
 {
@@ -220,7 +220,7 @@ fn mask_words(alloc: Global, masks: &[Mask]) -> Result<Texts, AllocError>
     Ok(words)
 }
 
-/// The words of a command, behind its name.
+/// The words of a command, after its name.
 pub fn command_words(alloc: Global, command: &Command) -> Result<Texts, AllocError>
     ensures { IfOk result (λ w. w ≡ print.words_of command.now) }
 {

@@ -29,7 +29,7 @@ fn octal_front(cs: &[char]) -> Option<char>
     }
 }
 
-/// Appends what stands behind a backslash: three octal digits, or another character.
+/// Appends what stands after a backslash: three octal digits, or another character.
 fn put_escaped<'a>(after: &'a [char], out: &mut String) -> Result<Option<&'a [char]>, AllocError>
     ensures { Puts Escaped after.now (string_bytes out.old) (string_bytes out.new) result }
 {
@@ -46,7 +46,7 @@ fn put_escaped<'a>(after: &'a [char], out: &mut String) -> Result<Option<&'a [ch
     }
 }
 
-/// Appends a character, or what stands behind it where it is a backslash.
+/// Appends a character, or what stands after it where it is a backslash.
 fn put_character<'a>(
     c: char,
     after: &'a [char],
@@ -62,7 +62,7 @@ fn put_character<'a>(
     }
 }
 
-/// Appends what stands behind `'`.
+/// Appends what stands after `'`.
 fn put_single<'a>(mut left: &'a [char], out: &mut String) -> Result<Option<&'a [char]>, AllocError>
     ensures { Puts Single left.entry.now (string_bytes out.old) (string_bytes out.new) result }
 {
@@ -76,7 +76,7 @@ fn put_single<'a>(mut left: &'a [char], out: &mut String) -> Result<Option<&'a [
     Ok(None)
 }
 
-/// Appends what stands behind `"`.
+/// Appends what stands after `"`.
 fn put_double<'a>(mut left: &'a [char], out: &mut String) -> Result<Option<&'a [char]>, AllocError>
     ensures { Puts Double left.entry.now (string_bytes out.old) (string_bytes out.new) result }
 {

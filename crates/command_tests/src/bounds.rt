@@ -42,7 +42,7 @@ fn set_often(stage: &mut Stage, value: bool, objects: &[Object]) -> Result<(), A
     }
 }
 
-/// Whether a line of so many acts is refused, and bob's right stays as it was.
+/// Whether a line of this many acts is refused, and bob's right stays as it was.
 fn is_refused(stage: &mut Stage, value: bool, objects: &[Object], want: Want) -> bool {
     let count = stage.acts.len();
     set_often(stage, value, objects) == Err(NoMemory)

@@ -1,4 +1,4 @@
-//! Histories of calls, with the answer that a check gives behind each.
+//! Histories of calls, with the answer that a check gives after each.
 
 use crate::stage::{Call, Name, Stage, Want};
 use Bit::{Execute, Read, Write};
@@ -24,7 +24,7 @@ const TWO: Object = Object::Window(2);
 
 const THREE: Object = Object::Window(3);
 
-/// A right is taken, his leader has it, and then loses it.
+/// A right is taken, the leader has it, and then loses it.
 const LED: [Row; 12] = [
     (Nothing, Bob, Write, TWO, Passes),
     (Change(Bob, Write, false, TWO), Bob, Write, TWO, NoEntry),
@@ -41,7 +41,7 @@ const LED: [Row; 12] = [
     (Change(Bob, Write, true, TWO), Bob, Write, TWO, Passes),
 ];
 
-/// A leader goes, and so does what his group has by him.
+/// A leader goes, and so does what the group has by them.
 const LEADER_GONE: [Row; 4] = [
     (Change(Bob, Write, false, TWO), Bob, Write, TWO, NoEntry),
     (Group(Bob, Some(Ann)), Bob, Write, TWO, Passes),
@@ -58,7 +58,7 @@ const ONE_GROUP: [Row; 5] = [
     (Group(Bob, Some(Ann)), Bob, Write, TWO, Leader(Ann)),
 ];
 
-/// The second edition: a new leader comes last, and one who is there keeps his place.
+/// The second edition: a new leader comes last, and one who is there keeps their place.
 const TWO_GROUPS: [Row; 11] = [
     (Change(Bob, Write, false, TWO), Bob, Write, TWO, NoEntry),
     (Change(Ann, Write, false, TWO), Bob, Write, TWO, NoEntry),
@@ -81,7 +81,7 @@ const TWO_GROUPS: [Row; 11] = [
     (Group(Bob, None), Bob, Write, TWO, NoEntry),
 ];
 
-/// A lock goes with the right of the leader by whom its holder may write, be he the first or not.
+/// A lock goes with the right of the leader by whom its holder may write, be they the first or not.
 const LOCKED_BY_GROUP: [Row; 6] = [
     (Change(Bob, Write, false, TWO), Bob, Write, TWO, NoEntry),
     (Group(Bob, Some(Ann)), Bob, Write, TWO, Passes),
@@ -100,7 +100,7 @@ const MASKED: [Row; 9] = [
     (Nothing, Bob, Execute, THREE, Passes),
     (Nothing, Bob, Write, THREE, NoEntry),
     (Nothing, Ann, Write, THREE, Passes),
-    // The mask is the owner's alone, and none counts for the opener himself.
+    // The mask is the owner's alone, and none counts for the opener.
     (Open(Ann, 4), Bob, Write, Object::Window(4), Passes),
     (Open(Bob, 5), Bob, Write, Object::Window(5), Passes),
 ];
@@ -164,7 +164,7 @@ const HELD: [Row; 6] = [
     (Nothing, Eve, Write, TWO, Passes),
 ];
 
-/// A lock goes with the rights of its holder, with his leader's, with him, and with his last
+/// A lock goes with the rights of its holder, with their leader's, with the user, and with their last
 /// client.
 const RELEASED: [Row; 10] = [
     (Lock(Eve, 2, LockMode::On), Bob, Write, TWO, Locked(Eve)),
@@ -223,7 +223,7 @@ static HISTORIES: [(Edition, &[Row]); 14] = [
     (Edition::Second, &DEFAULTS),
 ];
 
-/// Whether a history's calls are done in turn, and each check behind them is answered so.
+/// Whether a history's calls are done in turn, and each check after them is answered so.
 fn is_so(alloc: Global, edition: Edition, rows: &[Row]) -> bool {
     let Some(mut stage) = Stage::new(alloc, edition) else {
         return false;

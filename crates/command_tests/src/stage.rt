@@ -46,11 +46,11 @@ pub enum Call {
 #[derive(Clone, Copy)]
 pub enum Want {
     Passes,
-    /// Denied, and he has no leader.
+    /// Denied, and the user has no leader.
     NoEntry,
-    /// Denied, and his leader, who is named, hasn't it either.
+    /// Denied, and the leader, who is named, hasn't it either.
     Leader(Name),
-    /// Denied, and these two lead him, in this order.
+    /// Denied, and these two lead the user, in this order.
     Leaders(Name, Name),
     /// Another user, who is named, holds the lock.
     Locked(Name),
@@ -250,7 +250,7 @@ impl Stage {
         }
     }
 
-    /// The same of who has an entry.
+    /// Whether a check that passes is the wanted answer; a user with an entry may still be locked out.
     fn is_let(&self, asker: UserId, bit: Bit, object: Object, want: Want) -> bool {
         let wanted = match want {
             Want::Passes => None,

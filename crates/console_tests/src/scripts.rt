@@ -21,7 +21,7 @@ pub enum Form {
 pub enum Thing {
     /// The program of web1 ends, and it is opened again.
     First,
-    /// The same of web2.
+    /// The program of web2 ends, and it is opened again.
     Second,
     /// `mux-guest` is killed after its first command.
     Killed,

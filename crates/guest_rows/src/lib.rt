@@ -11,8 +11,8 @@ ghost use Rattle.guest_rows.specs.Locks as locks;
 ghost use Rattle.guest_rows.specs.Operators as operators;
 ghost use Rattle.guest_rows.specs.Watching as watching;
 
-/// bob, who has x on no command that changes rights, is a guest, and what he asks for changes
-/// nothing; with x on one of them, or where another user gives it, he gets more. He can't free
+/// bob, who has x on no command that changes rights, is a guest, and what bob asks for changes
+/// nothing; with x on one of them, or if another user gives it, bob gets more. bob can't free
 /// eve's lock by leaving its window, and can by `multiuser off`.
 pub fn guests_and_others()
     ensures guest { guests.BobIsGuest }
@@ -25,8 +25,8 @@ pub fn guests_and_others()
     ensures parted { guests.Parted }
 {}
 
-/// Output that no draw of bob's client shows behind it is hidden from him, also where the client
-/// shows another window by then or he may not read; none of own's windows is hidden from own.
+/// Output that no draw of bob's client shows after it is hidden from bob, also if the client
+/// shows another window by then or bob may not read; none of own's windows is hidden from own.
 pub fn hidden_output()
     ensures shown_before { hiding.ShownBefore }
     ensures none_of_own { hiding.NoneOfOwn }

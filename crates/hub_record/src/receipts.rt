@@ -134,7 +134,7 @@ fn find(forms: &[Form], kept: &[u32], first: usize, wanted: &Form) -> Option<u32
     None
 }
 
-/// The code of the form: of one that is found, or behind the others.
+/// The code of the form: of one that is found, or after the others.
 fn store(forms: &mut Vec<Form>, kept: &mut [u32], form: Form) -> u32
     requires room { vec_len forms.old < vec_capacity forms.old }
     requires few { vec_len forms.old < 4294967296 }
@@ -194,7 +194,7 @@ impl Receipts {
         Ok(())
     }
 
-    /// Puts a receipt behind the others.
+    /// Puts a receipt after the others.
     pub fn push(&mut self, place: usize, event: KeptEvent, reply: KeptReply)
         requires room { HasRoom self.old }
         requires place { place < 4294967296 }

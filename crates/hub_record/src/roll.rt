@@ -46,7 +46,7 @@ impl Model for Roll {
         × (length r.forms.items ≤ length r.codes.items) };
 }
 
-/// The code of a form that is the entry: one that is found, or a new one behind the others.
+/// The code of a form that is the entry: one that is found, or a new one after the others.
 fn store(forms: &mut Vec<Filed>, kept: &mut [u32], slip: Slip) -> u32
     requires room { vec_len forms.old < vec_capacity forms.old }
     requires few { vec_len forms.old < 4294967296 }
@@ -98,7 +98,7 @@ impl Roll {
         Ok(())
     }
 
-    /// Puts an entry behind the others.
+    /// Puts an entry after the others.
     pub fn push(&mut self, slip: Slip)
         requires room { HasRoom self.old }
         requires few { length self.old.entries < 4294967296 }

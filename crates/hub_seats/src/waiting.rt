@@ -42,7 +42,7 @@ impl Waiting {
         Ok(Waiting { lists, marks })
     }
 
-    /// Makes room for the effects of one step behind what waits for each seat.
+    /// Makes room for the effects of one step after what waits for each seat.
     pub fn make_room(&mut self) -> Result<(), AllocError>
         ensures lists { views self.new.lists.items ≡ views self.old.lists.items }
         ensures marks { self.new.marks ≡ self.old.marks }
@@ -51,7 +51,7 @@ impl Waiting {
         make_room(self.lists.as_mut_slice())
     }
 
-    /// Puts each effect behind what waits for its peer's seat.
+    /// Puts each effect after what waits for its peer's seat.
     pub fn route(&mut self, peers: &Peers, effects: Vec<Effect>)
         requires seats { AreSeats (length self.old.lists.items) (owners_of peers.now) }
         requires come { AllByRecursion (HasPeer (owners_of peers.now)) effects.items }

@@ -1,4 +1,4 @@
-//! What keys do behind the command key.
+//! What keys do after the command key.
 
 ghost use Rattle.std.specs.Prelude.{◌≡◌, IfOk};
 ghost use Rattle.std.specs.Option.{option_map};
@@ -8,7 +8,7 @@ ghost use Rattle.keys.specs.Bindings.{command_of};
 use command_lang::{Command, Text};
 use std::alloc::{AllocError, Global};
 
-/// What a key does behind the command key. A number is that of a window.
+/// What a key does after the command key. A number is that of a window.
 #[derive(Clone, Copy, PartialEq, Eq, Debug)]
 pub enum Binding {
     Next,

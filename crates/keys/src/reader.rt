@@ -13,7 +13,7 @@ use std::marker::Model;
 pub enum KeyItem {
     /// A byte for the window's program.
     Typed(u8),
-    /// The command of a key behind the command key.
+    /// The command of a key after the command key.
     Bound(Binding),
     /// The prompt was opened, line_after_key or closed.
     Edit,
@@ -106,7 +106,7 @@ impl KeyReader {
     pub fn push(&mut self, key: u8) -> Option<KeyItem>
         ensures next { rest_step (rest_of self.old) key ≡
             (item_list result self.new.line, rest_of self.new) }
-        // Whatever keys were read, this one is read behind them.
+        // Whatever keys were read, this one is read after them.
         ensures stands { (keys : List ℕ) → StandsFor self.old keys
             → StandsFor self.new (keys ++ key ∷ []) }
         ensures gives { (keys : List ℕ) → StandsFor self.old keys →

@@ -4,7 +4,7 @@ use std::env::Env;
 use std::io::Write;
 use std::{env, io};
 
-/// The words that a program was given, behind its name.
+/// The words that a program was given, after its name.
 pub fn given<R: Env + AllocGlobal>(rt: &R, name: &str) -> io::Result<Vec<String>> {
     let mut words = Vec::new(rt.alloc());
     words.push(String::from_str(rt.alloc(), name)?)?;

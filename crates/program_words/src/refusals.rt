@@ -53,7 +53,7 @@ fn explained<'a>(said: &str, line: &'a str) -> Option<(&'static str, Option<&'a 
     Some((why, place.and_then(|place| word_at(line, place))))
 }
 
-/// Writes what the refusal of a command line means, in parentheses behind its text; nothing where
+/// Writes what the refusal of a command line means, in parentheses after its text; nothing where
 /// the text says it.
 pub fn explain<E: Write>(said: &str, line: &str, errors: &mut E) -> io::Result<()> {
     match explained(said, line) {

@@ -117,7 +117,7 @@ fn with_words<'a>(
     Ok(command)
 }
 
-/// A way's own command: the words that all ways share, and behind them its own.
+/// A way's own command: the words that all ways share, and after them its own.
 fn way_of<'a>(alloc: Global, shared: &[Word], way: &Way) -> Result<Command<'a>, AllocError> {
     let command = Command::new(alloc, way.name).about(way.about);
     with_words(alloc, with_words(alloc, command, shared)?, way.words)

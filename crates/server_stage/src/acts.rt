@@ -11,7 +11,7 @@ pub enum Act<'a> {
     /// One that is taken in though no more are to stay.
     ConnectExtra(&'a [u8]),
     Send(usize, &'a [u8]),
-    /// A connection ends behind what it sent.
+    /// A connection ends after what it sent.
     End(usize),
     /// The one that came last ends, and its number is free.
     Leave,
@@ -20,10 +20,10 @@ pub enum Act<'a> {
     Turns(usize),
     /// So many turns at most in which nothing comes, while the loop has something to do.
     QuietTurns(usize),
-    /// It is this second, and so many milliseconds pass before each turn. Those that were waited
+    /// It is this second, and this many milliseconds pass before each turn. Those that were waited
     /// for long enough go.
     SetTime(u64, u64),
-    /// Of those whose first message isn't done the oldest goes, if they are so many or more.
+    /// Of those whose first message isn't done the oldest goes, if they are this many or more.
     LetOldestGo(usize),
     /// The server ends so.
     Finish(End),

@@ -21,7 +21,7 @@ pub(crate) struct Calls {
 }
 
 impl Calls {
-    /// Those of so many loops. Of a lone one no call is held.
+    /// Those of this many loops. Of a lone one no call is held.
     pub(crate) fn new(loops: usize) -> Calls {
         Calls {
             begun: AtomicU64::new(if loops == 2 { 0 } else { 1 }),

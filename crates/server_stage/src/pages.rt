@@ -48,7 +48,7 @@ fn has(emulator: &Emulator, text: &str, message: &str) -> bool {
 }
 
 /// Whether a terminal of this size that has read these bytes has this text in its first line and
-/// the cursor behind it, the caption of the window 0 named `w` in the last line but one, this
+/// the cursor after it, the caption of the window 0 named `w` in the last line but one, this
 /// message in the last, and nothing else.
 pub fn shows(
     alloc: Global,

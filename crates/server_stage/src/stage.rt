@@ -252,7 +252,7 @@ impl<R: AllocGlobal + Clock + Threads + Wait + Sync> System for R {}
 
 /// Performs the acts on a loop over a new session, or on each of two that run at once, where the
 /// call that comes first is held until one of the other loop was answered: what is seen of one
-/// loop, or of both one behind the other.
+/// loop, or of both one after the other.
 pub fn perform(rt: &impl System, loops: usize, acts: &[Act]) -> Result<Seen, Stop> {
     let alloc = rt.alloc();
     let mut places = Vec::new(alloc);

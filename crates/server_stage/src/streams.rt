@@ -23,9 +23,9 @@ pub enum Habit {
     Slow,
     /// One byte a call, but for the call of this number, which fails so.
     Once(usize, ErrorKind),
-    /// Takes so many bytes, and none behind them. All that is there is read.
+    /// Takes this many bytes, and none after them. All that is there is read.
     Takes(usize),
-    /// Takes nothing at so many writes, and then all. All that is there is read.
+    /// Takes nothing at this many writes, and then all. All that is there is read.
     Later(usize),
 }
 
@@ -94,7 +94,7 @@ impl Far {
         }
     }
 
-    /// Ends the connection behind what was sent.
+    /// Ends the connection after what was sent.
     pub fn end(&self) {
         if let Ok(mut passing) = self.passing.try_borrow_mut() {
             passing.ends = true;

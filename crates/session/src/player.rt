@@ -22,7 +22,7 @@ use std::io;
 use std::io::{BufRead, BufReader, Read, Write};
 
 /// Plays the script on the reader over a session, and writes what its effects and answers print,
-/// and behind the last one, if `shows`, what each client is to see.
+/// and after the last one, if `shows`, what each client is to see.
 pub fn play<R: Read + Drop, W: Write>(
     alloc: Global,
     mut session: Session,
@@ -117,7 +117,7 @@ fn submit<W: Write>(
     Ok(())
 }
 
-/// The lines of an event's effects, and behind them those of its replies.
+/// The lines of an event's effects, and after them those of its replies.
 fn text_of(
     alloc: Global,
     event: &Event,

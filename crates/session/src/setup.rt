@@ -36,7 +36,7 @@ fn read_of<'a, H: Files + AllocGlobal>(
     }
 }
 
-/// What the file has that the words name behind `--setup`; nothing where they name none.
+/// What the file has that the words name after `--setup`; nothing where they name none.
 pub fn setup_of<'a, H: Files + AllocGlobal>(
     rt: &H,
     words: &'a [String],

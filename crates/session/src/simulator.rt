@@ -24,14 +24,14 @@ use std::str;
 /// What the simulator is asked for.
 #[derive(Clone, Copy, Debug)]
 pub struct Asked<'a> {
-    /// The program's name, and the words behind it.
+    /// The program's name, and the words after it.
     pub words: &'a [String],
-    /// What the file has that they name behind `--setup`; nothing where they name none.
+    /// What the file has that they name after `--setup`; nothing where they name none.
     pub setup: &'a [u8],
 }
 
 /// Plays the script on the reader, one event a line, and writes its effects and answers. First the
-/// owner gives the commands of the file that the words name behind `--setup`. Gives the status to
+/// owner gives the commands of the file that the words name after `--setup`. Gives the status to
 /// exit with: 0; 1 for a line that isn't understood, a setup that isn't read or whose line is
 /// refused, or another fault; 2 where the words aren't understood or the owner is no name.
 pub fn simulate<H, R, W, E>(
@@ -46,7 +46,7 @@ where
     R: Read + Drop,
     W: Write,
     E: Write,
-    // Words that are understood have the whole script played behind what the setup's file has,
+    // Words that are understood have the whole script played after what the setup's file has,
     // unless the status tells of a fault.
     ensures { (groups : Groups) (name : Owner) (shows : Bool)
         → Asks (map string_bytes words.entry.now) groups name shows
@@ -66,7 +66,7 @@ where
     }
 }
 
-/// Plays a script as `simulate` does, behind the commands of a setup that has been read.
+/// Plays a script as `simulate` does, after the commands of a setup that has been read.
 pub fn simulate_behind<R: Read + Drop, W: Write, E: Write>(
     alloc: Global,
     asked: Asked,

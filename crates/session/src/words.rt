@@ -135,7 +135,7 @@ pub fn beginning_of<'a>(
     }
 }
 
-/// The file that the words name behind `--setup` or `--trail`, whose name is given: none where they
+/// The file that the words name after `--setup` or `--trail`, whose name is given: none where they
 /// aren't understood.
 pub fn path_of<'a>(
     alloc: Global,

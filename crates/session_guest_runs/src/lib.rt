@@ -25,7 +25,7 @@ pub fn calls_are_guarded()
 
 /// Of two sessions of one edition and owner, which stand for runs that differ only in output that
 /// is hidden from a user, he observed the same. (Each call of `Session::run` says for which run the
-/// session stands behind it.)
+/// session stands after it.)
 pub fn sessions_hide_output()
     ensures { SessionsHideOutput }
 {

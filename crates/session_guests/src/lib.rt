@@ -23,7 +23,7 @@ pub fn rights_are_gated()
 }
 
 /// Users none of whom has x on a command that changes rights can't change any, whatever they do
-/// and whatever others do beside such commands: at each later moment everyone may do what he might
+/// and whatever others do beside such commands: at each later moment everyone may do what they might
 /// on all that stood, and they have still no x on these commands.
 pub fn guests_are_contained()
     ensures { GuestsAreContained }
@@ -33,14 +33,14 @@ pub fn guests_are_contained()
     session_laws::keys_do_their_rows();
 }
 
-/// Behind an Open that isn't refused a known user has a bit on the new window exactly where he
-/// opened it or the opener's mask for him allows it.
+/// After an Open that isn't refused a known user has a bit on the new window exactly if they
+/// opened it or the opener's mask for them allows it.
 pub fn new_windows_are_masked()
     ensures { NewWindowsAreMasked }
 {}
 
 /// Who holds a window's write lock may write there, in each step and in every run; and who becomes
-/// its holder does so in a step of his own, where he had w or which opens the window.
+/// its holder does so in a step of their own, in which they had w or opened the window.
 pub fn locks_are_taken()
     ensures step { StepsKeepHolders }
     ensures run { RunsHaveHolders }

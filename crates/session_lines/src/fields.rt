@@ -10,7 +10,7 @@ use std::str;
 /// The most bytes of a text.
 const LONGEST_TEXT: usize = 8192;
 
-/// The bytes before the first blank, and those behind it.
+/// The bytes before the first blank, and those after it.
 pub fn cut(line: &[u8]) -> Option<(&[u8], &[u8])>
     ensures { MatchOption result
         ((more : ℕ) → fields (suc more) line.now ≡ line.now ∷ [])

@@ -27,7 +27,7 @@ pub fn read_event<'a>(line: &[u8], text: &'a mut Vec<u8>) -> Result<Option<Event
     read_fields(kind, rest, text)
 }
 
-/// The event of a kind whose fields stand behind its word.
+/// The event of a kind whose fields stand after its word.
 fn read_fields<'a>(
     kind: Kind,
     rest: &[u8],

@@ -83,7 +83,7 @@ pub enum Effect {
     Deliver(u32, Bytes),
     /// A message to a client.
     Say(u32, Bytes),
-    /// A window's program has so many lines and columns now.
+    /// A window's program has this many lines and columns from here on.
     Size(u32, u16, u16),
     /// A window is closed.
     GoneWindow(u32, Reason),

@@ -57,7 +57,7 @@ fn push_denied(on: Denied, out: &mut Vec<u8>) -> Result<(), AllocError>
     }
 }
 
-/// Appends a user and the bit that his entry lacks, as `bob -w`.
+/// Appends a user and the bit that their entry lacks, as `bob -w`.
 fn push_missing(user: UserId, bit: Bit, out: &mut Vec<u8>) -> Result<(), AllocError>
     ensures { OnOk result (out.new.items ≡ out.old.items ++ missing_text user bit) }
 {

@@ -2,7 +2,7 @@
 
 use acl::UserId;
 
-/// Who gives a command: a user; his client, by its serial, where keys give it; and the window that
+/// Who gives a command: a user; their client, by its serial, where keys give it; and the window that
 /// it would act on, by its serial.
 #[derive(Clone, Copy, PartialEq, Eq, Debug)]
 pub struct Caller {

@@ -3,7 +3,7 @@
 use acl::Act;
 use session_model::Effect;
 
-/// The acts and the effects that a step has made so far, in their order, perhaps behind those of
+/// The acts and the effects that a step has made so far, in their order, perhaps after those of
 /// steps before it.
 #[derive(Drop)]
 pub struct StepOutput {

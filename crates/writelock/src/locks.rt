@@ -143,7 +143,7 @@ impl Locks {
         self.windows.close(window);
     }
 
-    /// A user entered an open window; `may_write` tells truly whether he may write there.
+    /// A user entered an open window; `may_write` tells truly whether they may write there.
     pub fn entered(&mut self, user: UserId, window: u32, may_write: bool)
         ensures { (edition : Edition) (owner : UserId) (h : History) →
             LocksStandFor self.old edition owner h →
@@ -155,7 +155,7 @@ impl Locks {
         }
     }
 
-    /// A user left a window: no focused region of his shows it any more.
+    /// A user left a window: no focused region of theirs shows it any more.
     pub fn left(&mut self, user: UserId, window: u32)
         ensures { (edition : Edition) (owner : UserId) (h : History) →
             LocksStandFor self.old edition owner h →
