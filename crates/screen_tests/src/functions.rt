@@ -91,7 +91,7 @@ fn is_taken(parser: &mut Parser, unit: Unit, out: &mut Vec<u8>) -> bool {
     }
 }
 
-/// Whether the parser takes each unit that a byte ends.
+/// The same of all units that a byte ends.
 fn is_read(decoder: &mut Decoder, parser: &mut Parser, byte: u8, out: &mut Vec<u8>) -> bool {
     match decoder.push(byte) {
         Units::Nothing => true,

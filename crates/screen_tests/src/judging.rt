@@ -52,7 +52,7 @@ fn is_so(alloc: Global, row: &Row, cut: usize) -> bool {
         && answers.as_slice() == row.answer
 }
 
-/// Whether a row is so wherever its bytes are cut.
+/// The same at each place.
 pub fn is_so_at_each_cut(alloc: Global, row: &Row) -> bool {
     for cut in 0..=row.bytes.len() {
         if !is_so(alloc, row, cut) {

@@ -13,7 +13,7 @@ const SMALL: Size = (2, 5, 0);
 static ROWS: [Shown; 35] = [
     // starts blank
     ((3, 3, 0), 0, b"", "___|___|___|", (0, 0)),
-    // wraps after the last column
+    // wraps behind the last column
     (SMALL, 0, b"abcdef", "abcde|f____|", (1, 1)),
     // a function ends the pending wrap
     (SMALL, 0, b"abcde\x08X", "abcXe|_____|", (0, 4)),
@@ -65,7 +65,7 @@ static ROWS: [Shown; 35] = [
         "e\u{301}\u{302}____|_____|",
         (0, 1),
     ),
-    // a mark after a move is dropped
+    // a mark behind a move is dropped
     (SMALL, 0, b"e\x08a\r\xCC\x81", "a____|_____|", (0, 0)),
     // CAN ends a character
     (SMALL, 0, b"\xE6\xBC\x18\xA2", "\u{FFFD}____|_____|", (0, 1)),

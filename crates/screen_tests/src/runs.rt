@@ -21,7 +21,7 @@ fn counted(bytes: &[u8]) -> usize {
 }
 
 /// Whether each list of this length has the run that the loop counts: with a byte outside at each
-/// place, a second one after it, and without one.
+/// place, a second one behind it, and without one.
 fn are_counted(length: usize) -> bool {
     let mut bytes = [b'~'; LONGEST];
     let length = length.min(LONGEST);

@@ -184,7 +184,7 @@ static MODES: [Sets; 29] = [
 ];
 
 /// Reports of a page of 24 lines by 80 columns: the place is counted from the margins, the last
-/// place, 8-bit controls in UTF-8; the place after three tabs, and after one where no stop is left.
+/// place, 8-bit controls in UTF-8; the place behind three tabs, and behind one where no stop is left.
 static LARGE: [(&[u8], &[u8]); 5] = [
     (b"\x1B[2;4r\x1B[?6h\x1B[6n", b"\x1B[1;1R"),
     (b"\x1B[999;999H\x1B[6n", b"\x1B[24;80R"),
