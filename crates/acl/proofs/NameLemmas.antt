@@ -1,5 +1,6 @@
 -- Who is among the users that a list of names leaves known.
-use Rattle.std.proofs.Common.{◌≡◌, ◌∙◌, ap, sym, refl, Bool, true, false, ◌||◌, List, [], ◌∷◌, ◌++◌, Option, Some, None, if◌then◌else◌, ℕ, ◌+◌, ◌<◌, take, length, slice_index_or, add-one}
+use Rattle.std.proofs.Common.{◌≡◌, ◌∙◌, ap, sym, refl, Bool, true, false, ◌||◌, List, [], ◌∷◌, ◌++◌, Option, Some, None}
+use Rattle.std.proofs.Common.{if◌then◌else◌, ℕ, ◌+◌, ◌<◌, take, length, slice_index_or, add-one}
 use Rattle.std.proofs.Math.Seq.{take-suc}
 use Rattle.std.specs.List.{list_any}
 use Rattle.std.proofs.lemmas.List.Folds.{list_any-append}
@@ -18,7 +19,8 @@ or-assoc true b c = refl
 or-assoc false b c = refl
 
 -- one name more
-pub among-with_name : (users : List UserId) (name : Option UserId) (u : UserId) → among (with_name users name) u ≡ (among users u || names_user u name)
+pub among-with_name : (users : List UserId) (name : Option UserId) (u : UserId)
+    → among (with_name users name) u ≡ (among users u || names_user u name)
 among-with_name users None u = sym (or-false (among users u))
 among-with_name users (Some v) u = by (among users v) refl
   where
@@ -30,12 +32,14 @@ among-with_name users (Some v) u = by (among users v) refl
         with_true false = refl
     there false e k = sym (or-false (among users u))
 
-    by : (c : Bool) → among users v ≡ c → among (if c then users else users ++ v ∷ []) u ≡ (among users u || same_user u v)
+    by : (c : Bool) → among users v ≡ c
+        → among (if c then users else users ++ v ∷ []) u ≡ (among users u || same_user u v)
     by true k = there (same_user u v) refl k
     by false k = list_any-append (same_user u) users (v ∷ []) ∙ ap (λ c. among users u || c) (or-false (same_user u v))
 
 -- and a list of names more
-pub among-with_names : (users : List UserId) (names : List (Option UserId)) (u : UserId) → among (with_names users names) u ≡ (among users u || list_any (names_user u) names)
+pub among-with_names : (users : List UserId) (names : List (Option UserId)) (u : UserId)
+    → among (with_names users names) u ≡ (among users u || list_any (names_user u) names)
 among-with_names users [] u = sym (or-false (among users u))
 among-with_names users (name ∷ names) u =
     among-with_names (with_name users name) names u
@@ -43,11 +47,13 @@ among-with_names users (name ∷ names) u =
     ∙ or-assoc (among users u) (names_user u name) (list_any (names_user u) names)
 
 -- the last name comes last
-pub with_names-push : (users : List UserId) (names : List (Option UserId)) (name : Option UserId) → with_names users (names ++ name ∷ []) ≡ with_name (with_names users names) name
+pub with_names-push : (users : List UserId) (names : List (Option UserId)) (name : Option UserId)
+    → with_names users (names ++ name ∷ []) ≡ with_name (with_names users names) name
 with_names-push users [] name = refl
 with_names-push users (n ∷ names) name = with_names-push (with_name users n) names name
 
-pub with_names-next : (users : List UserId) (names : List (Option UserId)) (i : ℕ) → i < length names → with_names users (take (i + 1) names) ≡ with_name (with_names users (take i names)) (slice_index_or names i None)
+pub with_names-next : (users : List UserId) (names : List (Option UserId)) (i : ℕ) → i < length names
+    → with_names users (take (i + 1) names) ≡ with_name (with_names users (take i names)) (slice_index_or names i None)
 with_names-next users names i below =
     ap (with_names users) (ap (λ k. take k names) (add-one i) ∙ take-suc names i None below)
     ∙ with_names-push users (take i names) (slice_index_or names i None)

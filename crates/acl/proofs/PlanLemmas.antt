@@ -1,10 +1,12 @@
 -- Lists of acts that grow.
-use Rattle.std.proofs.Common.{◌≡◌, ◌∙◌, ◌+◌, ◌<◌, ℕ, Bool, true, false, drop, length, slice_index_or, count_by, if◌then◌else◌, ap, sym, refl, List, [], ◌∷◌, ◌++◌, append_assoc, Option, Some, None, Err}
+use Rattle.std.proofs.Common.{◌≡◌, ◌∙◌, ◌+◌, ◌<◌, ℕ, Bool, true, false, drop, length, slice_index_or, count_by}
+use Rattle.std.proofs.Common.{if◌then◌else◌, ap, sym, refl, List, [], ◌∷◌, ◌++◌, append_assoc, Option, Some, None, Err}
 use Rattle.std.specs.Option.{option_or}
 use Rattle.std.proofs.lemmas.List.Sums.{sum_by-cons}
 use Rattle.acl.proofs.InPlace.{drop-next}
 use Rattle.acl_words.specs.declared.faults.AclFault.{AclFault}
-use Rattle.acl_words.specs.declared.faults.AclFault.TheVariants.{UnknownUser, OwnerKept, TooManyUsers, ReservedName, NoSuchGroup, NoMemory, TooManyGroups}
+use Rattle.acl_words.specs.declared.faults.AclFault.TheVariants.{UnknownUser, OwnerKept, TooManyUsers, ReservedName}
+use Rattle.acl_words.specs.declared.faults.AclFault.TheVariants.{NoSuchGroup, NoMemory, TooManyGroups}
 use Rattle.acl_words.specs.declared.act.Act.{Act}
 use Rattle.acl_words.specs.declared.user_id.UserId.{UserId}
 use Rattle.acl_words.specs.declared.bits.BitChange.{BitChange}
@@ -30,7 +32,8 @@ pub keeps-on : (xs ys zs : List Act) → Keeps xs ys → Keeps ys zs → Keeps x
 keeps-on xs ys zs k l = (k.0 ++ l.0, l.1 ∙ ap (λ ws. ws ++ l.0) k.1 ∙ append_assoc xs k.0 l.0)
 
 -- an error that answers the first fault answers the first of the two
-pub answers-first : (X Y : Type 0) (e : AclFault) (f g : Option AclFault) → Answers {X = X} (Err e) f → Answers {X = Y} (Err e) (option_or f g)
+pub answers-first : (X Y : Type 0) (e : AclFault) (f g : Option AclFault) → Answers {X = X} (Err e) f
+    → Answers {X = Y} (Err e) (option_or f g)
 answers-first X Y UnknownUser f g a = ap (λ o. option_or o g) a
 answers-first X Y OwnerKept f g a = ap (λ o. option_or o g) a
 answers-first X Y TooManyUsers f g a = ap (λ o. option_or o g) a
@@ -44,7 +47,8 @@ pub option_or-none : (f g : Option AclFault) → f ≡ None → option_or f g �
 option_or-none f g e = ap (λ o. option_or o g) e
 
 -- an error is an error whatever else is answered
-pub answers-other : (X Y : Type 0) (e : AclFault) (f : Option AclFault) → Answers {X = X} (Err e) f → Answers {X = Y} (Err e) f
+pub answers-other : (X Y : Type 0) (e : AclFault) (f : Option AclFault) → Answers {X = X} (Err e) f
+    → Answers {X = Y} (Err e) f
 answers-other X Y UnknownUser f a = a
 answers-other X Y OwnerKept f a = a
 answers-other X Y TooManyUsers f a = a
@@ -54,11 +58,14 @@ answers-other X Y TooManyGroups f a = a
 answers-other X Y NoMemory f a = tt
 
 -- how many are counted from i on
-pub counted : (p : Act → Bool) (xs : List Act) (i : ℕ) (d : Act) → i < length xs → count_by p (drop i xs) ≡ (if p (slice_index_or xs i d) then 1 else 0) + count_by p (drop (i + 1) xs)
-counted p xs i d below = ap (count_by p) (sym (drop-next xs i d below)) ∙ sum_by-cons (λ y. if p y then 1 else 0) (slice_index_or xs i d) (drop (i + 1) xs)
+pub counted : (p : Act → Bool) (xs : List Act) (i : ℕ) (d : Act) → i < length xs
+    → count_by p (drop i xs) ≡ (if p (slice_index_or xs i d) then 1 else 0) + count_by p (drop (i + 1) xs)
+counted p xs i d below = ap (count_by p) (sym (drop-next xs i d below))
+    ∙ sum_by-cons (λ y. if p y then 1 else 0) (slice_index_or xs i d) (drop (i + 1) xs)
 
 -- a name becomes known where it isn't, and then come its sets
-pub name_acts-parts : (users : List UserId) (name : Option UserId) (changes : List BitChange) (objects : List Object) → name_acts users name changes objects ≡ new_acts users name ++ name_sets changes objects name
+pub name_acts-parts : (users : List UserId) (name : Option UserId) (changes : List BitChange) (objects : List Object)
+    → name_acts users name changes objects ≡ new_acts users name ++ name_sets changes objects name
 name_acts-parts users None changes objects = refl
 name_acts-parts users (Some u) changes objects = by (among users u)
   where

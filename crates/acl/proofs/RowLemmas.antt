@@ -1,5 +1,8 @@
 -- A right that is set in a row, and look-ups in rows and masks that change.
-use Rattle.std.proofs.Common.{◌≡◌, ◌≢◌, ◌∙◌, ℕ, ◌<◌, Bool, true, false, not, ◌==◌, ◌&&◌, ◌||◌, cond, ap, sym, refl, arith, List, [], ◌∷◌, Option, Some, None, is_some, filter, map, if◌then◌else◌, slice_index_or, slice_set, replicate, true≢false, length, get_or-set_same, get_or-set_other, eq-eqb, lit<}
+use Rattle.std.proofs.Common.{◌≡◌, ◌≢◌, ◌∙◌, ℕ, ◌<◌, Bool, true, false, not, ◌==◌, ◌&&◌, ◌||◌, cond, ap, sym, refl}
+use Rattle.std.proofs.Common.{arith, List, [], ◌∷◌, Option, Some, None, is_some, filter, map, if◌then◌else◌}
+use Rattle.std.proofs.Common.{slice_index_or, slice_set, replicate, true≢false, length, get_or-set_same}
+use Rattle.std.proofs.Common.{get_or-set_other, eq-eqb, lit<}
 use Rattle.std.proofs.lemmas.List.{get_or-replicate}
 use Rattle.std.specs.Option.{option_map_or, option_map}
 use Rattle.std.specs.Map.{lookup}
@@ -50,7 +53,8 @@ index_of_command-lt command.Acladd = lit< tt
 index_of_command-lt c = lit< tt
 
 set_bit : (bit b : Bit) (value : Bool) (xs : List Bits) (i j : ℕ) → i < length xs
-    → allows b (slice_index_or (slice_set xs i (with_bit bit value (slice_index_or xs i no_bits))) j no_bits) ≡ (if same_bit bit b && i == j then value else allows b (slice_index_or xs j no_bits))
+    → allows b (slice_index_or (slice_set xs i (with_bit bit value (slice_index_or xs i no_bits))) j no_bits) ≡
+    (if same_bit bit b && i == j then value else allows b (slice_index_or xs j no_bits))
 set_bit bit b value xs i j below = by (i == j) refl
   where
     set_to : Bits → Bool
@@ -60,9 +64,13 @@ set_bit bit b value xs i j below = by (i == j) refl
     chosen true x = refl
     chosen false x = refl
 
-    by : (c : Bool) → (i == j) ≡ c → allows b (slice_index_or (slice_set xs i (with_bit bit value (slice_index_or xs i no_bits))) j no_bits) ≡ (if same_bit bit b && c then value else allows b (slice_index_or xs j no_bits))
+    by : (c : Bool) → (i == j) ≡ c
+        → allows b (slice_index_or (slice_set xs i (with_bit bit value (slice_index_or xs i no_bits))) j no_bits) ≡
+        (if same_bit bit b && c then value else allows b (slice_index_or xs j no_bits))
     by true e =
-        ap (λ k. allows b (slice_index_or (slice_set xs i (with_bit bit value (slice_index_or xs i no_bits))) k no_bits)) (sym (eqb-true i j e))
+        ap (λ k. allows b
+        (slice_index_or (slice_set xs i (with_bit bit value (slice_index_or xs i no_bits))) k no_bits))
+        (sym (eqb-true i j e))
         ∙ ap (allows b) (get_or-set_same xs i (with_bit bit value (slice_index_or xs i no_bits)) no_bits below)
         ∙ allows-with_bit bit b value (slice_index_or xs i no_bits)
         ∙ ap (λ k. if same_bit bit b then value else allows b (slice_index_or xs k no_bits)) (eqb-true i j e)
@@ -74,13 +82,23 @@ set_bit bit b value xs i j below = by (i == j) refl
 
 module _ (t : Table) (bit : Bit) (value : Bool) (row : Row) where
   -- what a set right says of each place
-  pub allows-with_right : (object : Object) (b : Bit) (place : Object) → length row.commands ≡ COUNT → length row.windows ≡ length t.windows → is_there t object ≡ true
-      → allows b (bits_on t.windows place (with_right t.windows object bit value row)) ≡ (if same_bit bit b && same_object object place then value else allows b (bits_on t.windows place row))
-  allows-with_right (Command c) b (Command d) lc lw there = set_bit bit b value row.commands (index_of_command c) (index_of_command d) (omega (arith, lc, index_of_command-lt c))
-  allows-with_right (Command c) b (Window w) lc lw there = skipped-and (same_bit bit b) value (allows b (bits_on t.windows (Window w) row))
-  allows-with_right (Window w) b (Command d) lc lw there = by (slot_of t.windows w) ∙ skipped-and (same_bit bit b) value (allows b (bits_on t.windows (Command d) row))
+  pub allows-with_right : (object : Object) (b : Bit) (place : Object) → length row.commands ≡ COUNT
+      → length row.windows ≡ length t.windows → is_there t object ≡ true
+      → allows b (bits_on t.windows place (with_right t.windows object bit value row)) ≡
+      (if same_bit bit b && same_object object place then value else allows b (bits_on t.windows place row))
+  allows-with_right (Command c) b (Command d) lc lw there = set_bit bit b value row.commands (index_of_command c)
+      (index_of_command d) (omega (arith, lc, index_of_command-lt c))
+  allows-with_right (Command c) b (Window w) lc lw there = skipped-and (same_bit bit b) value
+      (allows b (bits_on t.windows (Window w) row))
+  allows-with_right (Window w) b (Command d) lc lw there = by (slot_of t.windows w)
+      ∙ skipped-and (same_bit bit b) value (allows b (bits_on t.windows (Command d) row))
     where
-      by : (o : Option ℕ) → allows b (slice_index_or (option_map_or (λ slot. with_window slot (with_bit bit value (slice_index_or row.windows slot no_bits)) row) o row).commands (index_of_command d) no_bits) ≡ allows b (slice_index_or row.commands (index_of_command d) no_bits)
+      by : (o : Option ℕ)
+          → allows b
+          (slice_index_or
+          (option_map_or (λ slot. with_window slot (with_bit bit value (slice_index_or row.windows slot no_bits)) row) o
+          row).commands (index_of_command d) no_bits) ≡ allows b
+          (slice_index_or row.commands (index_of_command d) no_bits)
       by None = refl
       by (Some s) = refl
   allows-with_right (Window w) b (Window v) lc lw there = by (slot_of t.windows w) (slot_of t.windows v) refl refl there
@@ -99,27 +117,39 @@ module _ (t : Table) (bit : Bit) (value : Bool) (row : Row) where
           (λ h. absurd (true≢false (sym h)))
 
       by : (o p : Option ℕ) → slot_of t.windows w ≡ o → slot_of t.windows v ≡ p → is_some o ≡ true
-          → at_slot p (option_map_or (λ slot. with_window slot (with_bit bit value (slice_index_or row.windows slot no_bits)) row) o row) ≡ (if same_bit bit b && w == v then value else at_slot p row)
+          → at_slot p
+          (option_map_or
+          (λ slot. with_window slot (with_bit bit value (slice_index_or row.windows slot no_bits)) row) o row) ≡
+          (if same_bit bit b && w == v then value else at_slot p row)
       by None p e f h = absurd (true≢false (sym h))
       by (Some s) None e f h =
-          skipped-and (same_bit bit b) value (allows b no_bits) ∙ ap (λ c. if same_bit bit b && c then value else allows b no_bits) (sym (other s e f))
+          skipped-and (same_bit bit b) value (allows b no_bits)
+          ∙ ap (λ c. if same_bit bit b && c then value else allows b no_bits) (sym (other s e f))
       by (Some s) (Some k) e f h =
           set_bit bit b value row.windows s k (omega (arith, lw, (found (is_window w) s t.windows e).0))
-          ∙ ap (λ c. if same_bit bit b && c then value else allows b (slice_index_or row.windows k no_bits)) (same_test s k e f)
+          ∙ ap (λ c. if same_bit bit b && c then value else allows b (slice_index_or row.windows k no_bits))
+          (same_test s k e f)
 
 -- a look-up among entries whose values change with their keys
-pub lookup-revalued : (g : UserId → Row → Row) (q : UserId) (es : List (UserId × Row)) → lookup (same_user q) (map (λ e. (e.0, g e.0 e.1)) es) ≡ option_map (g q) (lookup (same_user q) es)
+pub lookup-revalued : (g : UserId → Row → Row) (q : UserId) (es : List (UserId × Row))
+    → lookup (same_user q) (map (λ e. (e.0, g e.0 e.1)) es) ≡ option_map (g q) (lookup (same_user q) es)
 lookup-revalued g q [] = refl
 lookup-revalued g q (e ∷ es) = by (same_user q e.0) refl (lookup-revalued g q es)
   where
-    by : (c : Bool) → same_user q e.0 ≡ c → lookup (same_user q) (map (λ e. (e.0, g e.0 e.1)) es) ≡ option_map (g q) (lookup (same_user q) es) → cond c (Some (g e.0 e.1)) (lookup (same_user q) (map (λ e. (e.0, g e.0 e.1)) es)) ≡ option_map (g q) (cond c (Some e.1) (lookup (same_user q) es))
+    by : (c : Bool) → same_user q e.0 ≡ c
+        → lookup (same_user q) (map (λ e. (e.0, g e.0 e.1)) es) ≡ option_map (g q) (lookup (same_user q) es)
+        → cond c (Some (g e.0 e.1)) (lookup (same_user q) (map (λ e. (e.0, g e.0 e.1)) es)) ≡ option_map (g q)
+        (cond c (Some e.1) (lookup (same_user q) es))
     by true p rest = ap (λ k. Some (g k e.1)) (sym (same_user-true q e.0 p))
     by false p rest = rest
 
 -- a look-up among masks, once a user's are gone
-pub lookup-without_user : (u : UserId) (p : UserId × UserId) (ms : List ((UserId × UserId) × Bits)) → lookup (same_pair p) (filter (λ e. not (same_user u e.0.0 || same_user u e.0.1)) ms) ≡ (if same_user u p.0 || same_user u p.1 then None else lookup (same_pair p) ms)
+pub lookup-without_user : (u : UserId) (p : UserId × UserId) (ms : List ((UserId × UserId) × Bits))
+    → lookup (same_pair p) (filter (λ e. not (same_user u e.0.0 || same_user u e.0.1)) ms) ≡
+    (if same_user u p.0 || same_user u p.1 then None else lookup (same_pair p) ms)
 lookup-without_user u p ms =
-    lookup-filter-keys (same_pair p) (λ k. not (same_user u k.0 || same_user u k.1)) (not (same_user u p.0 || same_user u p.1)) same ms
+    lookup-filter-keys (same_pair p) (λ k. not (same_user u k.0 || same_user u k.1))
+    (not (same_user u p.0 || same_user u p.1)) same ms
     ∙ by (same_user u p.0 || same_user u p.1)
   where
     first : (c d : Bool) → (c && d) ≡ true → c ≡ true
@@ -130,7 +160,8 @@ lookup-without_user u p ms =
     second true d h = h
     second false d h = absurd (true≢false (sym h))
 
-    same : (k : UserId × UserId) → same_pair p k ≡ true → not (same_user u k.0 || same_user u k.1) ≡ not (same_user u p.0 || same_user u p.1)
+    same : (k : UserId × UserId) → same_pair p k ≡ true
+        → not (same_user u k.0 || same_user u k.1) ≡ not (same_user u p.0 || same_user u p.1)
     same k h =
         let e = sym (same_user-true p.0 k.0 (first (same_user p.0 k.0) (same_user p.1 k.1) h)) in
         let f = sym (same_user-true p.1 k.1 (second (same_user p.0 k.0) (same_user p.1 k.1) h)) in
@@ -140,27 +171,48 @@ lookup-without_user u p ms =
     by true = refl
     by false = refl
 
-pub leaders-with_right : (ws : List (Option ℕ)) (object : Object) (bit : Bit) (value : Bool) (row : Row) → (with_right ws object bit value row).leaders ≡ row.leaders
+pub leaders-with_right : (ws : List (Option ℕ)) (object : Object) (bit : Bit) (value : Bool) (row : Row)
+    → (with_right ws object bit value row).leaders ≡ row.leaders
 leaders-with_right ws (Command c) bit value row = refl
 leaders-with_right ws (Window w) bit value row = by (slot_of ws w)
   where
-    by : (o : Option ℕ) → (option_map_or (λ slot. with_window slot (with_bit bit value (slice_index_or row.windows slot no_bits)) row) o row).leaders ≡ row.leaders
+    by : (o : Option ℕ)
+        →
+        (option_map_or (λ slot. with_window slot (with_bit bit value (slice_index_or row.windows slot no_bits)) row) o
+        row).leaders ≡ row.leaders
     by None = refl
     by (Some s) = refl
 
 -- a new row has the presets
-pub bits_on-new_row : (t : Table) → length t.windows ≡ 40 → (object : Object) → is_there t object ≡ true → bits_on t.windows object (new_row t.command_preset t.window_preset) ≡ (elim object [ Window w ↦ t.window_preset | Command c ↦ t.command_preset ])
-bits_on-new_row t long (Command c) there = get_or-replicate COUNT (index_of_command c) t.command_preset no_bits (index_of_command-lt c)
+pub bits_on-new_row : (t : Table) → length t.windows ≡ 40 → (object : Object) → is_there t object ≡ true
+    → bits_on t.windows object (new_row t.command_preset t.window_preset) ≡
+    (elim object [ Window w ↦ t.window_preset | Command c ↦ t.command_preset ])
+bits_on-new_row t long (Command c) there = get_or-replicate COUNT (index_of_command c) t.command_preset no_bits
+    (index_of_command-lt c)
 bits_on-new_row t long (Window w) there = by (slot_of t.windows w) refl there
   where
-    by : (o : Option ℕ) → slot_of t.windows w ≡ o → is_some o ≡ true → option_map_or (λ slot. slice_index_or (new_row t.command_preset t.window_preset).windows slot no_bits) o no_bits ≡ t.window_preset
+    by : (o : Option ℕ) → slot_of t.windows w ≡ o → is_some o ≡ true
+        → option_map_or (λ slot. slice_index_or (new_row t.command_preset t.window_preset).windows slot no_bits) o
+        no_bits ≡ t.window_preset
     by None e h = absurd (true≢false (sym h))
-    by (Some s) e h = get_or-replicate 40 s t.window_preset no_bits (omega (arith, long, (found (is_window w) s t.windows e).0))
+    by (Some s) e h = get_or-replicate 40 s t.window_preset no_bits
+        (omega (arith, long, (found (is_window w) s t.windows e).0))
 
 -- the lists of a new session stand for the empty history
-pub StandsFor-new : (edition : Edition) (owner : UserId) (es : List (UserId × Row)) → ((q : UserId) → lookup (same_user q) es ≡ (if same_user owner q then Some (new_row no_bits no_bits) else None))
+pub StandsFor-new : (edition : Edition) (owner : UserId) (es : List (UserId × Row))
+    → ((q : UserId) → lookup (same_user q) es ≡ (if same_user owner q then Some (new_row no_bits no_bits) else None))
     → keys_of es ≡ owner ∷ []
-    → StandsFor (record { edition = edition; owner = owner; rows = es; masks = []; windows = replicate 40 None; window_preset = all_bits; command_preset = all_bits }) edition owner []
+    → StandsFor
+    (record {
+      edition = edition;
+      owner = owner;
+      rows = es;
+      masks = [];
+      windows = replicate 40 None;
+      window_preset =
+          all_bits;
+      command_preset = all_bits;
+    }) edition owner []
 StandsFor-new edition owner es rows keys = record {
   edition_is = refl;
   owned = refl;
@@ -178,43 +230,77 @@ StandsFor-new edition owner es rows keys = record {
     known_now true = refl
     known_now false = refl
 
-    led_now : (c : Bool) → option_map_or (λ (r : Row). r.leaders) (if c then Some (new_row no_bits no_bits) else None) [] ≡ []
+    led_now : (c : Bool)
+        → option_map_or (λ (r : Row). r.leaders) (if c then Some (new_row no_bits no_bits) else None) [] ≡ []
     led_now true = refl
     led_now false = refl
 
-    command_now : (bit : Bit) (c : CommandName) (b : Bool) → option_map_or (λ (r : Row). allows bit (slice_index_or r.commands (index_of_command c) no_bits)) (if b then Some (new_row no_bits no_bits) else None) false ≡ false
-    command_now bit c true = ap (allows bit) (get_or-replicate COUNT (index_of_command c) no_bits no_bits (index_of_command-lt c)) ∙ allows-no_bits bit
+    command_now : (bit : Bit) (c : CommandName) (b : Bool)
+        → option_map_or (λ (r : Row). allows bit (slice_index_or r.commands (index_of_command c) no_bits))
+        (if b then Some (new_row no_bits no_bits) else None) false ≡ false
+    command_now bit c true = ap (allows bit)
+        (get_or-replicate COUNT (index_of_command c) no_bits no_bits (index_of_command-lt c)) ∙ allows-no_bits bit
     command_now bit c false = refl
 
-    rights_now : (q : UserId) (bit : Bit) (object : Object) → is_there (record { edition = edition; owner = owner; rows = es; masks = []; windows = replicate 40 None; window_preset = all_bits; command_preset = all_bits }) object ≡ true
-        → granted (record { edition = edition; owner = owner; rows = es; masks = []; windows = replicate 40 None; window_preset = all_bits; command_preset = all_bits }) q bit object ≡ false
+    rights_now : (q : UserId) (bit : Bit) (object : Object)
+        → is_there
+        (record {
+          edition = edition;
+          owner = owner;
+          rows = es;
+          masks = [];
+          windows = replicate 40 None;
+          window_preset =
+              all_bits;
+          command_preset = all_bits;
+        }) object ≡ true
+        → granted
+        (record {
+          edition = edition;
+          owner = owner;
+          rows = es;
+          masks = [];
+          windows = replicate 40 None;
+          window_preset =
+              all_bits;
+          command_preset = all_bits;
+        }) q bit object ≡ false
     rights_now q bit (Window w) there = absurd (true≢false (sym there))
-    rights_now q bit (Command c) there = ap (λ o. option_map_or (λ (r : Row). allows bit (slice_index_or r.commands (index_of_command c) no_bits)) o false) (rows q) ∙ command_now bit c (same_user owner q)
+    rights_now q bit (Command c) there = ap
+        (λ o. option_map_or (λ (r : Row). allows bit (slice_index_or r.commands (index_of_command c) no_bits)) o false)
+        (rows q) ∙ command_now bit c (same_user owner q)
 
-    presets_now : (kind : PresetKind) (bit : Bit) → allows bit (elim kind [ preset.Windows ↦ all_bits | preset.Commands ↦ all_bits ]) ≡ true
+    presets_now : (kind : PresetKind) (bit : Bit)
+        → allows bit (elim kind [ preset.Windows ↦ all_bits | preset.Commands ↦ all_bits ]) ≡ true
     presets_now preset.Windows bit = allows-all_bits bit
     presets_now preset.Commands bit = allows-all_bits bit
 
 -- the keys, with one more at the end
-pub keys_of-push : {K X : Type 0} (es : List (K × X)) (k : K) (x : X) → keys_of (es ++ (k, x) ∷ []) ≡ keys_of es ++ k ∷ []
+pub keys_of-push : {K X : Type 0} (es : List (K × X)) (k : K) (x : X)
+    → keys_of (es ++ (k, x) ∷ []) ≡ keys_of es ++ k ∷ []
 keys_of-push [] k x = refl
 keys_of-push (e ∷ es) k x = ap (λ ks. e.0 ∷ ks) (keys_of-push es k x)
 
 -- a change of the values leaves the keys
-pub keys_of-revalued : (g : UserId → Row → Row) (es : List (UserId × Row)) → keys_of (map (λ e. (e.0, g e.0 e.1)) es) ≡ keys_of es
+pub keys_of-revalued : (g : UserId → Row → Row) (es : List (UserId × Row))
+    → keys_of (map (λ e. (e.0, g e.0 e.1)) es) ≡ keys_of es
 keys_of-revalued g [] = refl
 keys_of-revalued g (e ∷ es) = ap (λ ks. e.0 ∷ ks) (keys_of-revalued g es)
 
 -- the keys without one are the users without one
 pub remove_key-user : (u : UserId) (users : List UserId) → remove_key (same_user u) users ≡ without_user u users
 remove_key-user u [] = refl
-remove_key-user u (v ∷ users) = elim (same_user u v) as (λ c. cond c users (v ∷ remove_key (same_user u) users) ≡ (if c then users else v ∷ without_user u users)) [ true ↦ refl | false ↦ ap (λ us. v ∷ us) (remove_key-user u users) ]
+remove_key-user u (v ∷ users) = elim (same_user u v) as
+    (λ c. cond c users (v ∷ remove_key (same_user u) users) ≡ (if c then users else v ∷ without_user u users))
+    [ true ↦ refl | false ↦ ap (λ us. v ∷ us) (remove_key-user u users) ]
 
 -- what a look-up finds is among the keys
-pub is_some-lookup : {K X : Type 0} (test : K → Bool) (es : List (K × X)) → is_some (lookup test es) ≡ list_any test (keys_of es)
+pub is_some-lookup : {K X : Type 0} (test : K → Bool) (es : List (K × X))
+    → is_some (lookup test es) ≡ list_any test (keys_of es)
 is_some-lookup test [] = refl
 is_some-lookup test (e ∷ es) = by (test e.0) (is_some-lookup test es)
   where
-    by : (c : Bool) → is_some (lookup test es) ≡ list_any test (keys_of es) → is_some (cond c (Some e.1) (lookup test es)) ≡ (c || list_any test (keys_of es))
+    by : (c : Bool) → is_some (lookup test es) ≡ list_any test (keys_of es)
+        → is_some (cond c (Some e.1) (lookup test es)) ≡ (c || list_any test (keys_of es))
     by true rest = refl
     by false rest = rest

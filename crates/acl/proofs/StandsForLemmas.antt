@@ -1,13 +1,17 @@
 -- Each act, done to the table, gives the history with that act in front.
-use Rattle.std.proofs.Common.{◌≡◌, ◌≢◌, ◌∙◌, ℕ, ◌<◌, Bool, true, false, not, ◌==◌, ◌&&◌, ◌||◌, ap, sym, refl, List, [], ◌∷◌, Option, Some, None, is_some, unwrap_or, filter, if◌then◌else◌, slice_index_or, true≢false, length, get_or-set_same, get_or-set_other, ◌++◌}
+use Rattle.std.proofs.Common.{◌≡◌, ◌≢◌, ◌∙◌, ℕ, ◌<◌, Bool, true, false, not, ◌==◌, ◌&&◌, ◌||◌, ap, sym, refl, List, []}
+use Rattle.std.proofs.Common.{◌∷◌, Option, Some, None, is_some, unwrap_or, filter, if◌then◌else◌, slice_index_or}
+use Rattle.std.proofs.Common.{true≢false, length, get_or-set_same, get_or-set_other, ◌++◌}
 use Rattle.std.specs.Option.{option_map_or, option_map}
 use Rattle.std.specs.List.{list_any}
 use Rattle.std.specs.Map.{lookup, keys_of}
 use Rattle.acl_words.specs.Same.{same_user, same_bit, same_object, same_preset}
 use Rattle.acl_words.specs.BitSets.{allows, with_bit, all_bits, no_bits}
 use Rattle.acl_words.specs.Slots.{slot_of, SlotsStandFor}
-use Rattle.acl.specs.History.{History, without_user, open_count, there, decided, is_known, is_open, mask, preset_of, has, leaders_of, leaders_with, greeting, opening, may}
-use Rattle.acl.specs.Table.{Table, StandsFor, row_of, users_in, knows, bits_on, granted, same_pair, preset_bits, is_there, without_leader, opening_bits, mask_bits, with_window, lets}
+use Rattle.acl.specs.History.{History, without_user, open_count, there, decided, is_known, is_open, mask, preset_of}
+use Rattle.acl.specs.History.{has, leaders_of, leaders_with, greeting, opening, may}
+use Rattle.acl.specs.Table.{Table, StandsFor, row_of, users_in, knows, bits_on, granted, same_pair, preset_bits}
+use Rattle.acl.specs.Table.{is_there, without_leader, opening_bits, mask_bits, with_window, lets}
 pub use Rattle.acl_words.proofs.SameLemmas.{same_user-true, same_user-refl}
 use Rattle.acl_words.proofs.BitSetLemmas.{allows-with_bit, allows-all_bits}
 use Rattle.acl_words.specs.declared.edition.Edition.{Edition}
@@ -22,12 +26,15 @@ use Rattle.acl_words.specs.declared.act.Act.TheVariants.{Known, Gone, Set, Group
 use Rattle.acl.specs.declared.rows.Row.{Row}
 
 -- what is read of a choice, where an act decides
-step : {X Y : Type 0} (f : X → Y) (c : Bool) (x y : X) (g : Option Y) (r : Y) → (c ≡ true → f x ≡ unwrap_or g r) → f y ≡ r → f (if c then x else y) ≡ unwrap_or (if c then g else None) r
+step : {X Y : Type 0} (f : X → Y) (c : Bool) (x y : X) (g : Option Y) (r : Y) → (c ≡ true → f x ≡ unwrap_or g r)
+    → f y ≡ r → f (if c then x else y) ≡ unwrap_or (if c then g else None) r
 step f true x y g r taken left = taken refl
 step f false x y g r taken left = left
 
 -- the same, where the act decides of some parts only
-step_of : {X Y : Type 0} (f : X → Y) (c d e : Bool) (x y : X) (v r : Y) → (c ≡ true → f x ≡ unwrap_or (decided (d && e) v) r) → f y ≡ r → f (if c then x else y) ≡ unwrap_or (decided (c && d && e) v) r
+step_of : {X Y : Type 0} (f : X → Y) (c d e : Bool) (x y : X) (v r : Y)
+    → (c ≡ true → f x ≡ unwrap_or (decided (d && e) v) r) → f y ≡ r
+    → f (if c then x else y) ≡ unwrap_or (decided (c && d && e) v) r
 step_of f true d e x y v r taken left = taken refl
 step_of f false d e x y v r taken left = left
 
@@ -40,7 +47,8 @@ or-false true = refl
 or-false false = refl
 
 -- who is known, where an act decides it
-known_step : (c d : Bool) (v r : Bool) (x y : Option Row) → (c ≡ true → is_some x ≡ (d || v)) → is_some y ≡ (d || r) → is_some (if c then x else y) ≡ (d || unwrap_or (decided c v) r)
+known_step : (c d : Bool) (v r : Bool) (x y : Option Row) → (c ≡ true → is_some x ≡ (d || v)) → is_some y ≡ (d || r)
+    → is_some (if c then x else y) ≡ (d || unwrap_or (decided c v) r)
 known_step true d v r x y taken left = taken refl
 known_step false d v r x y taken left = left
 
@@ -56,199 +64,262 @@ leaders_at row = option_map_or (λ r. r.leaders) row []
 abbrev mask_at : Bit → Option Bits → Bool
 mask_at bit set = option_map_or (allows bit) set true
 
-module _ (t : Table) (edition : Edition) (owner : UserId) (h : History) (s : StandsFor t edition owner h) (u : UserId) where
-  -- a user becomes known: his row is new, and no mask names him
-  pub StandsFor-Known : (es : List (UserId × Row)) (ms : List ((UserId × UserId) × Bits)) (row : Row)
-      → keys_of es ≡ users_in t ++ u ∷ []
-      → ((q : UserId) → lookup (same_user q) es ≡ (if same_user u q then Some row else row_of t q))
-      → ((p : UserId × UserId) → lookup (same_pair p) ms ≡ (if same_user u p.0 || same_user u p.1 then None else lookup (same_pair p) t.masks))
-      → row.leaders ≡ []
-      → ((object : Object) → is_there t object ≡ true → bits_on t.windows object row ≡ (elim object [ Window w ↦ t.window_preset | Command c ↦ t.command_preset ]))
-      → row_of t u ≡ None
-      → StandsFor (record t { rows = es; masks = ms }) edition owner (Known u ∷ h)
-  StandsFor-Known es ms row keys rows masks alone bits absent = record {
-    edition_is = s.edition_is;
-    owned = s.owned;
-    users = keys ∙ ap (λ users. users ++ u ∷ []) s.users;
-    known = λ q. ap is_some (rows q) ∙ known_step (same_user u q) (same_user owner q) true _ (Some row) (row_of t q) (λ _. sym (or-true (same_user owner q))) (s.known q);
-    slots = s.slots;
-    rights = λ q bit object there. ap (at_row t.windows bit object) (rows q)
-        ∙ step (at_row t.windows bit object) (same_user u q) (Some row) (row_of t q) (greeting h bit object) (has owner h q bit object)
-        (λ _. ap (allows bit) (bits object there) ∙ greeted bit object q there) (s.rights q bit object there);
-    strangers = λ q bit object none. stranger bit object q (same_user u q) refl (sym (ap is_some (rows q)) ∙ none);
-    led = λ q. ap leaders_at (rows q) ∙ led_same q (same_user u q) refl;
-    masks = λ by q bit. ap (mask_at bit) (masks (by, q)) ∙ step (mask_at bit) (same_user u by || same_user u q) None (lookup (same_pair (by, q)) t.masks) (Some true) (mask h by q bit) (λ _. refl) (s.masks by q bit);
-    presets = s.presets;
-  }
-    where
-      greeted : (bit : Bit) (object : Object) (q : UserId) → is_there t object ≡ true → allows bit (elim object [ Window w ↦ t.window_preset | Command c ↦ t.command_preset ]) ≡ unwrap_or (greeting h bit object) (has owner h q bit object)
-      greeted bit (Window w) q there = s.presets preset.Windows bit ∙ ap (λ c. unwrap_or (decided c (preset_of h preset.Windows bit)) (has owner h q bit (Window w))) (sym there ∙ s.slots.shown w)
-      greeted bit (Command c) q there = s.presets preset.Commands bit
+module _ (t : Table) (edition : Edition) (owner : UserId) (h : History) (s : StandsFor t edition owner h) (u : UserId)
+  where
+    -- a user becomes known: his row is new, and no mask names him
+    pub StandsFor-Known : (es : List (UserId × Row)) (ms : List ((UserId × UserId) × Bits)) (row : Row)
+        → keys_of es ≡ users_in t ++ u ∷ []
+        → ((q : UserId) → lookup (same_user q) es ≡ (if same_user u q then Some row else row_of t q))
+        → ((p : UserId × UserId)
+        → lookup (same_pair p) ms ≡
+        (if same_user u p.0 || same_user u p.1 then None else lookup (same_pair p) t.masks))
+        → row.leaders ≡ []
+        → ((object : Object) → is_there t object ≡ true
+        → bits_on t.windows object row ≡ (elim object [ Window w ↦ t.window_preset | Command c ↦ t.command_preset ]))
+        → row_of t u ≡ None
+        → StandsFor (record t { rows = es; masks = ms }) edition owner (Known u ∷ h)
+    StandsFor-Known es ms row keys rows masks alone bits absent = record {
+      edition_is = s.edition_is;
+      owned = s.owned;
+      users = keys ∙ ap (λ users. users ++ u ∷ []) s.users;
+      known = λ q. ap is_some (rows q)
+          ∙ known_step (same_user u q) (same_user owner q) true _ (Some row) (row_of t q)
+          (λ _. sym (or-true (same_user owner q))) (s.known q);
+      slots = s.slots;
+      rights = λ q bit object there. ap (at_row t.windows bit object) (rows q)
+          ∙ step (at_row t.windows bit object) (same_user u q) (Some row) (row_of t q) (greeting h bit object)
+          (has owner h q bit object)
+          (λ _. ap (allows bit) (bits object there) ∙ greeted bit object q there) (s.rights q bit object there);
+      strangers = λ q bit object none. stranger bit object q (same_user u q) refl (sym (ap is_some (rows q)) ∙ none);
+      led = λ q. ap leaders_at (rows q) ∙ led_same q (same_user u q) refl;
+      masks = λ by q bit. ap (mask_at bit) (masks (by, q))
+          ∙ step (mask_at bit) (same_user u by || same_user u q) None (lookup (same_pair (by, q)) t.masks) (Some true)
+          (mask h by q bit) (λ _. refl) (s.masks by q bit);
+      presets = s.presets;
+    }
+      where
+        greeted : (bit : Bit) (object : Object) (q : UserId) → is_there t object ≡ true
+            → allows bit (elim object [ Window w ↦ t.window_preset | Command c ↦ t.command_preset ]) ≡ unwrap_or
+            (greeting h bit object) (has owner h q bit object)
+        greeted bit (Window w) q there = s.presets preset.Windows bit
+            ∙ ap (λ c. unwrap_or (decided c (preset_of h preset.Windows bit)) (has owner h q bit (Window w)))
+            (sym there ∙ s.slots.shown w)
+        greeted bit (Command c) q there = s.presets preset.Commands bit
 
-      stranger : (bit : Bit) (object : Object) (q : UserId) (c : Bool) → same_user u q ≡ c → is_some (if c then Some row else row_of t q) ≡ false → unwrap_or (if c then greeting h bit object else None) (has owner h q bit object) ≡ false
-      stranger bit object q true e none = absurd (true≢false none)
-      stranger bit object q false e none = s.strangers q bit object none
+        stranger : (bit : Bit) (object : Object) (q : UserId) (c : Bool) → same_user u q ≡ c
+            → is_some (if c then Some row else row_of t q) ≡ false
+            → unwrap_or (if c then greeting h bit object else None) (has owner h q bit object) ≡ false
+        stranger bit object q true e none = absurd (true≢false none)
+        stranger bit object q false e none = s.strangers q bit object none
 
-      led_same : (q : UserId) (c : Bool) → same_user u q ≡ c → leaders_at (if c then Some row else row_of t q) ≡ leaders_of edition h q
-      led_same q true e = alone ∙ sym (ap leaders_at absent) ∙ s.led u ∙ ap (leaders_of edition h) (same_user-true u q e)
-      led_same q false e = s.led q
+        led_same : (q : UserId) (c : Bool) → same_user u q ≡ c
+            → leaders_at (if c then Some row else row_of t q) ≡ leaders_of edition h q
+        led_same q true e = alone ∙ sym (ap leaders_at absent) ∙ s.led u
+            ∙ ap (leaders_of edition h) (same_user-true u q e)
+        led_same q false e = s.led q
 
-  -- a user is gone: no row and no mask is his, and he leads nobody
-  pub StandsFor-Gone : (es : List (UserId × Row)) (ms : List ((UserId × UserId) × Bits))
-      → keys_of es ≡ without_user u (users_in t)
-      → ((q : UserId) → lookup (same_user q) es ≡ (if same_user u q then None else option_map (without_leader u) (row_of t q)))
-      → ((p : UserId × UserId) → lookup (same_pair p) ms ≡ (if same_user u p.0 || same_user u p.1 then None else lookup (same_pair p) t.masks))
-      → same_user owner u ≡ false
-      → StandsFor (record t { rows = es; masks = ms }) edition owner (Gone u ∷ h)
-  StandsFor-Gone es ms keys rows masks other = record {
-    edition_is = s.edition_is;
-    owned = s.owned;
-    users = keys ∙ ap (without_user u) s.users;
-    known = λ q. ap is_some (rows q) ∙ known_step (same_user u q) (same_user owner q) false _ None (option_map (without_leader u) (row_of t q)) (λ e. sym (or-false (same_user owner q) ∙ ap (same_user owner) (sym (same_user-true u q e)) ∙ other)) (kept (row_of t q) ∙ s.known q);
-    slots = s.slots;
-    rights = λ q bit object there. ap (at_row t.windows bit object) (rows q)
-        ∙ step (at_row t.windows bit object) (same_user u q) None (option_map (without_leader u) (row_of t q)) (Some false) (has owner h q bit object)
-        (λ _. refl) (same_bits bit object (row_of t q) ∙ s.rights q bit object there);
-    strangers = λ q bit object none. stranger bit object q (same_user u q) (sym (ap is_some (rows q)) ∙ none);
-    led = λ q. ap leaders_at (rows q) ∙ led_still q (same_user u q);
-    masks = λ by q bit. ap (mask_at bit) (masks (by, q)) ∙ step (mask_at bit) (same_user u by || same_user u q) None (lookup (same_pair (by, q)) t.masks) (Some true) (mask h by q bit) (λ _. refl) (s.masks by q bit);
-    presets = s.presets;
-  }
-    where
-      kept : (o : Option Row) → is_some (option_map (without_leader u) o) ≡ is_some o
-      kept None = refl
-      kept (Some r) = refl
+    -- a user is gone: no row and no mask is his, and he leads nobody
+    pub StandsFor-Gone : (es : List (UserId × Row)) (ms : List ((UserId × UserId) × Bits))
+        → keys_of es ≡ without_user u (users_in t)
+        → ((q : UserId)
+        → lookup (same_user q) es ≡ (if same_user u q then None else option_map (without_leader u) (row_of t q)))
+        → ((p : UserId × UserId)
+        → lookup (same_pair p) ms ≡
+        (if same_user u p.0 || same_user u p.1 then None else lookup (same_pair p) t.masks))
+        → same_user owner u ≡ false
+        → StandsFor (record t { rows = es; masks = ms }) edition owner (Gone u ∷ h)
+    StandsFor-Gone es ms keys rows masks other = record {
+      edition_is = s.edition_is;
+      owned = s.owned;
+      users = keys ∙ ap (without_user u) s.users;
+      known = λ q. ap is_some (rows q)
+          ∙ known_step (same_user u q) (same_user owner q) false _ None (option_map (without_leader u) (row_of t q))
+          (λ e. sym (or-false (same_user owner q) ∙ ap (same_user owner) (sym (same_user-true u q e)) ∙ other))
+          (kept (row_of t q) ∙ s.known q);
+      slots = s.slots;
+      rights = λ q bit object there. ap (at_row t.windows bit object) (rows q)
+          ∙ step (at_row t.windows bit object) (same_user u q) None (option_map (without_leader u) (row_of t q))
+          (Some false) (has owner h q bit object)
+          (λ _. refl) (same_bits bit object (row_of t q) ∙ s.rights q bit object there);
+      strangers = λ q bit object none. stranger bit object q (same_user u q) (sym (ap is_some (rows q)) ∙ none);
+      led = λ q. ap leaders_at (rows q) ∙ led_still q (same_user u q);
+      masks = λ by q bit. ap (mask_at bit) (masks (by, q))
+          ∙ step (mask_at bit) (same_user u by || same_user u q) None (lookup (same_pair (by, q)) t.masks) (Some true)
+          (mask h by q bit) (λ _. refl) (s.masks by q bit);
+      presets = s.presets;
+    }
+      where
+        kept : (o : Option Row) → is_some (option_map (without_leader u) o) ≡ is_some o
+        kept None = refl
+        kept (Some r) = refl
 
-      same_bits : (bit : Bit) (object : Object) (o : Option Row) → at_row t.windows bit object (option_map (without_leader u) o) ≡ at_row t.windows bit object o
-      same_bits bit object None = refl
-      same_bits bit (Window w) (Some r) = refl
-      same_bits bit (Command c) (Some r) = refl
+        same_bits : (bit : Bit) (object : Object) (o : Option Row)
+            → at_row t.windows bit object (option_map (without_leader u) o) ≡ at_row t.windows bit object o
+        same_bits bit object None = refl
+        same_bits bit (Window w) (Some r) = refl
+        same_bits bit (Command c) (Some r) = refl
 
-      stranger : (bit : Bit) (object : Object) (q : UserId) (c : Bool) → is_some (if c then None else option_map (without_leader u) (row_of t q)) ≡ false → unwrap_or (decided c false) (has owner h q bit object) ≡ false
-      stranger bit object q true none = refl
-      stranger bit object q false none = s.strangers q bit object (sym (kept (row_of t q)) ∙ none)
+        stranger : (bit : Bit) (object : Object) (q : UserId) (c : Bool)
+            → is_some (if c then None else option_map (without_leader u) (row_of t q)) ≡ false
+            → unwrap_or (decided c false) (has owner h q bit object) ≡ false
+        stranger bit object q true none = refl
+        stranger bit object q false none = s.strangers q bit object (sym (kept (row_of t q)) ∙ none)
 
-      of_row : (o : Option Row) → leaders_at (option_map (without_leader u) o) ≡ filter (λ leader. not (same_user u leader)) (leaders_at o)
-      of_row None = refl
-      of_row (Some r) = refl
+        of_row : (o : Option Row)
+            → leaders_at (option_map (without_leader u) o) ≡ filter (λ leader. not (same_user u leader)) (leaders_at o)
+        of_row None = refl
+        of_row (Some r) = refl
 
-      led_still : (q : UserId) (c : Bool) → leaders_at (if c then None else option_map (without_leader u) (row_of t q)) ≡ (if c then [] else filter (λ leader. not (same_user u leader)) (leaders_of edition h q))
-      led_still q true = refl
-      led_still q false = of_row (row_of t q) ∙ ap (filter (λ leader. not (same_user u leader))) (s.led q)
+        led_still : (q : UserId) (c : Bool)
+            → leaders_at (if c then None else option_map (without_leader u) (row_of t q)) ≡
+            (if c then [] else filter (λ leader. not (same_user u leader)) (leaders_of edition h q))
+        led_still q true = refl
+        led_still q false = of_row (row_of t q) ∙ ap (filter (λ leader. not (same_user u leader))) (s.led q)
 
-  -- a bit of a known user is set
-  pub StandsFor-Set : (es : List (UserId × Row)) (bit : Bit) (object : Object) (value : Bool) (row row' : Row)
-      → row_of t u ≡ Some row
-      → keys_of es ≡ users_in t
-      → ((q : UserId) → lookup (same_user q) es ≡ (if same_user u q then Some row' else row_of t q))
-      → row'.leaders ≡ row.leaders
-      → ((b : Bit) (place : Object) → is_there t place ≡ true → allows b (bits_on t.windows place row') ≡ (if same_bit bit b && same_object object place then value else allows b (bits_on t.windows place row)))
-      → StandsFor (record t { rows = es }) edition owner (Set u bit object value ∷ h)
-  StandsFor-Set es bit object value row row' had keys rows leaders bits = record {
-    edition_is = s.edition_is;
-    owned = s.owned;
-    users = keys ∙ s.users;
-    known = λ q. ap is_some (rows q) ∙ known_same (same_user u q) q refl;
-    slots = s.slots;
-    rights = λ q b place there. ap (at_row t.windows b place) (rows q)
-        ∙ step_of (at_row t.windows b place) (same_user u q) (same_bit bit b) (same_object object place) (Some row') (row_of t q) value (has owner h q b place)
-        (λ e. bits b place there ∙ chosen (same_bit bit b && same_object object place) _ _ (sym (ap (at_row t.windows b place) had) ∙ ap (at_row t.windows b place) (ap (row_of t) (same_user-true u q e)) ∙ s.rights q b place there))
-        (s.rights q b place there);
-    strangers = λ q b place none. stranger b place q (same_user u q) refl (sym (ap is_some (rows q)) ∙ none);
-    led = λ q. ap leaders_at (rows q) ∙ led_same (same_user u q) q refl;
-    masks = s.masks;
-    presets = s.presets;
-  }
-    where
-      chosen : (c : Bool) (x y : Bool) → x ≡ y → (if c then value else x) ≡ unwrap_or (decided c value) y
-      chosen true x y e = refl
-      chosen false x y e = e
+    -- a bit of a known user is set
+    pub StandsFor-Set : (es : List (UserId × Row)) (bit : Bit) (object : Object) (value : Bool) (row row' : Row)
+        → row_of t u ≡ Some row
+        → keys_of es ≡ users_in t
+        → ((q : UserId) → lookup (same_user q) es ≡ (if same_user u q then Some row' else row_of t q))
+        → row'.leaders ≡ row.leaders
+        → ((b : Bit) (place : Object) → is_there t place ≡ true
+        → allows b (bits_on t.windows place row') ≡
+        (if same_bit bit b && same_object object place then value else allows b (bits_on t.windows place row)))
+        → StandsFor (record t { rows = es }) edition owner (Set u bit object value ∷ h)
+    StandsFor-Set es bit object value row row' had keys rows leaders bits = record {
+      edition_is = s.edition_is;
+      owned = s.owned;
+      users = keys ∙ s.users;
+      known = λ q. ap is_some (rows q) ∙ known_same (same_user u q) q refl;
+      slots = s.slots;
+      rights = λ q b place there. ap (at_row t.windows b place) (rows q)
+          ∙ step_of (at_row t.windows b place) (same_user u q) (same_bit bit b) (same_object object place) (Some row')
+          (row_of t q) value (has owner h q b place)
+          (λ e. bits b place there
+          ∙ chosen (same_bit bit b && same_object object place) _ _
+          (sym (ap (at_row t.windows b place) had)
+          ∙ ap (at_row t.windows b place) (ap (row_of t) (same_user-true u q e)) ∙ s.rights q b place there))
+          (s.rights q b place there);
+      strangers = λ q b place none. stranger b place q (same_user u q) refl (sym (ap is_some (rows q)) ∙ none);
+      led = λ q. ap leaders_at (rows q) ∙ led_same (same_user u q) q refl;
+      masks = s.masks;
+      presets = s.presets;
+    }
+      where
+        chosen : (c : Bool) (x y : Bool) → x ≡ y → (if c then value else x) ≡ unwrap_or (decided c value) y
+        chosen true x y e = refl
+        chosen false x y e = e
 
-      known_same : (c : Bool) (q : UserId) → same_user u q ≡ c → is_some (if c then Some row' else row_of t q) ≡ is_known owner h q
-      known_same true q e = sym (ap is_some had) ∙ s.known u ∙ ap (is_known owner h) (same_user-true u q e)
-      known_same false q e = s.known q
+        known_same : (c : Bool) (q : UserId) → same_user u q ≡ c
+            → is_some (if c then Some row' else row_of t q) ≡ is_known owner h q
+        known_same true q e = sym (ap is_some had) ∙ s.known u ∙ ap (is_known owner h) (same_user-true u q e)
+        known_same false q e = s.known q
 
-      stranger : (b : Bit) (place : Object) (q : UserId) (c : Bool) → same_user u q ≡ c → is_some (if c then Some row' else row_of t q) ≡ false → unwrap_or (decided (c && same_bit bit b && same_object object place) value) (has owner h q b place) ≡ false
-      stranger b place q true e none = absurd (true≢false none)
-      stranger b place q false e none = s.strangers q b place none
+        stranger : (b : Bit) (place : Object) (q : UserId) (c : Bool) → same_user u q ≡ c
+            → is_some (if c then Some row' else row_of t q) ≡ false
+            → unwrap_or (decided (c && same_bit bit b && same_object object place) value) (has owner h q b place) ≡ false
+        stranger b place q true e none = absurd (true≢false none)
+        stranger b place q false e none = s.strangers q b place none
 
-      led_same : (c : Bool) (q : UserId) → same_user u q ≡ c → leaders_at (if c then Some row' else row_of t q) ≡ leaders_of edition h q
-      led_same true q e = leaders ∙ sym (ap leaders_at had) ∙ s.led u ∙ ap (leaders_of edition h) (same_user-true u q e)
-      led_same false q e = s.led q
+        led_same : (c : Bool) (q : UserId) → same_user u q ≡ c
+            → leaders_at (if c then Some row' else row_of t q) ≡ leaders_of edition h q
+        led_same true q e = leaders ∙ sym (ap leaders_at had) ∙ s.led u ∙ ap (leaders_of edition h) (same_user-true u q e)
+        led_same false q e = s.led q
 
-  -- a known user gets a leader, or none
-  pub StandsFor-Grouped : (es : List (UserId × Row)) (leader : Option UserId) (row : Row)
-      → row_of t u ≡ Some row
-      → keys_of es ≡ users_in t
-      → ((q : UserId) → lookup (same_user q) es ≡ (if same_user u q then Some (record row { leaders = leaders_with edition leader row.leaders }) else row_of t q))
-      → StandsFor (record t { rows = es }) edition owner (Grouped u leader ∷ h)
-  StandsFor-Grouped es leader row had keys rows = record {
-    edition_is = s.edition_is;
-    owned = s.owned;
-    users = keys ∙ s.users;
-    known = λ q. ap is_some (rows q) ∙ known_same (same_user u q) q refl;
-    slots = s.slots;
-    rights = λ q b place there. ap (at_row t.windows b place) (rows q) ∙ rights_same b place there (same_user u q) q refl;
-    strangers = λ q b place none. s.strangers q b place (s.known q ∙ sym (known_same (same_user u q) q refl) ∙ sym (ap is_some (rows q)) ∙ none);
-    led = λ q. ap leaders_at (rows q) ∙ led_new (same_user u q) q refl;
-    masks = s.masks;
-    presets = s.presets;
-  }
-    where
-      led : List UserId
-      led = leaders_with edition leader row.leaders
+    -- a known user gets a leader, or none
+    pub StandsFor-Grouped : (es : List (UserId × Row)) (leader : Option UserId) (row : Row)
+        → row_of t u ≡ Some row
+        → keys_of es ≡ users_in t
+        → ((q : UserId)
+        → lookup (same_user q) es ≡
+        (if same_user u q then Some (record row { leaders = leaders_with edition leader row.leaders }) else row_of t
+        q))
+        → StandsFor (record t { rows = es }) edition owner (Grouped u leader ∷ h)
+    StandsFor-Grouped es leader row had keys rows = record {
+      edition_is = s.edition_is;
+      owned = s.owned;
+      users = keys ∙ s.users;
+      known = λ q. ap is_some (rows q) ∙ known_same (same_user u q) q refl;
+      slots = s.slots;
+      rights = λ q b place there. ap (at_row t.windows b place) (rows q)
+          ∙ rights_same b place there (same_user u q) q refl;
+      strangers = λ q b place none. s.strangers q b place
+          (s.known q ∙ sym (known_same (same_user u q) q refl) ∙ sym (ap is_some (rows q)) ∙ none);
+      led = λ q. ap leaders_at (rows q) ∙ led_new (same_user u q) q refl;
+      masks = s.masks;
+      presets = s.presets;
+    }
+      where
+        led : List UserId
+        led = leaders_with edition leader row.leaders
 
-      known_same : (c : Bool) (q : UserId) → same_user u q ≡ c → is_some (if c then Some (record row { leaders = led }) else row_of t q) ≡ is_known owner h q
-      known_same true q e = sym (ap is_some had) ∙ s.known u ∙ ap (is_known owner h) (same_user-true u q e)
-      known_same false q e = s.known q
+        known_same : (c : Bool) (q : UserId) → same_user u q ≡ c
+            → is_some (if c then Some (record row { leaders = led }) else row_of t q) ≡ is_known owner h q
+        known_same true q e = sym (ap is_some had) ∙ s.known u ∙ ap (is_known owner h) (same_user-true u q e)
+        known_same false q e = s.known q
 
-      bits_same : (b : Bit) (place : Object) → at_row t.windows b place (Some (record row { leaders = led })) ≡ at_row t.windows b place (Some row)
-      bits_same b (Window w) = refl
-      bits_same b (Command c) = refl
+        bits_same : (b : Bit) (place : Object)
+            → at_row t.windows b place (Some (record row { leaders = led })) ≡ at_row t.windows b place (Some row)
+        bits_same b (Window w) = refl
+        bits_same b (Command c) = refl
 
-      rights_same : (b : Bit) (place : Object) → is_there t place ≡ true → (c : Bool) (q : UserId) → same_user u q ≡ c → at_row t.windows b place (if c then Some (record row { leaders = led }) else row_of t q) ≡ has owner h q b place
-      rights_same b place there true q e = bits_same b place ∙ sym (ap (at_row t.windows b place) had) ∙ s.rights u b place there ∙ ap (λ v. has owner h v b place) (same_user-true u q e)
-      rights_same b place there false q e = s.rights q b place there
+        rights_same : (b : Bit) (place : Object) → is_there t place ≡ true → (c : Bool) (q : UserId) → same_user u q ≡ c
+            → at_row t.windows b place (if c then Some (record row { leaders = led }) else row_of t q) ≡ has owner h q b
+            place
+        rights_same b place there true q e = bits_same b place ∙ sym (ap (at_row t.windows b place) had)
+            ∙ s.rights u b place there ∙ ap (λ v. has owner h v b place) (same_user-true u q e)
+        rights_same b place there false q e = s.rights q b place there
 
-      led_new : (c : Bool) (q : UserId) → same_user u q ≡ c → leaders_at (if c then Some (record row { leaders = led }) else row_of t q) ≡ (if c then leaders_with edition leader (leaders_of edition h q) else leaders_of edition h q)
-      led_new true q e = ap (leaders_with edition leader) (sym (ap leaders_at had) ∙ s.led u ∙ ap (leaders_of edition h) (same_user-true u q e))
-      led_new false q e = s.led q
+        led_new : (c : Bool) (q : UserId) → same_user u q ≡ c
+            → leaders_at (if c then Some (record row { leaders = led }) else row_of t q) ≡
+            (if c then leaders_with edition leader (leaders_of edition h q) else leaders_of edition h q)
+        led_new true q e = ap (leaders_with edition leader)
+            (sym (ap leaders_at had) ∙ s.led u ∙ ap (leaders_of edition h) (same_user-true u q e))
+        led_new false q e = s.led q
 
-  -- what u gives `of` on windows that u opens later
-  pub StandsFor-Masked : (ms : List ((UserId × UserId) × Bits)) (named : UserId) (bit : Bit) (value : Bool)
-      → ((p : UserId × UserId) → lookup (same_pair p) ms ≡ (if same_pair (u, named) p then Some (with_bit bit value (mask_bits t.masks u named)) else lookup (same_pair p) t.masks))
-      → StandsFor (record t { masks = ms }) edition owner (Masked u named bit value ∷ h)
-  StandsFor-Masked ms named bit value masks = record {
-    edition_is = s.edition_is;
-    owned = s.owned;
-    users = s.users;
-    known = s.known;
-    slots = s.slots;
-    rights = s.rights;
-    strangers = s.strangers;
-    led = s.led;
-    masks = λ by q b. ap (mask_at b) (masks (by, q)) ∙ masked_now by q b (same_user u by) (same_user named q) refl refl;
-    presets = s.presets;
-  }
-    where
-      before : (b : Bit) (o : Option Bits) → allows b (unwrap_or o all_bits) ≡ mask_at b o
-      before b None = allows-all_bits b
-      before b (Some x) = refl
+    -- what u gives `of` on windows that u opens later
+    pub StandsFor-Masked : (ms : List ((UserId × UserId) × Bits)) (named : UserId) (bit : Bit) (value : Bool)
+        → ((p : UserId × UserId)
+        → lookup (same_pair p) ms ≡
+        (if same_pair (u, named) p then Some (with_bit bit value (mask_bits t.masks u named)) else lookup
+        (same_pair p) t.masks))
+        → StandsFor (record t { masks = ms }) edition owner (Masked u named bit value ∷ h)
+    StandsFor-Masked ms named bit value masks = record {
+      edition_is = s.edition_is;
+      owned = s.owned;
+      users = s.users;
+      known = s.known;
+      slots = s.slots;
+      rights = s.rights;
+      strangers = s.strangers;
+      led = s.led;
+      masks = λ by q b. ap (mask_at b) (masks (by, q)) ∙ masked_now by q b (same_user u by) (same_user named q) refl refl;
+      presets = s.presets;
+    }
+      where
+        before : (b : Bit) (o : Option Bits) → allows b (unwrap_or o all_bits) ≡ mask_at b o
+        before b None = allows-all_bits b
+        before b (Some x) = refl
 
-      chosen : (c : Bool) (x y : Bool) → x ≡ y → (if c then value else x) ≡ unwrap_or (decided c value) y
-      chosen true x y e = refl
-      chosen false x y e = e
+        chosen : (c : Bool) (x y : Bool) → x ≡ y → (if c then value else x) ≡ unwrap_or (decided c value) y
+        chosen true x y e = refl
+        chosen false x y e = e
 
-      masked_now : (by q : UserId) (b : Bit) (c d : Bool) → same_user u by ≡ c → same_user named q ≡ d
-          → mask_at b (if c && d then Some (with_bit bit value (mask_bits t.masks u named)) else lookup (same_pair (by, q)) t.masks) ≡ unwrap_or (decided (c && d && same_bit bit b) value) (mask h by q b)
-      masked_now by q b true true e f =
-          allows-with_bit bit b value (mask_bits t.masks u named)
-          ∙ chosen (same_bit bit b) _ _ (before b (lookup (same_pair (u, named)) t.masks) ∙ s.masks u named b ∙ (λ i. mask h (same_user-true u by e i) (same_user-true named q f i) b))
-      masked_now by q b true false e f = s.masks by q b
-      masked_now by q b false d e f = s.masks by q b
+        masked_now : (by q : UserId) (b : Bit) (c d : Bool) → same_user u by ≡ c → same_user named q ≡ d
+            → mask_at b
+            (if c && d then Some (with_bit bit value (mask_bits t.masks u named)) else lookup (same_pair (by, q))
+            t.masks) ≡ unwrap_or (decided (c && d && same_bit bit b) value) (mask h by q b)
+        masked_now by q b true true e f =
+            allows-with_bit bit b value (mask_bits t.masks u named)
+            ∙ chosen (same_bit bit b) _ _
+            (before b (lookup (same_pair (u, named)) t.masks) ∙ s.masks u named b
+            ∙ (λ i. mask h (same_user-true u by e i) (same_user-true named q f i) b))
+        masked_now by q b true false e f = s.masks by q b
+        masked_now by q b false d e f = s.masks by q b
 
 module _ (t : Table) (edition : Edition) (owner : UserId) (h : History) (s : StandsFor t edition owner h) where
-  chosen_bit : (bit b : Bit) (value : Bool) (set : Bits) (y : Bool) → allows b set ≡ y → allows b (with_bit bit value set) ≡ unwrap_or (decided (same_bit bit b) value) y
+  chosen_bit : (bit b : Bit) (value : Bool) (set : Bits) (y : Bool) → allows b set ≡ y
+      → allows b (with_bit bit value set) ≡ unwrap_or (decided (same_bit bit b) value) y
   chosen_bit bit b value set y e = allows-with_bit bit b value set ∙ by (same_bit bit b)
     where
       by : (c : Bool) → (if c then value else allows b set) ≡ unwrap_or (decided c value) y
@@ -256,7 +327,9 @@ module _ (t : Table) (edition : Edition) (owner : UserId) (h : History) (s : Sta
       by false = e
 
   -- the preset of windows
-  pub StandsFor-Preset-windows : (bit : Bit) (value : Bool) → StandsFor (record t { window_preset = with_bit bit value t.window_preset }) edition owner (Preset preset.Windows bit value ∷ h)
+  pub StandsFor-Preset-windows : (bit : Bit) (value : Bool)
+      → StandsFor (record t { window_preset = with_bit bit value t.window_preset }) edition owner
+      (Preset preset.Windows bit value ∷ h)
   StandsFor-Preset-windows bit value = record {
     edition_is = s.edition_is;
     owned = s.owned;
@@ -270,11 +343,16 @@ module _ (t : Table) (edition : Edition) (owner : UserId) (h : History) (s : Sta
     presets = λ kind b. by kind b;
   }
     where
-      by : (kind : PresetKind) (b : Bit) → allows b (preset_bits (record t { window_preset = with_bit bit value t.window_preset }) kind) ≡ unwrap_or (decided (same_preset preset.Windows kind && same_bit bit b) value) (preset_of h kind b)
-      by preset.Windows b = chosen_bit bit b value t.window_preset (preset_of h preset.Windows b) (s.presets preset.Windows b)
+      by : (kind : PresetKind) (b : Bit)
+          → allows b (preset_bits (record t { window_preset = with_bit bit value t.window_preset }) kind) ≡ unwrap_or
+          (decided (same_preset preset.Windows kind && same_bit bit b) value) (preset_of h kind b)
+      by preset.Windows b = chosen_bit bit b value t.window_preset (preset_of h preset.Windows b)
+          (s.presets preset.Windows b)
       by preset.Commands b = s.presets preset.Commands b
 
-  pub StandsFor-Preset-commands : (bit : Bit) (value : Bool) → StandsFor (record t { command_preset = with_bit bit value t.command_preset }) edition owner (Preset preset.Commands bit value ∷ h)
+  pub StandsFor-Preset-commands : (bit : Bit) (value : Bool)
+      → StandsFor (record t { command_preset = with_bit bit value t.command_preset }) edition owner
+      (Preset preset.Commands bit value ∷ h)
   StandsFor-Preset-commands bit value = record {
     edition_is = s.edition_is;
     owned = s.owned;
@@ -288,12 +366,18 @@ module _ (t : Table) (edition : Edition) (owner : UserId) (h : History) (s : Sta
     presets = λ kind b. by kind b;
   }
     where
-      by : (kind : PresetKind) (b : Bit) → allows b (preset_bits (record t { command_preset = with_bit bit value t.command_preset }) kind) ≡ unwrap_or (decided (same_preset preset.Commands kind && same_bit bit b) value) (preset_of h kind b)
+      by : (kind : PresetKind) (b : Bit)
+          → allows b (preset_bits (record t { command_preset = with_bit bit value t.command_preset }) kind) ≡ unwrap_or
+          (decided (same_preset preset.Commands kind && same_bit bit b) value) (preset_of h kind b)
       by preset.Windows b = s.presets preset.Windows b
-      by preset.Commands b = chosen_bit bit b value t.command_preset (preset_of h preset.Commands b) (s.presets preset.Commands b)
+      by preset.Commands b = chosen_bit bit b value t.command_preset (preset_of h preset.Commands b)
+          (s.presets preset.Commands b)
 
   -- a window is closed
-  pub StandsFor-Closed : (ws : List (Option ℕ)) (w : ℕ) → ((v : ℕ) → slot_of ws v ≡ (if w == v then None else slot_of t.windows v)) → SlotsStandFor ws (is_open (Closed w ∷ h)) (open_count (Closed w ∷ h)) → StandsFor (record t { windows = ws }) edition owner (Closed w ∷ h)
+  pub StandsFor-Closed : (ws : List (Option ℕ)) (w : ℕ)
+      → ((v : ℕ) → slot_of ws v ≡ (if w == v then None else slot_of t.windows v))
+      → SlotsStandFor ws (is_open (Closed w ∷ h)) (open_count (Closed w ∷ h))
+      → StandsFor (record t { windows = ws }) edition owner (Closed w ∷ h)
   StandsFor-Closed ws w slots stand = record {
     edition_is = s.edition_is;
     owned = s.owned;
@@ -307,15 +391,20 @@ module _ (t : Table) (edition : Edition) (owner : UserId) (h : History) (s : Sta
     presets = s.presets;
   }
     where
-      same_slot : (v : ℕ) (c : Bool) → is_some (if c then None else slot_of t.windows v) ≡ true → (if c then None else slot_of t.windows v) ≡ slot_of t.windows v
+      same_slot : (v : ℕ) (c : Bool) → is_some (if c then None else slot_of t.windows v) ≡ true
+          → (if c then None else slot_of t.windows v) ≡ slot_of t.windows v
       same_slot v true there = absurd (true≢false (sym there))
       same_slot v false there = refl
 
-      rights_same : (q : UserId) (b : Bit) (place : Object) → is_there (record t { windows = ws }) place ≡ true → granted (record t { windows = ws }) q b place ≡ has owner h q b place
+      rights_same : (q : UserId) (b : Bit) (place : Object) → is_there (record t { windows = ws }) place ≡ true
+          → granted (record t { windows = ws }) q b place ≡ has owner h q b place
       rights_same q b (Command c) there = s.rights q b (Command c) refl
       rights_same q b (Window v) there =
-          let e : slot_of ws v ≡ slot_of t.windows v = slots v ∙ same_slot v (w == v) (sym (ap is_some (slots v)) ∙ there) in
-          ap (λ o. option_map_or (λ row. allows b (option_map_or (λ slot. slice_index_or row.windows slot no_bits) o no_bits)) (row_of t q) false) e
+          let e : slot_of ws v ≡ slot_of t.windows v = slots v
+          ∙ same_slot v (w == v) (sym (ap is_some (slots v)) ∙ there) in
+          ap (λ o. option_map_or
+          (λ row. allows b (option_map_or (λ slot. slice_index_or row.windows slot no_bits) o no_bits)) (row_of t q)
+          false) e
           ∙ s.rights q b (Window v) (sym (ap is_some e) ∙ there)
 
   -- a known user opens a window, in a slot that is free
@@ -323,7 +412,8 @@ module _ (t : Table) (edition : Edition) (owner : UserId) (h : History) (s : Sta
       → ((v : ℕ) → slot_of ws v ≡ (if w == v then Some slot else slot_of t.windows v))
       → SlotsStandFor ws (is_open (Opened by w ∷ h)) (open_count (Opened by w ∷ h))
       → keys_of es ≡ users_in t
-      → ((q : UserId) → lookup (same_user q) es ≡ option_map (with_window slot (opening_bits t.masks by q)) (row_of t q))
+      → ((q : UserId)
+      → lookup (same_user q) es ≡ option_map (with_window slot (opening_bits t.masks by q)) (row_of t q))
       → ((q : UserId) (row : Row) → row_of t q ≡ Some row → slot < length row.windows)
       → ((v k : ℕ) → slot_of t.windows v ≡ Some k → k ≢ slot)
       → knows t by ≡ true
@@ -341,17 +431,23 @@ module _ (t : Table) (edition : Edition) (owner : UserId) (h : History) (s : Sta
     presets = s.presets;
   }
     where
-      kept : (q : UserId) (o : Option Row) → is_some (option_map (with_window slot (opening_bits t.masks by q)) o) ≡ is_some o
+      kept : (q : UserId) (o : Option Row)
+          → is_some (option_map (with_window slot (opening_bits t.masks by q)) o) ≡ is_some o
       kept q None = refl
       kept q (Some r) = refl
 
-      led_same : (q : UserId) (o : Option Row) → leaders_at (option_map (with_window slot (opening_bits t.masks by q)) o) ≡ leaders_at o
+      led_same : (q : UserId) (o : Option Row)
+          → leaders_at (option_map (with_window slot (opening_bits t.masks by q)) o) ≡ leaders_at o
       led_same q None = refl
       led_same q (Some r) = refl
 
       -- no one who isn't known gets anything
-      nothing : (q : UserId) (b : Bit) (place : Object) (c d : Bool) → same_user by q ≡ c → is_known owner h q ≡ d → d ≡ false → unwrap_or (if c then Some true else decided d (mask h by q b)) (has owner h q b place) ≡ has owner h q b place
-      nothing q b place true d e k none = absurd (true≢false (sym opener ∙ s.known by ∙ ap (is_known owner h) (same_user-true by q e) ∙ k ∙ none))
+      nothing : (q : UserId) (b : Bit) (place : Object) (c d : Bool) → same_user by q ≡ c → is_known owner h q ≡ d
+          → d ≡ false
+          → unwrap_or (if c then Some true else decided d (mask h by q b)) (has owner h q b place) ≡ has owner h q b
+          place
+      nothing q b place true d e k none = absurd
+          (true≢false (sym opener ∙ s.known by ∙ ap (is_known owner h) (same_user-true by q e) ∙ k ∙ none))
       nothing q b place false true e k none = absurd (true≢false none)
       nothing q b place false false e k none = refl
 
@@ -359,12 +455,17 @@ module _ (t : Table) (edition : Edition) (owner : UserId) (h : History) (s : Sta
       skipped true g r e = e
       skipped false g r e = refl
 
-      stranger : (q : UserId) (b : Bit) (place : Object) → knows t q ≡ false → has owner (Opened by w ∷ h) q b place ≡ false
+      stranger : (q : UserId) (b : Bit) (place : Object) → knows t q ≡ false
+          → has owner (Opened by w ∷ h) q b place ≡ false
       stranger q b place none =
-          skipped (same_object (Window w) place) (opening owner h by q b) (has owner h q b place) (nothing q b place (same_user by q) (is_known owner h q) refl refl (sym (s.known q) ∙ none))
+          skipped (same_object (Window w) place) (opening owner h by q b) (has owner h q b place)
+          (nothing q b place (same_user by q) (is_known owner h q) refl refl (sym (s.known q) ∙ none))
           ∙ s.strangers q b place none
 
-      given : (q : UserId) (b : Bit) (place : Object) (r : Row) (c d : Bool) → same_user by q ≡ c → is_known owner h q ≡ d → d ≡ true → allows b (if c then all_bits else mask_bits t.masks by q) ≡ unwrap_or (if c then Some true else decided d (mask h by q b)) (has owner h q b place)
+      given : (q : UserId) (b : Bit) (place : Object) (r : Row) (c d : Bool) → same_user by q ≡ c
+          → is_known owner h q ≡ d → d ≡ true
+          → allows b (if c then all_bits else mask_bits t.masks by q) ≡ unwrap_or
+          (if c then Some true else decided d (mask h by q b)) (has owner h q b place)
       given q b place r true d e k there = allows-all_bits b
       given q b place r false true e k there = before b (lookup (same_pair (by, q)) t.masks) ∙ s.masks by q b
         where
@@ -373,42 +474,59 @@ module _ (t : Table) (edition : Edition) (owner : UserId) (h : History) (s : Sta
           before b (Some x) = refl
       given q b place r false false e k there = absurd (true≢false (sym there))
 
-      command_same : (q : UserId) (b : Bit) (c : _) (o : Option Row) → at_row ws b (Command c) (option_map (with_window slot (opening_bits t.masks by q)) o) ≡ at_row t.windows b (Command c) o
+      command_same : (q : UserId) (b : Bit) (c : _) (o : Option Row)
+          → at_row ws b (Command c) (option_map (with_window slot (opening_bits t.masks by q)) o) ≡ at_row t.windows b
+          (Command c) o
       command_same q b c None = refl
       command_same q b c (Some r) = refl
 
-      rights_now : (q : UserId) (b : Bit) (place : Object) → is_there (record t { windows = ws; rows = es }) place ≡ true → granted (record t { windows = ws; rows = es }) q b place ≡ has owner (Opened by w ∷ h) q b place
-      rights_now q b (Command c) there = ap (at_row ws b (Command c)) (rows q) ∙ command_same q b c (row_of t q) ∙ s.rights q b (Command c) refl
+      rights_now : (q : UserId) (b : Bit) (place : Object)
+          → is_there (record t { windows = ws; rows = es }) place ≡ true
+          → granted (record t { windows = ws; rows = es }) q b place ≡ has owner (Opened by w ∷ h) q b place
+      rights_now q b (Command c) there = ap (at_row ws b (Command c)) (rows q) ∙ command_same q b c (row_of t q)
+          ∙ s.rights q b (Command c) refl
       rights_now q b (Window v) there = ap (at_row ws b (Window v)) (rows q) ∙ at_window (row_of t q) (w == v) refl refl
         where
           slot_bits : Option ℕ → Row → Bits
           slot_bits o r = option_map_or (λ k. slice_index_or r.windows k no_bits) o no_bits
 
-          at_window : (o : Option Row) (c : Bool) → row_of t q ≡ o → (w == v) ≡ c → at_row ws b (Window v) (option_map (with_window slot (opening_bits t.masks by q)) o) ≡ unwrap_or (if c then opening owner h by q b else None) (has owner h q b (Window v))
-          at_window None c e f = sym (s.strangers q b (Window v) (ap is_some e)) ∙ sym (skipped c (opening owner h by q b) (has owner h q b (Window v)) (nothing q b (Window v) (same_user by q) (is_known owner h q) refl refl (sym (s.known q) ∙ ap is_some e)))
+          at_window : (o : Option Row) (c : Bool) → row_of t q ≡ o → (w == v) ≡ c
+              → at_row ws b (Window v) (option_map (with_window slot (opening_bits t.masks by q)) o) ≡ unwrap_or
+              (if c then opening owner h by q b else None) (has owner h q b (Window v))
+          at_window None c e f = sym (s.strangers q b (Window v) (ap is_some e))
+              ∙ sym
+              (skipped c (opening owner h by q b) (has owner h q b (Window v))
+              (nothing q b (Window v) (same_user by q) (is_known owner h q) refl refl (sym (s.known q) ∙ ap is_some e)))
           at_window (Some r) true e f =
-              let there_slot : slot_of ws v ≡ Some slot = slots v ∙ ap (λ c. if c then Some slot else slot_of t.windows v) f in
+              let there_slot : slot_of ws v ≡ Some slot = slots v
+              ∙ ap (λ c. if c then Some slot else slot_of t.windows v) f in
               ap (λ o. allows b (slot_bits o (with_window slot (opening_bits t.masks by q) r))) there_slot
               ∙ ap (allows b) (get_or-set_same r.windows slot (opening_bits t.masks by q) no_bits (room q r e))
               ∙ given q b (Window v) r (same_user by q) (is_known owner h q) refl refl (sym (s.known q) ∙ ap is_some e)
           at_window (Some r) false e f =
-              let old_slot : slot_of ws v ≡ slot_of t.windows v = slots v ∙ ap (λ c. if c then Some slot else slot_of t.windows v) f in
+              let old_slot : slot_of ws v ≡ slot_of t.windows v = slots v
+              ∙ ap (λ c. if c then Some slot else slot_of t.windows v) f in
               ap (λ o. allows b (slot_bits o (with_window slot (opening_bits t.masks by q) r))) old_slot
               ∙ same_slot (slot_of t.windows v) refl
               ∙ sym (ap (at_row t.windows b (Window v)) e)
               ∙ s.rights q b (Window v) (sym (ap is_some old_slot) ∙ there)
             where
-              same_slot : (o : Option ℕ) → slot_of t.windows v ≡ o → allows b (slot_bits o (with_window slot (opening_bits t.masks by q) r)) ≡ allows b (slot_bits o r)
+              same_slot : (o : Option ℕ) → slot_of t.windows v ≡ o
+                  → allows b (slot_bits o (with_window slot (opening_bits t.masks by q) r)) ≡ allows b (slot_bits o r)
               same_slot None g = refl
-              same_slot (Some k) g = ap (allows b) (get_or-set_other r.windows slot k (opening_bits t.masks by q) no_bits (apart v k g))
+              same_slot (Some k) g = ap (allows b)
+                  (get_or-set_other r.windows slot k (opening_bits t.masks by q) no_bits (apart v k g))
 
 -- what the table lets is what the definition says
-pub may-StandsFor : (t : Table) (edition : Edition) (owner : UserId) (h : History) (s : StandsFor t edition owner h) (u : UserId) (bit : Bit) (object : Object)
+pub may-StandsFor : (t : Table) (edition : Edition) (owner : UserId) (h : History) (s : StandsFor t edition owner h)
+    (u : UserId) (bit : Bit) (object : Object)
     → is_there t object ≡ true → lets t u bit object ≡ may edition owner h u bit object
 may-StandsFor t edition owner h s u bit object there =
-    (λ i. same_user (s.owned i) u || s.rights u bit object there i || list_any (λ leader. s.rights leader bit object there i) (s.led u i))
+    (λ i. same_user (s.owned i) u || s.rights u bit object there i || list_any
+    (λ leader. s.rights leader bit object there i) (s.led u i))
 
 -- an object that is there stands in the table
-pub there-StandsFor : (t : Table) (edition : Edition) (owner : UserId) (h : History) (s : StandsFor t edition owner h) (object : Object) → is_there t object ≡ there h object
+pub there-StandsFor : (t : Table) (edition : Edition) (owner : UserId) (h : History) (s : StandsFor t edition owner h)
+    (object : Object) → is_there t object ≡ there h object
 there-StandsFor t edition owner h s (Window w) = s.slots.shown w
 there-StandsFor t edition owner h s (Command c) = refl

@@ -1,5 +1,7 @@
 -- The words that are printed mean what was printed.
-use Rattle.std.proofs.Common.{◌≡◌, ℕ, suc, ◌+◌, ◌<◌, ◌≤◌, ◌^◌, Bool, true, false, not, ◌&&◌, cond, List, [], ◌∷◌, ◌++◌, length, take, drop, codes, refl, sym, ap, ◌∙◌, subst, arith, Option, Some, None, unwrap_or, true≢false, lit<}
+use Rattle.std.proofs.Common.{◌≡◌, ℕ, suc, ◌+◌, ◌<◌, ◌≤◌, ◌^◌, Bool, true, false, not, ◌&&◌, cond, List, [], ◌∷◌, ◌++◌}
+use Rattle.std.proofs.Common.{length, take, drop, codes, refl, sym, ap, ◌∙◌, subst, arith, Option, Some, None}
+use Rattle.std.proofs.Common.{unwrap_or, true≢false, lit<}
 use Rattle.std.specs.Prelude.{◌==◌, nat_lt, nat_le}
 use Rattle.std.specs.Option.{is_some}
 use Rattle.std.specs.List.{list_all}
@@ -13,7 +15,8 @@ use Rattle.std.proofs.lemmas.List.Splits.{join_with_byte-slice_split}
 use Rattle.std.proofs.lemmas.Str.{IsUtf8-append, IsUtf8-take, IsUtf8-from_ascii, IsAscii-append}
 use Rattle.std.proofs.lemmas.Str.Ascii.{IsAscii-nil, IsAscii-cons}
 use Rattle.std.proofs.lemmas.Str.Parse.{IsNumeralModel, numerals_by_fold}
-use Rattle.std.proofs.lemmas.Fmt.{digits_decimal, digits_value-decimal, length-decimal-le, decimal_nonempty, IsAscii-decimal}
+use Rattle.std.proofs.lemmas.Fmt.{digits_decimal, digits_value-decimal, length-decimal-le, decimal_nonempty}
+use Rattle.std.proofs.lemmas.Fmt.{IsAscii-decimal}
 use Rattle.acl.specs.declared.act.LockMode.{LockMode}
 use Rattle.acl.specs.declared.act.LockMode.TheVariants as lock_mode
 use Rattle.acl.specs.declared.bits.Bit.{Bit}
@@ -25,8 +28,13 @@ use Rattle.command_lang_table.specs.declared.command.Users.TheVariants as users
 use Rattle.command_lang_table.specs.declared.command.Leader.TheVariants as leader
 use Rattle.command_lang_table.specs.declared.fault.FaultKind.TheVariants as faults
 use Rattle.command_lang_table.specs.MaskFaults.{mask_fault}
-use Rattle.command_lang_table.specs.Values.{is_digit, number_after, is_number, number_in, lock_mode_in, switch_in, coding_in, is_vertical, items_of, is_empty_text, has_empty_item, users_of, leader_of, is_sign, bit_of, goes_on, is_bits, change_of, value_after, bits_after, bits_of, sign_place, mask_users, mask_of}
-use Rattle.command_lang_printing.specs.Printing.{items_word, users_word, leader_word, letter, sign, sign_before, change_behind, bits_behind, bits_word, mask_users_word, mask_word, lock_mode_word, switch_word, coding_word}
+use Rattle.command_lang_table.specs.Values.{is_digit, number_after, is_number, number_in, lock_mode_in, switch_in}
+use Rattle.command_lang_table.specs.Values.{coding_in, is_vertical, items_of, is_empty_text, has_empty_item, users_of}
+use Rattle.command_lang_table.specs.Values.{leader_of, is_sign, bit_of, goes_on, is_bits, change_of, value_after}
+use Rattle.command_lang_table.specs.Values.{bits_after, bits_of, sign_place, mask_users, mask_of}
+use Rattle.command_lang_printing.specs.Printing.{items_word, users_word, leader_word, letter, sign, sign_before}
+use Rattle.command_lang_printing.specs.Printing.{change_behind, bits_behind, bits_word, mask_users_word, mask_word}
+use Rattle.command_lang_printing.specs.Printing.{lock_mode_word, switch_word, coding_word}
 use Rattle.command_lang.proofs.Scalars.{and-parts, and-both}
 use Rattle.command_lang_table.proofs.Signs.{sign_cut}
 
@@ -59,10 +67,12 @@ leader_again t = by (bytes_eq t (codes "none")) refl
 
 -- fixed words
 pub lock_mode_again : (t : List ℕ) (m : LockMode) → lock_mode_in t ≡ Some m → lock_mode_word m ≡ t
-lock_mode_again t m h = by (bytes_eq t (codes "off")) (bytes_eq t (codes "auto")) (bytes_eq t (codes "on")) refl refl refl h
+lock_mode_again t m h = by (bytes_eq t (codes "off")) (bytes_eq t (codes "auto")) (bytes_eq t (codes "on")) refl refl
+    refl h
   where
     by : (a b c : Bool) → bytes_eq t (codes "off") ≡ a → bytes_eq t (codes "auto") ≡ b → bytes_eq t (codes "on") ≡ c
-        → cond a (Some lock_mode.Off) (cond b (Some lock_mode.Auto) (cond c (Some lock_mode.On) None)) ≡ Some m → lock_mode_word m ≡ t
+        → cond a (Some lock_mode.Off) (cond b (Some lock_mode.Auto) (cond c (Some lock_mode.On) None)) ≡ Some m
+        → lock_mode_word m ≡ t
     by true b c e f g k = ap lock_mode_word (sym (some-same lock_mode.Off m k)) ∙ same t (codes "off") e
     by false true c e f g k = ap lock_mode_word (sym (some-same lock_mode.Auto m k)) ∙ same t (codes "auto") f
     by false false true e f g k = ap lock_mode_word (sym (some-same lock_mode.On m k)) ∙ same t (codes "on") g
@@ -71,7 +81,8 @@ lock_mode_again t m h = by (bytes_eq t (codes "off")) (bytes_eq t (codes "auto")
 pub switch_again : (t : List ℕ) (m : Bool) → switch_in t ≡ Some m → switch_word m ≡ t
 switch_again t m h = by (bytes_eq t (codes "on")) (bytes_eq t (codes "off")) refl refl h
   where
-    by : (a b : Bool) → bytes_eq t (codes "on") ≡ a → bytes_eq t (codes "off") ≡ b → cond a (Some true) (cond b (Some false) None) ≡ Some m → switch_word m ≡ t
+    by : (a b : Bool) → bytes_eq t (codes "on") ≡ a → bytes_eq t (codes "off") ≡ b
+        → cond a (Some true) (cond b (Some false) None) ≡ Some m → switch_word m ≡ t
     by true b e f k = ap switch_word (sym (some-same true m k)) ∙ same t (codes "on") e
     by false true e f k = ap switch_word (sym (some-same false m k)) ∙ same t (codes "off") f
     by false false e f k = absurd (no-some m k)
@@ -79,7 +90,8 @@ switch_again t m h = by (bytes_eq t (codes "on")) (bytes_eq t (codes "off")) ref
 pub coding_again : (t : List ℕ) (m : Coding) → coding_in t ≡ Some m → coding_word m ≡ t
 coding_again t m h = by (bytes_eq t (codes "utf8")) (bytes_eq t (codes "ecma35")) refl refl h
   where
-    by : (a b : Bool) → bytes_eq t (codes "utf8") ≡ a → bytes_eq t (codes "ecma35") ≡ b → cond a (Some coding.Utf8) (cond b (Some coding.Ecma35) None) ≡ Some m → coding_word m ≡ t
+    by : (a b : Bool) → bytes_eq t (codes "utf8") ≡ a → bytes_eq t (codes "ecma35") ≡ b
+        → cond a (Some coding.Utf8) (cond b (Some coding.Ecma35) None) ≡ Some m → coding_word m ≡ t
     by true b e f k = ap coding_word (sym (some-same coding.Utf8 m k)) ∙ same t (codes "utf8") e
     by false true e f k = ap coding_word (sym (some-same coding.Ecma35 m k)) ∙ same t (codes "ecma35") f
     by false false e f k = absurd (no-some m k)
@@ -98,7 +110,10 @@ own : IsNumeralModel (λ ds. list_all is_digit ds ≡ true) (number_after 0)
 own = numerals_by_fold (λ ds. list_all is_digit ds ≡ true)
     (record {
       empty = refl;
-      parts = λ c cs h. (digit-range c (and-parts (is_digit c) (list_all is_digit cs) h).0, (and-parts (is_digit c) (list_all is_digit cs) h).1);
+      parts = λ c cs h. (
+        digit-range c (and-parts (is_digit c) (list_all is_digit cs) h).0,
+        (and-parts (is_digit c) (list_all is_digit cs) h).1,
+      );
       more = λ c cs r h. and-both (is_digit c) (list_all is_digit cs) (range-digit c r) h;
     }) number_after (record { empty = λ n. refl; more = λ n c cs r. refl })
 
@@ -117,8 +132,12 @@ small-number limit v l h =
     let hi : nat_lt (length (decimal v)) 5 ≡ true = grind (arith, nat_tests) in
     let most : nat_le v limit ≡ true = grind (arith, nat_tests) in
     record {
-      fine = and-both (list_all is_digit (decimal v) && (nat_lt 0 (length (decimal v)) && nat_lt (length (decimal v)) 5)) (nat_le (number_after 0 (decimal v)) limit)
-          (and-both (list_all is_digit (decimal v)) (nat_lt 0 (length (decimal v)) && nat_lt (length (decimal v)) 5) (digits_decimal own v wide) (and-both (nat_lt 0 (length (decimal v))) (nat_lt (length (decimal v)) 5) lo hi))
+      fine = and-both
+          (list_all is_digit (decimal v) && (nat_lt 0 (length (decimal v)) && nat_lt (length (decimal v)) 5))
+          (nat_le (number_after 0 (decimal v)) limit)
+          (and-both (list_all is_digit (decimal v)) (nat_lt 0 (length (decimal v)) && nat_lt (length (decimal v)) 5)
+          (digits_decimal own v wide)
+          (and-both (nat_lt 0 (length (decimal v))) (nat_lt (length (decimal v)) 5) lo hi))
           (ap (λ n. nat_le n limit) value ∙ most);
       value = value;
       text = IsUtf8-from_ascii (decimal v) (IsAscii-decimal v wide);
@@ -130,13 +149,16 @@ number_again limit v t l h = by (is_number limit t) refl h
     by : (b : Bool) → is_number limit t ≡ b → cond b (Some (number_after 0 t)) None ≡ Some v → Again limit v
     by true e k =
         let s = some-same (number_after 0 t) v k in
-        let p = (and-parts (list_all is_digit t && (nat_lt 0 (length t) && nat_lt (length t) 5)) (nat_le (number_after 0 t) limit) e).1 in
+        let p =
+        (and-parts (list_all is_digit t && (nat_lt 0 (length t) && nat_lt (length t) 5))
+        (nat_le (number_after 0 t) limit) e).1 in
         let m : number_after 0 t ≤ limit = grind (arith, nat_tests, p) in
         small-number limit v l (omega (arith, s, m))
     by false e k = absurd (no-some v k)
 
 -- Bits. A sign or a letter more.
-letter-goes : (v w : Bool) (b : Bit) (rest : List ℕ) → goes_on false rest ≡ true → goes_on false ((sign_before (Some v) w ++ letter b ∷ []) ++ rest) ≡ true
+letter-goes : (v w : Bool) (b : Bit) (rest : List ℕ) → goes_on false rest ≡ true
+    → goes_on false ((sign_before (Some v) w ++ letter b ∷ []) ++ rest) ≡ true
 letter-goes true true Read rest h = h
 letter-goes true true Write rest h = h
 letter-goes true true Execute rest h = h
@@ -154,7 +176,8 @@ goes-behind : (v : Bool) (b : List BitChange) → goes_on false (bits_behind (So
 goes-behind v [] = refl
 goes-behind v (c ∷ cs) = letter-goes v c.value c.bit (bits_behind (Some c.value) cs) (goes-behind c.value cs)
 
-letter-gives : (v w : Bool) (b : Bit) (rest : List ℕ) (cs : List BitChange) → bits_after w rest ≡ cs → bits_after v ((sign_before (Some v) w ++ letter b ∷ []) ++ rest) ≡ record { bit = b; value = w } ∷ cs
+letter-gives : (v w : Bool) (b : Bit) (rest : List ℕ) (cs : List BitChange) → bits_after w rest ≡ cs
+    → bits_after v ((sign_before (Some v) w ++ letter b ∷ []) ++ rest) ≡ record { bit = b; value = w } ∷ cs
 letter-gives true true Read rest cs h = ap (λ l. record { bit = Read; value = true } ∷ l) h
 letter-gives true true Write rest cs h = ap (λ l. record { bit = Write; value = true } ∷ l) h
 letter-gives true true Execute rest cs h = ap (λ l. record { bit = Execute; value = true } ∷ l) h
@@ -183,7 +206,8 @@ pub record BitsAgain (b : List BitChange) : Type 0 where
   pub text : IsUtf8 (bits_word b)
   pub begins : HeadSign (bits_word b)
 
-first-goes : (w : Bool) (b : Bit) (rest : List ℕ) → goes_on false rest ≡ true → is_bits ((sign w ∷ letter b ∷ []) ++ rest) ≡ true
+first-goes : (w : Bool) (b : Bit) (rest : List ℕ) → goes_on false rest ≡ true
+    → is_bits ((sign w ∷ letter b ∷ []) ++ rest) ≡ true
 first-goes true Read rest h = h
 first-goes true Write rest h = h
 first-goes true Execute rest h = h
@@ -191,7 +215,8 @@ first-goes false Read rest h = h
 first-goes false Write rest h = h
 first-goes false Execute rest h = h
 
-first-gives : (w : Bool) (b : Bit) (rest : List ℕ) (cs : List BitChange) → bits_after w rest ≡ cs → bits_of ((sign w ∷ letter b ∷ []) ++ rest) ≡ record { bit = b; value = w } ∷ cs
+first-gives : (w : Bool) (b : Bit) (rest : List ℕ) (cs : List BitChange) → bits_after w rest ≡ cs
+    → bits_of ((sign w ∷ letter b ∷ []) ++ rest) ≡ record { bit = b; value = w } ∷ cs
 first-gives true Read rest cs h = ap (λ l. record { bit = Read; value = true } ∷ l) h
 first-gives true Write rest cs h = ap (λ l. record { bit = Write; value = true } ∷ l) h
 first-gives true Execute rest cs h = ap (λ l. record { bit = Execute; value = true } ∷ l) h
@@ -216,7 +241,8 @@ ascii_bits : (last : Option Bool) (b : List BitChange) → IsAscii (bits_behind 
 ascii_bits last [] = IsAscii-nil
 ascii_bits last (c ∷ cs) =
     IsAscii-append (change_behind last c) (bits_behind (Some c.value) cs)
-    (IsAscii-append (sign_before last c.value) (letter c.bit ∷ []) (ascii_sign last c.value) (ascii_letter c.bit)) (ascii_bits (Some c.value) cs)
+    (IsAscii-append (sign_before last c.value) (letter c.bit ∷ []) (ascii_sign last c.value) (ascii_letter c.bit))
+    (ascii_bits (Some c.value) cs)
 
 sign-is : (w : Bool) → is_sign (sign w) ≡ true
 sign-is true = refl
@@ -243,9 +269,11 @@ wanted : (v : Bool) (cs : List ℕ) → goes_on true cs ≡ true → IsSome-bits
 wanted v [] h = absurd (true≢false (sym h))
 wanted v (c ∷ cs) h = by (bit_of c) h
   where
-    by : (o : Option Bit) → cond (is_some o) (goes_on false cs) ((is_sign c && false) && goes_on true cs) ≡ true → IsSome-bits (change_of v o ++ bits_after (value_after v c o) cs)
+    by : (o : Option Bit) → cond (is_some o) (goes_on false cs) ((is_sign c && false) && goes_on true cs) ≡ true
+        → IsSome-bits (change_of v o ++ bits_after (value_after v c o) cs)
     by (Some b) k = tt
-    by None k = absurd (true≢false (sym (and-parts (is_sign c) false (and-parts (is_sign c && false) (goes_on true cs) k).0).1))
+    by None k = absurd
+        (true≢false (sym (and-parts (is_sign c) false (and-parts (is_sign c && false) (goes_on true cs) k).0).1))
 
 some-of : (b : List BitChange) → IsSome-bits b → BitsAgain b
 some-of [] h = absurd h
@@ -255,7 +283,8 @@ pub bits_again : (t : List ℕ) → is_bits t ≡ true → BitsAgain (bits_of t)
 bits_again [] h = absurd (true≢false (sym h))
 bits_again (c ∷ cs) h =
     some-of (bits_of (c ∷ cs))
-    (some-behind (change_of true (bit_of c)) (bits_after (value_after true c (bit_of c)) cs) (wanted (value_after true c (bit_of c)) cs (and-parts (is_sign c) (goes_on true cs) h).1))
+    (some-behind (change_of true (bit_of c)) (bits_after (value_after true c (bit_of c)) cs)
+    (wanted (value_after true c (bit_of c)) cs (and-parts (is_sign c) (goes_on true cs) h).1))
 
 -- Masks.
 abbrev NoSign : List ℕ → Type 0
@@ -269,7 +298,8 @@ no-sign-before : (t : List ℕ) → NoSign (take (sign_place t) t)
 no-sign-before [] = tt
 no-sign-before (x ∷ t) = by (is_sign x) refl (no-sign-before t)
   where
-    by : (b : Bool) → is_sign x ≡ b → NoSign (take (sign_place t) t) → NoSign (take (cond (not b) (1 + sign_place t) 0) (x ∷ t))
+    by : (b : Bool) → is_sign x ≡ b → NoSign (take (sign_place t) t)
+        → NoSign (take (cond (not b) (1 + sign_place t) 0) (x ∷ t))
     by true e h = tt
     by false e h = subst (λ n. NoSign (take n (x ∷ t))) (sym (one-more (sign_place t))) (e, h)
 
@@ -279,7 +309,8 @@ at-head (y ∷ ys) h = ap (λ b. cond (not b) (1 + sign_place ys) 0) h
 
 place-append : (xs ys : List ℕ) → NoSign xs → HeadSign ys → sign_place (xs ++ ys) ≡ length xs
 place-append [] ys n h = at-head ys h
-place-append (x ∷ xs) ys n h = ap (λ b. cond (not b) (1 + sign_place (xs ++ ys)) 0) n.0 ∙ one-more (sign_place (xs ++ ys)) ∙ ap suc (place-append xs ys n.1 h)
+place-append (x ∷ xs) ys n h = ap (λ b. cond (not b) (1 + sign_place (xs ++ ys)) 0) n.0
+    ∙ one-more (sign_place (xs ++ ys)) ∙ ap suc (place-append xs ys n.1 h)
 
 empty-is : (f : List ℕ) → is_empty_text f ≡ true → [] ≡ f
 empty-is [] h = refl
@@ -292,7 +323,8 @@ mask_users_again f = by (is_empty_text f) refl
     by true e = empty-is f e
     by false e = users_again f
 
-mask-parts : (a b : Bool) → cond (not a) (Some faults.BadBits) (cond b (Some faults.BadWord) None) ≡ None → (a ≡ true) × (cond b (Some faults.BadWord) None ≡ None)
+mask-parts : (a b : Bool) → cond (not a) (Some faults.BadBits) (cond b (Some faults.BadWord) None) ≡ None → (a ≡ true)
+    × (cond b (Some faults.BadWord) None ≡ None)
 mask-parts true b h = (refl, h)
 mask-parts false b h = absurd (true≢false (ap is_some h))
 
@@ -303,13 +335,15 @@ pub record MaskAgain (t : List ℕ) : Type 0 where
 
 -- a text whose users and bits are these
 joined : (f b : List ℕ) → NoSign f → HeadSign b → (mask_of (f ++ b) ≡ record { users = mask_users f; bits = bits_of b })
-    × (mask_fault (f ++ b) ≡ cond (not (is_bits b)) (Some faults.BadBits) (cond (not (is_empty_text f) && has_empty_item f) (Some faults.BadWord) None))
+    × (mask_fault (f ++ b) ≡ cond (not (is_bits b)) (Some faults.BadBits)
+    (cond (not (is_empty_text f) && has_empty_item f) (Some faults.BadWord) None))
 joined f b n h =
     let p = place-append f b n h in
     let x = ap (λ m. take m (f ++ b)) p ∙ take-append_seam f b in
     let y = ap (λ m. drop m (f ++ b)) p ∙ drop-append_seam f b in (
       (λ j. record { users = mask_users (x j); bits = bits_of (y j) }),
-      (λ j. cond (not (is_bits (y j))) (Some faults.BadBits) (cond (not (is_empty_text (x j)) && has_empty_item (x j)) (Some faults.BadWord) None)),
+      (λ j. cond (not (is_bits (y j))) (Some faults.BadBits)
+          (cond (not (is_empty_text (x j)) && has_empty_item (x j)) (Some faults.BadWord) None)),
     )
 
 pub mask_again : (t : List ℕ) → IsUtf8 t → mask_fault t ≡ None → MaskAgain t
@@ -319,10 +353,15 @@ mask_again t u h =
     let d = drop n t in
     let p = mask-parts (is_bits d) (not (is_empty_text f) && has_empty_item f) h in
     let b = bits_again d p.0 in
-    let e : mask_word (mask_of t) ≡ f ++ bits_word (bits_of d) = ap (λ l. l ++ bits_word (bits_of d)) (mask_users_again f) in
+    let e : mask_word (mask_of t) ≡ f ++ bits_word (bits_of d) = ap (λ l. l ++ bits_word (bits_of d))
+    (mask_users_again f) in
     let j = joined f (bits_word (bits_of d)) (no-sign-before t) b.begins in
     record {
-      fine = ap mask_fault e ∙ j.1 ∙ ap (λ c. cond (not c) (Some faults.BadBits) (cond (not (is_empty_text f) && has_empty_item f) (Some faults.BadWord) None)) b.fine ∙ p.1;
+      fine = ap mask_fault e ∙ j.1
+          ∙ ap
+          (λ c. cond (not c) (Some faults.BadBits)
+          (cond (not (is_empty_text f) && has_empty_item f) (Some faults.BadWord) None)) b.fine ∙ p.1;
       value = ap mask_of e ∙ j.0 ∙ ap (λ l. record { users = mask_users f; bits = l }) b.value;
-      text = subst IsUtf8 (sym e) (IsUtf8-append f (bits_word (bits_of d)) (IsUtf8-take t n u (sign_cut t n refl)) b.text);
+      text = subst IsUtf8 (sym e)
+          (IsUtf8-append f (bits_word (bits_of d)) (IsUtf8-take t n u (sign_cut t n refl)) b.text);
     }

@@ -1,5 +1,6 @@
 -- A command that gives a window a number gives it one below 40.
-use Rattle.std.proofs.Common.{◌≡◌, ℕ, ◌<◌, Bool, true, false, List, [], ◌∷◌, Option, Some, None, refl, ap, sym, ◌∙◌, arith}
+use Rattle.std.proofs.Common.{◌≡◌, ℕ, ◌<◌, Bool, true, false, List, [], ◌∷◌, Option, Some, None, refl, ap, sym, ◌∙◌}
+use Rattle.std.proofs.Common.{arith}
 use Rattle.std.specs.Prelude.{nat_lt, nat_le, ◌&&◌, if◌then◌else◌}
 use Rattle.std.specs.Option.{option_map, option_map_or, option_and_then}
 use Rattle.std.proofs.lemmas.Bool.Decides.{nat_tests}
@@ -9,7 +10,8 @@ use Rattle.command_lang_words.specs.declared.word.Word.{Word}
 use Rattle.command_lang_table.specs.declared.command.Command.{Command}
 use Rattle.command_lang_table.specs.declared.command.Command.TheVariants as command
 use Rattle.command_lang_table.specs.Names.{command_named}
-use Rattle.command_lang_table.specs.Values.{number_in, number_after, is_number, is_vertical, lock_mode_in, switch_in, coding_in}
+use Rattle.command_lang_table.specs.Values.{number_in, number_after, is_number, is_vertical, lock_mode_in, switch_in}
+use Rattle.command_lang_table.specs.Values.{coding_in}
 use Rattle.command_lang_table.specs.Meaning.{bare, with_word, with_words, command_of, texts_of, line_command}
 use Rattle.command_lang.specs.Relation.{Relates}
 
@@ -34,7 +36,8 @@ numbered text = on (is_number 39 text) refl where
   small : (n : ℕ) → nat_le n 39 ≡ true → nat_lt n 40 ≡ true
   small n le = grind (arith, nat_tests, le)
 
-  on : (b : Bool) → is_number 39 text ≡ b → AreSmall (option_map command.Number (if b then Some (number_after 0 text) else None))
+  on : (b : Bool) → is_number 39 text ≡ b
+      → AreSmall (option_map command.Number (if b then Some (number_after 0 text) else None))
   on true is = small (number_after 0 text) (second _ (nat_le (number_after 0 text) 39) is)
   on false is = refl
 

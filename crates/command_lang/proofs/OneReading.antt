@@ -1,5 +1,6 @@
 -- Each line is a command or has a fault, and not both.
-use Rattle.std.proofs.Common.{◌≡◌, ℕ, ◌<◌, ◌≤◌, Bool, true, false, cond, List, [], ◌∷◌, length, refl, sym, ap, ◌∙◌, subst, arith, Option, Some, None, Result, Ok, Err, inl, inr, ◌⊎◌, true≢false}
+use Rattle.std.proofs.Common.{◌≡◌, ℕ, ◌<◌, ◌≤◌, Bool, true, false, cond, List, [], ◌∷◌, length, refl, sym, ap, ◌∙◌}
+use Rattle.std.proofs.Common.{subst, arith, Option, Some, None, Result, Ok, Err, inl, inr, ◌⊎◌, true≢false}
 use Rattle.std.specs.Prelude.{nat_lt}
 use Rattle.std.proofs.lemmas.Bool.Decides.{nat_tests}
 use Rattle.std.specs.Option.{is_some, option_and_then}
@@ -33,7 +34,8 @@ more-than : (n : ℕ) → nat_lt 1024 n ≡ true → 1024 < n
 more-than n h = grind (arith, nat_tests)
 
 choice : List ℕ → Bool → Bool → List ParseFault
-choice line a b = cond a (at 1024 faults.TooLong ∷ []) (cond b (line_faults (length line) (words (chars line))) (at 0 faults.BadWord ∷ []))
+choice line a b = cond a (at 1024 faults.TooLong ∷ [])
+    (cond b (line_faults (length line) (words (chars line))) (at 0 faults.BadWord ∷ []))
 
 words_faults_are : (line : List ℕ) (ws : List Word) → HasWords line ws → faults_of line ≡ line_faults (length line) ws
 unfolding choice
@@ -44,7 +46,8 @@ words_faults_are line ws h =
 first_fault : (line : List ℕ) (f : ParseFault) → Refuses line f → first_of (faults_of line) ≡ Some f
 unfolding choice
 first_fault line f (Refuses.long l) = ap (λ a. first_of (choice line a (is_utf8 line))) (long line l)
-first_fault line f (Refuses.no_text l e) = ap (λ a. first_of (choice line a (is_utf8 line))) (short line l) ∙ ap (λ b. first_of (choice line false b)) e
+first_fault line f (Refuses.no_text l e) = ap (λ a. first_of (choice line a (is_utf8 line))) (short line l)
+    ∙ ap (λ b. first_of (choice line false b)) e
 first_fault line f (Refuses.fault {ws = ws} h e) = ap first_of (words_faults_are line ws h) ∙ e
 
 answer : Option ParseFault → Option Command → Result Command ParseFault
@@ -69,7 +72,8 @@ means-some : (end : ℕ) (ws : List Word) → first_of (line_faults end ws) ≡ 
 means-some end [] h = absurd (true≢false (ap is_some h))
 means-some end (w ∷ ws) h = by w.is_closed (command_named w.text) h
   where
-    by : (b : Bool) (o : Option CommandName) → first_of (cond b (named_faults o w.place end ws) (at w.place faults.BadQuote ∷ [])) ≡ None
+    by : (b : Bool) (o : Option CommandName)
+        → first_of (cond b (named_faults o w.place end ws) (at w.place faults.BadQuote ∷ [])) ≡ None
         → is_some (option_and_then (λ n. command_of n (texts_of ws)) o) ≡ true
     by true None k = absurd (true≢false (ap is_some k))
     by true (Some n) k = means_one n (texts_of ws) (fits (takes n) end ws k)
@@ -78,13 +82,15 @@ means-some end (w ∷ ws) h = by w.is_closed (command_named w.text) h
 abbrev pub Answered : List ℕ → Type 0
 Answered line = ((c : Command) × Relates line c) ⊎ ((f : ParseFault) × Refuses line f)
 
-of-words : (line : List ℕ) (ws : List Word) → HasWords line ws → (o : Option ParseFault) → first_of (line_faults (length line) ws) ≡ o → Answered line
+of-words : (line : List ℕ) (ws : List Word) → HasWords line ws → (o : Option ParseFault)
+    → first_of (line_faults (length line) ws) ≡ o → Answered line
 of-words line ws h (Some f) e = inr (f, Refuses.fault h e)
 of-words line ws h None e = means (line_command ws) refl (means-some (length line) ws e)
   where
     means : (c : Option Command) → line_command ws ≡ c → is_some c ≡ true → Answered line
     means None m k = absurd (true≢false (sym k))
-    means (Some c) m k = inl (c, record { words = ws; has = h; fine = no-fault (line_faults (length line) ws) e; means = m })
+    means (Some c) m k = inl
+        (c, record { words = ws; has = h; fine = no-fault (line_faults (length line) ws) e; means = m })
 
 pub answered : (line : List ℕ) → Answered line
 answered line = by (nat_lt 1024 (length line)) (is_utf8 line) refl refl
@@ -93,7 +99,8 @@ answered line = by (nat_lt 1024 (length line)) (is_utf8 line) refl refl
     by true b e g = inr (at 1024 faults.TooLong, Refuses.long (more-than (length line) e))
     by false false e g = inr (at 0 faults.BadWord, Refuses.no_text (at-most (length line) e) g)
     by false true e g =
-        of-words line (words (chars line)) (record { short = at-most (length line) e; text = g; cut = words-cut (chars line) }) _ refl
+        of-words line (words (chars line))
+        (record { short = at-most (length line) e; text = g; cut = words-cut (chars line) }) _ refl
 
 same-command : (c d : Command) (r : Result Command ParseFault) → r ≡ Ok c → r ≡ Ok d → c ≡ d
 same-command c d r h k = let e = sym h ∙ k in cc

@@ -1,5 +1,6 @@
 -- The first fault of a line has the least place.
-use Rattle.std.proofs.Common.{◌≡◌, ℕ, ◌+◌, ◌-◌, ◌≤◌, Bool, true, false, cond, List, [], ◌∷◌, ◌++◌, length, sym, ap, ◌∙◌, subst, arith, Option, Some, None, option_to_list, unwrap_or, true≢false}
+use Rattle.std.proofs.Common.{◌≡◌, ℕ, ◌+◌, ◌-◌, ◌≤◌, Bool, true, false, cond, List, [], ◌∷◌, ◌++◌, length, sym, ap, ◌∙◌}
+use Rattle.std.proofs.Common.{subst, arith, Option, Some, None, option_to_list, unwrap_or, true≢false}
 use Rattle.std.specs.Prelude.{nat_lt}
 use Rattle.std.specs.List.{AllByRecursion}
 use Rattle.std.specs.Option.{is_some}
@@ -36,12 +37,16 @@ rising end (Line.blank {cs = cs} {ws = ws} d) h =
     let l = size-cons 0x20 cs in
     lower (end - size (0x20 ∷ cs)) (end - size cs) end ws (omega (arith, l)) (rising end d (omega (arith, l, h)))
 rising end (Line.word {c = c} {cs = cs} {text = text} {rest = rest} {ws = ws} n f d) h =
-    let l = smaller 1 (c ∷ cs) rest (word-behind c cs text (Some rest) n f) in
-    (omega arith, lower (end - size (c ∷ cs)) (end - size rest) end ws (omega (arith, l)) (rising end d (omega (arith, l, h))))
+    let l = smaller 1 (c ∷ cs) rest (word-behind c cs text (Some rest) n f) in (
+      omega arith,
+      lower (end - size (c ∷ cs)) (end - size rest) end ws (omega (arith, l))
+          (rising end d (omega (arith, l, h))),
+    )
 rising end (Line.broken n f) h = (omega arith, omega arith)
 
 rising-cut : (cs : List ℕ) (ws : List Word) (end : ℕ) → IsCut cs ws → size cs ≡ end → Rising 0 end ws
-rising-cut cs ws end d e = subst (λ n. Rising 0 n ws) e (lower 0 (size cs - size cs) (size cs) ws (omega arith) (rising (size cs) d (omega arith)))
+rising-cut cs ws end d e = subst (λ n. Rising 0 n ws) e
+    (lower 0 (size cs - size cs) (size cs) ws (omega arith) (rising (size cs) d (omega arith)))
 
 -- faults at rising places
 abbrev Sorted : ℕ → List ParseFault → Type 0
@@ -52,7 +57,8 @@ later : (p q : ℕ) (fs : List ParseFault) → p ≤ q → Sorted q fs → Sorte
 later p q [] h s = tt
 later p q (f ∷ fs) h s = (omega (arith, h, s.0), s.1)
 
-joined : (p q : ℕ) (o : Option FaultKind) (fs : List ParseFault) → p ≤ q → Sorted q fs → Sorted p (option_to_list (at_place q o) ++ fs)
+joined : (p q : ℕ) (o : Option FaultKind) (fs : List ParseFault) → p ≤ q → Sorted q fs
+    → Sorted p (option_to_list (at_place q o) ++ fs)
 joined p q None fs h s = later p q fs h s
 joined p q (Some k) fs h s = (h, s)
 
@@ -64,20 +70,25 @@ sorted-words r i p end [] h = by (nat_lt i (least r))
     by true = (h, tt)
     by false = tt
 sorted-words r i p end (w ∷ ws) h =
-    joined p w.place (cond w.is_closed (judged (kind_at r i) w.text) (Some faults.BadQuote)) (words_faults r (i + 1) end ws) h.0 (sorted-words r (i + 1) w.place end ws h.1)
+    joined p w.place (cond w.is_closed (judged (kind_at r i) w.text) (Some faults.BadQuote))
+    (words_faults r (i + 1) end ws) h.0 (sorted-words r (i + 1) w.place end ws h.1)
 
 sorted-line : (end : ℕ) (ws : List Word) → Rising 0 end ws → Sorted 0 (line_faults end ws)
 sorted-line end [] h = (h, tt)
 sorted-line end (w ∷ ws) h = by w.is_closed (command_named w.text)
   where
-    by : (b : Bool) (o : Option CommandName) → Sorted 0 (cond b (named_faults o w.place end ws) (at w.place faults.BadQuote ∷ []))
+    by : (b : Bool) (o : Option CommandName)
+        → Sorted 0 (cond b (named_faults o w.place end ws) (at w.place faults.BadQuote ∷ []))
     by true None = (h.0, tt)
-    by true (Some n) = later 0 w.place (words_faults (takes n) 0 end ws) h.0 (sorted-words (takes n) 0 w.place end ws h.1)
+    by true (Some n) = later 0 w.place (words_faults (takes n) 0 end ws) h.0
+        (sorted-words (takes n) 0 w.place end ws h.1)
     by false o = (h.0, tt)
 
 sorted-faults : (line : List ℕ) (ws : List Word) → HasWords line ws → Sorted 0 (line_faults (length line) ws)
 sorted-faults line ws h =
-    sorted-line (length line) ws (rising-cut (chars line) ws (length line) h.cut (ap length (encodes-chars line (IsUtf8-from_is_utf8 line h.text))))
+    sorted-line (length line) ws
+    (rising-cut (chars line) ws (length line) h.cut
+    (ap length (encodes-chars line (IsUtf8-from_is_utf8 line h.text))))
 
 -- none before the first
 abbrev AllFrom : ℕ → List ParseFault → Type 0
@@ -99,4 +110,5 @@ least_place line f (Refuses.long l) ws h = absurd (let s = h.short in omega (ari
 least_place line f (Refuses.no_text l e) ws h = absurd (true≢false (sym h.text ∙ e))
 least_place line f (Refuses.fault {ws = vs} k e) ws h =
     let same = one_cut (chars line) vs ws k.cut h.cut in
-    first-least 0 (line_faults (length line) ws) f (sorted-faults line ws h) (ap (λ l. first_of (line_faults (length line) l)) (sym same) ∙ e)
+    first-least 0 (line_faults (length line) ws) f (sorted-faults line ws h)
+    (ap (λ l. first_of (line_faults (length line) l)) (sym same) ∙ e)

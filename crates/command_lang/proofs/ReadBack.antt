@@ -1,5 +1,6 @@
 -- A printed command reads back.
-use Rattle.std.proofs.Common.{◌≡◌, ℕ, ◌≤◌, Bool, true, false, cond, List, [], ◌∷◌, length, refl, sym, ap, ◌∙◌, subst, Option, Some, None, true≢false}
+use Rattle.std.proofs.Common.{◌≡◌, ℕ, ◌≤◌, Bool, true, false, cond, List, [], ◌∷◌, length, refl, sym, ap, ◌∙◌, subst}
+use Rattle.std.proofs.Common.{Option, Some, None, true≢false}
 use Rattle.std.specs.Option.{is_some, option_and_then}
 use Rattle.std.specs.Str.{chars, IsUtf8}
 use Rattle.std.proofs.lemmas.Str.{IsUtf8-from_is_utf8, chars-encodes, scalars-chars}
@@ -40,9 +41,12 @@ named : (end : ℕ) (ws : List Word) (c : Command) → line_faults end ws ≡ []
 named end [] c h m = absurd (some-fault (at end faults.MissingWord) [] h)
 named end (w ∷ ws) c h m = by w.is_closed (command_named w.text) h m
   where
-    by : (b : Bool) (o : Option CommandName) → cond b (named_faults o w.place end ws) (at w.place faults.BadQuote ∷ []) ≡ [] → option_and_then (λ n. command_of n (texts_of ws)) o ≡ Some c → Named (w ∷ ws) c
+    by : (b : Bool) (o : Option CommandName)
+        → cond b (named_faults o w.place end ws) (at w.place faults.BadQuote ∷ []) ≡ []
+        → option_and_then (λ n. command_of n (texts_of ws)) o ≡ Some c → Named (w ∷ ws) c
     by true None k e = absurd (some-fault (at w.place faults.UnknownCommand) [] k)
-    by true (Some n) k e = record { name = n; texts = texts_of ws; means = e; fit = fits (takes n) end ws (ap first_of k); spelled = λ u. u.1 }
+    by true (Some n) k e = record
+        { name = n; texts = texts_of ws; means = e; fit = fits (takes n) end ws (ap first_of k); spelled = λ u. u.1 }
     by false o k e = absurd (some-fault (at w.place faults.BadQuote) [] k)
 
 name-found : (n : CommandName) → command_named (name_text n) ≡ Some n
@@ -50,12 +54,14 @@ unfolding command_named
 name-found name.Acladd = refl
 name-found _ = refl
 
-line-fine : (end : ℕ) (n : CommandName) (w : Word) (ws : List Word) → w.is_closed ≡ true → w.text ≡ name_text n → words_faults (takes n) 0 end ws ≡ [] → line_faults end (w ∷ ws) ≡ []
+line-fine : (end : ℕ) (n : CommandName) (w : Word) (ws : List Word) → w.is_closed ≡ true → w.text ≡ name_text n
+    → words_faults (takes n) 0 end ws ≡ [] → line_faults end (w ∷ ws) ≡ []
 line-fine end n w ws h t f =
     ap (λ b. cond b (named_faults (command_named w.text) w.place end ws) (at w.place faults.BadQuote ∷ [])) h
     ∙ ap (λ o. named_faults o w.place end ws) (ap command_named t ∙ name-found n) ∙ f
 
-line-means : (n : CommandName) (w : Word) (ws : List Word) → w.text ≡ name_text n → line_command (w ∷ ws) ≡ command_of n (texts_of ws)
+line-means : (n : CommandName) (w : Word) (ws : List Word) → w.text ≡ name_text n
+    → line_command (w ∷ ws) ≡ command_of n (texts_of ws)
 line-means n w ws t = ap (option_and_then (λ m. command_of m (texts_of ws))) (ap command_named t ∙ name-found n)
 
 printed-text : (c : Command) → AllText (words_of c) → IsUtf8 (printed c) × (chars (printed c) ≡ printed_chars c)
@@ -70,14 +76,17 @@ reads c s h =
     let p = printed-text c s.text in
     let l = line-spells n (words_of c) s.text in
     let fit : Fits (takes n) (texts_of l.behind) = subst (Fits (takes n)) (sym l.spelled.texts) s.fit in
-    let fine = line-fine (length (printed c)) n l.first l.behind l.whole l.name (no_faults (takes n) (length (printed c)) l.behind l.spelled.whole fit) in
+    let fine = line-fine (length (printed c)) n l.first l.behind l.whole l.name
+    (no_faults (takes n) (length (printed c)) l.behind l.spelled.whole fit) in
     let means = line-means n l.first l.behind l.name ∙ ap (command_of n) l.spelled.texts ∙ s.again in
-    relates (printed c) (l.first ∷ l.behind) c h p.0 (subst (λ cs. IsCut cs (l.first ∷ l.behind)) (sym p.1) l.cut) (fine, means)
+    relates (printed c) (l.first ∷ l.behind) c h p.0 (subst (λ cs. IsCut cs (l.first ∷ l.behind)) (sym p.1) l.cut)
+    (fine, means)
 
 pub read_back : (line : List ℕ) (c : Command) → Relates line c → ReadsBack (printed c) c
 read_back line c r =
     let m = named (length line) r.words c r.fine r.means in
-    let u = m.spelled (of-cut (chars line) r.words r.has.cut (scalars-chars line (IsUtf8-from_is_utf8 line r.has.text))) in
+    let u = m.spelled (of-cut (chars line) r.words r.has.cut (scalars-chars line (IsUtf8-from_is_utf8 line r.has.text)))
+    in
     let s = sound m.name m.texts m.fit u c m.means in
     record {
       short = reads c (subst (λ n. Sound n c) (sym s.named) s);

@@ -1,12 +1,14 @@
 -- The texts of words of characters are text.
-use Rattle.std.proofs.Common.{◌≡◌, ℕ, ◌+◌, ◌-◌, ◌*◌, ◌<◌, Bool, true, false, ◌&&◌, cond, List, [], ◌∷◌, ◌++◌, refl, sym, ap, ◌∙◌, arith, true≢false, Option, Some, None, unwrap_or}
+use Rattle.std.proofs.Common.{◌≡◌, ℕ, ◌+◌, ◌-◌, ◌*◌, ◌<◌, Bool, true, false, ◌&&◌, cond, List, [], ◌∷◌, ◌++◌, refl, sym}
+use Rattle.std.proofs.Common.{ap, ◌∙◌, arith, true≢false, Option, Some, None, unwrap_or}
 use Rattle.std.specs.Prelude.{nat_lt}
 use Rattle.std.proofs.lemmas.Bool.Decides.{nat_tests}
 use Rattle.std.proofs.Math.Utf8.{scalars, scalar}
 use Rattle.std.specs.Str.{IsUtf8}
 use Rattle.std.specs.Option.{is_some}
 use Rattle.command_lang_words.specs.declared.word.Word.{Word}
-use Rattle.command_lang_words.specs.Grammar.{is_octal, octal_front, Escaped, Character, Single, Double, Part, Parts, Line, IsCut, size}
+use Rattle.command_lang_words.specs.Grammar.{is_octal, octal_front, Escaped, Character, Single, Double, Part, Parts}
+use Rattle.command_lang_words.specs.Grammar.{Line, IsCut, size}
 use Rattle.command_lang_words.proofs.Suffixes.{Behind, character-behind, part-behind, parts-behind}
 use Rattle.command_lang_table.specs.Meaning.{texts_of}
 
@@ -29,7 +31,8 @@ small-scalar c h = grind (arith, nat_tests)
 lone : (c : ℕ) → scalar c ≡ true → scalars (c ∷ []) ≡ true
 lone c h = and-both (scalar c) true h refl
 
-octal_small : (a b c : ℕ) → ((is_octal a && nat_lt a 0x32) && (is_octal b && is_octal c)) ≡ true → ((a - 0x30) * 8 + (b - 0x30)) * 8 + (c - 0x30) < 128
+octal_small : (a b c : ℕ) → ((is_octal a && nat_lt a 0x32) && (is_octal b && is_octal c)) ≡ true
+    → ((a - 0x30) * 8 + (b - 0x30)) * 8 + (c - 0x30) < 128
 octal_small a b c h =
     let p = and-parts (is_octal a && nat_lt a 0x32) (is_octal b && is_octal c) h in
     let q = and-parts (is_octal a) (nat_lt a 0x32) p.0 in
@@ -65,7 +68,8 @@ of-escaped (Escaped.octal {cs = cs} {c = c} e) h = of-octal cs c e
 of-escaped (Escaped.itself {c = c} {rest = rest} e) h = lone c (and-parts (scalar c) (scalars rest) h).0
 of-escaped Escaped.unended h = refl
 
-of-character : {cs text : List ℕ} {end : Option (List ℕ)} → Character cs text end → scalars cs ≡ true → scalars text ≡ true
+of-character : {cs text : List ℕ} {end : Option (List ℕ)} → Character cs text end → scalars cs ≡ true
+    → scalars text ≡ true
 of-character (Character.plain {c = c} {rest = rest} n) h = lone c (and-parts (scalar c) (scalars rest) h).0
 of-character (Character.escape {cs = cs} d) h = of-escaped d (and-parts (scalar 0x5C) (scalars cs) h).1
 

@@ -1,5 +1,6 @@
 -- The words of printed characters.
-use Rattle.std.proofs.Common.{◌≡◌, ◌≢◌, Some, ℕ, ◌+◌, ◌-◌, ◌/◌, ◌%◌, Bool, true, false, not, ◌&&◌, ◌||◌, cond, List, [], ◌∷◌, ◌++◌, refl, sym, ap, ◌∙◌, subst, arith, append_assoc, true≢false}
+use Rattle.std.proofs.Common.{◌≡◌, ◌≢◌, Some, ℕ, ◌+◌, ◌-◌, ◌/◌, ◌%◌, Bool, true, false, not, ◌&&◌, ◌||◌, cond, List, []}
+use Rattle.std.proofs.Common.{◌∷◌, ◌++◌, refl, sym, ap, ◌∙◌, subst, arith, append_assoc, true≢false}
 use Rattle.std.specs.Prelude.{◌==◌, nat_lt}
 use Rattle.std.specs.List.{list_all}
 use Rattle.std.specs.Str.{chars, IsUtf8, encode_utf8_all}
@@ -14,7 +15,8 @@ use Rattle.command_lang_table.specs.Names.{name_text}
 use Rattle.command_lang_table.specs.Values.{is_empty_text}
 use Rattle.command_lang_words.specs.Grammar.{Character, Double, Part, Parts, Line, IsCut, size}
 use Rattle.command_lang_table.specs.Meaning.{texts_of}
-use Rattle.command_lang_printing.specs.Printing.{is_plain, octal, escaped, quoted, needs_no_quotes, printed_word, printed_words}
+use Rattle.command_lang_printing.specs.Printing.{is_plain, octal, escaped, quoted, needs_no_quotes, printed_word}
+use Rattle.command_lang_printing.specs.Printing.{printed_words}
 use Rattle.command_lang.proofs.Quoting.{quoted_reads}
 use Rattle.command_lang_printing.proofs.Appends.{name-encoded}
 use Rattle.command_lang_table.proofs.Fits.{AllWhole}
@@ -50,21 +52,25 @@ plain-word : (cs rest : List ℕ) → list_all is_plain cs ≡ true → Ends res
 plain-word [] rest h e = word-ends rest e
 plain-word (c ∷ cs) rest h e =
     let p = and-parts (is_plain c) (list_all is_plain cs) h in
-    Parts.more (no-blank c p.0) (Part.character (no-single c p.0) (no-double c p.0) (Character.plain (no-escape c p.0))) (plain-word cs rest p.1 e)
+    Parts.more (no-blank c p.0) (Part.character (no-single c p.0) (no-double c p.0) (Character.plain (no-escape c p.0)))
+    (plain-word cs rest p.1 e)
 
 quote-visible : ◌≢◌ {A = ℕ} 0x22 0x20
 quote-visible h = omega (arith, h)
 
 quoted-word : (cs rest : List ℕ) → Ends rest → Parts (0x22 ∷ ((quoted cs ++ 0x22 ∷ []) ++ rest)) cs (Some rest)
 quoted-word cs rest e =
-    let d = subst (λ x. Double x cs (Some rest)) (sym (append_assoc (quoted cs) (0x22 ∷ []) rest)) (quoted_reads cs rest) in
-    subst (λ t. Parts (0x22 ∷ ((quoted cs ++ 0x22 ∷ []) ++ rest)) t (Some rest)) (append-nil cs) (Parts.more quote-visible (Part.double d) (word-ends rest e))
+    let d = subst (λ x. Double x cs (Some rest)) (sym (append_assoc (quoted cs) (0x22 ∷ []) rest))
+    (quoted_reads cs rest) in
+    subst (λ t. Parts (0x22 ∷ ((quoted cs ++ 0x22 ∷ []) ++ rest)) t (Some rest)) (append-nil cs)
+    (Parts.more quote-visible (Part.double d) (word-ends rest e))
 
 -- a printed word is read whole
 pub word-read : (t rest : List ℕ) → Ends rest → Parts (printed_word t ++ rest) (chars t) (Some rest)
 word-read t rest e = by (needs_no_quotes t) refl
   where
-    by : (b : Bool) → needs_no_quotes t ≡ b → Parts (cond b (chars t) (0x22 ∷ (quoted (chars t) ++ 0x22 ∷ [])) ++ rest) (chars t) (Some rest)
+    by : (b : Bool) → needs_no_quotes t ≡ b
+        → Parts (cond b (chars t) (0x22 ∷ (quoted (chars t) ++ 0x22 ∷ [])) ++ rest) (chars t) (Some rest)
     by true h = plain-word (chars t) rest (and-parts (not (is_empty_text t)) (list_all is_plain (chars t)) h).1 e
     by false h = quoted-word (chars t) rest e
 
@@ -73,7 +79,8 @@ plain-visible [] h e = absurd (e refl)
 plain-visible (c ∷ cs) h e = no-blank c (and-parts (is_plain c) (list_all is_plain cs) h).0
 
 some-chars : (t : List ℕ) → IsUtf8 t → not (is_empty_text t) ≡ true → chars t ≡ [] → ⊥
-some-chars t u h e = let n : [] ≡ t = ap encode_utf8_all (sym e) ∙ encodes-chars t u in true≢false (sym (ap (λ l. not (is_empty_text l)) n ∙ h))
+some-chars t u h e = let n : [] ≡ t = ap encode_utf8_all (sym e)
+    ∙ encodes-chars t u in true≢false (sym (ap (λ l. not (is_empty_text l)) n ∙ h))
 
 pub word-visible : (t : List ℕ) → IsUtf8 t → Visible (printed_word t)
 word-visible t u = by (needs_no_quotes t) refl
@@ -88,7 +95,8 @@ abbrev at-word : ℕ → List ℕ → Word
 at-word place text = record { place = place; text = encode_utf8_all text; is_closed = true }
 
 -- a word, and the words behind it
-pub one-word : (end : ℕ) (cs rest text : List ℕ) (ws : List Word) → Visible cs → Parts (cs ++ rest) text (Some rest) → Line end rest ws
+pub one-word : (end : ℕ) (cs rest text : List ℕ) (ws : List Word) → Visible cs → Parts (cs ++ rest) text (Some rest)
+    → Line end rest ws
     → (place : ℕ) × Line end (cs ++ rest) (at-word place text ∷ ws)
 one-word end [] rest text ws v p d = absurd v
 one-word end (c ∷ cs) rest text ws v p d = (end - size (c ∷ (cs ++ rest)), Line.word v p d)
@@ -112,7 +120,8 @@ pub spells : (end : ℕ) (ts : List (List ℕ)) → AllText ts → Spelling end 
 spells end [] u = record { words = []; cut = Line.last; spelled = record { whole = tt; texts = refl } }
 spells end (t ∷ ts) u =
     let s = spells end ts u.1 in
-    let w = one-word end (printed_word t) (printed_words ts) (chars t) s.words (word-visible t u.0) (word-read t (printed_words ts) (ends-words ts)) s.cut in
+    let w = one-word end (printed_word t) (printed_words ts) (chars t) s.words (word-visible t u.0)
+    (word-read t (printed_words ts) (ends-words ts)) s.cut in
     record {
       words = at-word w.0 (chars t) ∷ s.words;
       cut = Line.blank w.1;
@@ -132,7 +141,9 @@ plain-name n = (and-parts (not (is_empty_text (name_text n))) (list_all is_plain
 
 visible-name : (n : CommandName) → Visible (name_text n)
 visible-name n = plain-visible (name_text n) (plain-name n)
-    (λ e. true≢false (sym (and-parts (not (is_empty_text (name_text n))) (list_all is_plain (name_text n)) (name-word n)).0 ∙ ap (λ l. not (is_empty_text l)) e))
+    (λ e. true≢false
+    (sym (and-parts (not (is_empty_text (name_text n))) (list_all is_plain (name_text n)) (name-word n)).0
+    ∙ ap (λ l. not (is_empty_text l)) e))
 
 pub record LineSpells (cs : List ℕ) (n : CommandName) (ts : List (List ℕ)) : Type 0 where
   pub first : Word
@@ -142,10 +153,12 @@ pub record LineSpells (cs : List ℕ) (n : CommandName) (ts : List (List ℕ)) :
   pub name : first.text ≡ name_text n
   pub spelled : Spells behind ts
 
-pub line-spells : (n : CommandName) (ts : List (List ℕ)) → AllText ts → LineSpells (name_text n ++ printed_words ts) n ts
+pub line-spells : (n : CommandName) (ts : List (List ℕ)) → AllText ts
+    → LineSpells (name_text n ++ printed_words ts) n ts
 line-spells n ts u =
     let s = spells (size (name_text n ++ printed_words ts)) ts u in
-    let w = one-word (size (name_text n ++ printed_words ts)) (name_text n) (printed_words ts) (name_text n) s.words (visible-name n)
+    let w = one-word (size (name_text n ++ printed_words ts)) (name_text n) (printed_words ts) (name_text n) s.words
+    (visible-name n)
     (plain-word (name_text n) (printed_words ts) (plain-name n) (ends-words ts)) s.cut in
     record {
       first = at-word w.0 (name_text n);
@@ -172,7 +185,8 @@ octal-scalars c =
     let y = small-scalar (0x30 + c / 8 % 8) (omega arith) in
     let z = small-scalar (0x30 + c % 8) (omega arith) in
     and-both (scalar (0x30 + c / 64 % 8)) (scalars ((0x30 + c / 8 % 8) ∷ (0x30 + c % 8) ∷ [])) x
-    (and-both (scalar (0x30 + c / 8 % 8)) (scalars ((0x30 + c % 8) ∷ [])) y (and-both (scalar (0x30 + c % 8)) true z refl))
+    (and-both (scalar (0x30 + c / 8 % 8)) (scalars ((0x30 + c % 8) ∷ [])) y
+    (and-both (scalar (0x30 + c % 8)) true z refl))
 
 of-if : (b : Bool) (xs ys : List ℕ) → scalars xs ≡ true → scalars ys ≡ true → scalars (cond b xs ys) ≡ true
 of-if true xs ys h k = h
@@ -180,7 +194,8 @@ of-if false xs ys h k = k
 
 escaped-scalars : (c : ℕ) → scalar c ≡ true → scalars (escaped c) ≡ true
 escaped-scalars c h =
-    of-if (c == 0x22 || c == 0x5C) (0x5C ∷ c ∷ []) (cond (nat_lt c 0x20 || c == 0x7F) (0x5C ∷ octal c) (c ∷ [])) (and-both (scalar c) true h refl)
+    of-if (c == 0x22 || c == 0x5C) (0x5C ∷ c ∷ []) (cond (nat_lt c 0x20 || c == 0x7F) (0x5C ∷ octal c) (c ∷ []))
+    (and-both (scalar c) true h refl)
     (of-if (nat_lt c 0x20 || c == 0x7F) (0x5C ∷ octal c) (c ∷ []) (octal-scalars c) (and-both (scalar c) true h refl))
 
 quoted-scalars : (cs : List ℕ) → scalars cs ≡ true → scalars (quoted cs) ≡ true
@@ -192,11 +207,15 @@ quoted-scalars (c ∷ cs) h =
 word-scalars : (t : List ℕ) → IsUtf8 t → scalars (printed_word t) ≡ true
 word-scalars t u =
     let s = scalars-chars t u in
-    of-if (needs_no_quotes t) (chars t) (0x22 ∷ (quoted (chars t) ++ 0x22 ∷ [])) s (scalars-append (quoted (chars t)) (0x22 ∷ []) (quoted-scalars (chars t) s) refl)
+    of-if (needs_no_quotes t) (chars t) (0x22 ∷ (quoted (chars t) ++ 0x22 ∷ [])) s
+    (scalars-append (quoted (chars t)) (0x22 ∷ []) (quoted-scalars (chars t) s) refl)
 
 words-scalars : (ts : List (List ℕ)) → AllText ts → scalars (printed_words ts) ≡ true
 words-scalars [] u = refl
-words-scalars (t ∷ ts) u = scalars-append (printed_word t) (printed_words ts) (word-scalars t u.0) (words-scalars ts u.1)
+words-scalars (t ∷ ts) u = scalars-append (printed_word t) (printed_words ts) (word-scalars t u.0)
+    (words-scalars ts u.1)
 
-pub line-scalars : (n : CommandName) (ts : List (List ℕ)) → AllText ts → scalars (name_text n ++ printed_words ts) ≡ true
-line-scalars n ts u = scalars-append (name_text n) (printed_words ts) (plain-scalars (name_text n) (plain-name n)) (words-scalars ts u)
+pub line-scalars : (n : CommandName) (ts : List (List ℕ)) → AllText ts
+    → scalars (name_text n ++ printed_words ts) ≡ true
+line-scalars n ts u = scalars-append (name_text n) (printed_words ts) (plain-scalars (name_text n) (plain-name n))
+    (words-scalars ts u)

@@ -20,9 +20,11 @@ no_text line h = by (is_utf8 line) refl
 
 pub relates : (line : List ℕ) (ws : List Word) (c : Command) → length line ≤ 1024 → IsUtf8 line → IsCut (chars line) ws
     → (line_faults (length line) ws ≡ []) × (line_command ws ≡ Some c) → Relates line c
-relates line ws c h u e r = record { words = ws; has = record { short = h; text = is_utf8-from_IsUtf8 line u; cut = e }; fine = r.0; means = r.1 }
+relates line ws c h u e r = record
+    { words = ws; has = record { short = h; text = is_utf8-from_IsUtf8 line u; cut = e }; fine = r.0; means = r.1 }
 
-pub refuses : (line : List ℕ) (ws : List Word) (f : ParseFault) → length line ≤ 1024 → IsUtf8 line → IsCut (chars line) ws
+pub refuses : (line : List ℕ) (ws : List Word) (f : ParseFault) → length line ≤ 1024 → IsUtf8 line
+    → IsCut (chars line) ws
     → (f ≡ no_memory) ⊎ (first_of (line_faults (length line) ws) ≡ Some f) → (f ≡ no_memory) ⊎ Refuses line f
 refuses line ws f h u e r = elim r as (λ _. (f ≡ no_memory) ⊎ Refuses line f) [
   | inl m ↦ inl m

@@ -1,5 +1,6 @@
 -- The front of a list, and what was read of it.
-use Rattle.std.proofs.Common.{◌≡◌, ℕ, zero, suc, ◌-◌, ◌≤◌, List, [], ◌∷◌, ◌++◌, length, drop, take, get_or, sym, ap, ◌∙◌, subst, arith, append_assoc, Option, Some, true≢false}
+use Rattle.std.proofs.Common.{◌≡◌, ℕ, zero, suc, ◌-◌, ◌≤◌, List, [], ◌∷◌, ◌++◌, length, drop, take, get_or, sym, ap}
+use Rattle.std.proofs.Common.{◌∙◌, subst, arith, append_assoc, Option, Some, true≢false}
 use Rattle.std.specs.Option.{is_some}
 use Rattle.std.proofs.Math.Seq.{take-length}
 use Rattle.std.proofs.lemmas.List.{append-nil}
@@ -36,24 +37,33 @@ pub record IsAhead (Kind : List ℕ → List ℕ → Option (List ℕ) → Type 
   pub shorter : length left ≤ length cs
 
 pub ahead-start : (Kind : List ℕ → List ℕ → Option (List ℕ) → Type 0) (cs old : List ℕ) → IsAhead Kind cs old old cs
-ahead-start Kind cs old = record { done = []; put = sym (append-nil old); goes_on = λ text rest k. k; shorter = omega arith }
+ahead-start Kind cs old = record
+    { done = []; put = sym (append-nil old); goes_on = λ text rest k. k; shorter = omega arith }
 
 -- a thing more was read
-pub ahead-more : (Kind : List ℕ → List ℕ → Option (List ℕ) → Type 0) (cs old now left : List ℕ) → IsAhead Kind cs old now left
+pub ahead-more : (Kind : List ℕ → List ℕ → Option (List ℕ) → Type 0) (cs old now left : List ℕ)
+    → IsAhead Kind cs old now left
     → (new next first : List ℕ) → new ≡ now ++ encode_utf8_all first → length next ≤ length left
-    → ((text : List ℕ) (rest : Option (List ℕ)) → Kind next text rest → Kind left (first ++ text) rest) → IsAhead Kind cs old new next
+    → ((text : List ℕ) (rest : Option (List ℕ)) → Kind next text rest → Kind left (first ++ text) rest)
+    → IsAhead Kind cs old new next
 ahead-more Kind cs old now left a new next first p s m = record {
   done = a.done ++ first;
-  put = p ∙ ap (λ l. l ++ encode_utf8_all first) a.put ∙ append_assoc old (encode_utf8_all a.done) (encode_utf8_all first) ∙ ap (λ l. old ++ l) (sym (encodes-append a.done first));
-  goes_on = λ text rest k. subst (λ t. Kind cs t rest) (sym (append_assoc a.done first text)) (a.goes_on (first ++ text) rest (m text rest k));
+  put = p ∙ ap (λ l. l ++ encode_utf8_all first) a.put
+      ∙ append_assoc old (encode_utf8_all a.done) (encode_utf8_all first)
+      ∙ ap (λ l. old ++ l) (sym (encodes-append a.done first));
+  goes_on = λ text rest k. subst (λ t. Kind cs t rest) (sym (append_assoc a.done first text))
+      (a.goes_on (first ++ text) rest (m text rest k));
   shorter = omega (arith, s, a.shorter);
 }
 
 -- the whole is read
-pub ahead-end : (Kind : List ℕ → List ℕ → Option (List ℕ) → Type 0) (cs old now left : List ℕ) → IsAhead Kind cs old now left
-    → (new text : List ℕ) (rest : Option (List ℕ)) → new ≡ now ++ encode_utf8_all text → Kind left text rest → Reads Kind cs old new rest
+pub ahead-end : (Kind : List ℕ → List ℕ → Option (List ℕ) → Type 0) (cs old now left : List ℕ)
+    → IsAhead Kind cs old now left
+    → (new text : List ℕ) (rest : Option (List ℕ)) → new ≡ now ++ encode_utf8_all text → Kind left text rest
+    → Reads Kind cs old new rest
 ahead-end Kind cs old now left a new text rest p k = record {
   text = a.done ++ text;
-  put = p ∙ ap (λ l. l ++ encode_utf8_all text) a.put ∙ append_assoc old (encode_utf8_all a.done) (encode_utf8_all text) ∙ ap (λ l. old ++ l) (sym (encodes-append a.done text));
+  put = p ∙ ap (λ l. l ++ encode_utf8_all text) a.put ∙ append_assoc old (encode_utf8_all a.done) (encode_utf8_all text)
+      ∙ ap (λ l. old ++ l) (sym (encodes-append a.done text));
   read = a.goes_on text rest k;
 }

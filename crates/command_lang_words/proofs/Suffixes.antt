@@ -1,5 +1,6 @@
 -- What follows a thing is the end of the characters that it begins.
-use Rattle.std.proofs.Common.{◌≡◌, ◌≢◌, ℕ, suc, ◌+◌, ◌≤◌, List, [], ◌∷◌, ◌++◌, length, drop, refl, sym, ap, ◌∙◌, arith, append_assoc, length-append, Option, Some, None, true≢false}
+use Rattle.std.proofs.Common.{◌≡◌, ◌≢◌, ℕ, suc, ◌+◌, ◌≤◌, List, [], ◌∷◌, ◌++◌, length, drop, refl, sym, ap, ◌∙◌, arith}
+use Rattle.std.proofs.Common.{append_assoc, length-append, Option, Some, None, true≢false}
 use Rattle.std.specs.Option.{is_some}
 use Rattle.std.proofs.lemmas.Str.{encodes-append}
 use Rattle.std.specs.Str.{encode_utf8_all}
@@ -18,7 +19,8 @@ fewer : (m n : ℕ) (cs : List ℕ) (end : Option (List ℕ)) → m ≤ n → Be
 fewer m n cs None l h = tt
 fewer m n cs (Some rest) l h = (h.0, (omega (arith, l, h.1.0), h.1.1))
 
-both : (n : ℕ) (cs behind : List ℕ) (end : Option (List ℕ)) → Behind n cs (Some behind) → Behind 0 behind end → Behind n cs end
+both : (n : ℕ) (cs behind : List ℕ) (end : Option (List ℕ)) → Behind n cs (Some behind) → Behind 0 behind end
+    → Behind n cs end
 both n cs behind None h k = tt
 both n cs behind (Some rest) h k = (
   h.0 ++ k.0,
@@ -41,11 +43,13 @@ escaped-behind Escaped.unended = tt
 
 pub character-behind : {cs text : List ℕ} {end : Option (List ℕ)} → Character cs text end → Behind 1 cs end
 character-behind (Character.plain {c = c} {rest = rest} h) = (c ∷ [], (omega arith, refl))
-character-behind (Character.escape {cs = cs} {end = end} d) = fewer 1 2 (0x5C ∷ cs) end (omega arith) (one-more 1 0x5C cs end (escaped-behind d))
+character-behind (Character.escape {cs = cs} {end = end} d) = fewer 1 2 (0x5C ∷ cs) end (omega arith)
+    (one-more 1 0x5C cs end (escaped-behind d))
 
 single-behind : {cs text : List ℕ} {end : Option (List ℕ)} → Single cs text end → Behind 0 cs end
 single-behind (Single.closed {rest = rest}) = (0x27 ∷ [], (omega arith, refl))
-single-behind (Single.more {c = c} {cs = cs} {end = end} n d) = fewer 0 1 (c ∷ cs) end (omega arith) (one-more 0 c cs end (single-behind d))
+single-behind (Single.more {c = c} {cs = cs} {end = end} n d) = fewer 0 1 (c ∷ cs) end (omega arith)
+    (one-more 0 c cs end (single-behind d))
 single-behind Single.unended = tt
 
 double-behind : {cs text : List ℕ} {end : Option (List ℕ)} → Double cs text end → Behind 0 cs end
@@ -68,8 +72,10 @@ parts-behind (Parts.more {c = c} {cs = cs} {behind = behind} {end = end} n f d) 
 parts-behind (Parts.broken n f) = tt
 
 -- a word has a character
-pub word-behind : (c : ℕ) (cs text : List ℕ) (end : Option (List ℕ)) → c ≢ 0x20 → Parts (c ∷ cs) text end → Behind 1 (c ∷ cs) end
-word-behind c cs text end n (Parts.more {behind = behind} m f d) = both 1 (c ∷ cs) behind end (part-behind f) (parts-behind d)
+pub word-behind : (c : ℕ) (cs text : List ℕ) (end : Option (List ℕ)) → c ≢ 0x20 → Parts (c ∷ cs) text end
+    → Behind 1 (c ∷ cs) end
+word-behind c cs text end n (Parts.more {behind = behind} m f d) = both 1 (c ∷ cs) behind end (part-behind f)
+    (parts-behind d)
 word-behind c cs text end n (Parts.broken m f) = tt
 word-behind c cs text end n Parts.blank = absurd (n refl)
 
@@ -78,4 +84,10 @@ pub shorter : (n : ℕ) (cs rest : List ℕ) → Behind n cs (Some rest) → len
 shorter n cs rest h = omega (arith, h.1.0, ap length h.1.1, length-append h.0 rest)
 
 pub smaller : (n : ℕ) (cs rest : List ℕ) → Behind n cs (Some rest) → size rest ≤ size cs
-smaller n cs rest h = omega (arith, ap size h.1.1, ap length (encodes-append h.0 rest), length-append (encode_utf8_all h.0) (encode_utf8_all rest))
+smaller n cs rest h = omega (
+  arith,
+  ap size h.1.1,
+  ap length (encodes-append h.0 rest),
+  length-append (encode_utf8_all h.0)
+      (encode_utf8_all rest),
+)

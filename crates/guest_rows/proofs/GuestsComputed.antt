@@ -14,7 +14,8 @@ use Rattle.session_guests.specs.Changing.{changes_rights}
 use Rattle.session_worked.specs.Setup.{bob}
 use Rattle.guest_rows.specs.Guests as rows
 
-none_of_five : (c : CommandName) → changes_rights c ≡ true → may_in rows.contained bob Execute (object.Command c) ≡ false
+none_of_five : (c : CommandName) → changes_rights c ≡ true
+    → may_in rows.contained bob Execute (object.Command c) ≡ false
 unfolding digits command_named unless refused_if given
 none_of_five name.Acladd is = refl
 none_of_five name.Aclchg is = refl
@@ -24,7 +25,8 @@ none_of_five name.Aclumask is = refl
 none_of_five c is = absurd (cc (is))
 
 pub guest : rows.BobIsGuest
-guest user c his changes = ap (λ u. may_in rows.contained u Execute (object.Command c)) (sym (same_user-true bob user his)) ∙ none_of_five c changes
+guest user c his changes = ap (λ u. may_in rows.contained u Execute (object.Command c))
+    (sym (same_user-true bob user his)) ∙ none_of_five c changes
 
 pub in_vain : rows.InVain
 unfolding digits items_from command_named unless refused_if given
@@ -38,7 +40,8 @@ pub by_another : rows.ByAnother
 unfolding digits items_from command_named unless refused_if given
 by_another = (refl, refl)
 
-none_of_five_locked : (c : CommandName) → changes_rights c ≡ true → may_in rows.locked bob Execute (object.Command c) ≡ false
+none_of_five_locked : (c : CommandName) → changes_rights c ≡ true
+    → may_in rows.locked bob Execute (object.Command c) ≡ false
 unfolding digits command_named unless refused_if given
 none_of_five_locked name.Acladd is = refl
 none_of_five_locked name.Aclchg is = refl

@@ -18,7 +18,10 @@ nowhere : (w : ℕ) → may_in rows.watched bob Write (object.Window w) ≡ fals
 unfolding digits items_from command_named unless refused_if given
 nowhere w = on (0 == w) where
   -- as far as it computes: whether the window is own's
-  on : (b : Bool) → (unwrap_or (if unwrap_or (if b then Some true else None) false then Some false else None) (unwrap_or (if b then None else None) false) || false) ≡ false
+  on : (b : Bool)
+      →
+      (unwrap_or (if unwrap_or (if b then Some true else None) false then Some false else None)
+      (unwrap_or (if b then None else None) false) || false) ≡ false
   on true = refl
   on false = refl
 

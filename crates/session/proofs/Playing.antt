@@ -1,5 +1,6 @@
 -- Lines that are played one after another.
-use Rattle.std.proofs.Common.{ℕ, ◌<◌, ◌≡◌, refl, sym, ◌∙◌, ap, subst, List, [], ◌∷◌, ◌++◌, map, length, arith, Option, Some, None, append_assoc}
+use Rattle.std.proofs.Common.{ℕ, ◌<◌, ◌≡◌, refl, sym, ◌∙◌, ap, subst, List, [], ◌∷◌, ◌++◌, map, length, arith, Option}
+use Rattle.std.proofs.Common.{Some, None, append_assoc}
 use Rattle.std.proofs.lemmas.Grind.{flat_map-append}
 use Rattle.std.proofs.lemmas.List.{append-nil, map-append}
 use Rattle.std.specs.Io.KnownBytes.{Appends, Keeps}
@@ -29,7 +30,8 @@ pub appends_on : (a b c : Option (List ℕ)) (xs ys : List ℕ) → Appends a b 
 appends_on None b c xs ys before behind = tt
 appends_on (Some olds) None c xs ys before behind = absurd before
 appends_on (Some olds) (Some bs) None xs ys before behind = absurd behind
-appends_on (Some olds) (Some bs) (Some cs) xs ys before behind = behind ∙ (ap (λ zs. zs ++ ys) before ∙ append_assoc olds xs ys)
+appends_on (Some olds) (Some bs) (Some cs) xs ys before behind = behind
+    ∙ (ap (λ zs. zs ++ ys) before ∙ append_assoc olds xs ys)
 
 pub appends_none : (a : Option (List ℕ)) → Appends a a []
 appends_none None = tt
@@ -41,7 +43,8 @@ keeps_same (Some olds) = refl
 
 -- ---- steps
 
-steps_on : (P : Trace → Entry → Type 0) (h : Trace) (xs ys : List Entry) → AllSteps P h xs → AllSteps P (with_steps h xs) ys → AllSteps P h (xs ++ ys)
+steps_on : (P : Trace → Entry → Type 0) (h : Trace) (xs ys : List Entry) → AllSteps P h xs
+    → AllSteps P (with_steps h xs) ys → AllSteps P h (xs ++ ys)
 steps_on P h [] ys before behind = behind
 steps_on P h (x ∷ xs) ys before behind = (before.0, steps_on P (with_step h x) xs ys before.1 behind)
 
@@ -66,7 +69,8 @@ none_played h s known st = record {
 }
 
 -- an empty line
-pub empty_played : (h : Trace) (s : Session) (line : List ℕ) (known : Option (List ℕ)) → line ≡ [] → StandsFor h s → Played h (line ∷ []) s known known
+pub empty_played : (h : Trace) (s : Session) (line : List ℕ) (known : Option (List ℕ)) → line ≡ [] → StandsFor h s
+    → Played h (line ∷ []) s known known
 empty_played h s line known empty st = record {
   steps = [];
   plays = record { events = []; understood = ap (λ l. map event_of (filled (l ∷ []))) empty; serves = refl; run = tt };
@@ -75,7 +79,8 @@ empty_played h s line known empty st = record {
 }
 
 -- a line that is an event
-pub one_played : (h : Trace) (line : List ℕ) (event : EventValue) (s : Session) (a b : Option (List ℕ)) → 0 < length line → event_of line ≡ Some event → Runs h event s a b
+pub one_played : (h : Trace) (line : List ℕ) (event : EventValue) (s : Session) (a b : Option (List ℕ))
+    → 0 < length line → event_of line ≡ Some event → Runs h event s a b
     → Played h (line ∷ []) s a b
 one_played h line event s a b some is runs = record {
   steps = runs.steps;
@@ -94,19 +99,24 @@ pub bad_line : (line : List ℕ) → 0 < length line → event_of line ≡ None 
 bad_line line some is = ap (λ ls. map event_of ls) (filled_one line some) ∙ ap (λ e. e ∷ []) is
 
 -- lines behind others
-plays_on : (h : Trace) (xs ys : List (List ℕ)) (before behind : List Entry) → Plays h xs before → Plays (with_steps h before) ys behind → Plays h (xs ++ ys) (before ++ behind)
+plays_on : (h : Trace) (xs ys : List (List ℕ)) (before behind : List Entry) → Plays h xs before
+    → Plays (with_steps h before) ys behind → Plays h (xs ++ ys) (before ++ behind)
 plays_on h xs ys before behind p q = record {
   events = p.events ++ q.events;
   understood = ap (λ ls. map event_of ls) (filled-append xs ys) ∙ (map-append event_of (filled xs) (filled ys)
-      ∙ (ap (λ es. es ++ map event_of (filled ys)) p.understood ∙ (ap (λ es. map Some p.events ++ es) q.understood ∙ sym (map-append (λ e. Some e) p.events q.events))));
-  serves = serves_on (p.events ++ q.events) before behind q.events [] (serves_before p.events before [] q.events p.serves) q.serves;
+      ∙ (ap (λ es. es ++ map event_of (filled ys)) p.understood
+      ∙ (ap (λ es. map Some p.events ++ es) q.understood ∙ sym (map-append (λ e. Some e) p.events q.events))));
+  serves = serves_on (p.events ++ q.events) before behind q.events []
+      (serves_before p.events before [] q.events p.serves) q.serves;
   run = steps_on KeepsPromise h before behind p.run q.run;
 }
 
-pub played_on : (h : Trace) (xs ys : List (List ℕ)) (s t : Session) (a b c : Option (List ℕ)) → (p : Played h xs s a b) → Played (with_steps h p.steps) ys t b c → Played h (xs ++ ys) t a c
+pub played_on : (h : Trace) (xs ys : List (List ℕ)) (s t : Session) (a b c : Option (List ℕ)) → (p : Played h xs s a b)
+    → Played (with_steps h p.steps) ys t b c → Played h (xs ++ ys) t a c
 played_on h xs ys s t a b c p q = record {
   steps = p.steps ++ q.steps;
   plays = plays_on h xs ys p.steps q.steps p.plays q.plays;
   stands = subst (λ after. StandsFor after t) (sym (with_steps-append h p.steps q.steps)) q.stands;
-  prints = subst (λ text. Appends a c text) (sym (flat_map-append step_lines p.steps q.steps)) (appends_on a b c (printed p.steps) (printed q.steps) p.prints q.prints);
+  prints = subst (λ text. Appends a c text) (sym (flat_map-append step_lines p.steps q.steps))
+      (appends_on a b c (printed p.steps) (printed q.steps) p.prints q.prints);
 }

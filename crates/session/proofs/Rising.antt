@@ -1,5 +1,6 @@
 -- Clients by rising serials.
-use Rattle.std.proofs.Common.{ℕ, ◌+◌, ◌<◌, ◌≤◌, ◌^◌, ◌≡◌, refl, sym, ◌∙◌, ap, subst, Bool, true, false, List, [], ◌∷◌, ◌++◌, arith, Option, Some, None, Ok}
+use Rattle.std.proofs.Common.{ℕ, ◌+◌, ◌<◌, ◌≤◌, ◌^◌, ◌≡◌, refl, sym, ◌∙◌, ap, subst, Bool, true, false, List, [], ◌∷◌}
+use Rattle.std.proofs.Common.{◌++◌, arith, Option, Some, None, Ok}
 use Rattle.std.specs.Prelude.{◌==◌, nat_lt, nat_le, if◌then◌else◌, MatchOption}
 use Rattle.std.specs.List.{flat_map, AllByRecursion}
 use Rattle.std.proofs.lemmas.Bool.Decides.{nat_tests}
@@ -68,44 +69,61 @@ none_first (c ∷ cs) = if_false (nat_lt c.serial 0) _ _ (not_below c.serial 0 (
 all_below : (from : ℕ) (cs : List Client) → least_from from (client_serials cs) ≡ None → below from cs ≡ cs
 all_below from [] none = refl
 all_below from (c ∷ cs) none = on (nat_le from c.serial) refl none (all_below from cs) where
-  on : (b : Bool) → nat_le from c.serial ≡ b → (if b then Some c.serial else least_from from (client_serials cs)) ≡ None → (least_from from (client_serials cs) ≡ None → below from cs ≡ cs) → below from (c ∷ cs) ≡ c ∷ cs
+  on : (b : Bool) → nat_le from c.serial ≡ b → (if b then Some c.serial else least_from from (client_serials cs)) ≡ None
+      → (least_from from (client_serials cs) ≡ None → below from cs ≡ cs) → below from (c ∷ cs) ≡ c ∷ cs
   on true is none others = cc
-  on false is none others = if_true (nat_lt c.serial from) _ _ (is_below c.serial from (from_false from c.serial is)) ∙ ap (λ xs. c ∷ xs) (others none)
+  on false is none others = if_true (nat_lt c.serial from) _ _ (is_below c.serial from (from_false from c.serial is))
+      ∙ ap (λ xs. c ∷ xs) (others none)
 
 -- and where all were given
 given_below : (from next : ℕ) (cs : List Client) → next ≤ from → Rises (client_serials cs) next → below from cs ≡ cs
 given_below from next [] le rises = refl
 given_below from next (c ∷ cs) le rises =
     let here : c.serial < next = rises.0 in
-    if_true (nat_lt c.serial from) _ _ (is_below c.serial from (omega (arith, here, le))) ∙ ap (λ xs. c ∷ xs) (given_below from next cs le rises.2)
+    if_true (nat_lt c.serial from) _ _ (is_below c.serial from (omega (arith, here, le)))
+    ∙ ap (λ xs. c ∷ xs) (given_below from next cs le rises.2)
 
 least_at_least : (from n : ℕ) (cs : List Client) → least_from from (client_serials cs) ≡ Some n → from ≤ n
 least_at_least from n [] least = cc
 least_at_least from n (c ∷ cs) least = on (nat_le from c.serial) refl least (least_at_least from n cs) where
-  on : (b : Bool) → nat_le from c.serial ≡ b → (if b then Some c.serial else least_from from (client_serials cs)) ≡ Some n → (least_from from (client_serials cs) ≡ Some n → from ≤ n) → from ≤ n
+  on : (b : Bool) → nat_le from c.serial ≡ b
+      → (if b then Some c.serial else least_from from (client_serials cs)) ≡ Some n
+      → (least_from from (client_serials cs) ≡ Some n → from ≤ n) → from ≤ n
   on true is least others = let same : c.serial ≡ n = cc in subst (λ m. from ≤ m) same (from_true from c.serial is)
   on false is least others = others least
 
 -- the client of the least serial from one on comes next
-next_below : (from n next : ℕ) (cs : List Client) (c : Client) → Rises (client_serials cs) next → least_from from (client_serials cs) ≡ Some n → row_of serial_of cs n ≡ Some c
+next_below : (from n next : ℕ) (cs : List Client) (c : Client) → Rises (client_serials cs) next
+    → least_from from (client_serials cs) ≡ Some n → row_of serial_of cs n ≡ Some c
     → below (n + 1) cs ≡ below from cs ++ c ∷ []
 next_below from n next [] c rises least at = cc
-next_below from n next (d ∷ cs) c rises least at = on (nat_le from d.serial) refl least (next_below from n next cs c rises.2) where
-  on : (b : Bool) → nat_le from d.serial ≡ b → (if b then Some d.serial else least_from from (client_serials cs)) ≡ Some n
-      → (least_from from (client_serials cs) ≡ Some n → row_of serial_of cs n ≡ Some c → below (n + 1) cs ≡ below from cs ++ c ∷ []) → below (n + 1) (d ∷ cs) ≡ below from (d ∷ cs) ++ c ∷ []
-  on true is least others =
-      let same : d.serial ≡ n = cc in
-      let found : Some d ≡ Some c = sym (if_true (d.serial == n) (Some d) (row_of serial_of cs n) (itself d.serial n same)) ∙ at in
-      let here : d ≡ c = cc (found) in
-      let le : from ≤ d.serial = from_true from d.serial is in
-      if_true (nat_lt d.serial (n + 1)) _ _ (is_below d.serial (n + 1) (omega (arith, same))) ∙ (ap (λ ys. d ∷ ys) (none_below (n + 1) d.serial cs (omega (arith, same)) rises.1) ∙ (ap (λ y. y ∷ []) here
-      ∙ sym (ap (λ ys. ys ++ c ∷ []) (if_false (nat_lt d.serial from) _ _ (not_below d.serial from le) ∙ none_below from d.serial cs (omega (arith, le)) rises.1))))
-  on false is least others =
-      let lt : d.serial < from = from_false from d.serial is in
-      let le : from ≤ n = least_at_least from n cs least in
-      let behind : row_of serial_of cs n ≡ Some c = sym (if_false (d.serial == n) (Some d) (row_of serial_of cs n) (another d.serial n (omega (arith, lt, le)))) ∙ at in
-      if_true (nat_lt d.serial (n + 1)) _ _ (is_below d.serial (n + 1) (omega (arith, lt, le))) ∙ (ap (λ ys. d ∷ ys) (others least behind)
-      ∙ sym (ap (λ ys. ys ++ c ∷ []) (if_true (nat_lt d.serial from) _ _ (is_below d.serial from lt))))
+next_below from n next (d ∷ cs) c rises least at = on (nat_le from d.serial) refl least
+    (next_below from n next cs c rises.2) where
+      on : (b : Bool) → nat_le from d.serial ≡ b
+          → (if b then Some d.serial else least_from from (client_serials cs)) ≡ Some n
+          → (least_from from (client_serials cs) ≡ Some n → row_of serial_of cs n ≡ Some c
+          → below (n + 1) cs ≡ below from cs ++ c ∷ []) → below (n + 1) (d ∷ cs) ≡ below from (d ∷ cs) ++ c ∷ []
+      on true is least others =
+          let same : d.serial ≡ n = cc in
+          let found : Some d ≡ Some c = sym
+          (if_true (d.serial == n) (Some d) (row_of serial_of cs n) (itself d.serial n same)) ∙ at in
+          let here : d ≡ c = cc (found) in
+          let le : from ≤ d.serial = from_true from d.serial is in
+          if_true (nat_lt d.serial (n + 1)) _ _ (is_below d.serial (n + 1) (omega (arith, same)))
+          ∙ (ap (λ ys. d ∷ ys) (none_below (n + 1) d.serial cs (omega (arith, same)) rises.1) ∙ (ap (λ y. y ∷ []) here
+          ∙ sym
+          (ap (λ ys. ys ++ c ∷ [])
+          (if_false (nat_lt d.serial from) _ _ (not_below d.serial from le)
+          ∙ none_below from d.serial cs (omega (arith, le)) rises.1))))
+      on false is least others =
+          let lt : d.serial < from = from_false from d.serial is in
+          let le : from ≤ n = least_at_least from n cs least in
+          let behind : row_of serial_of cs n ≡ Some c = sym
+          (if_false (d.serial == n) (Some d) (row_of serial_of cs n) (another d.serial n (omega (arith, lt, le))))
+          ∙ at in
+          if_true (nat_lt d.serial (n + 1)) _ _ (is_below d.serial (n + 1) (omega (arith, lt, le)))
+          ∙ (ap (λ ys. d ∷ ys) (others least behind)
+          ∙ sym (ap (λ ys. ys ++ c ∷ []) (if_true (nat_lt d.serial from) _ _ (is_below d.serial from lt))))
 
 -- ---- what is shown
 
@@ -116,7 +134,8 @@ shown_below t from = flat_map (client_lines t) (below from t.clients)
 pub shown_none : (t : Tables) → shown_below t 0 ≡ []
 shown_none t = ap (λ cs. flat_map (client_lines t) cs) (none_first t.clients)
 
-pub shown_all : (t : Tables) (from : ℕ) → least_from from (client_serials t.clients) ≡ None → shown_below t from ≡ views t
+pub shown_all : (t : Tables) (from : ℕ) → least_from from (client_serials t.clients) ≡ None
+    → shown_below t from ≡ views t
 shown_all t from none = ap (λ cs. flat_map (client_lines t) cs) (all_below from t.clients none)
 
 -- no client has a serial of more than 32 bits
@@ -126,16 +145,21 @@ shown_last h from le =
     ap (λ cs. flat_map (client_lines (tables_of h)) cs)
     (given_below from (tables_of h).next_client (tables_of h).clients (omega (arith, small, le)) (sound h).clients_rise)
 
-next_shown : (t : Tables) (from n next : ℕ) (v : View) (o : Option Client) → Rises (client_serials t.clients) next → least_from from (client_serials t.clients) ≡ Some n
-    → client_at t n ≡ o → MatchOption o ⊥ (λ c. v ≡ granted_view t c) → shown_below t (n + 1) ≡ shown_below t from ++ view_lines n v
+next_shown : (t : Tables) (from n next : ℕ) (v : View) (o : Option Client) → Rises (client_serials t.clients) next
+    → least_from from (client_serials t.clients) ≡ Some n
+    → client_at t n ≡ o → MatchOption o ⊥ (λ c. v ≡ granted_view t c)
+    → shown_below t (n + 1) ≡ shown_below t from ++ view_lines n v
 next_shown t from n next v None rises least at is = absurd is
 next_shown t from n next v (Some c) rises least at is =
     ap (λ cs. flat_map (client_lines t) cs) (next_below from n next t.clients c rises least at)
     ∙ (flat_map-append (client_lines t) (below from t.clients) (c ∷ [])
     ∙ ap (λ xs. shown_below t from ++ xs) (append-nil (client_lines t c)
-    ∙ (ap (λ m. view_lines m (granted_view t c)) (row_serial serial_of t.clients n c at) ∙ ap (λ w. view_lines n w) (sym is))))
+    ∙ (ap (λ m. view_lines m (granted_view t c)) (row_serial serial_of t.clients n c at)
+    ∙ ap (λ w. view_lines n w) (sym is))))
 
-pub shown_next : (h : Trace) (from n : ℕ) (v : View) → least_from from (client_serials (tables_of h).clients) ≡ Some n → IsViewOf h n (Ok v)
+pub shown_next : (h : Trace) (from n : ℕ) (v : View) → least_from from (client_serials (tables_of h).clients) ≡ Some n
+    → IsViewOf h n (Ok v)
     → shown_below (tables_of h) (n + 1) ≡ shown_below (tables_of h) from ++ view_lines n v
 shown_next h from n v least is =
-    next_shown (tables_of h) from n (tables_of h).next_client v (client_at (tables_of h) n) (sound h).clients_rise least refl is
+    next_shown (tables_of h) from n (tables_of h).next_client v (client_at (tables_of h) n) (sound h).clients_rise least
+    refl is

@@ -10,7 +10,8 @@ use Rattle.session_model.specs.Trace.{EventValue, Attach, Open, Draw, Entry, Tra
 use Rattle.session_model.specs.Tables.{Tables, Window, Client, client_at, is_known, fresh}
 use Rattle.session_model.specs.Checks.{first_fault, verdicts}
 use Rattle.session_model.specs.Events.{outcome}
-use Rattle.session_model.specs.Comings.{attach_checks, attaches, new_client, open_checks, opens, new_window, is_client_size, is_let_in}
+use Rattle.session_model.specs.Comings.{attach_checks, attaches, new_client, open_checks, opens, new_window}
+use Rattle.session_model.specs.Comings.{is_client_size, is_let_in}
 use Rattle.session_model.specs.Outcomes.{reply_of}
 use Rattle.session_model.specs.Run.{drawn, drawn_on, tables_from, tables_of}
 use Rattle.session_model.specs.Sound.{AreSound}
@@ -26,27 +27,36 @@ IsInRange t = t.next_client ≤ 2 ^ 32
 below : (n : ℕ) → nat_lt n (2 ^ 32) ≡ true → n + 1 ≤ 2 ^ 32
 below n less = grind (arith, nat_tests, less)
 
-attached : (t : Tables) (user : UserId) (rows columns : ℕ) → first_fault t (attach_checks t user rows columns) ≡ None → t.next_client + 1 ≤ 2 ^ 32
+attached : (t : Tables) (user : UserId) (rows columns : ℕ) → first_fault t (attach_checks t user rows columns) ≡ None
+    → t.next_client + 1 ≤ 2 ^ 32
 attached t user rows columns passes =
     below t.next_client (and_second (nat_lt (length t.clients) 64) (nat_lt t.next_client (2 ^ 32))
-    (check_passed t (must (is_known t user) UnknownUser ∷ must (is_let_in t user) NotMultiuser ∷ must (is_client_size rows columns) BadSize ∷ []) [] _ TooManyClients passes))
+    (check_passed t
+    (must (is_known t user) UnknownUser ∷ must (is_let_in t user) NotMultiuser ∷ must (is_client_size rows columns)
+    BadSize ∷ []) [] _ TooManyClients passes))
 
 same : (a b : ℕ) → a ≡ b → b ≤ 2 ^ 32 → a ≤ 2 ^ 32
 same a b is le = subst (λ n. n ≤ 2 ^ 32) (sym is) le
 
 stays : (t : Tables) (event : EventValue) → AreSound t → IsInRange t → IsInRange (outcome t event).tables
 stays t (Attach user rows columns) s le =
-    outcomes.passed (λ o. IsInRange o.tables) t (verdicts t (attach_checks t user rows columns)) (first_fault t (attach_checks t user rows columns)) (reply_of 0 t.next_client 0 None) (attaches t (new_client t user rows columns)) (λ r is. le) (λ is. attached t user rows columns is)
+    outcomes.passed (λ o. IsInRange o.tables) t (verdicts t (attach_checks t user rows columns))
+    (first_fault t (attach_checks t user rows columns)) (reply_of 0 t.next_client 0 None)
+    (attaches t (new_client t user rows columns)) (λ r is. le) (λ is. attached t user rows columns is)
 stays t (Open user rows columns keep title) s le =
     let w : Window = new_window t rows columns keep title in
-    outcomes.passed (λ o. IsInRange o.tables) t (verdicts t (open_checks t user rows columns keep title)) (first_fault t (open_checks t user rows columns keep title)) (reply_of 0 w.serial w.number None) (opens t user w) (λ r is. le) (λ is. le)
+    outcomes.passed (λ o. IsInRange o.tables) t (verdicts t (open_checks t user rows columns keep title))
+    (first_fault t (open_checks t user rows columns keep title)) (reply_of 0 w.serial w.number None)
+    (opens t user w) (λ r is. le) (λ is. le)
 stays t event s le = same _ _ (moving t event s refl).next_client le
 
-drawn_next : (o : Option Client) (effects : List Effect) (t : Tables) → (drawn_on o effects t).next_client ≡ t.next_client
+drawn_next : (o : Option Client) (effects : List Effect) (t : Tables)
+    → (drawn_on o effects t).next_client ≡ t.next_client
 drawn_next None effects t = refl
 drawn_next (Some c) effects t = refl
 
-after_stays : (t : Tables) (event : EventValue) (effects : List Effect) → AreSound t → IsInRange t → IsInRange (drawn event effects (outcome t event).tables)
+after_stays : (t : Tables) (event : EventValue) (effects : List Effect) → AreSound t → IsInRange t
+    → IsInRange (drawn event effects (outcome t event).tables)
 after_stays t (Draw client) effects s le =
     let u : Tables = (outcome t (Draw client)).tables in
     same _ _ (drawn_next (client_at u client) effects u) (stays t (Draw client) s le)
@@ -54,7 +64,8 @@ after_stays t event effects s le = stays t event s le
 
 run_stays : (start : Tables) (past : List Entry) → AreSound start → IsInRange start → IsInRange (tables_from start past)
 run_stays start [] s le = le
-run_stays start (e ∷ past) s le = after_stays (tables_from start past) e.event e.effects (run_sound start past s) (run_stays start past s le)
+run_stays start (e ∷ past) s le = after_stays (tables_from start past) e.event e.effects (run_sound start past s)
+    (run_stays start past s le)
 
 pub sound : (h : Trace) → AreSound (tables_of h)
 sound h = run_sound (fresh h.edition h.owner) h.entries (fresh_sound h.edition h.owner)

@@ -18,7 +18,12 @@ use Rattle.session_clients.specs.contracts.clients.Clients.TheInside as inside
 client_send : IsSend Client.the_row
 client_send =
     let serial : IsSend u32 = plain_send _ _ _ _ _ in let other = option.the_send u32 serial in
-    declared_send Client.the_type (serial, (user.the_send, (reader.the_send, (layout_send, (other, (other, (message.the_send, (shadow.the_send, tt))))))))
+    declared_send Client.the_type (
+      serial,
+      (user.the_send, (reader.the_send, (layout_send, (other, (other, (message.the_send, (shadow.the_send, tt))))))),
+    )
 
 pub clients_send : IsSend Clients.the_row
-clients_send = view_send inside.the_row _ _ _ _ (declared_send inside.the_type (rows.the_send Client.the_row client_send, (option.the_send View.the_row view.the_send, tt)))
+clients_send = view_send inside.the_row _ _ _ _
+    (declared_send inside.the_type
+    (rows.the_send Client.the_row client_send, (option.the_send View.the_row view.the_send, tt)))

@@ -1,5 +1,6 @@
 -- Rows that still stand for those of the model once both have changed alike.
-use Rattle.std.proofs.Common.{◌≡◌, ℕ, ◌<◌, ◌≤◌, ◌-◌, Bool, true, false, refl, sym, subst, ◌∙◌, ap, Option, Some, None, [], map, arith}
+use Rattle.std.proofs.Common.{◌≡◌, ℕ, ◌<◌, ◌≤◌, ◌-◌, Bool, true, false, refl, sym, subst, ◌∙◌, ap, Option, Some, None}
+use Rattle.std.proofs.Common.{[], map, arith}
 use Rattle.std.specs.Prelude.{◌&&◌, nat_lt, nat_le}
 use Rattle.std.proofs.lemmas.Bool.{leb-true}
 use Rattle.std.proofs.lemmas.Bool.Decides.{nat_tests}

@@ -48,15 +48,21 @@ guarded_step laws h e run step = record {
 
 guarded : Laws → (h : Trace) (steps : List Entry) → IsRun h → AllSteps Keeps h steps → AllSteps IsGuarded h steps
 guarded laws h [] run keep = tt
-guarded laws h (e ∷ steps) run keep = (guarded_step laws h e run keep.0.step, guarded laws (with_step h e) steps (run, keep.0.step) keep.1)
+guarded laws h (e ∷ steps) run keep =
+    (guarded_step laws h e run keep.0.step, guarded laws (with_step h e) steps (run, keep.0.step) keep.1)
 
 -- steps behind others that are counted from a start
-since : Laws → (start : Tables) (guests : UserId → Bool) → AreGuests start guests → (h : Trace) (past steps : List Entry) → tables_of h ≡ tables_from start past → IsRunFrom start past
-    → contained.AllSteps (ChangesAreTheirs guests) start past → AllSteps Keeps h steps → AllSteps (λ g e. ChangesAreTheirs guests (tables_of g) e) h steps
+since : Laws → (start : Tables) (guests : UserId → Bool) → AreGuests start guests
+    → (h : Trace) (past steps : List Entry) → tables_of h ≡ tables_from start past → IsRunFrom start past
+    → contained.AllSteps (ChangesAreTheirs guests) start past → AllSteps Keeps h steps
+    → AllSteps (λ g e. ChangesAreTheirs guests (tables_of g) e) h steps
     → AreContained start (tables_of (with_steps h steps)) guests
-since laws start guests are h past [] is run theirs keep more = subst (λ t. AreContained start t guests) (sym is) (laws.contain start past guests are run theirs)
+since laws start guests are h past [] is run theirs keep more = subst (λ t. AreContained start t guests) (sym is)
+    (laws.contain start past guests are run theirs)
 since laws start guests are h past (e ∷ steps) is run theirs keep more =
-    since laws start guests are (with_step h e) (e ∷ past) steps (ap (λ t. after t e) is) (run, subst (λ t. IsStep t e) is keep.0.step) (theirs, subst (λ t. ChangesAreTheirs guests t e) is more.0) keep.1 more.1
+    since laws start guests are (with_step h e) (e ∷ past) steps (ap (λ t. after t e) is)
+    (run, subst (λ t. IsStep t e) is keep.0.step) (theirs, subst (λ t. ChangesAreTheirs guests t e) is more.0)
+    keep.1 more.1
 
 held : Laws → (h : Trace) (steps : List Entry) → IsRun h → AllSteps Keeps h steps → GuestsAreHeld h steps
 held laws h steps run keep = record {
@@ -64,9 +70,12 @@ held laws h steps run keep = record {
   contained = λ guests are more. since laws (tables_of h) guests are h [] steps refl tt tt keep more;
 }
 
-pub calls : Laws → (old : Session) (call : Call) (new : Session) → SomeRun old call new (AllSteps Keeps) → SomeRun old call new GuestsAreHeld
+pub calls : Laws → (old : Session) (call : Call) (new : Session) → SomeRun old call new (AllSteps Keeps)
+    → SomeRun old call new GuestsAreHeld
 calls laws old call new some h stands = let r = some h stands in (r.0, r.1, r.2, held laws h r.0 stands.run r.3)
 
-pub new_runs : Laws → (edition : Edition) (owner : UserId) (call : Call) (new : Session) → IsRunOf edition owner call new
-    → (steps : List Entry) × AreSteps call steps × StandsFor (with_steps (begun edition owner) steps) new × GuestsAreHeld (begun edition owner) steps
+pub new_runs : Laws → (edition : Edition) (owner : UserId) (call : Call) (new : Session)
+    → IsRunOf edition owner call new
+    → (steps : List Entry) × AreSteps call steps × StandsFor (with_steps (begun edition owner) steps) new
+    × GuestsAreHeld (begun edition owner) steps
 new_runs laws edition owner call new r = (r.0, r.1, r.2, held laws (begun edition owner) r.0 tt r.3)

@@ -16,7 +16,8 @@ unread event of_line e f = ap (option_map happening) e ∙ sym f
 
 -- ---- lines of three and of five fields
 
-abbrev pub with_three : {A B C : Type 0} → (A × (B × C) → EventValue) → Option A → Option B → Option C → Option EventValue
+abbrev pub with_three : {A B C : Type 0} → (A × (B × C) → EventValue) → Option A → Option B → Option C
+    → Option EventValue
 with_three event a b c = option_map event (option_zip a (option_zip b c))
 
 abbrev pub with_five : {A B C D E : Type 0} → (A × (B × (C × (D × E))) → EventValue)
@@ -29,7 +30,8 @@ pub three-last : {A B C : Type 0} (event : A × (B × C) → EventValue) (a : A)
 three-last event a b None = refl
 three-last event a b (Some c) = refl
 
-pub five-last : {A B C D E : Type 0} (event : A × (B × (C × (D × E))) → EventValue) (a : A) (b : B) (c : C) (d : D) (e : Option E)
+pub five-last : {A B C D E : Type 0} (event : A × (B × (C × (D × E))) → EventValue) (a : A) (b : B) (c : C) (d : D)
+    (e : Option E)
     → with_five event (Some a) (Some b) (Some c) (Some d) e ≡ option_map (λ e. event (a, (b, (c, (d, e))))) e
 five-last event a b c d None = refl
 five-last event a b c d (Some e) = refl
@@ -54,7 +56,8 @@ five-no_second event a c d e = ap (option_map event) (zip-none a)
 
 pub five-no_third : {A B C D E : Type 0} (event : A × (B × (C × (D × E))) → EventValue)
     (a : Option A) (b : Option B) (d : Option D) (e : Option E) → with_five event a b None d e ≡ None
-five-no_third event a b d e = ap (λ o. option_map event (option_zip a o)) (zip-none b) ∙ ap (option_map event) (zip-none a)
+five-no_third event a b d e = ap (λ o. option_map event (option_zip a o)) (zip-none b)
+    ∙ ap (option_map event) (zip-none a)
 
 pub five-no_fourth : {A B C D E : Type 0} (event : A × (B × (C × (D × E))) → EventValue)
     (a : Option A) (b : Option B) (c : Option C) (e : Option E) → with_five event a b c None e ≡ None

@@ -19,11 +19,14 @@ use Rattle.line_fields.specs.Cutting.{is_byte}
 use Rattle.line_fields.specs.Numbers.{number_below}
 use Rattle.line_fields.proofs.Digits as numbers
 use Rattle.line_fields.proofs.Words.{passing}
-use Rattle.session_lines.specs.Fields.{Field, User, Number, Window, Text, Title, Value, value_of, Values, values_of, values_in}
+use Rattle.session_lines.specs.Fields.{Field, User, Number, Window, Text, Title, Value, value_of, Values, values_of}
+use Rattle.session_lines.specs.Fields.{values_in}
 use Rattle.session_lines.specs.Fields.{fields, number_of, window_of, if_utf8, title_of}
-use Rattle.session_lines.specs.Script.{Row, row, row_of, word_of, fields_in, made_by, made_in, event_from, event_in, kind_of, parts_of, event_of_kind, event_by, event_of}
+use Rattle.session_lines.specs.Script.{Row, row, row_of, word_of, fields_in, made_by, made_in, event_from, event_in}
+use Rattle.session_lines.specs.Script.{kind_of, parts_of, event_of_kind, event_by, event_of}
 use Rattle.session_lines.specs.Printed.{escaped}
-use Rattle.session_lines.specs.ReadBack.{IsText, IsNamed, IsNumber, IsWindow, window_field, printed, all_printed, CanSay, CanSayAll, line_of, ReadsEvents}
+use Rattle.session_lines.specs.ReadBack.{IsText, IsNamed, IsNumber, IsWindow, window_field, printed, all_printed}
+use Rattle.session_lines.specs.ReadBack.{CanSay, CanSayAll, line_of, ReadsEvents}
 use Rattle.session_lines.proofs.ReadBack.{reads_texts}
 use Rattle.session_lines.proofs.Words.{IsWord, first_field, last_field}
 
@@ -70,7 +73,8 @@ window_word (Some n) is = number_word n (window_number n is)
 window_again : (window : Option ℕ) → IsWindow window → window_of (window_field window) ≡ Some window
 window_again None is = refl
 window_again (Some n) is =
-    ap (λ b. cond b (Some None) (option_map (λ number. Some (min number 255)) (number_of (decimal n)))) (no_dash (decimal n) (digits n (window_number n is)))
+    ap (λ b. cond b (Some None) (option_map (λ number. Some (min number 255)) (number_of (decimal n))))
+    (no_dash (decimal n) (digits n (window_number n is)))
     ∙ ap (option_map (λ number. Some (min number 255))) (number_again n (window_number n is))
     ∙ ap (λ m. Some (Some m)) (least n is)
 
@@ -87,7 +91,8 @@ bytes_of_name : (word : List ℕ) → is_name word ≡ true → list_all is_name
 bytes_of_name word is = grind (arith, nat_tests)
 
 name_word : (user : UserId) → IsNamed user → IsWord (name_of user)
-name_word user named = passing 0x20 is_name_byte name_apart (name_of user) (bytes_of_name (name_of user) (is_there _ _ _ named))
+name_word user named = passing 0x20 is_name_byte name_apart (name_of user)
+    (bytes_of_name (name_of user) (is_there _ _ _ named))
 
 -- ---- titles
 
@@ -122,26 +127,33 @@ value_again Window window can = window_again window can
 value_again Text bytes can = reads_texts bytes can
 value_again Title title can = title_again title can.0 can.1
 
-values_again : (fs : List Field) (v : Values fs) → is_row fs ≡ true → CanSayAll fs v → values_of fs (all_printed fs v) ≡ Some v
+values_again : (fs : List Field) (v : Values fs) → is_row fs ≡ true → CanSayAll fs v
+    → values_of fs (all_printed fs v) ≡ Some v
 values_again [] v is can = absurd (cc (is))
 values_again (f ∷ []) v is can = value_again f v can
 values_again (f ∷ g ∷ fs) v is can =
-    (λ i. option_zip (value_again f v.0 can.0 i) (values_again (g ∷ fs) v.1 (and_parts (is_word f) (is_row (g ∷ fs)) is).1 can.1 i))
+    (λ i. option_zip (value_again f v.0 can.0 i)
+    (values_again (g ∷ fs) v.1 (and_parts (is_word f) (is_row (g ∷ fs)) is).1 can.1 i))
 
 fields_again : (f : Field) (fs : List Field) (v : Values (f ∷ fs)) → is_row (f ∷ fs) ≡ true → CanSayAll (f ∷ fs) v
     → fields (length fs) (separated (codes " ") (all_printed (f ∷ fs) v)) ≡ all_printed (f ∷ fs) v
 fields_again f [] v is can = last_field (printed f v)
-fields_again f (g ∷ []) v is can = first_field 0 (printed f v.0) _ _ (one_word f v.0 (and_parts (is_word f) (true) is).0 can.0) (fields_again g [] v.1 refl can.1)
+fields_again f (g ∷ []) v is can = first_field 0 (printed f v.0) _ _
+    (one_word f v.0 (and_parts (is_word f) (true) is).0 can.0) (fields_again g [] v.1 refl can.1)
 fields_again f (g ∷ h ∷ fs) v is can =
-    first_field (suc (length fs)) (printed f v.0) _ _ (one_word f v.0 (and_parts (is_word f) (is_row (g ∷ h ∷ fs)) is).0 can.0)
+    first_field (suc (length fs)) (printed f v.0) _ _
+    (one_word f v.0 (and_parts (is_word f) (is_row (g ∷ h ∷ fs)) is).0 can.0)
     (fields_again g (h ∷ fs) v.1 (and_parts (is_word f) (is_row (g ∷ h ∷ fs)) is).1 can.1)
 
-read_again : (fs : List Field) (v : Values fs) → is_row fs ≡ true → CanSayAll fs v → values_in fs (separated (codes " ") (all_printed fs v)) ≡ Some v
+read_again : (fs : List Field) (v : Values fs) → is_row fs ≡ true → CanSayAll fs v
+    → values_in fs (separated (codes " ") (all_printed fs v)) ≡ Some v
 read_again [] v is can = absurd (cc (is))
 read_again (f ∷ []) v is can = ap (value_of f) (append-nil (printed f v)) ∙ value_again f v can
-read_again (f ∷ g ∷ fs) v is can = ap (values_of (f ∷ g ∷ fs)) (fields_again f (g ∷ fs) v is can) ∙ values_again (f ∷ g ∷ fs) v is can
+read_again (f ∷ g ∷ fs) v is can = ap (values_of (f ∷ g ∷ fs)) (fields_again f (g ∷ fs) v is can)
+    ∙ values_again (f ∷ g ∷ fs) v is can
 
-behind_again : (fs : List Field) (v : Values fs) → is_row fs ≡ true → behind (codes " ") (all_printed fs v) ≡ 0x20 ∷ separated (codes " ") (all_printed fs v)
+behind_again : (fs : List Field) (v : Values fs) → is_row fs ≡ true
+    → behind (codes " ") (all_printed fs v) ≡ 0x20 ∷ separated (codes " ") (all_printed fs v)
 behind_again [] v is = absurd (cc (is))
 behind_again (f ∷ []) v is = refl
 behind_again (f ∷ g ∷ fs) v is = refl

@@ -16,6 +16,7 @@ no_title bytes true h = absurd (h refl)
 no_title bytes false h = refl
 
 pub title_read : {E : Type 0} (Why : E → Type 0) (r : Result (Bor (List ℕ)) E) (bytes : List ℕ)
-    → MatchResult r (λ title. (title.now ≡ bytes) × IsUtf8 bytes) (λ e. ¬ IsUtf8 bytes × Why e) → option_copied (result_ok r) ≡ if_utf8 (Some bytes)
+    → MatchResult r (λ title. (title.now ≡ bytes) × IsUtf8 bytes) (λ e. ¬ IsUtf8 bytes × Why e)
+    → option_copied (result_ok r) ≡ if_utf8 (Some bytes)
 title_read Why (Ok title) bytes h = ap Some h.0 ∙ as_title bytes (is_utf8 bytes) (is_utf8-from_IsUtf8 bytes h.1)
 title_read Why (Err e) bytes h = no_title bytes (is_utf8 bytes) (λ is. h.0 (IsUtf8-from_is_utf8 bytes is))

@@ -1,12 +1,14 @@
 -- Tables without the output of hidden windows and without what was drawn to others: what is looked up in them.
-use Rattle.std.proofs.Common.{◌≡◌, ℕ, Bool, true, false, List, [], ◌∷◌, ◌++◌, Some, None, suc, refl, ap, sym, ◌∙◌, map, filter, length}
+use Rattle.std.proofs.Common.{◌≡◌, ℕ, Bool, true, false, List, [], ◌∷◌, ◌++◌, Some, None, suc, refl, ap, sym, ◌∙◌, map}
+use Rattle.std.proofs.Common.{filter, length}
 use Rattle.std.specs.Prelude.{if◌then◌else◌, ◌==◌, ◌||◌, find}
 use Rattle.std.specs.List.{list_any}
 use Rattle.std.specs.Option.{option_map}
 use Rattle.acl.specs.declared.user_id.UserId.{UserId}
 use Rattle.terminal_model.specs.Writing.{Writing}
 use Rattle.terminal_model.specs.Writing as written
-use Rattle.session_model.specs.Tables.{Tables, Window, Client, row_of, with_row, window_at, client_at, with_window, with_client}
+use Rattle.session_model.specs.Tables.{Tables, Window, Client, row_of, with_row, window_at, client_at, with_window}
+use Rattle.session_model.specs.Tables.{with_client}
 use Rattle.session_model.specs.Lines.{Caller}
 use Rattle.session_model.specs.Deeds.{Deed}
 
@@ -25,38 +27,52 @@ module _ {A : Type 0} (f : A → A) where
   -- a change of each row goes before and behind
   pub change_all : (g h : A → A) (xs : List A) → ((x : A) → g (f x) ≡ f (h x)) → map g (map f xs) ≡ map f (map h xs)
   change_all g h [] same = refl
-  change_all g h (x ∷ xs) same = ap (λ y. y ∷ map g (map f xs)) (same x) ∙ ap (λ ys. f (h x) ∷ ys) (change_all g h xs same)
+  change_all g h (x ∷ xs) same = ap (λ y. y ∷ map g (map f xs)) (same x)
+      ∙ ap (λ ys. f (h x) ∷ ys) (change_all g h xs same)
 
-  pub row_cut : (n : A → ℕ) (xs : List A) (s : ℕ) → ((x : A) → n (f x) ≡ n x) → row_of n (map f xs) s ≡ option_map f (row_of n xs s)
+  pub row_cut : (n : A → ℕ) (xs : List A) (s : ℕ) → ((x : A) → n (f x) ≡ n x)
+      → row_of n (map f xs) s ≡ option_map f (row_of n xs s)
   row_cut n [] s same = refl
   row_cut n (x ∷ xs) s same =
-      ap (λ m. if m == s then Some (f x) else row_of n (map f xs) s) (same x) ∙ on (n x == s) (row_cut n xs s same) where
-        on : (b : Bool) → row_of n (map f xs) s ≡ option_map f (row_of n xs s) → (if b then Some (f x) else row_of n (map f xs) s) ≡ option_map f (if b then Some x else row_of n xs s)
+      ap (λ m. if m == s then Some (f x) else row_of n (map f xs) s) (same x)
+      ∙ on (n x == s) (row_cut n xs s same) where
+        on : (b : Bool) → row_of n (map f xs) s ≡ option_map f (row_of n xs s)
+            → (if b then Some (f x) else row_of n (map f xs) s) ≡ option_map f (if b then Some x else row_of n xs s)
         on true more = refl
         on false more = more
 
-  pub put_cut : (n : A → ℕ) (xs : List A) (s : ℕ) (y : A) → ((x : A) → n (f x) ≡ n x) → with_row n (map f xs) s (f y) ≡ map f (with_row n xs s y)
+  pub put_cut : (n : A → ℕ) (xs : List A) (s : ℕ) (y : A) → ((x : A) → n (f x) ≡ n x)
+      → with_row n (map f xs) s (f y) ≡ map f (with_row n xs s y)
   put_cut n [] s y same = refl
   put_cut n (x ∷ xs) s y same =
-      ap (λ m. if m == s then f y ∷ map f xs else f x ∷ with_row n (map f xs) s (f y)) (same x) ∙ on (n x == s) (put_cut n xs s y same) where
-        on : (b : Bool) → with_row n (map f xs) s (f y) ≡ map f (with_row n xs s y) → (if b then f y ∷ map f xs else f x ∷ with_row n (map f xs) s (f y)) ≡ map f (if b then y ∷ xs else x ∷ with_row n xs s y)
+      ap (λ m. if m == s then f y ∷ map f xs else f x ∷ with_row n (map f xs) s (f y)) (same x)
+      ∙ on (n x == s) (put_cut n xs s y same) where
+        on : (b : Bool) → with_row n (map f xs) s (f y) ≡ map f (with_row n xs s y)
+            → (if b then f y ∷ map f xs else f x ∷ with_row n (map f xs) s (f y)) ≡ map f
+            (if b then y ∷ xs else x ∷ with_row n xs s y)
         on true more = refl
         on false more = ap (λ ys. f x ∷ ys) more
 
   -- a row that is cut to the same
-  pub put_same : (n : A → ℕ) (xs : List A) (s : ℕ) (x y : A) → row_of n xs s ≡ Some x → f y ≡ f x → map f (with_row n xs s y) ≡ map f xs
+  pub put_same : (n : A → ℕ) (xs : List A) (s : ℕ) (x y : A) → row_of n xs s ≡ Some x → f y ≡ f x
+      → map f (with_row n xs s y) ≡ map f xs
   put_same n [] s x y at same = refl
   put_same n (z ∷ xs) s x y at same = on (n z == s) at (put_same n xs s x y) where
-    on : (b : Bool) → (if b then Some z else row_of n xs s) ≡ Some x → (row_of n xs s ≡ Some x → f y ≡ f x → map f (with_row n xs s y) ≡ map f xs)
+    on : (b : Bool) → (if b then Some z else row_of n xs s) ≡ Some x
+        → (row_of n xs s ≡ Some x → f y ≡ f x → map f (with_row n xs s y) ≡ map f xs)
         → map f (if b then y ∷ xs else z ∷ with_row n xs s y) ≡ f z ∷ map f xs
     on true at more = let e : z ≡ x = cc (at) in ap (λ r. r ∷ map f xs) (same ∙ ap f (sym e))
     on false at more = ap (λ rs. f z ∷ rs) (more at same)
 
-  pub filter_cut : (p q : A → Bool) (xs : List A) → ((x : A) → p (f x) ≡ q x) → filter p (map f xs) ≡ map f (filter q xs)
+  pub filter_cut : (p q : A → Bool) (xs : List A) → ((x : A) → p (f x) ≡ q x)
+      → filter p (map f xs) ≡ map f (filter q xs)
   filter_cut p q [] same = refl
   filter_cut p q (x ∷ xs) same =
-      ap (λ b. if b then f x ∷ filter p (map f xs) else filter p (map f xs)) (same x) ∙ on (q x) (filter_cut p q xs same) where
-        on : (b : Bool) → filter p (map f xs) ≡ map f (filter q xs) → (if b then f x ∷ filter p (map f xs) else filter p (map f xs)) ≡ map f (if b then x ∷ filter q xs else filter q xs)
+      ap (λ b. if b then f x ∷ filter p (map f xs) else filter p (map f xs)) (same x)
+      ∙ on (q x) (filter_cut p q xs same) where
+        on : (b : Bool) → filter p (map f xs) ≡ map f (filter q xs)
+            → (if b then f x ∷ filter p (map f xs) else filter p (map f xs)) ≡ map f
+            (if b then x ∷ filter q xs else filter q xs)
         on true more = ap (λ ys. f x ∷ ys) more
         on false more = more
 
@@ -64,11 +80,13 @@ module _ {A : Type 0} (f : A → A) where
   any_cut p q [] same = refl
   any_cut p q (x ∷ xs) same = ap (λ b. b || list_any p (map f xs)) (same x) ∙ ap (λ b. q x || b) (any_cut p q xs same)
 
-  pub find_cut : (p q : A → Bool) (xs : List A) → ((x : A) → p (f x) ≡ q x) → find p (map f xs) ≡ option_map f (find q xs)
+  pub find_cut : (p q : A → Bool) (xs : List A) → ((x : A) → p (f x) ≡ q x)
+      → find p (map f xs) ≡ option_map f (find q xs)
   find_cut p q [] same = refl
   find_cut p q (x ∷ xs) same =
       ap (λ b. if b then Some (f x) else find p (map f xs)) (same x) ∙ on (q x) (find_cut p q xs same) where
-        on : (b : Bool) → find p (map f xs) ≡ option_map f (find q xs) → (if b then Some (f x) else find p (map f xs)) ≡ option_map f (if b then Some x else find q xs)
+        on : (b : Bool) → find p (map f xs) ≡ option_map f (find q xs)
+            → (if b then Some (f x) else find p (map f xs)) ≡ option_map f (if b then Some x else find q xs)
         on true more = refl
         on false more = more
 
@@ -114,7 +132,9 @@ module _ (shown : ℕ → Bool) (seeing : UserId → Bool) where
   client_cut t s = row_cut cut_client (λ (c : Client). c.serial) t.clients s (λ c. refl)
 
   pub with_window_cut : (t : Tables) (w : Window) → with_window (cut t) (cut_window w) ≡ cut (with_window t w)
-  with_window_cut t w = ap (λ ws. record (cut t) { windows = ws }) (put_cut cut_window (λ (w : Window). w.serial) t.windows w.serial w (λ w. refl))
+  with_window_cut t w = ap (λ ws. record (cut t) { windows = ws })
+      (put_cut cut_window (λ (w : Window). w.serial) t.windows w.serial w (λ w. refl))
 
   pub with_client_cut : (t : Tables) (c : Client) → with_client (cut t) (cut_client c) ≡ cut (with_client t c)
-  with_client_cut t c = ap (λ cs. record (cut t) { clients = cs }) (put_cut cut_client (λ (c : Client). c.serial) t.clients c.serial c (λ c. refl))
+  with_client_cut t c = ap (λ cs. record (cut t) { clients = cs })
+      (put_cut cut_client (λ (c : Client). c.serial) t.clients c.serial c (λ c. refl))

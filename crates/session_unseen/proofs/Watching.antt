@@ -1,5 +1,6 @@
 -- What a command does that changes nothing but its client's page.
-use Rattle.std.proofs.Common.{◌≡◌, ℕ, Bool, true, false, not, List, [], ◌∷◌, Option, Some, None, Ok, Err, refl, ap, sym, ◌∙◌, filter}
+use Rattle.std.proofs.Common.{◌≡◌, ℕ, Bool, true, false, not, List, [], ◌∷◌, Option, Some, None, Ok, Err, refl, ap, sym}
+use Rattle.std.proofs.Common.{◌∙◌, filter}
 use Rattle.std.specs.Prelude.{if◌then◌else◌, ◌==◌}
 use Rattle.std.specs.List.{AllByRecursion}
 use Rattle.std.specs.Option.{option_and_then}
@@ -16,10 +17,12 @@ use Rattle.session_model.specs.declared.event.Effect.TheVariants.{Deliver, Say, 
 use Rattle.session_model.specs.declared.event.Reason.TheVariants as reason
 use Rattle.session_model.specs.declared.message.Message.{Message}
 use Rattle.session_model.specs.declared.refusal.Refusal.{Refusal}
-use Rattle.session_model.specs.Tables.{Tables, Window, Client, row_of, with_row, client_at, with_client, with_layout, focused}
+use Rattle.session_model.specs.Tables.{Tables, Window, Client, row_of, with_row, client_at, with_client, with_layout}
+use Rattle.session_model.specs.Tables.{focused}
 use Rattle.session_model.specs.Lines.{Caller}
 use Rattle.session_model.specs.Deeds as deeds
-use Rattle.session_model.specs.Deeds.{Deed, Answer, given, unless, refused_if, parts, arranges, enters, selects, entering, hearing}
+use Rattle.session_model.specs.Deeds.{Deed, Answer, given, unless, refused_if, parts, arranges, enters, selects}
+use Rattle.session_model.specs.Deeds.{entering, hearing}
 use Rattle.session_model.specs.Commands.{does, caller_client, on_client}
 use Rattle.session_model.specs.Answering.{told}
 use Rattle.session_laws.proofs.Lists.{row_serial, equal, all_map, all_passed, all_of}
@@ -55,12 +58,14 @@ abbrev pub IfDone : (Deed → Type 0) → Answer → Type 0
 IfDone P (Ok d) = P d
 IfDone P (Err r) = Unit {0}
 
-by_given : {X : Type 0} (P : Deed → Type 0) (o : Option X) (r : Refusal) (f : X → Answer) → ((x : X) → o ≡ Some x → IfDone P (f x)) → IfDone P (given o r f)
+by_given : {X : Type 0} (P : Deed → Type 0) (o : Option X) (r : Refusal) (f : X → Answer)
+    → ((x : X) → o ≡ Some x → IfDone P (f x)) → IfDone P (given o r f)
 unfolding given
 by_given P None r f on = tt
 by_given P (Some x) r f on = on x refl
 
-by_unless : {F : Type 0} (P : Deed → Type 0) (of : F → Refusal) (o : Option F) (d : Deed) → P d → IfDone P (unless of o d)
+by_unless : {F : Type 0} (P : Deed → Type 0) (of : F → Refusal) (o : Option F) (d : Deed) → P d
+    → IfDone P (unless of o d)
 unfolding unless
 by_unless P of None d p = p
 by_unless P of (Some f) d p = tt
@@ -80,39 +85,52 @@ module _ (user : UserId) (own : Option ℕ) where
 
   -- ---- rows
 
-  put_others : (cs : List Client) (y : Client) → AllHis cs → is_it own y.serial ≡ true → his y ≡ true → others_clients user (with_row (λ (c : Client). c.serial) cs y.serial y) ≡ others_clients user cs
+  put_others : (cs : List Client) (y : Client) → AllHis cs → is_it own y.serial ≡ true → his y ≡ true
+      → others_clients user (with_row (λ (c : Client). c.serial) cs y.serial y) ≡ others_clients user cs
   put_others [] y all is mine = refl
   put_others (x ∷ cs) y all is mine = on (x.serial == y.serial) refl (put_others cs y all.1 is mine) where
     here : x.serial ≡ y.serial → his x ≡ true
     here same = all.0 (ap (is_it own) same ∙ is)
 
-    on : (b : Bool) → (x.serial == y.serial) ≡ b → others_clients user (with_row (λ (c : Client). c.serial) cs y.serial y) ≡ others_clients user cs
-        → others_clients user (if b then y ∷ cs else x ∷ with_row (λ (c : Client). c.serial) cs y.serial y) ≡ others_clients user (x ∷ cs)
+    on : (b : Bool) → (x.serial == y.serial) ≡ b
+        → others_clients user (with_row (λ (c : Client). c.serial) cs y.serial y) ≡ others_clients user cs
+        → others_clients user (if b then y ∷ cs else x ∷ with_row (λ (c : Client). c.serial) cs y.serial y) ≡
+        others_clients user (x ∷ cs)
     on true at same =
         ap (λ b. if not b then y ∷ others_clients user cs else others_clients user cs) mine
-        ∙ sym (ap (λ b. if not b then x ∷ others_clients user cs else others_clients user cs) (here (equal x.serial y.serial at)))
+        ∙ sym
+        (ap (λ b. if not b then x ∷ others_clients user cs else others_clients user cs)
+        (here (equal x.serial y.serial at)))
     on false at same = ap (λ ds. if not (his x) then x ∷ ds else ds) same
 
-  put_all : (cs : List Client) (y : Client) (n : ℕ) → AllHis cs → his y ≡ true → AllHis (with_row (λ (c : Client). c.serial) cs n y)
+  put_all : (cs : List Client) (y : Client) (n : ℕ) → AllHis cs → his y ≡ true
+      → AllHis (with_row (λ (c : Client). c.serial) cs n y)
   put_all [] y n all mine = tt
   put_all (x ∷ cs) y n all mine = on (x.serial == n) (put_all cs y n all.1 mine) where
-    on : (b : Bool) → AllHis (with_row (λ (c : Client). c.serial) cs n y) → AllHis (if b then y ∷ cs else x ∷ with_row (λ (c : Client). c.serial) cs n y)
+    on : (b : Bool) → AllHis (with_row (λ (c : Client). c.serial) cs n y)
+        → AllHis (if b then y ∷ cs else x ∷ with_row (λ (c : Client). c.serial) cs n y)
     on true more = (λ is. mine, all.1)
     on false more = (all.0, more)
 
-  row_his : (cs : List Client) (n : ℕ) (c : Client) → AllHis cs → is_it own n ≡ true → row_of (λ (c : Client). c.serial) cs n ≡ Some c → his c ≡ true
+  row_his : (cs : List Client) (n : ℕ) (c : Client) → AllHis cs → is_it own n ≡ true
+      → row_of (λ (c : Client). c.serial) cs n ≡ Some c → his c ≡ true
   row_his [] n c all is at = absurd (cc (at))
   row_his (x ∷ cs) n c all is at = on (x.serial == n) refl at (row_his cs n c all.1 is) where
-    on : (b : Bool) → (x.serial == n) ≡ b → (if b then Some x else row_of (λ (c : Client). c.serial) cs n) ≡ Some c → (row_of (λ (c : Client). c.serial) cs n ≡ Some c → his c ≡ true) → his c ≡ true
-    on true here at more = let e : x ≡ c = cc (at) in ap his (sym e) ∙ all.0 (ap (is_it own) (equal x.serial n here) ∙ is)
+    on : (b : Bool) → (x.serial == n) ≡ b → (if b then Some x else row_of (λ (c : Client). c.serial) cs n) ≡ Some c
+        → (row_of (λ (c : Client). c.serial) cs n ≡ Some c → his c ≡ true) → his c ≡ true
+    on true here at more = let e : x ≡ c = cc (at) in ap his (sym e)
+        ∙ all.0 (ap (is_it own) (equal x.serial n here) ∙ is)
     on false here at more = more at
 
-  parted_others : (p : Client → Bool) (cs : List Client) → ((c : Client) → p c ≡ true → is_it own c.serial ≡ true) → AllHis cs → others_clients user (filter (λ c. not (p c)) cs) ≡ others_clients user cs
+  parted_others : (p : Client → Bool) (cs : List Client) → ((c : Client) → p c ≡ true → is_it own c.serial ≡ true)
+      → AllHis cs → others_clients user (filter (λ c. not (p c)) cs) ≡ others_clients user cs
   parted_others p [] goes all = refl
   parted_others p (x ∷ cs) goes all = on (p x) refl (parted_others p cs goes all.1) where
     on : (b : Bool) → p x ≡ b → others_clients user (filter (λ c. not (p c)) cs) ≡ others_clients user cs
-        → others_clients user (if not b then x ∷ filter (λ c. not (p c)) cs else filter (λ c. not (p c)) cs) ≡ others_clients user (x ∷ cs)
-    on true is same = same ∙ sym (ap (λ b. if not b then x ∷ others_clients user cs else others_clients user cs) (all.0 (goes x is)))
+        → others_clients user (if not b then x ∷ filter (λ c. not (p c)) cs else filter (λ c. not (p c)) cs) ≡
+        others_clients user (x ∷ cs)
+    on true is same = same
+        ∙ sym (ap (λ b. if not b then x ∷ others_clients user cs else others_clients user cs) (all.0 (goes x is)))
     on false is same = ap (λ ds. if not (his x) then x ∷ ds else ds) same
 
   parted_all : (p : Client → Bool) (cs : List Client) → AllHis cs → AllHis (filter p cs)
@@ -135,19 +153,45 @@ module _ (user : UserId) (own : Option ℕ) where
     pub all : AllHis v.clients
 
   pub as_before : (t : Tables) → AllHis t.clients → Still t t
-  as_before t all = record { owner = refl; edition = refl; acts = refl; mode = refl; windows = refl; next_window = refl; clients = refl; all = all }
+  as_before t all = record {
+    owner = refl;
+    edition = refl;
+    acts = refl;
+    mode = refl;
+    windows = refl;
+    next_window = refl;
+    clients = refl;
+    all
+        = all;
+  }
 
-  abbrev moved : (t v : Tables) (cs : List Client) → Still t v → others_clients user cs ≡ others_clients user v.clients → AllHis cs → Still t (record v { clients = cs })
-  moved t v cs s same all = record { owner = s.owner; edition = s.edition; acts = s.acts; mode = s.mode; windows = s.windows; next_window = s.next_window; clients = same ∙ s.clients; all = all }
+  abbrev moved : (t v : Tables) (cs : List Client) → Still t v → others_clients user cs ≡ others_clients user v.clients
+      → AllHis cs → Still t (record v { clients = cs })
+  moved t v cs s same all = record {
+    owner = s.owner;
+    edition = s.edition;
+    acts = s.acts;
+    mode = s.mode;
+    windows = s.windows;
+    next_window =
+        s.next_window;
+    clients = same ∙ s.clients;
+    all = all;
+  }
 
-  pub put : (t v : Tables) (c : Client) → Still t v → is_it own c.serial ≡ true → his c ≡ true → Still t (with_client v c)
-  put t v c s is mine = moved t v (with_client v c).clients s (put_others v.clients c s.all is mine) (put_all v.clients c c.serial s.all mine)
+  pub put : (t v : Tables) (c : Client) → Still t v → is_it own c.serial ≡ true → his c ≡ true
+      → Still t (with_client v c)
+  put t v c s is mine = moved t v (with_client v c).clients s (put_others v.clients c s.all is mine)
+      (put_all v.clients c c.serial s.all mine)
 
   pub told_still : (t v : Tables) (n : ℕ) (m : Message) → Still t v → is_it own n ≡ true → Still t (told v n m)
   told_still t v n m s is = on (client_at v n) refl where
-    on : (o : Option Client) → client_at v n ≡ o → Still t (elim o as (λ _. Tables) [ None ↦ v | Some c ↦ with_client v (hearing m c) ])
+    on : (o : Option Client) → client_at v n ≡ o
+        → Still t (elim o as (λ _. Tables) [ None ↦ v | Some c ↦ with_client v (hearing m c) ])
     on None at = s
-    on (Some c) at = put t v (hearing m c) s (ap (is_it own) (row_serial (λ (x : Client). x.serial) v.clients n c at) ∙ is) (row_his v.clients n c s.all is at)
+    on (Some c) at = put t v (hearing m c) s
+        (ap (is_it own) (row_serial (λ (x : Client). x.serial) v.clients n c at) ∙ is)
+        (row_his v.clients n c s.all is at)
 
   -- ---- the rows
 
@@ -161,33 +205,50 @@ module _ (user : UserId) (own : Option ℕ) where
   entering_presence v None = tt
   entering_presence v (Some w) = (refl, tt)
 
-  pub parted_by : (t v : Tables) (n : ℕ) → Still t v → is_it own n ≡ true → Leaves t (parts (λ (d : Client). d.serial == n) reason.Detached v)
+  pub parted_by : (t v : Tables) (n : ℕ) → Still t v → is_it own n ≡ true
+      → Leaves t (parts (λ (d : Client). d.serial == n) reason.Detached v)
   parted_by t v n still own_is =
       let p : Client → Bool = λ d. d.serial == n in
-      let goes : (d : Client) → p d ≡ true → is_it own d.serial ≡ true = λ d is. ap (is_it own) (equal d.serial n is) ∙ own_is in record {
-        tables = moved t v (filter (λ d. not (p d)) v.clients) still (parted_others p v.clients goes still.all) (parted_all (λ d. not (p d)) v.clients still.all);
-        acts = all_map (λ a. is_presence a ≡ true) (λ (d : Client). act.Parted d.serial) (filter p v.clients) (all_of (λ (d : Client). true ≡ true) (filter p v.clients) (λ d. refl));
-        effects = all_map (λ f. is_to own f ≡ true) (λ (d : Client). GoneClient d.serial reason.Detached) (filter p v.clients)
-            (all_passed (λ (d : Client). is_it own d.serial ≡ true) p v.clients (all_of (λ (d : Client). p d ≡ true → is_it own d.serial ≡ true) v.clients goes));
+      let goes : (d : Client) → p d ≡ true → is_it own d.serial ≡ true = λ d is. ap (is_it own) (equal d.serial n is)
+      ∙ own_is in record {
+        tables = moved t v (filter (λ d. not (p d)) v.clients) still (parted_others p v.clients goes still.all)
+            (parted_all (λ d. not (p d)) v.clients still.all);
+        acts = all_map (λ a. is_presence a ≡ true) (λ (d : Client). act.Parted d.serial) (filter p v.clients)
+            (all_of (λ (d : Client). true ≡ true) (filter p v.clients) (λ d. refl));
+        effects = all_map (λ f. is_to own f ≡ true) (λ (d : Client). GoneClient d.serial reason.Detached)
+            (filter p v.clients)
+            (all_passed (λ (d : Client). is_it own d.serial ≡ true) p v.clients
+            (all_of (λ (d : Client). p d ≡ true → is_it own d.serial ≡ true) v.clients goes));
       }
 
-  module _ (t v : Tables) (k : Caller) (still : Still t v) (of_own : (c : Client) → caller_client v k ≡ Some c → is_it own c.serial ≡ true) where
+  module _ (t v : Tables) (k : Caller) (still : Still t v)
+      (of_own : (c : Client) → caller_client v k ≡ Some c → is_it own c.serial ≡ true) where
     mine : (c : Client) → caller_client v k ≡ Some c → his c ≡ true
     mine c at = on k.client at (of_own c at) where
       on : (o : Option ℕ) → option_and_then (client_at v) o ≡ Some c → is_it own c.serial ≡ true → his c ≡ true
       on None at is = absurd (cc (at))
-      on (Some n) at is = row_his v.clients n c still.all (ap (is_it own) (sym (row_serial (λ (x : Client). x.serial) v.clients n c at)) ∙ is) at
+      on (Some n) at is = row_his v.clients n c still.all
+          (ap (is_it own) (sym (row_serial (λ (x : Client). x.serial) v.clients n c at)) ∙ is) at
 
     arranged : (c : Client) (l : Arrangement) → caller_client v k ≡ Some c → Leaves t (arranges v c l)
-    arranged c l at = record { tables = put t v (with_layout l c) still (of_own c at) (mine c at); acts = tt; effects = tt }
+    arranged c l at = record
+        { tables = put t v (with_layout l c) still (of_own c at) (mine c at); acts = tt; effects = tt }
 
     entered : (c : Client) (l : Arrangement) → caller_client v k ≡ Some c → Leaves t (enters v c l)
-    entered c l at = record { tables = put t v (with_layout l c) still (of_own c at) (mine c at); acts = entering_presence c.user (focused (with_layout l c)); effects = tt }
+    entered c l at = record {
+      tables = put t v (with_layout l c) still (of_own c at) (mine c at);
+      acts = entering_presence c.user
+          (focused (with_layout l c));
+      effects = tt;
+    }
 
-    selected : (o : Client → Option Window) (r : Refusal) → IfDone (Leaves t) (on_client v k (λ c. given (o c) r (λ w. Ok (selects v c w))))
-    selected o r = by_given (Leaves t) (caller_client v k) _ _ (λ c at. by_given (Leaves t) (o c) r _ (λ w is. entered c _ at))
+    selected : (o : Client → Option Window) (r : Refusal)
+        → IfDone (Leaves t) (on_client v k (λ c. given (o c) r (λ w. Ok (selects v c w))))
+    selected o r = by_given (Leaves t) (caller_client v k) _ _
+        (λ c at. by_given (Leaves t) (o c) r _ (λ w is. entered c _ at))
 
-    parted : (c : Client) → caller_client v k ≡ Some c → Leaves t (parts (λ (d : Client). d.serial == c.serial) reason.Detached v)
+    parted : (c : Client) → caller_client v k ≡ Some c
+        → Leaves t (parts (λ (d : Client). d.serial == c.serial) reason.Detached v)
     parted c at = parted_by t v c.serial still (of_own c at)
 
     nothing : (bytes : List ℕ) → Leaves t (deeds.listing v bytes)
@@ -200,9 +261,11 @@ module _ (user : UserId) (own : Option ℕ) where
     watched command.Next is = selected _ _
     watched command.Prev is = selected _ _
     watched command.Other is = selected _ _
-    watched (command.Split vertical) is = by_given (Leaves t) (caller_client v k) _ _ (λ c at. by_unless (Leaves t) _ _ _ (arranged c _ at))
+    watched (command.Split vertical) is = by_given (Leaves t) (caller_client v k) _ _
+        (λ c at. by_unless (Leaves t) _ _ _ (arranged c _ at))
     watched command.Focus is = by_given (Leaves t) (caller_client v k) _ _ (λ c at. entered c _ at)
-    watched command.Remove is = by_given (Leaves t) (caller_client v k) _ _ (λ c at. by_refused (Leaves t) _ _ _ (entered c (remove_focused c.layout) at))
+    watched command.Remove is = by_given (Leaves t) (caller_client v k) _ _
+        (λ c at. by_refused (Leaves t) _ _ _ (entered c (remove_focused c.layout) at))
     watched command.Only is = by_given (Leaves t) (caller_client v k) _ _ (λ c at. arranged c _ at)
     watched (command.Scrollview n) is = by_given (Leaves t) (caller_client v k) _ _ (λ c at. arranged c _ at)
     watched command.Detach is = by_given (Leaves t) (caller_client v k) _ _ (λ c at. parted c at)

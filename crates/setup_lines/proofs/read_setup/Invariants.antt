@@ -4,4 +4,5 @@ use Rattle.setup_lines.proofs.Reading.{HaveRead}
 use Rattle.setup_lines.proofs.read_setup.Given as goal
 
 abbrev pub invariant-loop-part : goal.invariant-loop-part
-invariant-loop-part l = (l.number ≡ l.part-index) × HaveRead l.file (map line_of l.lines.items) l.part-index (map (λ x. x.now) (drop l.part-index l.part-items))
+invariant-loop-part l = (l.number ≡ l.part-index)
+    × HaveRead l.file (map line_of l.lines.items) l.part-index (map (λ x. x.now) (drop l.part-index l.part-items))

@@ -14,8 +14,24 @@ loop-act-preserved g c = let none : Act = Known (record { name = [] }) in record
       let act = slice_index_or c.args.acts.now c.loop-act.act-index none in
       let next = drop-next c.args.acts.now c.loop-act.act-index none (omega arith) in
       let may = subst (AllMayFollow edition owner so.0) (sym next) so.2 in
-      let stood = c.apply.ensures.stands edition owner so.0 so.1 may.0 in
-      (act ∷ so.0, stood, may.1, (λ i. followed_by so.0 (next i)) ∙ so.3, λ f. c.follow.ensures edition owner so.0 (so.4 f) may.0 stood);
-  rows = omega (arith, counted makes_known c.args.acts.now c.loop-act.act-index none (omega arith), c.apply.ensures.rows_left, c.loop-act.invariant.rows);
-  masks = omega (arith, counted sets_mask c.args.acts.now c.loop-act.act-index none (omega arith), c.apply.ensures.masks_left, c.loop-act.invariant.masks);
+      let stood = c.apply.ensures.stands edition owner so.0 so.1 may.0 in (
+        act ∷ so.0,
+        stood,
+        may.1,
+        (λ i. followed_by so.0 (next i))
+            ∙ so.3,
+        λ f. c.follow.ensures edition owner so.0 (so.4 f) may.0 stood,
+      );
+  rows = omega (
+    arith,
+    counted makes_known c.args.acts.now c.loop-act.act-index none (omega arith),
+    c.apply.ensures.rows_left,
+    c.loop-act.invariant.rows,
+  );
+  masks = omega (
+    arith,
+    counted sets_mask c.args.acts.now c.loop-act.act-index none (omega arith),
+    c.apply.ensures.masks_left,
+    c.loop-act.invariant.masks,
+  );
 }

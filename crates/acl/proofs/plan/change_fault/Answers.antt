@@ -16,7 +16,8 @@ loop-i-preserved c =
     record {
       fault = ap (λ us. change_fault owner us (drop (i + 1) c.args.names.now)) known
           ∙ sym (option_or-none _ _ c.in-Ok.ensures.none)
-          ∙ ap (change_fault owner (with_names users (take i c.args.names.now))) (drop-next c.args.names.now i None (omega arith))
+          ∙ ap (change_fault owner (with_names users (take i c.args.names.now)))
+          (drop-next c.args.names.now i None (omega arith))
           ∙ c.loop-i.invariant.fault;
       count = c.in-Ok.ensures.ok ∙ ap length (sym known);
     }

@@ -7,7 +7,8 @@ use Rattle.acl.proofs.plan.change_fault.Given as goal
 -- the fault is one of the names that are left
 abbrev pub invariant-loop-i : goal.invariant-loop-i
 invariant-loop-i l = record {
-  fault : change_fault (table_of l.lists).owner (with_names (users_in (table_of l.lists)) (take l.i l.names)) (drop l.i l.names)
+  fault : change_fault (table_of l.lists).owner (with_names (users_in (table_of l.lists)) (take l.i l.names))
+      (drop l.i l.names)
       ≡ change_fault (table_of l.lists).owner (users_in (table_of l.lists)) l.names;
   count : l.count ≡ length (with_names (users_in (table_of l.lists)) (take l.i l.names));
 }

@@ -15,4 +15,5 @@ pub returns-else-knows : goal.returns-else-knows
 returns-else-knows c =
     c.names_any.ensures
     ∙ sym (among-with_names (users_in (table_of c.args.lists.now)) c.args.before.now c.args.user
-    ∙ ap (λ k. k || list_any (names_user c.args.user) c.args.before.now) (sym c.knows.ensures.listed ∙ c.if-knows.false))
+    ∙ ap (λ k. k || list_any (names_user c.args.user) c.args.before.now)
+    (sym c.knows.ensures.listed ∙ c.if-knows.false))

@@ -15,7 +15,8 @@ loop-i-preserved c =
     let rest = drop (i + 1) c.args.names.now in
     let left = known_acts (with_name before (slice_index_or c.args.names.now i None)) rest in
     record {
-      left = ap (λ us. c.plan_known.new.acts.items ++ known_acts us rest) (with_names-next users c.args.names.now i (omega arith))
+      left = ap (λ us. c.plan_known.new.acts.items ++ known_acts us rest)
+          (with_names-next users c.args.names.now i (omega arith))
           ∙ ap (λ xs. xs ++ left) c.in_ok-plan_known.ensures.ok
           ∙ append_assoc c.loop-i.acts.items _ left
           ∙ ap (λ ns. c.loop-i.acts.items ++ known_acts before ns) (drop-next c.args.names.now i None (omega arith))

@@ -10,8 +10,11 @@ use Rattle.acl.proofs.plan.plan_change.Goals as goal
 
 pub returns-in_err-plan_name_sets-clause-err : goal.returns-in_err-plan_name_sets-clause-err
 returns-in_err-plan_name_sets-clause-err c =
-    let p = err_from_is_err_and c.from_residual-in_err-plan_name_sets.result c.from_residual-in_err-plan_name_sets.ensures.1 in
-    rw p.1 (keeps-on _ _ _ c.loop-i.invariant.kept (keeps-on _ _ _ (_, c.in_ok-plan_known.ensures.ok) c.in_err-plan_name_sets.ensures.err))
+    let p = err_from_is_err_and c.from_residual-in_err-plan_name_sets.result
+    c.from_residual-in_err-plan_name_sets.ensures.1 in
+    rw p.1
+    (keeps-on _ _ _ c.loop-i.invariant.kept
+    (keeps-on _ _ _ (_, c.in_ok-plan_known.ensures.ok) c.in_err-plan_name_sets.ensures.err))
 
 pub loop-i-preserved : goal.loop-i-preserved
 loop-i-preserved c =
@@ -25,12 +28,17 @@ loop-i-preserved c =
     let left = change_acts (with_name before name) rest changes objects in
     let acts = c.loop-i.acts.items in
     record {
-      left = ap (λ us. c.plan_name_sets.new.acts.items ++ change_acts us rest changes objects) (with_names-next users c.args.change.names.now i (omega arith))
-          ∙ ap (λ xs. xs ++ left) (c.in_ok-plan_name_sets.ensures.ok ∙ ap (λ xs. xs ++ name_sets changes objects name) c.in_ok-plan_known.ensures.ok)
+      left = ap (λ us. c.plan_name_sets.new.acts.items ++ change_acts us rest changes objects)
+          (with_names-next users c.args.change.names.now i (omega arith))
+          ∙ ap (λ xs. xs ++ left)
+          (c.in_ok-plan_name_sets.ensures.ok
+          ∙ ap (λ xs. xs ++ name_sets changes objects name) c.in_ok-plan_known.ensures.ok)
           ∙ ap (λ xs. xs ++ left) (append_assoc acts (new_acts before name) (name_sets changes objects name))
           ∙ append_assoc acts (new_acts before name ++ name_sets changes objects name) left
           ∙ ap (λ xs. acts ++ (xs ++ left)) (sym (name_acts-parts before name changes objects))
-          ∙ ap (λ ns. acts ++ change_acts before ns changes objects) (drop-next c.args.change.names.now i None (omega arith))
+          ∙ ap (λ ns. acts ++ change_acts before ns changes objects)
+          (drop-next c.args.change.names.now i None (omega arith))
           ∙ c.loop-i.invariant.left;
-      kept = keeps-on _ _ _ c.loop-i.invariant.kept (keeps-on _ _ _ (_, c.in_ok-plan_known.ensures.ok) (_, c.in_ok-plan_name_sets.ensures.ok));
+      kept = keeps-on _ _ _ c.loop-i.invariant.kept
+          (keeps-on _ _ _ (_, c.in_ok-plan_known.ensures.ok) (_, c.in_ok-plan_name_sets.ensures.ok));
     }

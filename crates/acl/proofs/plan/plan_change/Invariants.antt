@@ -7,7 +7,8 @@ use Rattle.acl.proofs.plan.plan_change.Given as goal
 -- what is done, and what is left
 abbrev pub invariant-loop-i : goal.invariant-loop-i
 invariant-loop-i l = record {
-  left : l.acts.items ++ change_acts (with_names (users_in (table_of l.lists)) (take l.i l.names)) (drop l.i l.names) l.changes l.objects
+  left : l.acts.items ++ change_acts (with_names (users_in (table_of l.lists)) (take l.i l.names)) (drop l.i l.names)
+      l.changes l.objects
       ≡ l.fn.acts.items ++ change_acts (users_in (table_of l.lists)) l.names l.changes l.objects;
   kept : Keeps l.fn.acts.items l.acts.items;
 }

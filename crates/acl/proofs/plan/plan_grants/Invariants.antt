@@ -5,6 +5,7 @@ use Rattle.acl.proofs.plan.plan_grants.Given as goal
 -- what is done, and what is left
 abbrev pub invariant-loop-name : goal.invariant-loop-name
 invariant-loop-name l = record {
-  left : l.acts.items ++ names_sets l.objects (drop l.name-index l.names) ≡ l.fn.acts.items ++ names_sets l.objects l.names;
+  left : l.acts.items ++ names_sets l.objects (drop l.name-index l.names) ≡ l.fn.acts.items ++ names_sets l.objects
+      l.names;
   kept : Keeps l.fn.acts.items l.acts.items;
 }

@@ -5,6 +5,7 @@ use Rattle.acl.proofs.sets.plan_sets.Given as goal
 -- what is done, and what is left
 abbrev pub invariant-loop-object : goal.invariant-loop-object
 invariant-loop-object l = record {
-  left : l.acts.items ++ sets l.user l.changes (drop l.object-index l.objects) ≡ l.fn.acts.items ++ sets l.user l.changes l.objects;
+  left : l.acts.items ++ sets l.user l.changes (drop l.object-index l.objects) ≡ l.fn.acts.items ++ sets l.user
+      l.changes l.objects;
   kept : Keeps l.fn.acts.items l.acts.items;
 }

@@ -5,6 +5,7 @@ use Rattle.acl.proofs.sets.plan_sets_on.Given as goal
 -- what is done, and what is left
 abbrev pub invariant-loop-change : goal.invariant-loop-change
 invariant-loop-change l = record {
-  left : l.acts.items ++ sets_on l.user (drop l.change-index l.changes) l.object ≡ l.fn.acts.items ++ sets_on l.user l.changes l.object;
+  left : l.acts.items ++ sets_on l.user (drop l.change-index l.changes) l.object ≡ l.fn.acts.items ++ sets_on l.user
+      l.changes l.object;
   kept : Keeps l.fn.acts.items l.acts.items;
 }

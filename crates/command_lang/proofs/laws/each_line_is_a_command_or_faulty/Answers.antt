@@ -1,4 +1,5 @@
-use Rattle.command_lang.proofs.OneReading.{answered, not_both, relates-reads, reads-relates, refuses-reads, reads-refuses}
+use Rattle.command_lang.proofs.OneReading.{answered, not_both, relates-reads, reads-relates, refuses-reads}
+use Rattle.command_lang.proofs.OneReading.{reads-refuses}
 use Rattle.command_lang.proofs.laws.each_line_is_a_command_or_faulty.Goals as goal
 
 pub returns-clause-either : goal.returns-clause-either

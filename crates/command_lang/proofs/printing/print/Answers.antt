@@ -6,4 +6,6 @@ use Rattle.command_lang.proofs.printing.print.Goals as goal
 
 pub returns-clause-reads_back : goal.returns-clause-reads_back
 returns-clause-reads_back c =
-    IfOk-weaker c.command_line.result _ _ (λ t e line r. subst (λ l. ReadsBack l c.args.command.now) (sym e) (read_back line c.args.command.now r)) c.command_line.ensures
+    IfOk-weaker c.command_line.result _ _
+    (λ t e line r. subst (λ l. ReadsBack l c.args.command.now) (sym e) (read_back line c.args.command.now r))
+    c.command_line.ensures

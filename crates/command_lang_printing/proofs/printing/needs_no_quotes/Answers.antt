@@ -8,5 +8,6 @@ use Rattle.command_lang_printing.proofs.printing.needs_no_quotes.Goals as goal
 
 pub returns-then-not-is_empty : goal.returns-then-not-is_empty
 returns-then-not-is_empty c =
-    let e = all_from_yields_List is_plain _ _ c.all.result c.all.ensures.ran (YieldsList-from_chars c.args.text.now c.utf8.text cc) (λ x b q k. search (rules, tests)) in
+    let e = all_from_yields_List is_plain _ _ c.all.result c.all.ensures.ran
+    (YieldsList-from_chars c.args.text.now c.utf8.text cc) (λ x b q k. search (rules, tests)) in
     e ∙ ap (λ b. not b && list_all is_plain (chars c.args.text.now)) c.if-not-is_empty.ensures

@@ -5,4 +5,5 @@ use Rattle.command_lang_printing.specs.Printing.{quoted}
 use Rattle.command_lang_printing.proofs.printing.put_quoted.Given as goal
 
 abbrev pub invariant-loop-c : goal.invariant-loop-c
-invariant-loop-c l = string_bytes l.fn.out ++ encode_utf8_all (quoted (chars l.text)) ≡ string_bytes l.out ++ encode_utf8_all (quoted (drop (length l.yielded) (chars l.text)))
+invariant-loop-c l = string_bytes l.fn.out ++ encode_utf8_all (quoted (chars l.text)) ≡ string_bytes l.out ++
+    encode_utf8_all (quoted (drop (length l.yielded) (chars l.text)))

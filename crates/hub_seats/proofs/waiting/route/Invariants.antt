@@ -17,5 +17,6 @@ invariant-loop-effect l = record {
   all : l.fn.effects.items ≡ l.yielded ++ into_iter_items l.effect-iterator;
   come : AllByRecursion (HasPeer (owners_of l.peers)) (into_iter_items l.effect-iterator);
   waits : Waits (owners_of l.peers) l.yielded (views l.initial.waiting) (views l.waiting);
-  room : (k : ℕ) (v : Vec Effect Global) → slice_get l.waiting k ≡ Some v → vec_len v + 256 ≤ vec_capacity v + length l.yielded;
+  room : (k : ℕ) (v : Vec Effect Global) → slice_get l.waiting k ≡ Some v
+      → vec_len v + 256 ≤ vec_capacity v + length l.yielded;
 }

@@ -7,4 +7,5 @@ use Rattle.session_lines.specs.Printed.{line, row_line}
 use Rattle.session_lines.proofs.printing.push_view.Given as goal
 
 abbrev pub invariant-rows : goal.invariant-rows
-invariant-rows l = string_bytes l.out ≡ string_bytes l.fn.out ++ line (codes "client " ++ decimal l.fn.client) ++ flat_map row_line (take l.line l.view.page)
+invariant-rows l = string_bytes l.out ≡ string_bytes l.fn.out ++ line (codes "client " ++ decimal l.fn.client) ++
+    flat_map row_line (take l.line l.view.page)

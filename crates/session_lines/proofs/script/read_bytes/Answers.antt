@@ -7,7 +7,9 @@ use Rattle.session_lines.proofs.Cutting.{two}
 use Rattle.session_lines.proofs.script.read_bytes.Goals as goal
 use Rattle.session_lines.proofs.script.read_bytes.Goals.{In-Some}
 
-in_fields : (c : In-Some) → values_in (Number ∷ Text ∷ []) c.args.rest.now ≡ option_zip (number_of c.in-Some.serial.now) (text_of c.in-Some.escaped.now)
+in_fields : (c : In-Some)
+    → values_in (Number ∷ Text ∷ []) c.args.rest.now ≡ option_zip (number_of c.in-Some.serial.now)
+    (text_of c.in-Some.escaped.now)
 in_fields c = ap (values_of (Number ∷ Text ∷ [])) (two _ _ _ (c.in-Some.ensures 0))
 
 pub returns-in_default-2 : goal.returns-in_default-2

@@ -8,8 +8,10 @@ use Rattle.session_lines.proofs.script.read_numbers.Goals as goal
 use Rattle.session_lines.proofs.script.read_numbers.Goals.{In_ok-first}
 
 in_fields : (c : In_ok-first) → values_in (Number ∷ Number ∷ Number ∷ []) c.args.rest.now
-    ≡ option_zip (number_of c.in_ok-serial.serial.now) (option_zip (number_of c.in_ok-first.first.now) (number_of c.in_ok-first.second.now))
-in_fields c = ap (values_of (Number ∷ Number ∷ Number ∷ [])) (three _ _ _ _ _ (c.in_ok-serial.ensures 1) (c.in_ok-first.ensures 0))
+    ≡ option_zip (number_of c.in_ok-serial.serial.now)
+    (option_zip (number_of c.in_ok-first.first.now) (number_of c.in_ok-first.second.now))
+in_fields c = ap (values_of (Number ∷ Number ∷ Number ∷ []))
+    (three _ _ _ _ _ (c.in_ok-serial.ensures 1) (c.in_ok-first.ensures 0))
 
 pub returns-in_err-read_number-2 : goal.returns-in_err-read_number-2
 returns-in_err-read_number-2 c =

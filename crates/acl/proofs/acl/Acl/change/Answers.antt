@@ -13,7 +13,10 @@ returns-clause-done g c =
     (λ same stands follower planned edition owner h s all.
     let t = subst (λ t. StandsFor t edition owner h) (sym c.self.view_is) s in
     let given = IfOk-at_ok _ planned c.plan_change-planned.ensures.ok in
-    let acts = ap (λ us. change_acts us c.args.change.names.now c.args.change.changes.now c.args.change.objects.now) t.users in
-    is_done _ _ c.len-start.result c.args.acts.now.items _ _ _ (g.F.Follower.follows c.args.follower.now) (g.F.Follower.follows c.conclude.new.follower)
+    let acts = ap (λ us. change_acts us c.args.change.names.now c.args.change.changes.now c.args.change.objects.now)
+    t.users in
+    is_done _ _ c.len-start.result c.args.acts.now.items _ _ _ (g.F.Follower.follows c.args.follower.now)
+    (g.F.Follower.follows c.conclude.new.follower)
     (search rules) (given ∙ ap (λ xs. c.args.acts.now.items ++ xs) acts) same stands follower edition owner h t
-    (allowed-change_acts edition owner h (users_of owner h) c.args.change.names.now c.args.change.changes.now c.args.change.objects.now (known-among _ edition owner h t) all))
+    (allowed-change_acts edition owner h (users_of owner h) c.args.change.names.now c.args.change.changes.now
+    c.args.change.objects.now (known-among _ edition owner h t) all))

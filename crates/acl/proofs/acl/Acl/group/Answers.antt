@@ -14,7 +14,9 @@ returns-clause-done g c =
     let t = subst (λ t. StandsFor t edition owner h) (sym c.self.view_is) s in
     let given = IfOk-at_ok _ planned c.plan_group-planned.ensures.ok in
     let none = at_ok _ _ planned c.plan_group-planned.ensures.answer in
-    is_done _ _ c.len-start.result c.args.acts.now.items _ _ _ (g.F.Follower.follows c.args.follower.now) (g.F.Follower.follows c.conclude.new.follower)
+    is_done _ _ c.len-start.result c.args.acts.now.items _ _ _ (g.F.Follower.follows c.args.follower.now)
+    (g.F.Follower.follows c.conclude.new.follower)
     (search rules) given same stands follower edition owner h t
     (allowed-group_acts edition owner h (users_of owner h) c.args.name c.args.leader (known-among _ edition owner h t)
-    ((λ i. group_fault (sym t.edition_is i) (sym t.owned i) (sym t.users i) (λ u. sym (t.led u) i) c.args.name c.args.leader) ∙ none)))
+    ((λ i. group_fault (sym t.edition_is i) (sym t.owned i) (sym t.users i) (λ u. sym (t.led u) i) c.args.name
+    c.args.leader) ∙ none)))

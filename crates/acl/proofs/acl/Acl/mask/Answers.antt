@@ -11,6 +11,7 @@ returns-clause-done g c =
     (λ same stands follower planned edition owner h s.
     let t = subst (λ t. StandsFor t edition owner h) (sym c.self.view_is) s in
     let given = IfOk-at_ok _ planned c.plan_masks-planned.ensures.ok in
-    is_done _ _ c.len-start.result c.args.acts.now.items _ _ _ (g.F.Follower.follows c.args.follower.now) (g.F.Follower.follows c.conclude.new.follower)
+    is_done _ _ c.len-start.result c.args.acts.now.items _ _ _ (g.F.Follower.follows c.args.follower.now)
+    (g.F.Follower.follows c.conclude.new.follower)
     (search rules) given same stands follower edition owner h t
     (allowed-mask_acts edition owner h c.args.by c.args.entries.now))

@@ -12,5 +12,7 @@ returns c =
     let t = table_of c.args.self.now in
     let w = c.args.window in
     λ edition owner h s.
-    subst (λ ws. StandsFor (let u : Table = record t { windows = ws } in u) edition owner (Closed w ∷ h)) (sym c.close.ensures)
-    (StandsFor-Closed t edition owner h s _ w (slot_of-closed t.windows w) (slots-closed t.windows (is_open h) (open_count h) s.slots w))
+    subst (λ ws. StandsFor (let u : Table = record t { windows = ws } in u) edition owner (Closed w ∷ h))
+    (sym c.close.ensures)
+    (StandsFor-Closed t edition owner h s _ w (slot_of-closed t.windows w)
+    (slots-closed t.windows (is_open h) (open_count h) s.slots w))

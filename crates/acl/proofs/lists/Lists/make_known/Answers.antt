@@ -19,10 +19,12 @@ returns-clause-stands c =
     let u = c.args.user in
     λ edition owner h s new.
     let absent : row_of t u ≡ None = none (row_of t u) (s.known u ∙ new) in
-    StandsFor-Known t edition owner h s u c.insert.new.self.entries c.forget_masks.new.masks.entries (new_row t.command_preset t.window_preset)
+    StandsFor-Known t edition owner h s u c.insert.new.self.entries c.forget_masks.new.masks.entries
+    (new_row t.command_preset t.window_preset)
     (let ins = rw c.unwrap.ensures at c.insert.ensures.entries in
     ap keys_of (ins ∙ insert_entry-new same_user c.args.self.now.rows u _ absent) ∙ keys_of-push t.rows u _)
-    (λ q. let up = rw c.unwrap.ensures at c.insert.ensures.updates in up.0 q ∙ ap (λ r. if same_user u q then Some r else row_of t q) c.new-row.ensures)
+    (λ q. let up = rw c.unwrap.ensures at c.insert.ensures.updates in up.0 q
+    ∙ ap (λ r. if same_user u q then Some r else row_of t q) c.new-row.ensures)
     (λ p. ap (lookup (same_pair p)) c.forget_masks.ensures.forgotten ∙ lookup-without_user u p t.masks)
     refl
     (bits_on-new_row t s.slots.all)

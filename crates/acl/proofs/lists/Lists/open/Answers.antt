@@ -1,4 +1,5 @@
-use Rattle.std.proofs.Common.{◌≡◌, ◌∙◌, ◌∷◌, ap, sym, subst, refl, arith, Option, None, Some, is_some, false, true≢false, ℕ, ◌<◌, length}
+use Rattle.std.proofs.Common.{◌≡◌, ◌∙◌, ◌∷◌, ap, sym, subst, refl, arith, Option, None, Some, is_some, false}
+use Rattle.std.proofs.Common.{true≢false, ℕ, ◌<◌, length}
 use Rattle.std.specs.Map.{lookup, keys_of}
 use Rattle.acl_words.specs.declared.act.Act.TheVariants.{Opened}
 use Rattle.acl_words.specs.Same.{same_user}
@@ -23,17 +24,24 @@ returns-in-Some c =
     let w = c.args.window in
     let below : slot < length t.windows = (found _ slot t.windows free).0 in
     λ edition owner h s known fresh few.
-    subst (λ ws. StandsFor (let u : Table = record t { rows = c.give_window.new.rows.entries; windows = ws } in u) edition owner (Opened c.args.by w ∷ h)) (sym c.put.ensures)
+    subst
+    (λ ws. StandsFor (let u : Table = record t { rows = c.give_window.new.rows.entries; windows = ws } in u) edition
+    owner (Opened c.args.by w ∷ h)) (sym c.put.ensures)
     (StandsFor-Opened t edition owner h s _ c.give_window.new.rows.entries c.args.by w slot
-    (λ v. slot_of-opened t.windows w v slot below (free_slot-empty t.windows slot free) (none (slot_of t.windows w) (s.slots.shown w ∙ fresh)))
+    (λ v. slot_of-opened t.windows w v slot below (free_slot-empty t.windows slot free)
+    (none (slot_of t.windows w) (s.slots.shown w ∙ fresh)))
     (slots-opened t.windows (is_open h) (open_count h) s.slots w slot free fresh)
-    (ap keys_of c.give_window.ensures.given ∙ keys_of-revalued (λ k row. with_window slot (opening_bits t.masks c.args.by k) row) t.rows)
-    (λ q. ap (lookup (same_user q)) c.give_window.ensures.given ∙ lookup-revalued (λ k row. with_window slot (opening_bits t.masks c.args.by k) row) q t.rows)
-    (λ q row at. let wide : length row.windows ≡ 40 = c.give_window.ensures.wide q row at in let all : length t.windows ≡ 40 = s.slots.all in omega arith)
+    (ap keys_of c.give_window.ensures.given
+    ∙ keys_of-revalued (λ k row. with_window slot (opening_bits t.masks c.args.by k) row) t.rows)
+    (λ q. ap (lookup (same_user q)) c.give_window.ensures.given
+    ∙ lookup-revalued (λ k row. with_window slot (opening_bits t.masks c.args.by k) row) q t.rows)
+    (λ q row at. let wide : length row.windows ≡ 40 = c.give_window.ensures.wide q row at in let all : length t.windows
+    ≡ 40 = s.slots.all in omega arith)
     (λ v k e. slot_of-free t.windows v k slot e free)
     (s.known c.args.by ∙ known))
 
 pub returns-in_default : goal.returns-in_default
 returns-in_default c =
     let t = table_of c.args.self.now in
-    λ edition owner h s known fresh few. slots-free t.windows (is_open h) (open_count h) s.slots few (sym c.in_default.ensures.slot)
+    λ edition owner h s known fresh few. slots-free t.windows (is_open h) (open_count h) s.slots few
+    (sym c.in_default.ensures.slot)

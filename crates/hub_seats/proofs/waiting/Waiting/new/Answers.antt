@@ -9,7 +9,9 @@ use Rattle.hub_seats.proofs.waiting.Waiting.new.Goals as goal
 
 pub seats-preserved : goal.seats-preserved
 seats-preserved c = record {
-  lists = ap views c.in_ok-push.ensures.items ∙ map_push (λ (v : Vec Effect Global). v.items) c.seats.lists.items c.new.result
+  lists = ap views c.in_ok-push.ensures.items
+      ∙ map_push (λ (v : Vec Effect Global). v.items) c.seats.lists.items c.new.result
       ∙ (λ i. c.seats.invariant.lists i ++ c.new.ensures.items i ∷ []) ∙ sym (replicate_next c.seats._seat []);
-  marks = c.in_ok-push-2.ensures.items ∙ ap (λ (x : List Bool). x ++ false ∷ []) c.seats.invariant.marks ∙ sym (replicate_next c.seats._seat false);
+  marks = c.in_ok-push-2.ensures.items ∙ ap (λ (x : List Bool). x ++ false ∷ []) c.seats.invariant.marks
+      ∙ sym (replicate_next c.seats._seat false);
 }

@@ -7,4 +7,5 @@ use Rattle.hub_seats.proofs.waiting.Waiting.take.Goals as goal
 pub returns-clause-lists : goal.returns-clause-lists
 returns-clause-lists c =
     map-set (λ v. v.items) c.args.self.now.lists.items c.args.seat c.replace-effects.new.dest
-    ∙ ap (λ w. slice_set (views c.args.self.now.lists.items) c.args.seat w) (ap (λ v. v.items) c.replace-effects.ensures.after ∙ c.new.ensures.items)
+    ∙ ap (λ w. slice_set (views c.args.self.now.lists.items) c.args.seat w)
+    (ap (λ v. v.items) c.replace-effects.ensures.after ∙ c.new.ensures.items)

@@ -10,7 +10,8 @@ pub returns-clause-drawn : goal.returns-clause-drawn
 returns-clause-drawn c =
     on_ok c.follow.result (λ drawn.
     drawn_row c.args.self.now c.self.inside.rows c.args.serial c.get_mut.result c.in-Some.client
-    c.get_mut.follows.lender c.args.frame.now.view c.args.frame.now.before c.follow.new.self c.args.frame.now.bytes c.self.view_is
+    c.get_mut.follows.lender c.args.frame.now.view c.args.frame.now.before c.follow.new.self c.args.frame.now.bytes
+    c.self.view_is
     c.get_mut.follows.claims c.get_mut.follows.holds c.in-Some.is drawn)
     c.follow.ensures.ok
 

@@ -9,7 +9,8 @@ use Rattle.session_clients.proofs.clients.Clients.scroll_back.Goals as goal
 
 pub returns : goal.returns
 returns c =
-    changed_row (λ (m : model.Client). with_layout (showing m (record (shown_in_focus m) { back = c.args.back })) m) c.args.self.now c.self.inside.rows c.args.serial
+    changed_row (λ (m : model.Client). with_layout (showing m (record (shown_in_focus m) { back = c.args.back })) m)
+    c.args.self.now c.self.inside.rows c.args.serial
     c.get_mut.result c.in-Some.client c.get_mut.follows.lender c.scroll_back.new.self c.self.view_is
     c.get_mut.follows.claims c.get_mut.follows.holds c.in-Some.is
     (λ m st. keeps_arranged
@@ -21,5 +22,6 @@ returns c =
 
 pub returns-in_default : goal.returns-in_default
 returns-in_default c =
-    no_row (λ (m : model.Client). with_layout (showing m (record (shown_in_focus m) { back = c.args.back })) m) c.args.self.now c.self.inside.rows _ c.args.serial
+    no_row (λ (m : model.Client). with_layout (showing m (record (shown_in_focus m) { back = c.args.back })) m)
+    c.args.self.now c.self.inside.rows _ c.args.serial
     c.get_mut.result c.self.view_is c.get_mut.follows.claims c.in_default.is

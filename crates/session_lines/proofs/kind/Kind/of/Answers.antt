@@ -7,5 +7,6 @@ use Rattle.session_lines.proofs.kind.Kind.of.Goals as goal
 pub returns : goal.returns
 unfolding kind_of
 returns c =
-    let e = find_from_yields_List (is_word_of c.args.word.now) _ _ c.find.result c.find.ensures.ran (YieldsList-from_slice all_kinds c.iter.ensures.rest) (λ x b q k. search (rules, tests)) in
+    let e = find_from_yields_List (is_word_of c.args.word.now) _ _ c.find.result c.find.ensures.ran
+    (YieldsList-from_slice all_kinds c.iter.ensures.rest) (λ x b q k. search (rules, tests)) in
     c.copied.ensures ∙ e

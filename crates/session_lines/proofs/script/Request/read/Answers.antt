@@ -9,8 +9,12 @@ use Rattle.session_lines.proofs.Cutting.{three}
 use Rattle.session_lines.proofs.script.Request.read.Goals as goal
 use Rattle.session_lines.proofs.script.Request.read.Goals.{In_ok-window}
 
-in_fields : (c : In_ok-window) → event_in kind.Command c.args.rest.now ≡ with_three (made_in (row_of kind.Command)) (named_by c.in_ok-user.user.now) (window_of c.in_ok-window.window.now) (text_of c.in_ok-window.line.now)
-in_fields c = ap (λ parts. option_map (made_in (row_of kind.Command)) (values_of (fields_in (row_of kind.Command)) parts)) (three _ _ _ _ _ (c.in_ok-user.ensures 1) (c.in_ok-window.ensures 0))
+in_fields : (c : In_ok-window)
+    → event_in kind.Command c.args.rest.now ≡ with_three (made_in (row_of kind.Command))
+    (named_by c.in_ok-user.user.now) (window_of c.in_ok-window.window.now) (text_of c.in_ok-window.line.now)
+in_fields c = ap
+    (λ parts. option_map (made_in (row_of kind.Command)) (values_of (fields_in (row_of kind.Command)) parts))
+    (three _ _ _ _ _ (c.in_ok-user.ensures 1) (c.in_ok-window.ensures 0))
 
 pub returns-in_err-of-clause-none : goal.returns-in_err-of-clause-none
 returns-in_err-of-clause-none c = λ _.
@@ -24,12 +28,14 @@ returns-in_err-read_window-clause-none c = λ _.
     let user = named_by c.in_ok-user.user.now in
     let line = text_of c.in_ok-window.line.now in
     in_fields (goal.at.returns-in_err-read_window-clause-none c).In_ok-window
-    ∙ ap (λ window. with_three (made_in (row_of kind.Command)) user window line) (sym c.in_err-read_window.ensures) ∙ three-no_second (made_in (row_of kind.Command)) user line
+    ∙ ap (λ window. with_three (made_in (row_of kind.Command)) user window line) (sym c.in_err-read_window.ensures)
+    ∙ three-no_second (made_in (row_of kind.Command)) user line
 
 pub returns-clause-some : goal.returns-clause-some
 returns-clause-some c =
     let user = c.in_ok-of.ensures.named in
     let window = c.in_ok-read_window.ensures in
     let line = text_of c.in_ok-window.line.now in
-    in_fields (goal.at.returns-clause-some c).In_ok-window ∙ sym (λ i. with_three (made_in (row_of kind.Command)) (user i) (window i) line)
+    in_fields (goal.at.returns-clause-some c).In_ok-window
+    ∙ sym (λ i. with_three (made_in (row_of kind.Command)) (user i) (window i) line)
     ∙ three-last (made_in (row_of kind.Command)) _ _ line

@@ -13,7 +13,9 @@ returns c =
     let w = c.args.window in
     let old = c.args.self.now in
     λ edition owner h s. record {
-      slots = subst (λ ws. SlotsStandFor ws (is_open (Closed w ∷ h)) (open_count (Closed w ∷ h))) (sym c.close.ensures) (slots-closed old.windows.serials (is_open h) (open_count h) s.slots w);
+      slots = subst (λ ws. SlotsStandFor ws (is_open (Closed w ∷ h)) (open_count (Closed w ∷ h))) (sym c.close.ensures)
+          (slots-closed old.windows.serials (is_open h) (open_count h) s.slots w);
       all = s.all;
-      are = AreLocks-Closed _ _ _ edition owner h s.are w (λ q. ap (λ ws. lock_at ws old.locks q) c.close.ensures ∙ lock_at-closed old.windows.serials old.locks w q);
+      are = AreLocks-Closed _ _ _ edition owner h s.are w
+          (λ q. ap (λ ws. lock_at ws old.locks q) c.close.ensures ∙ lock_at-closed old.windows.serials old.locks w q);
     }

@@ -16,11 +16,15 @@ returns-in-Some c =
     let old = c.args.self.now in
     λ edition owner h s.
     record {
-      slots = subst (λ (ws : Slots). SlotsStandFor ws.serials (is_open h) (open_count h)) (sym c.put.ensures.windows) s.slots;
+      slots = subst (λ (ws : Slots). SlotsStandFor ws.serials (is_open h) (open_count h)) (sym c.put.ensures.windows)
+          s.slots;
       all = c.put.ensures.all ∙ s.all;
-      are = subst (λ d. AreLocks d (lock_in c.put.new.self) edition owner (Left c.args.user w ∷ h)) (sym c.put.ensures.default)
+      are = subst (λ d. AreLocks d (lock_in c.put.new.self) edition owner (Left c.args.user w ∷ h))
+          (sym c.put.ensures.default)
           (AreLocks-Left old.default (lock_in old) (lock_in c.put.new.self) edition owner h s.are c.args.user w
-          (λ q. c.put.ensures.locks q ∙ ap (λ l. if nat_eq w q then option_map {T = Lock} (λ _. l) (lock_in old q) else lock_in old q) c.left_by.ensures
+          (λ q. c.put.ensures.locks q
+          ∙ ap (λ l. if nat_eq w q then option_map {T = Lock} (λ _. l) (lock_in old q) else lock_in old q)
+          c.left_by.ensures
           ∙ changed_at (left_by c.args.user) (lock_in old) w c.in-Some.lock (sym c.in-Some.ensures) q));
     }
 
@@ -31,5 +35,6 @@ returns-in_default c =
     λ edition owner h s. record {
       slots = s.slots;
       all = s.all;
-      are = AreLocks-Left old.default (lock_in old) (lock_in old) edition owner h s.are c.args.user w (unchanged_at (left_by c.args.user) (lock_in old) w (sym c.in_default.ensures));
+      are = AreLocks-Left old.default (lock_in old) (lock_in old) edition owner h s.are c.args.user w
+          (unchanged_at (left_by c.args.user) (lock_in old) w (sym c.in_default.ensures));
     }

@@ -1,4 +1,5 @@
-use Rattle.std.proofs.Common.{◌≡◌, ◌∙◌, ◌∷◌, ℕ, sym, subst, refl, Option, Some, None, is_some, false, true≢false, slice_set}
+use Rattle.std.proofs.Common.{◌≡◌, ◌∙◌, ◌∷◌, ℕ, sym, subst, refl, Option, Some, None, is_some, false, true≢false}
+use Rattle.std.proofs.Common.{slice_set}
 use Rattle.acl.specs.declared.act.Act.TheVariants.{Opened}
 use Rattle.acl.specs.History.{is_open, open_count}
 use Rattle.acl.specs.Slots.{SlotsStandFor, slot_of}
@@ -19,12 +20,15 @@ returns-in-Some c =
     let slot = c.in-Some.slot in
     let free = sym c.in-Some.ensures.slot in
     λ edition owner h s fresh few. record {
-      slots = subst (λ ws. SlotsStandFor ws (is_open (Opened c.args.by w ∷ h)) (open_count (Opened c.args.by w ∷ h))) (sym c.put.ensures) (slots-opened old.windows.serials (is_open h) (open_count h) s.slots w slot free fresh);
+      slots = subst (λ ws. SlotsStandFor ws (is_open (Opened c.args.by w ∷ h)) (open_count (Opened c.args.by w ∷ h)))
+          (sym c.put.ensures) (slots-opened old.windows.serials (is_open h) (open_count h) s.slots w slot free fresh);
       all = length-set_lock old.locks slot _ ∙ s.all;
       are = AreLocks-Opened _ _ _ edition owner h s.are c.args.by w fresh
           (λ q. (λ i. lock_at (c.put.ensures i) (slice_set old.locks slot (c.opened_by.ensures i)) q)
-          ∙ lock_at-opened old.windows.serials old.locks w slot _ (s.slots.all ∙ sym s.all) free (none (slot_of old.windows.serials w) (s.slots.shown w ∙ fresh)) q);
+          ∙ lock_at-opened old.windows.serials old.locks w slot _ (s.slots.all ∙ sym s.all) free
+          (none (slot_of old.windows.serials w) (s.slots.shown w ∙ fresh)) q);
     }
 
 pub returns-in_default : goal.returns-in_default
-returns-in_default c = λ edition owner h s fresh few. slots-free c.args.self.now.windows.serials (is_open h) (open_count h) s.slots few (sym c.in_default.ensures.slot)
+returns-in_default c = λ edition owner h s fresh few. slots-free c.args.self.now.windows.serials (is_open h)
+    (open_count h) s.slots few (sym c.in_default.ensures.slot)

@@ -10,7 +10,8 @@ use Rattle.writelock.proofs.locks.Locks.parted.Goals as goal
 
 pub loop-i-preserved : goal.loop-i-preserved
 loop-i-preserved c = record {
-  done = changed_below-more (λ _. without_holder c.args.last) c.args.self.now.windows.serials c.loop-i.i c.args.self.now.locks c.loop-i.self.locks _ _ c.loop-i.invariant.done (omega arith)
+  done = changed_below-more (λ _. without_holder c.args.last) c.args.self.now.windows.serials c.loop-i.i
+      c.args.self.now.locks c.loop-i.self.locks _ _ c.loop-i.invariant.done (omega arith)
       c.without_holder.ensures;
   windows = c.loop-i.invariant.windows;
   default = c.loop-i.invariant.default;
@@ -29,5 +30,6 @@ returns c =
           (AreLocks-Parted old.default (lock_in old) (lock_in new) edition owner h s.are last client told
           (λ q. ap (λ (ws : Slots). lock_at ws.serials new.locks q) inv.windows
           ∙ lock_at-changed (λ _. without_holder last) old.windows.serials old.locks new.locks
-          (changed_below-all (λ _. without_holder last) old.windows.serials c.loop-i.i old.locks new.locks inv.done (omega arith)) q));
+          (changed_below-all (λ _. without_holder last) old.windows.serials c.loop-i.i old.locks new.locks inv.done
+          (omega arith)) q));
     }
