@@ -5,7 +5,7 @@ PROGRAMS = muxd mux muxsim mux_trail vtcat
 TESTS = $(notdir $(patsubst %/,%,$(dir $(wildcard crates/*_tests/src))))
 SCRIPTS = $(shell grep -s -l -m 1 '^.!/bin/sh' contrib/*)
 
-.PHONY: demo try-server shell build try check test edits examples lint install uninstall dist
+.PHONY: demo try-server shell build try check test edits examples outside lint install uninstall dist
 
 # Plays a script of examples/, without any proof: about a minute.
 SCRIPT ?= first-run
@@ -65,8 +65,15 @@ examples:
 	@tools/pictures docs/TEACHING.md docs/pictures/*.svg
 	@echo "make examples: $(words $(wildcard examples/*.mux contrib/policies/*.mux)) scripts and the pictures agree"
 
+# Plays all of tests/outside with the programs that make build made, or those of another folder, and says in its last
+# line how many were played, failed and skipped: make outside BIN=dist/bin PLAYS="server policies".  About an hour.
+BIN ?= bin
+outside:
+	@tests/outside/all --bin $(BIN) $(PLAYS)
+
 # Scripts, programs in Python and Perl, terminal descriptions and man pages: Debian's shellcheck, ncurses-bin and mandoc.
-PYTHON = $(shell grep -s -l -m 1 '^.!.*python3' tools/* examples/* tests/outside/* bench/*)
+PYTHON = $(sort $(wildcard bench/*.py tests/outside/*.py) \
+    $(shell grep -s -l -m 1 '^.!.*python3' tools/* examples/* tests/outside/*))
 lint:
 	shellcheck -s sh $(SCRIPTS) $(shell grep -l -m 1 '^.!/bin/sh' examples/* tests/outside/*)
 	shellcheck -s bash contrib/completions/mux.bash

@@ -10,121 +10,57 @@ import datetime
 import os
 import resource
 import selectors
-import socket
 import statistics
-import subprocess
-import tempfile
+import sys
 import threading
 import time
 from pathlib import Path
 
-OWNER, TOKEN = b"own", b"0" * 64
+sys.dont_write_bytecode = True
+sys.path.insert(0, str(Path(__file__).resolve().parent.parent / "tests/outside"))
+import peer
+from peer import (DRAW, GONE, INPUT, KEYS, LONGEST, OUTPUT, OWNER, WELCOME, Flood, attach, command, draws_within,
+                  frame, pieces, window)
+
 # A second user, with the same token.
 GUEST = b"bob"
-ROWS, COLS = 24, 80
-LONGEST = 8192
 MB = 1_000_000
-ATTACH, WINDOW, COMMAND, KEYS, OUTPUT, DETACH = b"A", b"W", b"C", b"K", b"O", b"D"
-WELCOME, DRAW, INPUT, GONE = b"y", b"d", b"i", b"g"
-
-
-def two(number):
-    return number.to_bytes(2, "big")
-
-
-def frame(kind, payload):
-    return kind + two(len(payload)) + payload
-
-
-def attach(user=OWNER):
-    return frame(ATTACH, two(ROWS) + two(COLS) + TOKEN + user)
-
-
-def command(line):
-    return frame(COMMAND, b"\xff" + TOKEN + bytes([len(OWNER)]) + OWNER + line)
-
-
-def window(keep):
-    name = bytes([len(OWNER)]) + OWNER
-    return frame(WINDOW, two(ROWS) + two(COLS) + two(keep) + TOKEN + name + b"sh")
 
 
 def output(data):
-    return b"".join(frame(OUTPUT, data[i:i + LONGEST]) for i in range(0, len(data), LONGEST))
+    return pieces(OUTPUT, data)
 
 
-class Peer:
-    """A connection, and what it was sent that wasn't looked at yet."""
+class Peer(peer.Peer):
+    """A connection that is let in, and goes on as long as it is read."""
 
     def __init__(self, path, first):
-        self.socket = socket.socket(socket.AF_UNIX)
-        self.socket.settimeout(60)
-        self.socket.connect(path)
-        self.rest = b""
-        self.send(first)
-        assert self.next()[0] == WELCOME, "the server refused a peer"
-
-    def send(self, data):
-        self.socket.sendall(data)
-
-    def more(self):
-        data = self.socket.recv(65536)
-        if not data:
-            raise SystemExit("server.py: the server ended a connection")
-        self.rest += data
-
-    def next(self):
-        """The next frame's kind and payload."""
-        while len(self.rest) < 3 or len(self.rest) < 3 + int.from_bytes(self.rest[1:3], "big"):
-            self.more()
-        end = 3 + int.from_bytes(self.rest[1:3], "big")
-        kind, payload, self.rest = self.rest[:1], self.rest[3:end], self.rest[end:]
-        return kind, payload
+        super().__init__(path, first)
+        self.until(WELCOME)
 
     def until(self, kind, has=b""):
-        """Reads on to a frame of this kind that has these bytes."""
-        got = self.next()
-        while got[0] != kind or has not in got[1]:
-            got = self.next()
+        found = super().until(kind, has)
+        if found is None:
+            raise SystemExit("server.py: the server ended a connection")
+        return found
 
 
-class Server:
-    """A server in a folder of its own, its window and its clients."""
+class Server(peer.Server):
+    """A server with its window and its clients."""
 
     def __init__(self, words, clients, keep=0):
-        self.folder = tempfile.TemporaryDirectory()
-        self.path = f"{self.folder.name}/socket"
-        users = Path(self.folder.name, "users")
-        users.write_bytes(OWNER + b" " + TOKEN + b"\n" + GUEST + b" " + TOKEN + b"\n")
-        users.chmod(0o600)
-        command = [words.muxd, "--socket", self.path, "--users", users, "--loops", str(words.loops)]
-        self.program = subprocess.Popen(command, stdout=subprocess.PIPE)
-        assert self.program.stdout.readline() == b"muxd: ready\n", "the server isn't ready"
-        self.window = Peer(self.path, window(keep))
+        super().__init__(words.muxd, words.loops, (OWNER, GUEST))
+        self.window = Peer(self.path, window(keep=keep))
         self.clients = [Peer(self.path, attach()) for _ in range(clients)]
 
-    def __enter__(self):
-        return self
-
     def __exit__(self, *_):
-        for peer in [self.window, *self.clients]:
-            peer.socket.close()
-        self.program.kill()
-        self.program.wait()
-        self.program.stdout.close()
-        self.folder.cleanup()
-
-    def seconds(self):
-        """The processor time of all its threads so far."""
-        tasks = Path("/proc", str(self.program.pid), "task").glob("*/schedstat")
-        return sum(int(task.read_text().split()[0]) for task in tasks) / 1e9
+        for it in [self.window, *self.clients]:
+            it.close()
+        super().__exit__()
 
     def memory(self):
         """The resident memory, in MB."""
-        for line in Path("/proc", str(self.program.pid), "status").read_text().splitlines():
-            if line.startswith("VmRSS:"):
-                return int(line.split()[1]) * 1024 / MB
-        raise SystemExit("server.py: /proc tells of no memory")
+        return self.resident() / MB
 
     def play(self, data, mark):
         """Has the window write the data, which ends in a mark, until each client was sent the mark."""
@@ -246,52 +182,16 @@ def times_beside(words, make, rounds=1000):
 def printing(count):
     """Windows that print without end."""
     data = output(lines(MB))
-    return lambda server: [Pour(Peer(server.path, window(0)), data) for _ in range(count)]
+    return lambda server: [Pour(Peer(server.path, window()), data) for _ in range(count)]
 
 
 def typing(server):
     """Another user's client that types without end, into a window that takes it all."""
     for line in (b"multiuser on", b"acladd bob"):
         Peer(server.path, command(line)).until(GONE)
-    shell, client = Peer(server.path, window(0)), Peer(server.path, attach(GUEST))
+    shell, client = Peer(server.path, window()), Peer(server.path, attach(GUEST))
     client.send(frame(KEYS, b"\x011"))
     return [Pour(shell, b""), Pour(client, frame(KEYS, b"x" * 8000) * 8)]
-
-
-class Flood:
-    """A window that is written to without a lull, by a process of its own: a thread of this one has lulls, in which
-    all draws go."""
-
-    def __init__(self, path):
-        self.peer = Peer(path, window(0))
-        data = output(b"".join(b"%09d abcdefghijklmnopqrstuvwxyz\r\n" % number for number in range(4000)))
-        self.writer = os.fork()
-        if not self.writer:
-            try:
-                self.peer.socket.settimeout(None)
-                while True:
-                    self.peer.socket.sendall(data)
-            finally:
-                os._exit(0)
-
-    def stop(self):
-        os.kill(self.writer, 9)
-        os.waitpid(self.writer, 0)
-        self.peer.socket.close()
-
-
-def draws_within(clients, seconds):
-    """For each client how often it was drawn, and the longest time in which it wasn't, in milliseconds."""
-    begin = time.perf_counter()
-    times = {client.socket: [0.0] for client in clients}
-    with selectors.DefaultSelector() as ready:
-        for client in clients:
-            ready.register(client.socket, selectors.EVENT_READ)
-        while (now := time.perf_counter() - begin) < seconds:
-            for key, _ in ready.select(seconds - now):
-                key.fileobj.recv(1 << 20)
-                times[key.fileobj].append(time.perf_counter() - begin)
-    return [(len(at) - 1, 1000 * max(b - a for a, b in zip(at, at[1:] + [seconds]))) for at in times.values()]
 
 
 def draws_beside(words, floods, clients, seconds=3):
@@ -302,11 +202,12 @@ def draws_beside(words, floods, clients, seconds=3):
         poured = [Flood(server.path) for _ in range(floods)]
         for client in server.clients[1:]:
             client.send(frame(KEYS, b"\x011"))
-        draws_within(server.clients, 0.5)
-        found = draws_within(server.clients[1:], seconds)
-        looker, late = server.clients[0].socket, []
+        clients = [client.socket for client in server.clients]
+        draws_within(clients, 0.5)
+        found = draws_within(clients[1:], seconds)
+        looker, late = clients[0], []
         for number in range(20):
-            draws_within(server.clients, 0.03)
+            draws_within(clients, 0.03)
             begin = time.perf_counter()
             server.window.send(output(b"line %d\r\n" % number))
             looker.settimeout(5)
@@ -314,7 +215,7 @@ def draws_beside(words, floods, clients, seconds=3):
             late.append((time.perf_counter() - begin) * 1000)
         for flood in poured:
             flood.stop()
-    return min(it[0] for it in found) / seconds, max(it[1] for it in found), max(late)
+    return min(it[0] for it in found) / seconds, 1000 * max(it[1] for it in found), max(late)
 
 
 def echoes_in_turn(words, keys=2000):
@@ -351,16 +252,13 @@ def at_rest(words, clients, idle):
 
 
 def command_once(server):
-    peer = Peer(server.path, command(b"displays"))
-    peer.until(GONE)
-    peer.socket.close()
+    asking = Peer(server.path, command(b"displays"))
+    asking.until(GONE)
+    asking.close()
 
 
 def attach_once(server):
-    client = Peer(server.path, attach())
-    client.send(frame(DETACH, b""))
-    client.until(GONE)
-    client.socket.close()
+    Peer(server.path, attach()).leave()
 
 
 def type_once(server):

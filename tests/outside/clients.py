@@ -25,7 +25,8 @@ from pathlib import Path
 
 sys.dont_write_bytecode = True
 import strain
-from strain import OWNER, TOKEN, Server, check, frame, two
+from peer import OWNER, TOKEN, frame, two
+from strain import Server, check
 
 TOP = Path(__file__).resolve().parent.parent.parent
 LEAVE = b"\x1c"

@@ -16,22 +16,13 @@ import time
 from pathlib import Path
 
 sys.dont_write_bytecode = True
-sys.path.insert(0, os.path.dirname(os.path.realpath(__file__)))
 import strain
-from strain import Server, all_of, check, command, frame, has_come, two, welcome, window
+from peer import DETACH, DONE, KEYS, NO_WINDOW, attach, command, frame, window
+from strain import Server, all_of, check, has_come, welcome
 
 GUEST, STRANGER = (b"eve", b"1" * 64), (b"zoe", b"2" * 64)
 MB = 1_000_000
 WORDS = None
-
-
-def first(kind, user, rest=b""):
-    name, token = user
-    if kind == b"A":
-        return frame(kind, two(24) + two(80) + token + name)
-    if kind == b"W":
-        return frame(kind, two(24) + two(80) + two(0) + token + bytes([len(name)]) + name + rest)
-    return frame(kind, b"\xff" + token + bytes([len(name)]) + name + rest)
 
 
 def admit(server):
@@ -40,14 +31,7 @@ def admit(server):
         for name, token in (GUEST, STRANGER):
             users.write(name + b" " + token + b"\n")
     for line in (b"multiuser on", b"aclumask ?-rwx ??-x", b"aclchg eve -rwx #?", b"aclumask eve-rwx"):
-        assert server.give(line).endswith(b"g\0\1\0"), line
-
-
-def resident(server):
-    for line in Path("/proc", str(server.program.pid), "status").read_text().splitlines():
-        if line.startswith("VmRSS:"):
-            return int(line.split()[1]) * 1024
-    raise SystemExit("hostile.py: /proc tells of no memory")
+        assert server.give(line).endswith(DONE), line
 
 
 class Attack(threading.Thread):
@@ -109,17 +93,18 @@ class Attack(threading.Thread):
 def attacks(path):
     """All that somebody can try who has a token and no right."""
     text = lambda number: b"%d " % number + b"\xff" * 8000
-    attached = lambda _: first(b"A", GUEST)
+    attached = lambda _: attach(*GUEST)
     return {
-        "keys that are denied": lambda: Attack(path, 12, attached, frame(b"K", b"x") * 200),
-        "keys for the prompt": lambda: Attack(path, 4, lambda _: first(b"A", GUEST) + frame(b"K", b"\x01:"),
-                                              frame(b"K", b"x") * 200),
-        "commands that are denied": lambda: Attack(path, 4, attached, frame(b"K", b"\x01n") * 200),
-        "long lines": lambda: Attack(path, 12, lambda number: first(b"C", GUEST, text(number))),
-        "long lines of a user who isn't known": lambda: Attack(path, 6, lambda number: first(b"C", STRANGER, text(number))),
-        "long titles": lambda: Attack(path, 6, lambda number: first(b"W", GUEST, b"%d" % number + b"x" * 8000)),
-        "attaches": lambda: Attack(path, 4, attached, frame(b"D", b"")),
-        "attaches of a user who isn't known": lambda: Attack(path, 4, lambda _: first(b"A", STRANGER)),
+        "keys that are denied": lambda: Attack(path, 12, attached, frame(KEYS, b"x") * 200),
+        "keys for the prompt": lambda: Attack(path, 4, lambda _: attach(*GUEST) + frame(KEYS, b"\x01:"),
+                                              frame(KEYS, b"x") * 200),
+        "commands that are denied": lambda: Attack(path, 4, attached, frame(KEYS, b"\x01n") * 200),
+        "long lines": lambda: Attack(path, 12, lambda number: command(text(number), NO_WINDOW, *GUEST)),
+        "long lines of a user who isn't known":
+            lambda: Attack(path, 6, lambda number: command(text(number), NO_WINDOW, *STRANGER)),
+        "long titles": lambda: Attack(path, 6, lambda number: window(*GUEST, title=b"%d" % number + b"x" * 8000)),
+        "attaches": lambda: Attack(path, 4, attached, frame(DETACH)),
+        "attaches of a user who isn't known": lambda: Attack(path, 4, lambda _: attach(*STRANGER)),
     }
 
 
@@ -128,7 +113,7 @@ def key_times(client, shell, count=200):
     took = []
     for _ in range(count):
         begin = time.monotonic()
-        client.sendall(frame(b"K", b"o"))
+        client.sendall(frame(KEYS, b"o"))
         while not shell.recv(4096).endswith(b"o"):
             pass
         took.append((time.monotonic() - begin) * 1000)
@@ -145,16 +130,16 @@ def under_attack(name, make, trail):
         what = f"{name}, {'with' if trail else 'without'} --trail"
         with Server(loops=8, words=("--trail", path) if trail else ()) as server:
             admit(server)
-            shell, client = server.connect(window()), server.connect(strain.attach())
+            shell, client = server.connect(window()), server.connect(attach())
             assert welcome(shell) and welcome(client)
             length = lambda: os.stat(path).st_size if trail else 0
             size, begin = length(), time.monotonic()
             running = make(server.path)
             time.sleep(3)
-            memory = resident(server)
+            memory = server.resident()
             median, longest = key_times(client, shell)
             time.sleep(max(0.0, WORDS.seconds + 3 - (time.monotonic() - begin)))
-            grown, more = resident(server) - memory, length() - size
+            grown, more = server.resident() - memory, length() - size
             minutes = WORDS.seconds / 60
             check(f"{what}: memory grows by less than 1 MB a minute", grown < MB * max(minutes, 1), f"{grown}")
             if trail:
@@ -167,11 +152,11 @@ def under_attack(name, make, trail):
             begin = time.monotonic()
             answer = server.give(b"windows")
             took = time.monotonic() - begin
-            check(f"{what}: the owner's command is answered", answer.endswith(b"g\0\1\0") and took < 1, f"{took:.1f} s")
+            check(f"{what}: the owner's command is answered", answer.endswith(DONE) and took < 1, f"{took:.1f} s")
             for it in running:
                 it.stop()
             check(f"{what}: the session ends as any other",
-                  server.give(b"quit").endswith(b"g\0\1\0") and server.ends_within(10) == 0)
+                  server.give(b"quit").endswith(DONE) and server.ends_within(10) == 0)
 
 
 def attacked():
@@ -186,42 +171,42 @@ def seats():
     """A user has so many clients and windows, and no more; another user has as many."""
     with Server(words=("--user-clients", "3", "--user-windows", "2")) as server:
         admit(server)
-        held = [server.connect(first(b"A", GUEST)) for _ in range(3)]
+        held = [server.connect(attach(*GUEST)) for _ in range(3)]
         check("a user's three clients are let in", all(welcome(it) for it in held))
-        told = all_of(server.connect(first(b"A", GUEST)))
+        told = all_of(server.connect(attach(*GUEST)))
         check("a fourth one is told so", b"s\0\x22too many clients of eve: at most 3g\0\1\6" == told, str(told))
-        mine = [server.connect(strain.attach()) for _ in range(3)]
+        mine = [server.connect(attach()) for _ in range(3)]
         check("the owner has three, too", all(welcome(it) for it in mine))
-        told = all_of(server.connect(strain.attach()))
+        told = all_of(server.connect(attach()))
         check("and no fourth", b"too many clients of own: at most 3" in told, str(told))
         held[0].close()
         time.sleep(0.3)
-        check("one that went makes room", welcome(server.connect(first(b"A", GUEST))))
-        held[1].sendall(frame(b"D", b""))
-        check("one that detached is told", all_of(held[1]).endswith(b"g\0\1\0"))
-        held[1] = server.connect(first(b"A", GUEST))
+        check("one that went makes room", welcome(server.connect(attach(*GUEST))))
+        held[1].sendall(frame(DETACH))
+        check("one that detached is told", all_of(held[1]).endswith(DONE))
+        held[1] = server.connect(attach(*GUEST))
         check("and makes room", welcome(held[1]))
         shells = [server.connect(window()) for _ in range(2)]
         check("two windows are let in", all(welcome(it) for it in shells))
         told = all_of(server.connect(window()))
         check("a third one is told so", b"s\0\x22too many windows of own: at most 2g\0\1\6" == told, str(told))
-        check("a window is killed", server.give(b"kill", number=0).endswith(b"g\0\1\0"))
+        check("a window is killed", server.give(b"kill", number=0).endswith(DONE))
         time.sleep(0.3)
         check("and makes room", welcome(server.connect(window())))
         # A refused window counts for nobody.
         for _ in range(5):
-            all_of(server.connect(first(b"W", GUEST, b"sh")))
-        told = all_of(server.connect(first(b"W", GUEST, b"sh")))
+            all_of(server.connect(window(*GUEST)))
+        told = all_of(server.connect(window(*GUEST)))
         check("windows that the session refuses don't count", b"denied: x on screen" in told, str(told))
     with Server() as server:
         admit(server)
-        held = [server.connect(first(b"A", GUEST)) for _ in range(64)]
+        held = [server.connect(attach(*GUEST)) for _ in range(64)]
         check("without these words one user may have all 64", all(welcome(it) for it in held))
-        told = all_of(server.connect(strain.attach()))
+        told = all_of(server.connect(attach()))
         check("and the owner is told by the session", b"too many clients" in told, str(told))
-        check("whose command needs none", server.give(b"acldel eve").endswith(b"g\0\1\0"))
+        check("whose command needs none", server.give(b"acldel eve").endswith(DONE))
         time.sleep(0.5)
-        check("and makes room", welcome(server.connect(strain.attach())))
+        check("and makes room", welcome(server.connect(attach())))
 
 
 def works_on():
@@ -229,12 +214,12 @@ def works_on():
     with Server() as server:
         admit(server)
         shell = server.connect(window())
-        assert welcome(shell) and server.give(b"aclchg eve +rw 0").endswith(b"g\0\1\0")
-        client = server.connect(first(b"A", GUEST))
+        assert welcome(shell) and server.give(b"aclchg eve +rw 0").endswith(DONE)
+        client = server.connect(attach(*GUEST))
         assert welcome(client)
         client.settimeout(20)
         typed, begin = 0, time.monotonic()
-        client.sendall(frame(b"K", b"x") * 3000)
+        client.sendall(frame(KEYS, b"x") * 3000)
         while typed < 3000 and time.monotonic() - begin < 20:
             typed += shell.recv(1 << 16).count(b"x")
             while has_come(client, 0):

@@ -6,7 +6,6 @@ tests/outside/strain.py [--muxd PATH] [PART..] prints a line for each check, and
 
 import argparse
 import os
-import resource
 import select
 import socket
 import stat
@@ -17,8 +16,11 @@ import threading
 import time
 from pathlib import Path
 
-OWNER, TOKEN = b"own", b"0" * 64
-GONE_FAULT = b"g\0\1\6"
+sys.dont_write_bytecode = True
+import peer
+from peer import (DONE, DRAW, KEYS, NO_WINDOW, OUTPUT, OWNER, REFUSED, SAY, TOKEN, WELCOME, Flood, attach, command,
+                  draws_within, frame, window)
+
 WORDS = None
 failed = 0
 
@@ -29,52 +31,12 @@ def check(name, is_so, said=""):
     failed += not is_so
 
 
-def two(number):
-    return number.to_bytes(2, "big")
-
-
-def frame(kind, payload):
-    return kind + two(len(payload)) + payload
-
-
-def attach():
-    return frame(b"A", two(24) + two(80) + TOKEN + OWNER)
-
-
-def window():
-    return frame(b"W", two(24) + two(80) + two(0) + TOKEN + bytes([len(OWNER)]) + OWNER + b"sh")
-
-
-def command(line, number=0xff):
-    return frame(b"C", bytes([number]) + TOKEN + bytes([len(OWNER)]) + OWNER + line)
-
-
-class Server:
-    """A server in a folder of its own, perhaps with so many descriptors, or with a log, which is read here."""
+class Server(peer.Server):
+    """A server whose log is perhaps read here, and connections to it as they are."""
 
     def __init__(self, loops=2, descriptors=None, log=False, words=()):
-        self.folder = tempfile.TemporaryDirectory()
-        self.path = f"{self.folder.name}/socket"
-        self.users = Path(self.folder.name, "users")
-        self.users.write_bytes(OWNER + b" " + TOKEN + b"\n")
-        self.users.chmod(0o600)
-        self.errors = subprocess.PIPE if log else open(f"{self.folder.name}/errors", "w+b")
-        limit = (lambda: resource.setrlimit(resource.RLIMIT_NOFILE, (descriptors, descriptors))) if descriptors else None
-        self.program = subprocess.Popen(
-            [WORDS.muxd, "--socket", self.path, "--users", self.users, "--loops", str(loops), *["--log"] * log, *words],
-            stdout=subprocess.PIPE, stderr=self.errors, preexec_fn=limit)
-        self.errors = self.program.stderr or self.errors
-        assert self.program.stdout.readline() == b"muxd: ready\n", "the server isn't ready"
-
-    def __enter__(self):
-        return self
-
-    def __exit__(self, *_):
-        self.program.kill()
-        self.program.wait()
-        self.program.stdout.close()
-        self.errors.close()
-        self.folder.cleanup()
+        errors = subprocess.PIPE if log else None
+        super().__init__(WORDS.muxd, loops, (OWNER,), (*["--log"] * log, *words), descriptors, errors)
 
     def connect(self, first=b"", wait=20):
         it = socket.socket(socket.AF_UNIX)
@@ -84,19 +46,13 @@ class Server:
             it.sendall(first)
         return it
 
-    def give(self, line, wait=20, number=0xff):
+    def give(self, line, wait=20, number=NO_WINDOW):
         """What a command is answered, to the end of its connection."""
         it = self.connect(command(line, number), wait)
         try:
             return all_of(it)
         finally:
             it.close()
-
-    def ends_within(self, seconds):
-        try:
-            return self.program.wait(seconds)
-        except subprocess.TimeoutExpired:
-            return None
 
 
 def all_of(it):
@@ -125,7 +81,7 @@ def welcome(it):
             data += piece
     except (ConnectionError, TimeoutError):
         return False
-    return data[:1] == b"y"
+    return data[:1] == WELCOME
 
 
 def dead_window():
@@ -140,7 +96,7 @@ def dead_window():
         ended = select.poll()
         ended.register(shell, select.POLLHUP)
         for _ in range(400):
-            client.sendall(frame(b"K", b"x" * 8192))
+            client.sendall(frame(KEYS, b"x" * 8192))
             if ended.poll(20):
                 break
             while has_come(client, 0):
@@ -149,7 +105,7 @@ def dead_window():
         drawn = b""
         while has_come(client, 0.5):
             drawn += client.recv(65536)
-        check("its client is drawn at once", b"d" in drawn)
+        check("its client is drawn at once", DRAW in drawn)
 
 
 def ends_behind_frames():
@@ -163,13 +119,13 @@ def ends_behind_frames():
             # What is sent to a closed connection is a fault of it: the first draw is to be over.
             while has_come(client, 0.5):
                 client.recv(65536)
-            client.sendall(frame(b"K", letter))
+            client.sendall(frame(KEYS, letter))
             client.close()
         typed = b""
         while has_come(shell, 1):
             typed += shell.recv(65536)
         check("keys before an end arrive", sorted(typed[3::4]) == sorted(b"abcd"), str(typed))
-        check("and their clients are gone", server.give(b"displays") == b"y\0\1\0s\0\0g\0\1\0", "")
+        check("and their clients are gone", server.give(b"displays") == frame(WELCOME, b"\0") + frame(SAY) + DONE, "")
 
 
 def strangers():
@@ -179,11 +135,11 @@ def strangers():
         begin = time.time()
         has_come(first[-1], 5)
         time.sleep(0.2)
-        gone = sum(has_come(it, 0) and all_of(it) == GONE_FAULT for it in first)
+        gone = sum(has_come(it, 0) and all_of(it) == REFUSED for it in first)
         left = sum(not has_come(it, 0) for it in others)
         check("of 300 strangers the first 44 go", (gone, left) == (44, 256), f"{gone} went, {left} stay")
-        check("the owner is answered", server.give(b"windows").endswith(b"g\0\1\0"))
-        check("the others are told to go", all(all_of(it) == GONE_FAULT for it in others))
+        check("the owner is answered", server.give(b"windows").endswith(DONE))
+        check("the others are told to go", all(all_of(it) == REFUSED for it in others))
         took = time.time() - begin
         check("when 10 seconds are over", 8 < took < 13, f"{took:.1f} s")
 
@@ -196,9 +152,9 @@ def told_to_go():
         client = server.connect(attach())
         assert welcome(client)
         for _ in range(60):
-            client.sendall(frame(b"K", b"x" * 8192))
+            client.sendall(frame(KEYS, b"x" * 8192))
         time.sleep(1)
-        check("a window is killed", server.give(b"kill", number=0).endswith(b"g\0\1\0"))
+        check("a window is killed", server.give(b"kill", number=0).endswith(DONE))
         begin = time.time()
         ended = select.poll()
         ended.register(deaf, select.POLLHUP)
@@ -223,7 +179,7 @@ def few_descriptors():
                 time.sleep(0.01)
             crowd.append(it)
         check("beside 2,000 strangers and 64 descriptors a command is done",
-              server.give(b"windows").endswith(b"g\0\1\0"))
+              server.give(b"windows").endswith(DONE))
         for it in crowd:
             it.close()
         clients, refused = [], b""
@@ -236,8 +192,8 @@ def few_descriptors():
             clients.append(it)
         check("a client for which no descriptor is left is told so",
               b"no room for more connections" in refused, f"{len(clients)} clients, {refused!r}")
-        check("and a command is done all the same", server.give(b"windows").endswith(b"g\0\1\0"))
-        check("quit too", server.give(b"quit").endswith(b"g\0\1\0") and server.ends_within(5) == 0)
+        check("and a command is done all the same", server.give(b"windows").endswith(DONE))
+        check("quit too", server.give(b"quit").endswith(DONE) and server.ends_within(5) == 0)
 
 
 def winding_up():
@@ -247,7 +203,7 @@ def winding_up():
         client = server.connect(attach())
         assert welcome(client)
         for _ in range(60):
-            client.sendall(frame(b"K", b"x" * 8192))
+            client.sendall(frame(KEYS, b"x" * 8192))
         stop = threading.Event()
 
         def knock():
@@ -326,7 +282,7 @@ def one_who_floods():
         assert welcome(client)
         client.setblocking(False)
         shell.setblocking(False)
-        many = frame(b"K", b"x") * 2000
+        many = frame(KEYS, b"x") * 2000
         typed, begin = 0, time.time()
         while time.time() - begin < 20:
             _, write, _ = select.select([], [client], [], 0)
@@ -343,13 +299,13 @@ def one_who_floods():
         check("a user's keys have a rate", 8_000 < typed < most, f"{typed}")
         begin = time.time()
         answer = server.give(b"windows")
-        check("and his command is answered", answer.endswith(b"g\0\1\0") and time.time() - begin < 2)
+        check("and his command is answered", answer.endswith(DONE) and time.time() - begin < 2)
 
 
 def unread_log():
     """Nobody waits for a log that isn't read, and the lines that are left out are counted."""
     with Server(log=True) as server:
-        answered = sum(server.give(b"windows").endswith(b"g\0\1\0") for _ in range(6000))
+        answered = sum(server.give(b"windows").endswith(DONE) for _ in range(6000))
         check("beside a log that nobody reads 6,000 commands are done", answered == 6000, str(answered))
         said = []
         reader = threading.Thread(target=lambda: said.extend(server.errors))
@@ -363,43 +319,6 @@ def unread_log():
               f"{told} told, {left_out} left out")
 
 
-class Flood:
-    """A window that is written to without a lull, from memory, by a process of its own until it is stopped.
-
-    A loop of this process would pause now and then, and a pseudo-terminal has lulls: each lets all draws through."""
-
-    def __init__(self, server):
-        self.shell = server.connect(window())
-        assert welcome(self.shell)
-        # Lines that differ, since a page that is the same again isn't drawn again.
-        lines = [b"%09d abcdefghijklmnopqrstuvwxyz\r\n" % number for number in range(200 * 64)]
-        data = b"".join(frame(b"O", b"".join(lines[at : at + 200])) for at in range(0, len(lines), 200))
-        self.writer = os.fork()
-        if not self.writer:
-            try:
-                self.shell.settimeout(None)
-                while True:
-                    self.shell.sendall(data)
-            finally:
-                os._exit(0)
-
-    def stop(self):
-        os.kill(self.writer, 9)
-        os.waitpid(self.writer, 0)
-        self.shell.close()
-
-
-def draws_within(clients, seconds):
-    """For each client the times, from now on, at which it was drawn, and how long the longest wait was."""
-    begin = time.monotonic()
-    times = {it: [0.0] for it in clients}
-    while (now := time.monotonic() - begin) < seconds:
-        for it in select.select(clients, [], [], seconds - now)[0]:
-            it.recv(1 << 20)
-            times[it].append(time.monotonic() - begin)
-    return [(len(at) - 1, max(b - a for a, b in zip(at, at[1:] + [seconds]))) for at in times.values()]
-
-
 def drawn_in_a_flood():
     """Each client that reads is drawn while windows flood, whatever loops there are and wherever it is."""
     for loops in (1, 2, 4, 8):
@@ -407,7 +326,7 @@ def drawn_in_a_flood():
             for crowd in (1, 24):
                 with Server(loops=loops) as server:
                     # Each client shows window 0, the first one to flood.
-                    poured = [Flood(server) for _ in range(floods)]
+                    poured = [Flood(server.path) for _ in range(floods)]
                     quiet = server.connect(window())
                     assert welcome(quiet)
                     clients = [server.connect(attach()) for _ in range(max(crowd, loops))]
@@ -417,12 +336,12 @@ def drawn_in_a_flood():
                     fewest, longest = min(it[0] for it in found), max(it[1] for it in found)
                     # A client that looks at the quiet window alone, on any loop.
                     looker = clients[-1]
-                    looker.sendall(frame(b"K", b"\x01%d" % floods) if floods < 10 else b"")
+                    looker.sendall(frame(KEYS, b"\x01%d" % floods) if floods < 10 else b"")
                     draws_within(clients, 0.5)
                     late = []
                     for number in range(8):
                         draws_within(clients, 0.05)
-                        quiet.sendall(frame(b"O", b"line %d\r\n" % number))
+                        quiet.sendall(frame(OUTPUT, b"line %d\r\n" % number))
                         sent = time.monotonic()
                         late.append(time.monotonic() - sent if has_come(looker, 2) else 2)
                     for it in poured:

@@ -20,35 +20,28 @@ import selectors
 import socket
 import subprocess
 import sys
-import tempfile
 import threading
 import time
 
+sys.dont_write_bytecode = True
+import peer
+from peer import GONE, INPUT, KEYS, OWNER, Server, attach, frame, window
+
 TOP = os.path.dirname(os.path.dirname(os.path.dirname(os.path.realpath(__file__))))
 MUXD = os.environ.get("MUXD", f"{TOP}/bin/muxd")
-ENTRIES, OWNER, TOKEN = 4_194_304, b"own", b"0" * 64
+ENTRIES = 4_194_304
 USERS = [OWNER] + [b"u%d" % number for number in range(1, 63)]
 BATCH = 2_000
 MOST = 120_000_000
 DAY, TYPISTS, BURSTS, MOST_A_KEY = 1_400_000, 5, (1, 5, 40), 20
 
 
-def two(number):
-    return number.to_bytes(2, "big")
-
-
-def frame(kind, payload):
-    return kind + two(len(payload)) + payload
-
-
-class Peer:
+class Peer(peer.Peer):
     """A connection that reads without waiting: how many bytes of INPUT it was sent, and its last frame."""
 
     def __init__(self, path, first):
-        self.socket = socket.socket(socket.AF_UNIX)
-        self.socket.connect(path)
-        self.socket.sendall(first)
-        self.rest, self.typed, self.pieces, self.gone, self.ended = b"", 0, 0, None, False
+        super().__init__(path, first)
+        self.typed, self.pieces, self.ended = 0, 0, False
         while not self.rest:
             self.rest = self.socket.recv(65536)
         self.socket.setblocking(False)
@@ -61,9 +54,9 @@ class Peer:
             if len(self.rest) < end:
                 break
             kind = self.rest[at:at + 1]
-            if kind == b"i":
+            if kind == INPUT:
                 self.typed, self.pieces = self.typed + end - at - 3, self.pieces + 1
-            self.gone = self.rest[end - 1] if kind == b"g" else None
+            self.gone = self.rest[end - 1] if kind == GONE else None
             at = end
         self.rest = self.rest[at:]
 
@@ -79,53 +72,38 @@ class Peer:
         self.take()
 
 
-def give(path, line):
-    """Gives a command of the owner, and waits for its end."""
-    with socket.socket(socket.AF_UNIX) as it:
-        it.connect(path)
-        it.sendall(frame(b"C", b"\xff" + TOKEN + bytes([len(OWNER)]) + OWNER + line))
-        while it.recv(4096):
-            pass
-
-
-def fill(window, clients):
+def fill(shell, clients):
     """Has each type a byte an event, until all were let go; how many were sent."""
-    keys, sent = frame(b"K", b"x") * BATCH, 0
+    keys, sent = frame(KEYS, b"x") * BATCH, 0
     rests = {client.socket: b"" for client in clients}
     with selectors.DefaultSelector() as ready:
-        ready.register(window.socket, selectors.EVENT_READ, window)
+        ready.register(shell.socket, selectors.EVENT_READ, shell)
         for client in clients:
             ready.register(client.socket, selectors.EVENT_READ | selectors.EVENT_WRITE, client)
-        while not (window.ended and all(client.ended for client in clients)):
+        while not (shell.ended and all(client.ended for client in clients)):
             for key, events in ready.select():
-                peer = key.data
+                it = key.data
                 if events & selectors.EVENT_READ:
-                    peer.read()
-                if peer.ended:
-                    ready.unregister(peer.socket)
+                    it.read()
+                if it.ended:
+                    ready.unregister(it.socket)
                 elif events & selectors.EVENT_WRITE:
-                    rest = rests[peer.socket] or keys
+                    rest = rests[it.socket] or keys
                     try:
-                        count = peer.socket.send(rest)
+                        count = it.socket.send(rest)
                     except (BlockingIOError, BrokenPipeError):
                         continue
-                    sent, rests[peer.socket] = sent + count, rest[count:]
+                    sent, rests[it.socket] = sent + count, rest[count:]
     return sent // 4
-
-
-def resident(pid):
-    """The bytes of memory that a program has."""
-    with open(f"/proc/{pid}/status", encoding="ascii") as lines:
-        return next(int(line.split()[1]) * 1024 for line in lines if line.startswith("VmRSS:"))
 
 
 def type_for_a_day(client, number):
     """Types a share of the day's keys into the window of this number, an event each."""
     chance, left = random.Random(number), DAY // TYPISTS
-    client.sendall(frame(b"K", b"\x01%d" % number))
+    client.sendall(frame(KEYS, b"\x01%d" % number))
     while left:
         count = min(left, chance.choice(BURSTS))
-        client.sendall(frame(b"K", b"x") * count)
+        client.sendall(frame(KEYS, b"x") * count)
         left -= count
         time.sleep(chance.random() * 0.002 * count)
 
@@ -140,33 +118,26 @@ def drain(peer):
 
 def day():
     """Prints what a made-up day takes. The status to end with."""
-    users, size = USERS[:TYPISTS], two(4) + two(20)
-    with tempfile.TemporaryDirectory() as folder:
-        with open(f"{folder}/users", "wb") as file:
-            file.write(b"".join(user + b" " + TOKEN + b"\n" for user in users))
-        os.chmod(f"{folder}/users", 0o600)
-        command = [MUXD, "--socket", f"{folder}/socket", "--users", f"{folder}/users", "--loops", "2"]
-        with subprocess.Popen(command, stdout=subprocess.PIPE) as server:
-            server.stdout.readline()
-            title = TOKEN + bytes([len(OWNER)]) + OWNER + b"sh"
-            windows = [Peer(f"{folder}/socket", frame(b"W", size + two(0) + title)).socket for _ in users]
-            give(f"{folder}/socket", b"multiuser on")
-            give(f"{folder}/socket", b"acladd " + b",".join(users[1:]))
-            clients = [Peer(f"{folder}/socket", frame(b"A", size + TOKEN + user)).socket for user in users]
-            for peer in windows + clients:
-                peer.setblocking(True)
-                threading.Thread(target=drain, args=(peer,), daemon=True).start()
-            before = resident(server.pid)
-            typing = [threading.Thread(target=type_for_a_day, args=it[::-1]) for it in enumerate(clients)]
-            for it in typing:
-                it.start()
-            for it in typing:
-                it.join()
-            # (what waits in sockets is taken at 1,000 keys a second and user)
-            time.sleep(20)
-            taken = resident(server.pid) - before
-            give(f"{folder}/socket", b"quit")
-            status = server.wait(60)
+    users, size = USERS[:TYPISTS], {"rows": 4, "cols": 20}
+    with Server(MUXD, 2, users) as server:
+        windows = [Peer(server.path, window(**size)).socket for _ in users]
+        server.give(b"multiuser on")
+        server.give(b"acladd " + b",".join(users[1:]))
+        clients = [Peer(server.path, attach(user, **size)).socket for user in users]
+        for it in windows + clients:
+            it.setblocking(True)
+            threading.Thread(target=drain, args=(it,), daemon=True).start()
+        before = server.resident()
+        typing = [threading.Thread(target=type_for_a_day, args=it[::-1]) for it in enumerate(clients)]
+        for it in typing:
+            it.start()
+        for it in typing:
+            it.join()
+        # (what waits in sockets is taken at 1,000 keys a second and user)
+        time.sleep(20)
+        taken = server.resident() - before
+        server.give(b"quit")
+        status = server.ends_within(60)
     is_well = taken <= DAY * MOST_A_KEY and status == 0
     print(f"{'ok     ' if is_well else 'FAILED '} {DAY:,} keys: {taken:,} bytes, {taken / DAY:.1f} a key, status {status}")
     return 0 if is_well else 1
@@ -186,40 +157,31 @@ def main(words):
             print(f"FAILED  {step}: {found}, and not {wanted}", flush=True)
             bad = 1
 
-    with tempfile.TemporaryDirectory() as folder:
-        with open(f"{folder}/users", "wb") as users:
-            users.write(b"".join(user + b" " + TOKEN + b"\n" for user in USERS))
-        os.chmod(f"{folder}/users", 0o600)
-        how = {"stdout": subprocess.PIPE, "stderr": subprocess.PIPE, "text": True}
-        command = [MUXD, "--log", "--socket", f"{folder}/socket", "--users", f"{folder}/users", "--loops", loops]
-        with subprocess.Popen(command, **how) as server:
-            check("a server", server.stdout.readline(), "muxd: ready\n")
-            size = two(4) + two(20)
-            title = bytes([len(OWNER)]) + OWNER + b"sh"
-            window = Peer(f"{folder}/socket", frame(b"W", size + two(0) + TOKEN + title))
-            give(f"{folder}/socket", b"multiuser on")
-            give(f"{folder}/socket", b"acladd " + b",".join(USERS[1:]))
-            clients = [Peer(f"{folder}/socket", frame(b"A", size + TOKEN + user)) for user in USERS]
-            began = time.monotonic()
-            sent = fill(window, clients)
-            took = time.monotonic() - began
-            check("the window's bytes, beside its own entry, two commands' and the clients'", window.typed,
-                  ENTRIES - 3 - len(USERS))
-            check("more was sent than found room", sent > window.typed, True)
-            check("the window is let go", window.gone, 7)
-            check("the clients are let go", {client.gone for client in clients}, {7})
-            _, errors = server.communicate(timeout=60)
-            check("what the server says", errors.splitlines(True)[-1],
-                  "muxd: the session's trail is full: start another session\n")
-            check("and before", [line.split()[-2] for line in errors.splitlines() if line.endswith(" percent")],
-                  ["50", "75", "90", "99"])
-            went = sum(line.endswith(" went: the trail is full") for line in errors.splitlines())
-            check("each client and the window is told to have gone", went, len(USERS) + 1)
-            check("its status", server.returncode, 1)
-            # (the server is the one child that was waited for)
-            peak = resource.getrusage(resource.RUSAGE_CHILDREN).ru_maxrss * 1024
-            check(f"its memory stays below {MOST:,} bytes", max(peak, MOST), MOST)
-    print(f"{took:.0f} seconds, in {window.pieces} frames, {peak / 1e6:.0f} MB")
+    with Server(MUXD, loops, USERS, ["--log"], errors=subprocess.PIPE) as server:
+        size = {"rows": 4, "cols": 20}
+        shell = Peer(server.path, window(**size))
+        server.give(b"multiuser on")
+        server.give(b"acladd " + b",".join(USERS[1:]))
+        clients = [Peer(server.path, attach(user, **size)) for user in USERS]
+        began = time.monotonic()
+        sent = fill(shell, clients)
+        took = time.monotonic() - began
+        check("the window's bytes, beside its own entry, two commands' and the clients'", shell.typed,
+              ENTRIES - 3 - len(USERS))
+        check("more was sent than found room", sent > shell.typed, True)
+        check("the window is let go", shell.gone, 7)
+        check("the clients are let go", {client.gone for client in clients}, {7})
+        errors = server.program.communicate(timeout=60)[1].decode().splitlines()
+        check("its status", server.program.returncode, 1)
+        check("what the server says", errors[-1], "muxd: the session's trail is full: start another session")
+        check("and before", [line.split()[-2] for line in errors if line.endswith(" percent")],
+              ["50", "75", "90", "99"])
+        went = sum(line.endswith(" went: the trail is full") for line in errors)
+        check("each client and the window is told to have gone", went, len(USERS) + 1)
+        # (the server is the one child that was waited for)
+        peak = resource.getrusage(resource.RUSAGE_CHILDREN).ru_maxrss * 1024
+        check(f"its memory stays below {MOST:,} bytes", max(peak, MOST), MOST)
+    print(f"{took:.0f} seconds, in {shell.pieces} frames, {peak / 1e6:.0f} MB")
     return bad
 
 
