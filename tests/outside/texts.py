@@ -266,6 +266,51 @@ class Play:
             time.sleep(0.1)
 
 
+def surprises(on):
+    """What FIRST-SESSION says that surprises people, with ann in the shell `sh`."""
+    # An arrow key closes the prompt, and the rest of the line goes to the window.
+    on.type("ann", "clear\n")
+    on.shows("ann", r"^\$ *$")
+    on.keys("ann", "C-a")
+    on.type("ann", ":wall rm x")
+    on.shows("ann", "^:wall rm x")
+    on.keys("ann", "Left")
+    on.type("ann", "echo in the window")
+    on.shows("ann", r"^\$ .*echo in the window")
+    if any(line.startswith(":wall") for line in on.page("ann")):
+        raise Fault("docs/FIRST-SESSION.md: an arrow key leaves the prompt open")
+    on.keys("ann", "C-c")
+    # A C-a in pasted text is the command key.
+    on.tmux("set-buffer", "printf one\001:wall pasted\r")
+    on.tmux("paste-buffer", "-p", "-t", "texts:ann")
+    on.shows("bob", "^ann: pasted")
+    on.shows("ann", "printf one$")
+    on.keys("ann", "C-c")
+    on.type("ann", "cat\n\001a\n\004")
+    on.shows("ann", r"^\^A")
+    # SGR 38 and 48 are read value by value: 5 blinks, 4 underlines.
+    on.type("ann", r"clear; printf '\033[38;5;9mred\033[m \033[48;5;4mblue\033[m\n'" + "\n")
+    on.shows("ann", "^red blue")
+    shown = on.tmux("capture-pane", "-p", "-e", "-t", "texts:ann")
+    if not re.search("\033\\[5mred", shown) or not re.search("\033\\[(4;5|5;4|4m\033\\[5)mblue", shown):
+        raise Fault("docs/FIRST-SESSION.md: 38 and 48 are shown as %r" % shown)
+    on.type("ann", "echo $TERM; tput colors\n")
+    on.shows("ann", "^vt220")
+    on.shows("ann", "^8$")
+    # A window that closes leaves an empty page until C-a n.
+    on.type("ann", "setsid -f mux-shell --user ann --token ~/first/ann.token --title other cat\n")
+    time.sleep(1)
+    on.keys("ann", "C-a", "n")
+    on.shows("ann", "^1 other")
+    on.keys("ann", "C-d")
+    on.shows("ann", "^--")
+    if any(line.strip() not in ("", "--") for line in on.page("ann")):
+        raise Fault("docs/FIRST-SESSION.md: the page of a window that closed isn't empty")
+    on.keys("ann", "C-a", "n")
+    on.shows("ann", "^0 sh")
+    on.type("ann", "clear\n")
+
+
 def first_session(play):
     """docs/FIRST-SESSION.md: two terminals of 8 lines by 44 columns."""
     on = play.on
@@ -317,6 +362,7 @@ def first_session(play):
     play.picture("ann", "bob")
     play.prompt("ann", "aclchg bob -r 0")
     play.picture("ann", "bob")
+    surprises(on)
     before = on.prompts("bob")
     play.prompt("ann", "quit")
     on.wait("bob", "end of mux-attach", lambda: on.prompts("bob") > before)
@@ -377,13 +423,13 @@ def audit(play):
 
 
 def teaching(play):
-    """docs/TEACHING.md: an audit, and "With a server": two folders, a shell of another login."""
+    """docs/TEACHING.md: a lesson in two terminals, with a shell of another login; then an audit."""
     on = play.on
     text = play.text
-    audit(play)
-    text.leave("make demo SCRIPT=class", "make examples compares what it prints")
-    text.leave("make examples", "it compares the pictures")
+    for line in ("make demo SCRIPT=class", "make examples"):
+        text.leave(line, "make examples compares what it prints")
     text.leave("sudo -iu lab", "it is played below")
+    text.leave("mux-share --with ann,bob,eve", "tests/outside/share plays it, with three accounts")
     for line in ("# useradd -m -s /bin/bash lab",
                  "# echo 'tess ALL = (lab) NOPASSWD: ALL' > /etc/sudoers.d/mux-lab",
                  "# install -d -m 2750 -o tess -g class /srv/class"):
@@ -391,53 +437,89 @@ def teaching(play):
     os.mkdir(os.path.join(on.far, "class"), 0o2750)
     on.open("tess")
     play.run("tess", "for name in own tess ann bob eve; do new-token --users ~/class/users $name; done")
-    play.run("tess", "(umask 007; setsid -f muxd --socket /srv/class/socket --users ~/class/users > ~/class/log 2>&1)")
-    play.run("tess", "export MUX_SOCKET=/srv/class/socket")
-    play.run("tess", "muxd-wait")
-    play.run("tess", "setsid -f mux-shell --user own --token ~/class/own.token --title lesson sudo -iu lab")
-    play.run("tess", "own() { mux-command --user own --token ~/class/own.token \"$@\"; }")
-    for line in ("own multiuser on", "own 'aclumask ?-wx ??-x'", "own 'aclchg tess,ann,bob,eve -wx #?'",
-                 "own 'aclumask -wx tess+w'", "own 'aclchg tess,ann,bob,eve +x detach,next,prev,scrollview'",
-                 "own 'aclchg tess +w lesson'"):
-        play.run("tess", line)
+    for line in ("# to() { runuser -l $1 -c \"umask 077; mkdir -p ~/.config/mux; cat > ~/.config/mux/$1.token\"; }",
+                 "# for name in ann bob eve; do to $name < ~tess/class/$name.token; done"):
+        text.leave(line, "it needs other logins")
+    # The block is pasted as a whole: it waits where it has to.
+    block = []
+    while text.lines[0][0] != "$ mux-attach --socket /srv/class/socket --token ~/class/tess.token":
+        block.append(play.real(text.lines.pop(0)[0][2:]))
+    if len(block) != 10 or block[-1] != "muxd-wait --window lesson":
+        raise Fault("docs/TEACHING.md: the lesson's block is another one")
+    before = on.prompts("tess")
+    on.type("tess", "\n".join(block) + "\n")
+    on.wait("tess", "end of the block", lambda: on.prompts("tess") >= before + len(block))
+    on.run("tess", "echo status $?", ["status 0"])
+    if any("mux: " in line or "mux-command: " in line for line in on.page("tess")):
+        raise Fault("docs/TEACHING.md: a line of the block is refused")
+    on.run("tess", "clear")
+    # The login is called otherwise here, so the user is named.
+    on.open("lesson")
+    on.run("lesson", "export MUX_USER=tess")
+    play.attach("lesson", "mux-attach --socket /srv/class/socket --token ~/class/tess.token", "^0 lesson")
+    on.type("lesson", "echo I am tess\n")
+    on.shows("lesson", "^I am tess")
     on.open("ann")
-    on.run("ann", "cd " + on.home)
     text.take("mux-attach --socket /srv/class/socket --user ann --token FILE")
     on.type("ann", play.real("mux-attach --socket /srv/class/socket --user ann --token ~/class/ann.token\n"))
     on.shows("ann", "^0 lesson")
+    on.keys("ann", "C-a", "d")
+    on.shows("ann", r"^\[detached from ")
+    # With the token in its place; the login is called otherwise here.
+    on.run("ann", "mkdir -p ~/.config/mux; cp -p ~/class/ann.token ~/.config/mux/; export MUX_USER=ann; clear")
+    line = "mux-attach --socket /srv/class/socket"
+    play.attach("ann", line, "^0 lesson", taken=line)
     on.type("ann", "x")
     on.shows("ann", "^denied: w on window 0: entry ann -w")
-    for line, seen in (("own displays", "0 ann 0"), ("own 'aclchg ann +w lesson'", ""),
-                       ("own 'wall \"well done, ann\"'", "")):
+    text.take("mux-command displays")
+    on.run("tess", "mux-command displays", ["0 tess 0  1 ann 0"])
+    for line, told in (("mux-turn --keep tess --window lesson ann", "ann may type"),
+                       ("mux-command wall 'well done, ann'", "well done, ann")):
         text.take(line)
-        on.run("tess", line, [seen] if seen else [])
-    on.shows("ann", "^own: well done, ann")
-    # The lesson's shell can't read the tokens, though ann may type there.
+        on.run("tess", line)
+        on.shows("ann", "^own: " + told)
+    # The lesson's shell can't read the tokens, though ann may type there; and tess may type beside her.
     on.type("ann", "echo I am $(id -un); cat %s/class/users\n" % on.home)
     if os.getuid() == 0:
         on.shows("ann", "Permission denied")
         on.shows("ann", "^I am nobody")
-    text.take("own 'aclchg ann -w lesson'")
-    on.run("tess", "own 'aclchg ann -w lesson'")
+    on.type("lesson", "echo tess types\n")
+    on.shows("ann", "^tess types")
+    line = "mux-turn --keep tess --for 5m --window lesson bob"
+    text.leave(line, "tests/outside/consoles plays it, for a shorter time")
+    text.take("mux-turn --keep tess none")
+    on.run("tess", "mux-turn --keep tess none; clear")
     on.type("ann", "x")
     on.shows("ann", "^denied: w on window 0: entry ann -w")
-    play.attach("tess", "mux-attach --user tess --token ~/class/tess.token", "^0 lesson",
-                taken="mux-attach --user tess --token ~/class/tess.token")
-    on.type("tess", "echo I am tess\n")
-    on.shows("ann", "^I am tess")
-    before = on.prompts("tess")
-    on.keys("tess", "C-a", "d")
-    on.wait("tess", "end of mux-attach", lambda: on.prompts("tess") > before)
+    on.type("lesson", "echo still tess\n")
+    on.shows("ann", "^still tess")
+    # The shell ends, and the block's last two lines open it again: pages stay empty until the next window is asked for.
+    on.type("lesson", "exit\n")
+    on.shows("ann", "^--")
+    on.run("tess", block[-2])
+    on.run("tess", block[-1])
+    on.shows("ann", "^--")
+    for pane in ("ann", "lesson"):
+        on.keys(pane, "C-a", "n")
+        on.shows(pane, "^0 lesson")
+    on.type("ann", "x")
+    on.shows("ann", "^denied: w on window 0: entry ann -w")
+    on.type("lesson", "echo hers again\n")
+    on.shows("ann", "^hers again")
     # A pupil who comes late: the server that runs reads the new token.
-    for line in ("new-token --users ~/class/users fay", "own 'aclchg fay -wx #?'", "own 'aclumask fay-wx'",
-                 "own 'aclchg fay -wx #'", "own 'aclchg fay +x detach,next,prev,scrollview'"):
+    for line in ("new-token --users ~/class/users fay", "mux-command 'aclchg fay -wx #?'",
+                 "mux-command 'aclumask fay-wx'", "mux-command 'aclchg fay -wx #'",
+                 "mux-command 'aclchg fay +x detach,next,prev,scrollview'"):
         play.run("tess", line)
     on.run("tess", "clear; mux-command --user fay --token ~/class/fay.token windows",
            ["denied: x on windows: entry fay -x"])
+    text.take("mux-command acldel bob")
+    on.run("tess", "mux-command acldel bob; mux-command --user bob --token ~/class/bob.token next; clear")
     before = on.prompts("ann")
-    text.take("own quit")
-    on.run("tess", "own quit")
+    text.take("mux-command quit")
+    on.run("tess", "mux-command quit")
     on.wait("ann", "end of mux-attach", lambda: on.prompts("ann") > before)
+    audit(play)
 
 
 def policies(play):
@@ -451,8 +533,9 @@ def policies(play):
     on.open("own")
     on.run("own", "for name in own sue pia ben kay fay ann bob jo lee kim; do"
            " new-token --users ~/session/users $name; done")
-    on.run("own", "export MUX_SOCKET=~/session/socket MUX_USER=own MUX_TOKEN=~/session/own.token")
-    play.run("own", 'own() { mux-command --user own --token ~/session/own.token "$@"; }')
+    for line in ("export MUX_SOCKET=~/session/socket", "export MUX_TOKEN=~/session/own.token",
+                 'own() { mux-command --user own "$@"; }'):
+        play.run("own", line)
     on.run("own", "as() { name=$1; shift; mux-command --user $name --token ~/session/$name.token \"$@\"; }")
 
     def opened(user, title):
