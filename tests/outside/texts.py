@@ -14,9 +14,13 @@ Of muxd(8), mux-users(5) and of each script's page the words of --help are compa
 
 Needs tmux and script (or socat). MUXD, MUX, MUXSIM, MUX_TRAIL and VTCAT name the programs (those of bin/, if they
 aren't set).
-Where root plays it, `sudo -iu lab` is played by a stand-in that runs a shell as the login nobody.
+Where root plays it, `sudo -iu lab` is played by a stand-in that runs a shell as the login nobody.  TEACHING's lesson is
+played with the accounts that it names, which are made and removed again, if root plays it, sudo is installed, and no
+such account is there.
 """
+import grp
 import os
+import pwd
 import re
 import shutil
 import signal
@@ -137,16 +141,20 @@ class Terminals:
                               stdout=subprocess.PIPE, stderr=subprocess.PIPE, check=False)
         return done.stdout.decode()
 
-    def open(self, name, rows=30, cols=120):
-        """A terminal with a shell, as a login finds it."""
+    def open(self, name, rows=30, cols=120, account=None):
+        """A terminal with a shell, as a login finds it; of another account, without a folder for what runs."""
         done = os.path.join(self.folder, name + ".done")
         with open(done, "w", encoding="ascii"):
-            pass
-        words = ["env", "-i", "MUX_TEXTS=" + self.folder, "HOME=" + self.home,
+            os.chmod(done, 0o666 if account else 0o600)
+        home = pwd.getpwnam(account).pw_dir if account else self.home
+        words = ["env", "-i", "MUX_TEXTS=" + self.folder, "HOME=" + home,
                  "PATH=%s/bin:%s:/usr/sbin" % (self.folder, os.environ["PATH"]),
-                 "TERM=screen", "LC_ALL=C.UTF-8", "PS1=$ ", "TMPDIR=%s/tmp" % self.folder, "SHELL=/bin/sh",
-                 "XDG_RUNTIME_DIR=" + os.path.join(self.folder, "run"),
-                 "PROMPT_COMMAND=echo done >>" + done, "bash", "--norc", "--noprofile"]
+                 "TERM=screen", "LC_ALL=C.UTF-8", "PS1=$ ", "SHELL=/bin/sh", "PROMPT_COMMAND=echo done >>" + done]
+        if account:
+            words = ["runuser", "-u", account, "--"] + words
+        else:
+            words += ["TMPDIR=%s/tmp" % self.folder, "XDG_RUNTIME_DIR=" + os.path.join(self.folder, "run")]
+        words += ["bash", "--norc", "--noprofile"]
         kind = "new-window" if self.panes else "new-session"
         extra = ["-n", name] if self.panes else ["-s", "texts", "-n", name, "-x", str(cols), "-y", str(rows)]
         self.tmux(kind, "-d", *extra, "cd; exec " + " ".join("'%s'" % word for word in words))
@@ -424,22 +432,91 @@ def audit(play):
 
 def teaching(play):
     """docs/TEACHING.md: a lesson in two terminals, with a shell of another login; then an audit."""
+    for line in ("make demo SCRIPT=class", "make examples"):
+        play.text.leave(line, "make examples compares what it prints")
+    play.text.leave("sudo -iu lab", "it is played below")
+    play.text.leave("mux-share --with ann,bob,eve", "tests/outside/share plays it, with three accounts")
+    with Accounts(play) as accounts:
+        lesson(play, accounts)
+    audit(play)
+
+
+class Accounts:
+    """The accounts of TEACHING, where root plays it, sudo is installed, and none of them is there; else one login for
+    all of them, and stand-ins."""
+
+    NAMES = ("tess", "ann", "bob", "eve", "fay", "lab")
+    MADE = ("/srv/class", "/etc/sudoers.d/mux-lab")
+
+    def __init__(self, play):
+        self.play = play
+        there = [name for name in self.NAMES if name in [it.pw_name for it in pwd.getpwall()]]
+        there += [path for path in self.MADE if os.path.lexists(path)]
+        there += [it.gr_name for it in grp.getgrall() if it.gr_name == "class"]
+        self.real = os.getuid() == 0 and not there and os.path.exists("/usr/bin/sudo")
+
+    def __enter__(self):
+        if self.real:
+            os.remove(os.path.join(self.play.on.folder, "bin", "sudo"))
+            self.play.real = lambda line: line
+            subprocess.run(["groupadd", "class"], check=True)
+            for name in self.NAMES[:-1]:
+                subprocess.run(["useradd", "-m", "-s", "/bin/bash", "-G", "class", name], check=True)
+        print("docs/TEACHING.md: with " + ("accounts of their own" if self.real else "one login for all"))
+        return self
+
+    def __exit__(self, *_):
+        if not self.real:
+            return
+        self.play.on.end()
+        for name in self.NAMES:
+            try:
+                uid = pwd.getpwnam(name).pw_uid
+            except KeyError:
+                continue
+            for process in os.listdir("/proc"):
+                try:
+                    if process.isdigit() and os.stat("/proc/" + process).st_uid == uid:
+                        os.kill(int(process), signal.SIGKILL)
+                except OSError:
+                    pass
+            time.sleep(0.2)
+            subprocess.run(["userdel", "-r", name], stderr=subprocess.DEVNULL, check=False)
+        subprocess.run(["groupdel", "class"], check=False)
+        shutil.rmtree(self.MADE[0], ignore_errors=True)
+        if os.path.exists(self.MADE[1]):
+            os.remove(self.MADE[1])
+
+    def open(self, pane, account):
+        """A terminal of an account; with one login for all its user is named."""
+        self.play.on.open(pane, account=account if self.real else None)
+        if not self.real and pane != "tess":
+            self.play.on.run(pane, "export MUX_USER=" + account)
+
+    def root(self, line, why):
+        """A line of root's."""
+        if self.real:
+            self.play.run("root", line)
+        else:
+            self.play.text.leave("# " + line, why)
+
+
+def lesson(play, accounts):
+    """TEACHING's lesson."""
     on = play.on
     text = play.text
-    for line in ("make demo SCRIPT=class", "make examples"):
-        text.leave(line, "make examples compares what it prints")
-    text.leave("sudo -iu lab", "it is played below")
-    text.leave("mux-share --with ann,bob,eve", "tests/outside/share plays it, with three accounts")
-    for line in ("# useradd -m -s /bin/bash lab",
-                 "# echo 'tess ALL = (lab) NOPASSWD: ALL' > /etc/sudoers.d/mux-lab",
-                 "# install -d -m 2750 -o tess -g class /srv/class"):
-        text.leave(line, "it changes the system; a folder and a stand-in for sudo are taken")
-    os.mkdir(os.path.join(on.far, "class"), 0o2750)
-    on.open("tess")
+    on.open("root")
+    for line in ("useradd -m -s /bin/bash lab",
+                 "echo 'tess ALL = (lab) NOPASSWD: ALL' > /etc/sudoers.d/mux-lab",
+                 "install -d -m 2750 -o tess -g class /srv/class"):
+        accounts.root(line, "it changes the system; a folder and a stand-in for sudo are taken")
+    if not accounts.real:
+        os.mkdir(os.path.join(on.far, "class"), 0o2750)
+    accounts.open("tess", "tess")
     play.run("tess", "for name in own tess ann bob eve; do new-token --users ~/class/users $name; done")
-    for line in ("# to() { runuser -l $1 -c \"umask 077; mkdir -p ~/.config/mux; cat > ~/.config/mux/$1.token\"; }",
-                 "# for name in ann bob eve; do to $name < ~tess/class/$name.token; done"):
-        text.leave(line, "it needs other logins")
+    for line in ("to() { runuser -l $1 -c \"umask 077; mkdir -p ~/.config/mux; cat > ~/.config/mux/$1.token\"; }",
+                 "for name in ann bob eve; do to $name < ~tess/class/$name.token; done"):
+        accounts.root(line, "it needs other logins")
     # The block is pasted as a whole: it waits where it has to.
     block = []
     while text.lines[0][0] != "$ mux-attach --socket /srv/class/socket --token ~/class/tess.token":
@@ -450,62 +527,26 @@ def teaching(play):
     on.type("tess", "\n".join(block) + "\n")
     on.wait("tess", "end of the block", lambda: on.prompts("tess") >= before + len(block))
     on.run("tess", "echo status $?", ["status 0"])
-    if any("mux: " in line or "mux-command: " in line for line in on.page("tess")):
+    if any(re.search("(mux|muxd|mux-command|mux-shell|muxd-wait): ", line) for line in on.page("tess")):
         raise Fault("docs/TEACHING.md: a line of the block is refused")
     on.run("tess", "clear")
-    # The login is called otherwise here, so the user is named.
-    on.open("lesson")
-    on.run("lesson", "export MUX_USER=tess")
+    accounts.open("lesson", "tess")
     play.attach("lesson", "mux-attach --socket /srv/class/socket --token ~/class/tess.token", "^0 lesson")
     on.type("lesson", "echo I am tess\n")
     on.shows("lesson", "^I am tess")
-    on.open("ann")
-    text.take("mux-attach --socket /srv/class/socket --user ann --token FILE")
-    on.type("ann", play.real("mux-attach --socket /srv/class/socket --user ann --token ~/class/ann.token\n"))
-    on.shows("ann", "^0 lesson")
-    on.keys("ann", "C-a", "d")
-    on.shows("ann", r"^\[detached from ")
-    # With the token in its place; the login is called otherwise here.
-    on.run("ann", "mkdir -p ~/.config/mux; cp -p ~/class/ann.token ~/.config/mux/; export MUX_USER=ann; clear")
+    accounts.open("ann", "ann")
+    accounts.open("bob", "bob")
+    if not accounts.real:
+        on.run("ann", "mkdir -p ~/.config/mux; cp -p ~/class/ann.token ~/.config/mux/; clear")
     line = "mux-attach --socket /srv/class/socket"
     play.attach("ann", line, "^0 lesson", taken=line)
-    on.type("ann", "x")
-    on.shows("ann", "^denied: w on window 0: entry ann -w")
-    text.take("mux-command displays")
-    on.run("tess", "mux-command displays", ["0 tess 0  1 ann 0"])
-    for line, told in (("mux-turn --keep tess --window lesson ann", "ann may type"),
-                       ("mux-command wall 'well done, ann'", "well done, ann")):
-        text.take(line)
-        on.run("tess", line)
-        on.shows("ann", "^own: " + told)
-    # The lesson's shell can't read the tokens, though ann may type there; and tess may type beside her.
-    on.type("ann", "echo I am $(id -un); cat %s/class/users\n" % on.home)
-    if os.getuid() == 0:
-        on.shows("ann", "Permission denied")
-        on.shows("ann", "^I am nobody")
-    on.type("lesson", "echo tess types\n")
-    on.shows("ann", "^tess types")
-    line = "mux-turn --keep tess --for 5m --window lesson bob"
-    text.leave(line, "tests/outside/consoles plays it, for a shorter time")
-    text.take("mux-turn --keep tess none")
-    on.run("tess", "mux-turn --keep tess none; clear")
-    on.type("ann", "x")
-    on.shows("ann", "^denied: w on window 0: entry ann -w")
-    on.type("lesson", "echo still tess\n")
-    on.shows("ann", "^still tess")
-    # The shell ends, and the block's last two lines open it again: pages stay empty until the next window is asked for.
-    on.type("lesson", "exit\n")
-    on.shows("ann", "^--")
-    on.run("tess", block[-2])
-    on.run("tess", block[-1])
-    on.shows("ann", "^--")
-    for pane in ("ann", "lesson"):
-        on.keys(pane, "C-a", "n")
-        on.shows(pane, "^0 lesson")
-    on.type("ann", "x")
-    on.shows("ann", "^denied: w on window 0: entry ann -w")
-    on.type("lesson", "echo hers again\n")
-    on.shows("ann", "^hers again")
+    text.take("mux-attach --socket /srv/class/socket --user ann --token FILE")
+    where = "~/.config/mux" if accounts.real else "~/class"
+    on.run("bob", "cp -p %s/bob.token ~/mine; clear" % where)
+    on.type("bob", play.real("mux-attach --socket /srv/class/socket --user bob --token ~/mine\n"))
+    on.shows("bob", "^0 lesson")
+    turns(play, accounts)
+    again(play, block[-2:])
     # A pupil who comes late: the server that runs reads the new token.
     for line in ("new-token --users ~/class/users fay", "mux-command 'aclchg fay -wx #?'",
                  "mux-command 'aclumask fay-wx'", "mux-command 'aclchg fay -wx #'",
@@ -514,12 +555,73 @@ def teaching(play):
     on.run("tess", "clear; mux-command --user fay --token ~/class/fay.token windows",
            ["denied: x on windows: entry fay -x"])
     text.take("mux-command acldel bob")
-    on.run("tess", "mux-command acldel bob; mux-command --user bob --token ~/class/bob.token next; clear")
+    before = on.prompts("bob")
+    on.run("tess", "mux-command acldel bob")
+    on.wait("bob", "end of mux-attach", lambda: on.prompts("bob") > before)
     before = on.prompts("ann")
     text.take("mux-command quit")
     on.run("tess", "mux-command quit")
     on.wait("ann", "end of mux-attach", lambda: on.prompts("ann") > before)
-    audit(play)
+
+
+def turns(play, accounts):
+    """What a teacher types during the lesson: ann and bob are attached, and tess in the terminal `lesson`."""
+    on = play.on
+    text = play.text
+
+    def denied(pane):
+        on.type(pane, "x")
+        on.shows(pane, "^denied: w on window 0: entry %s -w" % pane)
+
+    denied("ann")
+    text.take("mux-command displays")
+    on.run("tess", "mux-command displays", ["0 tess 0  1 ann 0  2 bob 0"])
+    for line, told in (("mux-turn --keep tess --window lesson ann", "ann may type"),
+                       ("mux-command wall 'well done, ann'", "well done, ann")):
+        text.take(line)
+        on.run("tess", line)
+        on.shows("ann", "^own: " + told)
+    # The lesson's shell can't read the tokens, though ann may type there; and tess may type beside her.
+    who, home = ("lab", "~tess") if accounts.real else ("nobody", on.home)
+    on.type("ann", "echo I am $(id -un); cat %s/class/users\n" % home)
+    if os.getuid() == 0:
+        on.shows("ann", "Permission denied")
+        on.shows("ann", "^I am " + who)
+    on.type("lesson", "echo tess types\n")
+    on.shows("ann", "^tess types")
+    denied("bob")
+    text.take("mux-turn --keep tess --for 5m --window lesson bob")
+    before = on.prompts("tess")
+    on.type("tess", "mux-turn --keep tess --for 5m --window lesson bob\n")
+    on.shows("bob", "^own: bob may type for 5m")
+    on.type("bob", "echo bob types\n")
+    on.shows("ann", "^bob types")
+    denied("ann")
+    on.keys("tess", "C-c")
+    on.wait("tess", "end of mux-turn", lambda: on.prompts("tess") > before)
+    denied("bob")
+    text.take("mux-turn --keep tess none")
+    on.run("tess", "mux-turn --keep tess none; clear")
+    denied("ann")
+    on.type("lesson", "echo still tess\n")
+    on.shows("ann", "^still tess")
+
+
+def again(play, opened):
+    """The shell ends, and the block's last two lines open it again: pages stay empty until the next window is shown."""
+    on = play.on
+    on.type("lesson", "exit\n")
+    on.shows("ann", "^--")
+    for line in opened:
+        on.run("tess", line)
+    on.shows("ann", "^--")
+    for pane in ("ann", "lesson"):
+        on.keys(pane, "C-a", "n")
+        on.shows(pane, "^0 lesson")
+    on.type("ann", "x")
+    on.shows("ann", "^denied: w on window 0: entry ann -w")
+    on.type("lesson", "echo hers again\n")
+    on.shows("ann", "^hers again")
 
 
 def policies(play):
