@@ -306,8 +306,10 @@ def surprises(on):
     on.shows("ann", "^vt220")
     on.shows("ann", "^8$")
     # A window that closes leaves an empty page until C-a n.
-    on.type("ann", "setsid -f mux-shell --user ann --token ~/first/ann.token --title other cat\n")
-    time.sleep(1)
+    who = "--user ann --token ~/first/ann.token"
+    on.type("ann", "clear; setsid -f mux-shell %s --title other cat; " % who)
+    on.type("ann", "muxd-wait %s --window other && echo o\"\"pen\n" % who)
+    on.shows("ann", "^open")
     on.keys("ann", "C-a", "n")
     on.shows("ann", "^1 other")
     on.keys("ann", "C-d")
@@ -438,7 +440,7 @@ def teaching(play):
     play.text.leave("mux-share --with ann,bob,eve", "tests/outside/share plays it, with three accounts")
     with Accounts(play) as accounts:
         lesson(play, accounts)
-    audit(play)
+        audit(play)
 
 
 class Accounts:
