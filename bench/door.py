@@ -1,4 +1,4 @@
-"""Prints what mux-door costs: a key's echo and a flood's draws through it, beside muxd's own socket, in turn.
+"""Prints what mux-door costs: a key's echo, a paste and a flood's draws through it, beside muxd's own socket, in turn.
 
 python3 bench/door.py [--programs FOLDER] [--guest NAME] [--rounds N], as root. It shares a window as mux-share does, in
 a temporary folder, with the account NAME (default: daemon). That account's terminal is a socket of this one process, as
@@ -23,9 +23,21 @@ import server
 TOP = os.path.dirname(os.path.dirname(os.path.realpath(__file__)))
 # What a draw has beside the page's text is none of these.
 LETTERS = b"jkqvwyz"
-# The program echoes until C-d, and then prints without end.
-LINE = "%09.0f abcdefghijklmnopqrstuvwxyz abcdefghijklmnopqrstuvwxyz"
-PROGRAM = f"cat >/dev/null; while :; do seq -f '{LINE}' 1000000; done"
+PASTE = 1_000_000
+# The window's program echoes until C-d, takes so many pastes and answers each by q or z, and then prints without end
+# lines that differ in each column from those before.
+PROGRAM = """
+cat >/dev/null
+stty raw -echo
+for n in $(seq 1 %d); do
+    head -c %d >/dev/null
+    if [ $((n %% 2)) -eq 1 ]; then printf '\\033[2J\\033[Hq'; else printf '\\033[2J\\033[Hz'; fi
+done
+exec awk 'BEGIN {
+    for (i = 0; i < 8; i++) s = s "abcdefghijklmnopqrstuvwxyz0123456789"
+    for (;;) printf "%%s\\r\\n", substr(s, n++ %% 36 + 1, 79)
+}'
+"""
 
 
 class Client(server.Peer):
@@ -33,7 +45,7 @@ class Client(server.Peer):
 
     def __init__(self, connected, first):
         self.socket, self.rest = connected, b""
-        self.socket.settimeout(10)
+        self.socket.settimeout(30)
         self.send(first)
         if self.next()[0] != server.WELCOME:
             raise SystemExit("door.py: a terminal isn't let in")
@@ -62,7 +74,8 @@ class Session:
         self.environment = dict(os.environ, MUX_PLACES=self.folder.name, MUXD=f"{words.programs}/muxd",
                                 MUX=f"{words.programs}/mux", PATH=f"{TOP}/contrib:{os.environ['PATH']}",
                                 MUX_SHARE_WITH=f"{words.guest} {self.account.pw_uid} 1 0")
-        said = self.ask("start", server.ROWS, server.COLS, "022", "bench", "sh", "-c", PROGRAM)
+        program = PROGRAM % (2 * words.rounds, PASTE)
+        said = self.ask("start", server.ROWS, server.COLS, "022", "bench", "sh", "-c", program)
         self.place = said.split()[1]
         # While this is open, the keeper takes its owner for attached, and lets guests in.
         self.here = os.open(f"{self.place}/own/here", os.O_WRONLY)
@@ -132,17 +145,29 @@ def echoes(client, keys=300):
     return found
 
 
+def paste(client):
+    """MB a second from the first byte of a paste to the draw that answers its last one."""
+    client.settle(0.3)
+    keys = server.frame(server.KEYS, b"x" * 8000) * (PASTE // 8000)
+    begin = time.perf_counter()
+    client.send(keys)
+    while True:
+        kind, payload = client.next()
+        if kind == server.DRAW and (b"q" in payload or b"z" in payload):
+            return PASTE / (time.perf_counter() - begin) / server.MB
+
+
 def flood(client, seconds=2):
-    """MB and draws a second that come while the program prints without end."""
+    """KB and draws a second that come while the program prints without end."""
     size = draws = 0
     rest = b""
     begin = time.perf_counter()
     while (spent := time.perf_counter() - begin) < seconds:
-        client.socket.settimeout(5)
+        client.socket.settimeout(30)
         rest += client.socket.recv(1 << 20)
         while len(rest) >= 3 and len(rest) >= (end := 3 + int.from_bytes(rest[1:3], "big")):
             size, draws, rest = size + end, draws + (rest[:1] == server.DRAW), rest[end:]
-    return size / spent / server.MB, draws / spent
+    return size / spent / 1000, draws / spent
 
 
 def in_turn(session, rounds, measure):
@@ -160,12 +185,12 @@ def main():
     reader = argparse.ArgumentParser(description=__doc__)
     reader.add_argument("--programs", default=f"{TOP}/bin", help="where muxd and mux are")
     reader.add_argument("--guest", default="daemon", help="the account that joins")
-    reader.add_argument("--rounds", type=int, default=6, help="how many rounds each measure has, at most 8")
+    reader.add_argument("--rounds", type=int, default=6, help="how many rounds each measure has, at most 6")
     words = reader.parse_args()
     if os.getuid():
         raise SystemExit("door.py: needs root, since two accounts take part")
-    if not 1 <= words.rounds <= 8:
-        raise SystemExit("door.py: --rounds: 1 to 8 (the door lets a guest join 20 times at once)")
+    if not 1 <= words.rounds <= 6:
+        raise SystemExit("door.py: --rounds: 1 to 6 (the door lets a guest join 20 times at once)")
     words.programs = os.path.abspath(words.programs)
     now = datetime.datetime.now().strftime("%Y-%m-%d %H:%M")
     print(f"{now}, {os.cpu_count()} processors, load {os.getloadavg()[0]:.1f}; medians of {words.rounds} rounds")
@@ -174,9 +199,12 @@ def main():
         keys = {way: statistics.median(sum(found, [])) for way, found in
                 in_turn(session, words.rounds, echoes).items()}
         client = session.direct()
-        client.send(server.frame(server.KEYS, b"\x04"))
+        # C-u takes the line away, and C-d ends cat.
+        client.send(server.frame(server.KEYS, b"\x15\x04"))
         time.sleep(1)
         client.leave()
+        pastes = {way: statistics.median(found) for way, found in in_turn(session, words.rounds, paste).items()}
+        time.sleep(1)
         floods = {way: [statistics.median(it) for it in zip(*found)] for way, found in
                   in_turn(session, words.rounds, flood).items()}
     finally:
@@ -184,11 +212,14 @@ def main():
     more = keys["through_door"] - keys["direct"]
     server.row("a key, its echo drawn, at muxd's own socket", f"{keys['direct']:.0f}", "us")
     server.row("  through mux-door", f"{keys['through_door']:.0f}", "us", f"{more:.0f} more")
-    for place, unit in ((0, "MB"), (1, "")):
-        what = ("draws of a flood in MB a second", "draws of a flood a second")[place]
+    server.row("a paste of 1 MB, at muxd's own socket", f"{pastes['direct']:.1f}", "MB/s")
+    server.row("  through mux-door", f"{pastes['through_door']:.1f}", "MB/s",
+               f" {pastes['through_door'] / pastes['direct']:.2f} times")
+    for place, unit in ((0, "KB/s"), (1, "")):
+        what = ("a flood's draws", "  draws a second")[place]
         direct, door = floods["direct"][place], floods["through_door"][place]
         server.row(f"{what}, at muxd's own socket", f"{direct:.1f}", unit)
-        server.row("  through mux-door", f"{door:.1f}", unit, f"{door / direct:.2f} times")
+        server.row("  through mux-door", f"{door:.1f}", unit, f" {door / direct:.2f} times")
 
 
 if __name__ == "__main__":
