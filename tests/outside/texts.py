@@ -416,7 +416,6 @@ def readme(play):
     # The terminal that started them is gone, and the session isn't.
     text.leave("mux-shell --title lesson sudo -iu lab", "it is played with docs/TEACHING.md")
     text.leave("make demo SCRIPT=classroom", "make examples compares what it prints")
-    text.leave("make lint", "it checks the texts")
 
 
 def audit(play):
