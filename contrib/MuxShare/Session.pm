@@ -43,8 +43,10 @@ sub give {
     waitpid($process, 0);
     my $is_done = $? == 0;
     chomp $said;
+    # mux prints a refusal on both streams: the line with its meaning is enough.
+    $said = $1 if !$is_done && $said =~ /.*^mux: (.*)/ms;
     log_line("$line: $said") unless $is_done;
-    return ($is_done, $said =~ s/^mux: //r);
+    return ($is_done, $said);
 }
 
 # Shows a line of text to everybody in the session.
@@ -128,7 +130,7 @@ sub start_server {
         '--users', "$self->{own}/users", '--setup', "$self->{own}/setup");
     my $serves = sub { -S $self->{socket} && connected($self->{socket}) };
     return if wait_for($self->{server}, $serves, START);
-    die "muxd doesn't start: " . $self->last_line_of_log . "\n";
+    die "can't start muxd: " . $self->last_line_of_log . "\n";
 }
 
 # Starts the shell as the first window.  It prints TEXT first, and then has the environment and the umask of its owner.
@@ -144,7 +146,7 @@ sub start_shell {
     $self->{shell} = spawn($prepare, "$self->{scripts}/mux-shell", $self->as_owner, '--rows', $rows, '--cols', $cols,
         '--title', $self->{title}, '--', 'sh', '-c', 'cat -- "$1"; : >"$1".done; shift; exec "$@"', 'sh', $shown, @command);
     return if wait_for($self->{shell}, sub { -e "$shown.done" }, START);
-    die "the shell doesn't start: " . $self->last_line_of_log . "\n";
+    die "can't open a window for $command[0]: " . $self->last_line_of_log . "\n";
 }
 
 # Returns whether the command ended by itself a moment after it began.

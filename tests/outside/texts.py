@@ -14,9 +14,13 @@ Of muxd(8), mux-users(5) and of each script's page the words of --help are compa
 
 Needs tmux and script (or socat). MUXD, MUX, MUXSIM, MUX_TRAIL and VTCAT name the programs (those of bin/, if they
 aren't set).
-Where root plays it, `sudo -iu lab` is played by a stand-in that runs a shell as the login nobody.
+Where root plays it, `sudo -iu lab` is played by a stand-in that runs a shell as the login nobody.  TEACHING's lesson is
+played with the accounts that it names, which are made and removed again, if root plays it, sudo is installed, and no
+such account is there.
 """
+import grp
 import os
+import pwd
 import re
 import shutil
 import signal
@@ -137,16 +141,20 @@ class Terminals:
                               stdout=subprocess.PIPE, stderr=subprocess.PIPE, check=False)
         return done.stdout.decode()
 
-    def open(self, name, rows=30, cols=120):
-        """A terminal with a shell, as a login finds it."""
+    def open(self, name, rows=30, cols=120, account=None):
+        """A terminal with a shell, as a login finds it; of another account, without a folder for what runs."""
         done = os.path.join(self.folder, name + ".done")
         with open(done, "w", encoding="ascii"):
-            pass
-        words = ["env", "-i", "MUX_TEXTS=" + self.folder, "HOME=" + self.home,
+            os.chmod(done, 0o666 if account else 0o600)
+        home = pwd.getpwnam(account).pw_dir if account else self.home
+        words = ["env", "-i", "MUX_TEXTS=" + self.folder, "HOME=" + home,
                  "PATH=%s/bin:%s:/usr/sbin" % (self.folder, os.environ["PATH"]),
-                 "TERM=screen", "LC_ALL=C.UTF-8", "PS1=$ ", "TMPDIR=%s/tmp" % self.folder, "SHELL=/bin/sh",
-                 "XDG_RUNTIME_DIR=" + os.path.join(self.folder, "run"),
-                 "PROMPT_COMMAND=echo done >>" + done, "bash", "--norc", "--noprofile"]
+                 "TERM=screen", "LC_ALL=C.UTF-8", "PS1=$ ", "SHELL=/bin/sh", "PROMPT_COMMAND=echo done >>" + done]
+        if account:
+            words = ["runuser", "-u", account, "--"] + words
+        else:
+            words += ["TMPDIR=%s/tmp" % self.folder, "XDG_RUNTIME_DIR=" + os.path.join(self.folder, "run")]
+        words += ["bash", "--norc", "--noprofile"]
         kind = "new-window" if self.panes else "new-session"
         extra = ["-n", name] if self.panes else ["-s", "texts", "-n", name, "-x", str(cols), "-y", str(rows)]
         self.tmux(kind, "-d", *extra, "cd; exec " + " ".join("'%s'" % word for word in words))
@@ -266,6 +274,53 @@ class Play:
             time.sleep(0.1)
 
 
+def surprises(on):
+    """What FIRST-SESSION says that surprises people, with ann in the shell `sh`."""
+    # An arrow key closes the prompt, and the rest of the line goes to the window.
+    on.type("ann", "clear\n")
+    on.shows("ann", r"^\$ *$")
+    on.keys("ann", "C-a")
+    on.type("ann", ":wall rm x")
+    on.shows("ann", "^:wall rm x")
+    on.keys("ann", "Left")
+    on.type("ann", "echo in the window")
+    on.shows("ann", r"^\$ .*echo in the window")
+    if any(line.startswith(":wall") for line in on.page("ann")):
+        raise Fault("docs/FIRST-SESSION.md: an arrow key leaves the prompt open")
+    on.keys("ann", "C-c")
+    # A C-a in pasted text is the command key.
+    on.tmux("set-buffer", "printf one\001:wall pasted\r")
+    on.tmux("paste-buffer", "-p", "-t", "texts:ann")
+    on.shows("bob", "^ann: pasted")
+    on.shows("ann", "printf one$")
+    on.keys("ann", "C-c")
+    on.type("ann", "cat\n\001a\n\004")
+    on.shows("ann", r"^\^A")
+    # SGR 38 and 48 are read value by value: 5 blinks, 4 underlines.
+    on.type("ann", r"clear; printf '\033[38;5;9mred\033[m \033[48;5;4mblue\033[m\n'" + "\n")
+    on.shows("ann", "^red blue")
+    shown = on.tmux("capture-pane", "-p", "-e", "-t", "texts:ann")
+    if not re.search("\033\\[5mred", shown) or not re.search("\033\\[(4;5|5;4|4m\033\\[5)mblue", shown):
+        raise Fault("docs/FIRST-SESSION.md: 38 and 48 are shown as %r" % shown)
+    on.type("ann", "echo $TERM; tput colors\n")
+    on.shows("ann", "^vt220")
+    on.shows("ann", "^8$")
+    # A window that closes leaves an empty page until C-a n.
+    who = "--user ann --token ~/first/ann.token"
+    on.type("ann", "clear; setsid -f mux-shell %s --title other cat; " % who)
+    on.type("ann", "muxd-wait %s --window other && echo o\"\"pen\n" % who)
+    on.shows("ann", "^open")
+    on.keys("ann", "C-a", "n")
+    on.shows("ann", "^1 other")
+    on.keys("ann", "C-d")
+    on.shows("ann", "^--")
+    if any(line.strip() not in ("", "--") for line in on.page("ann")):
+        raise Fault("docs/FIRST-SESSION.md: the page of a window that closed isn't empty")
+    on.keys("ann", "C-a", "n")
+    on.shows("ann", "^0 sh")
+    on.type("ann", "clear\n")
+
+
 def first_session(play):
     """docs/FIRST-SESSION.md: two terminals of 8 lines by 44 columns."""
     on = play.on
@@ -317,6 +372,7 @@ def first_session(play):
     play.picture("ann", "bob")
     play.prompt("ann", "aclchg bob -r 0")
     play.picture("ann", "bob")
+    surprises(on)
     before = on.prompts("bob")
     play.prompt("ann", "quit")
     on.wait("bob", "end of mux-attach", lambda: on.prompts("bob") > before)
@@ -360,7 +416,6 @@ def readme(play):
     # The terminal that started them is gone, and the session isn't.
     text.leave("mux-shell --title lesson sudo -iu lab", "it is played with docs/TEACHING.md")
     text.leave("make demo SCRIPT=classroom", "make examples compares what it prints")
-    text.leave("make lint", "it checks the texts")
 
 
 def audit(play):
@@ -377,67 +432,197 @@ def audit(play):
 
 
 def teaching(play):
-    """docs/TEACHING.md: an audit, and "With a server": two folders, a shell of another login."""
+    """docs/TEACHING.md: a lesson in two terminals, with a shell of another login; then an audit."""
+    for line in ("make demo SCRIPT=class", "make examples"):
+        play.text.leave(line, "make examples compares what it prints")
+    play.text.leave("sudo -iu lab", "it is played below")
+    play.text.leave("mux-share --with ann,bob,eve", "tests/outside/share plays it, with three accounts")
+    with Accounts(play) as accounts:
+        lesson(play, accounts)
+        audit(play)
+
+
+class Accounts:
+    """The accounts of TEACHING, where root plays it, sudo is installed, and none of them is there; else one login for
+    all of them, and stand-ins."""
+
+    NAMES = ("tess", "ann", "bob", "eve", "fay", "lab")
+    MADE = ("/srv/class", "/etc/sudoers.d/mux-lab")
+
+    def __init__(self, play):
+        self.play = play
+        there = [name for name in self.NAMES if name in [it.pw_name for it in pwd.getpwall()]]
+        there += [path for path in self.MADE if os.path.lexists(path)]
+        there += [it.gr_name for it in grp.getgrall() if it.gr_name == "class"]
+        self.real = os.getuid() == 0 and not there and os.path.exists("/usr/bin/sudo")
+
+    def __enter__(self):
+        if self.real:
+            os.remove(os.path.join(self.play.on.folder, "bin", "sudo"))
+            self.play.real = lambda line: line
+            subprocess.run(["groupadd", "class"], check=True)
+            for name in self.NAMES[:-1]:
+                subprocess.run(["useradd", "-m", "-s", "/bin/bash", "-G", "class", name], check=True)
+        print("docs/TEACHING.md: with " + ("accounts of their own" if self.real else "one login for all"))
+        return self
+
+    def __exit__(self, *_):
+        if not self.real:
+            return
+        self.play.on.end()
+        for name in self.NAMES:
+            try:
+                uid = pwd.getpwnam(name).pw_uid
+            except KeyError:
+                continue
+            for process in os.listdir("/proc"):
+                try:
+                    if process.isdigit() and os.stat("/proc/" + process).st_uid == uid:
+                        os.kill(int(process), signal.SIGKILL)
+                except OSError:
+                    pass
+            time.sleep(0.2)
+            subprocess.run(["userdel", "-r", name], stderr=subprocess.DEVNULL, check=False)
+        subprocess.run(["groupdel", "class"], check=False)
+        shutil.rmtree(self.MADE[0], ignore_errors=True)
+        if os.path.exists(self.MADE[1]):
+            os.remove(self.MADE[1])
+
+    def open(self, pane, account):
+        """A terminal of an account; with one login for all its user is named."""
+        self.play.on.open(pane, account=account if self.real else None)
+        if not self.real and pane != "tess":
+            self.play.on.run(pane, "export MUX_USER=" + account)
+
+    def root(self, line, why):
+        """A line of root's."""
+        if self.real:
+            self.play.run("root", line)
+        else:
+            self.play.text.leave("# " + line, why)
+
+
+def lesson(play, accounts):
+    """TEACHING's lesson."""
     on = play.on
     text = play.text
-    audit(play)
-    text.leave("make demo SCRIPT=class", "make examples compares what it prints")
-    text.leave("make examples", "it compares the pictures")
-    text.leave("sudo -iu lab", "it is played below")
-    for line in ("# useradd -m -s /bin/bash lab",
-                 "# echo 'tess ALL = (lab) NOPASSWD: ALL' > /etc/sudoers.d/mux-lab",
-                 "# install -d -m 2750 -o tess -g class /srv/class"):
-        text.leave(line, "it changes the system; a folder and a stand-in for sudo are taken")
-    os.mkdir(os.path.join(on.far, "class"), 0o2750)
-    on.open("tess")
+    on.open("root")
+    for line in ("useradd -m -s /bin/bash lab",
+                 "echo 'tess ALL = (lab) NOPASSWD: ALL' > /etc/sudoers.d/mux-lab",
+                 "install -d -m 2750 -o tess -g class /srv/class"):
+        accounts.root(line, "it changes the system; a folder and a stand-in for sudo are taken")
+    if not accounts.real:
+        os.mkdir(os.path.join(on.far, "class"), 0o2750)
+    accounts.open("tess", "tess")
     play.run("tess", "for name in own tess ann bob eve; do new-token --users ~/class/users $name; done")
-    play.run("tess", "(umask 007; setsid -f muxd --socket /srv/class/socket --users ~/class/users > ~/class/log 2>&1)")
-    play.run("tess", "export MUX_SOCKET=/srv/class/socket")
-    play.run("tess", "muxd-wait")
-    play.run("tess", "setsid -f mux-shell --user own --token ~/class/own.token --title lesson sudo -iu lab")
-    play.run("tess", "own() { mux-command --user own --token ~/class/own.token \"$@\"; }")
-    for line in ("own multiuser on", "own 'aclumask ?-wx ??-x'", "own 'aclchg tess,ann,bob,eve -wx #?'",
-                 "own 'aclumask -wx tess+w'", "own 'aclchg tess,ann,bob,eve +x detach,next,prev,scrollview'",
-                 "own 'aclchg tess +w lesson'"):
-        play.run("tess", line)
-    on.open("ann")
-    on.run("ann", "cd " + on.home)
-    text.take("mux-attach --socket /srv/class/socket --user ann --token FILE")
-    on.type("ann", play.real("mux-attach --socket /srv/class/socket --user ann --token ~/class/ann.token\n"))
-    on.shows("ann", "^0 lesson")
-    on.type("ann", "x")
-    on.shows("ann", "^denied: w on window 0: entry ann -w")
-    for line, seen in (("own displays", "0 ann 0"), ("own 'aclchg ann +w lesson'", ""),
-                       ("own 'wall \"well done, ann\"'", "")):
-        text.take(line)
-        on.run("tess", line, [seen] if seen else [])
-    on.shows("ann", "^own: well done, ann")
-    # The lesson's shell can't read the tokens, though ann may type there.
-    on.type("ann", "echo I am $(id -un); cat %s/class/users\n" % on.home)
-    if os.getuid() == 0:
-        on.shows("ann", "Permission denied")
-        on.shows("ann", "^I am nobody")
-    text.take("own 'aclchg ann -w lesson'")
-    on.run("tess", "own 'aclchg ann -w lesson'")
-    on.type("ann", "x")
-    on.shows("ann", "^denied: w on window 0: entry ann -w")
-    play.attach("tess", "mux-attach --user tess --token ~/class/tess.token", "^0 lesson",
-                taken="mux-attach --user tess --token ~/class/tess.token")
-    on.type("tess", "echo I am tess\n")
-    on.shows("ann", "^I am tess")
+    for line in ("to() { runuser -l $1 -c \"umask 077; mkdir -p ~/.config/mux; cat > ~/.config/mux/$1.token\"; }",
+                 "for name in ann bob eve; do to $name < ~tess/class/$name.token; done"):
+        accounts.root(line, "it needs other logins")
+    # The block is pasted as a whole: it waits where it has to.
+    block = []
+    while text.lines[0][0] != "$ mux-attach --socket /srv/class/socket --token ~/class/tess.token":
+        block.append(play.real(text.lines.pop(0)[0][2:]))
+    if len(block) != 10 or block[-1] != "muxd-wait --window lesson":
+        raise Fault("docs/TEACHING.md: the lesson's block is another one")
     before = on.prompts("tess")
-    on.keys("tess", "C-a", "d")
-    on.wait("tess", "end of mux-attach", lambda: on.prompts("tess") > before)
+    on.type("tess", "\n".join(block) + "\n")
+    on.wait("tess", "end of the block", lambda: on.prompts("tess") >= before + len(block))
+    on.run("tess", "echo status $?", ["status 0"])
+    if any(re.search("(mux|muxd|mux-command|mux-shell|muxd-wait): ", line) for line in on.page("tess")):
+        raise Fault("docs/TEACHING.md: a line of the block is refused")
+    on.run("tess", "clear")
+    accounts.open("lesson", "tess")
+    play.attach("lesson", "mux-attach --socket /srv/class/socket --token ~/class/tess.token", "^0 lesson")
+    on.type("lesson", "echo I am tess\n")
+    on.shows("lesson", "^I am tess")
+    accounts.open("ann", "ann")
+    accounts.open("bob", "bob")
+    if not accounts.real:
+        on.run("ann", "mkdir -p ~/.config/mux; cp -p ~/class/ann.token ~/.config/mux/; clear")
+    line = "mux-attach --socket /srv/class/socket"
+    play.attach("ann", line, "^0 lesson", taken=line)
+    text.take("mux-attach --socket /srv/class/socket --user ann --token FILE")
+    where = "~/.config/mux" if accounts.real else "~/class"
+    on.run("bob", "cp -p %s/bob.token ~/mine; clear" % where)
+    on.type("bob", play.real("mux-attach --socket /srv/class/socket --user bob --token ~/mine\n"))
+    on.shows("bob", "^0 lesson")
+    turns(play, accounts)
+    again(play, block[-2:])
     # A pupil who comes late: the server that runs reads the new token.
-    for line in ("new-token --users ~/class/users fay", "own 'aclchg fay -wx #?'", "own 'aclumask fay-wx'",
-                 "own 'aclchg fay -wx #'", "own 'aclchg fay +x detach,next,prev,scrollview'"):
+    for line in ("new-token --users ~/class/users fay", "mux-command 'aclchg fay -wx #?'",
+                 "mux-command 'aclumask fay-wx'", "mux-command 'aclchg fay -wx #'",
+                 "mux-command 'aclchg fay +x detach,next,prev,scrollview'"):
         play.run("tess", line)
     on.run("tess", "clear; mux-command --user fay --token ~/class/fay.token windows",
            ["denied: x on windows: entry fay -x"])
+    text.take("mux-command acldel bob")
+    before = on.prompts("bob")
+    on.run("tess", "mux-command acldel bob")
+    on.wait("bob", "end of mux-attach", lambda: on.prompts("bob") > before)
     before = on.prompts("ann")
-    text.take("own quit")
-    on.run("tess", "own quit")
+    text.take("mux-command quit")
+    on.run("tess", "mux-command quit")
     on.wait("ann", "end of mux-attach", lambda: on.prompts("ann") > before)
+
+
+def turns(play, accounts):
+    """What a teacher types during the lesson: ann and bob are attached, and tess in the terminal `lesson`."""
+    on = play.on
+    text = play.text
+
+    def denied(pane):
+        on.type(pane, "x")
+        on.shows(pane, "^denied: w on window 0: entry %s -w" % pane)
+
+    denied("ann")
+    text.take("mux-command displays")
+    on.run("tess", "mux-command displays", ["0 tess 0  1 ann 0  2 bob 0"])
+    for line, told in (("mux-turn --keep tess --window lesson ann", "ann may type"),
+                       ("mux-command wall 'well done, ann'", "well done, ann")):
+        text.take(line)
+        on.run("tess", line)
+        on.shows("ann", "^own: " + told)
+    # The lesson's shell can't read the tokens, though ann may type there; and tess may type beside her.
+    who, home = ("lab", "~tess") if accounts.real else ("nobody", on.home)
+    on.type("ann", "echo I am $(id -un); cat %s/class/users\n" % home)
+    if os.getuid() == 0:
+        on.shows("ann", "Permission denied")
+        on.shows("ann", "^I am " + who)
+    on.type("lesson", "echo tess types\n")
+    on.shows("ann", "^tess types")
+    denied("bob")
+    text.take("mux-turn --keep tess --for 5m --window lesson bob")
+    before = on.prompts("tess")
+    on.type("tess", "mux-turn --keep tess --for 5m --window lesson bob\n")
+    on.shows("bob", "^own: bob may type for 5m")
+    on.type("bob", "echo bob types\n")
+    on.shows("ann", "^bob types")
+    denied("ann")
+    on.keys("tess", "C-c")
+    on.wait("tess", "end of mux-turn", lambda: on.prompts("tess") > before)
+    denied("bob")
+    text.take("mux-turn --keep tess none")
+    on.run("tess", "mux-turn --keep tess none; clear")
+    denied("ann")
+    on.type("lesson", "echo still tess\n")
+    on.shows("ann", "^still tess")
+
+
+def again(play, opened):
+    """The shell ends, and the block's last two lines open it again: pages stay empty until the next window is shown."""
+    on = play.on
+    on.type("lesson", "exit\n")
+    on.shows("ann", "^--")
+    for line in opened:
+        on.run("tess", line)
+    on.shows("ann", "^--")
+    for pane in ("ann", "lesson"):
+        on.keys(pane, "C-a", "n")
+        on.shows(pane, "^0 lesson")
+    on.type("ann", "x")
+    on.shows("ann", "^denied: w on window 0: entry ann -w")
+    on.type("lesson", "echo hers again\n")
+    on.shows("ann", "^hers again")
 
 
 def policies(play):
@@ -451,8 +636,9 @@ def policies(play):
     on.open("own")
     on.run("own", "for name in own sue pia ben kay fay ann bob jo lee kim; do"
            " new-token --users ~/session/users $name; done")
-    on.run("own", "export MUX_SOCKET=~/session/socket MUX_USER=own MUX_TOKEN=~/session/own.token")
-    play.run("own", 'own() { mux-command --user own --token ~/session/own.token "$@"; }')
+    for line in ("export MUX_SOCKET=~/session/socket", "export MUX_TOKEN=~/session/own.token",
+                 'own() { mux-command --user own "$@"; }'):
+        play.run("own", line)
     on.run("own", "as() { name=$1; shift; mux-command --user $name --token ~/session/$name.token \"$@\"; }")
 
     def opened(user, title):
