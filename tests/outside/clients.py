@@ -493,8 +493,42 @@ def terms():
             check(f"mux-shell {' '.join(words)}, called through a link", got == f"{said} ", got)
 
 
+def detached_windows():
+    """mux-shell --detach ends within its time, whatever the server does, and leaves nothing behind."""
+    with tempfile.TemporaryDirectory() as room:
+        environment = {**os.environ, "MUX": strain.WORDS.mux, "TMPDIR": room}
+
+        def begun(path, token, seconds):
+            words = ["--socket", path, "--user", "own", "--token", token, "--title", "late", "--detach"]
+            start = time.monotonic()
+            words += ["--wait", str(seconds), "sh", "-c", f": >{room}/ran; exec cat"]
+            it = subprocess.run([script("mux-shell"), *words], capture_output=True, env=environment, timeout=30)
+            return it.returncode, it.stdout, it.stderr, time.monotonic() - start
+
+        with Fake() as fake:
+            status, out, said, took = begun(fake.path, fake.token, 1)
+            check("a server that lets no window in", (status, out) == (1, b"") and took < 5,
+                  f"{status} {out} {took:.1f} s")
+            wanted = f"mux-shell: no window: no answer from {fake.path} within 1 s (--wait)\n"
+            check("and it says so", said == wanted.encode(), str(said))
+        with Server() as server:
+            token = token_of(server)
+            stop(server)
+            status, out, said, took = begun(server.path, token, 1)
+            check("a server that is stopped", (status, out) == (1, b"") and took < 5 and b"within 1 s" in said,
+                  f"{status} {out} {said} {took:.1f} s")
+            server.program.send_signal(signal.SIGCONT)
+            time.sleep(1)
+            check("the window isn't there", b"late" not in server.give(b"windows"))
+            check("the command wasn't run", not os.path.exists(f"{room}/ran"))
+            check("no folder is left", os.listdir(room) == [], str(os.listdir(room)))
+            status, out, said, took = begun(server.path, token, 10)
+            check("a server that serves", (status, out, said) == (0, b"window 0\n", b""), f"{status} {out} {said}")
+            check("the window is there", b"late" in server.give(b"windows"))
+
+
 PARTS = (exact_input, hanging_servers, no_right_to_detach, stopped_server, nothing_cleared, suspended, killed_script,
-         nested, commands, waits, terms)
+         nested, commands, waits, terms, detached_windows)
 
 
 def main():

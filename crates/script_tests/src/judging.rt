@@ -79,7 +79,7 @@ pub fn is_so(alloc: Global, words: &[&str], text: &str) -> bool {
     if !put_events(text, &mut script) {
         return false;
     }
-    let Ok(played) = play(alloc, words, b"", script.as_bytes()) else {
+    let Ok(played) = play(alloc, words, script.as_bytes()) else {
         return false;
     };
     match str::from_utf8(&played.output) {

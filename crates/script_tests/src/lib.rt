@@ -1,9 +1,7 @@
 //! Tests that cross crates, by scripts: one owner, several users, what each client sees, how pages
-//! are split, draws, memory that is refused, and what isn't understood.
+//! are split, draws, and memory that is refused.
 #![tactic(auto)]
 
-#[cfg(test)]
-mod bad_input;
 #[cfg(test)]
 mod draws;
 #[cfg(test)]

@@ -12,7 +12,7 @@ pub struct Played {
 }
 
 /// The program's name, and these words behind it.
-pub fn arguments(alloc: Global, words: &[&str]) -> Result<Vec<String>, AllocError> {
+fn arguments(alloc: Global, words: &[&str]) -> Result<Vec<String>, AllocError> {
     let mut owned = Vec::new(alloc);
     owned.push(String::from_str(alloc, "muxsim")?)?;
     for word in words {
@@ -21,19 +21,14 @@ pub fn arguments(alloc: Global, words: &[&str]) -> Result<Vec<String>, AllocErro
     Ok(owned)
 }
 
-/// Plays a script behind a setup, with these words behind the program's name.
-pub fn play(
-    alloc: Global,
-    words: &[&str],
-    setup: &[u8],
-    script: &[u8],
-) -> Result<Played, AllocError> {
+/// Plays a script with these words behind the program's name.
+pub fn play(alloc: Global, words: &[&str], script: &[u8]) -> Result<Played, AllocError> {
     let words = arguments(alloc, words)?;
     let mut output = Vec::new(alloc);
     let mut errors = Vec::new(alloc);
     let asked = Asked {
         words: &words,
-        setup,
+        setup: b"",
     };
     let status = simulate_behind(alloc, asked, script, &mut output, &mut errors);
     Ok(Played {

@@ -1,7 +1,5 @@
 //! Scripts, setups and words that aren't understood, and readers and writers that fail.
 
-use crate::judging::is_wanted;
-use crate::playing::{arguments, play};
 use session::{Asked, simulate_behind};
 use std::alloc::{AllocError, Global};
 use std::io::{Read, Write};
@@ -18,19 +16,39 @@ struct Run<'a> {
     errors: &'a str,
 }
 
-fn text_of(bytes: &[u8]) -> &str {
-    str::from_utf8(bytes).unwrap_or("not UTF-8")
+/// The program's name, and these words behind it.
+fn arguments(alloc: Global, words: &[&str]) -> Result<Vec<String>, AllocError> {
+    let mut owned = Vec::new(alloc);
+    owned.push(String::from_str(alloc, "muxsim")?)?;
+    for word in words {
+        owned.push(String::from_str(alloc, word)?)?;
+    }
+    Ok(owned)
+}
+
+/// Whether a text is the one that is wanted: behind `..` anything may follow, but not nothing.
+fn is_wanted(want: &str, bytes: &[u8]) -> bool {
+    let Ok(text) = str::from_utf8(bytes) else {
+        return false;
+    };
+    match want.strip_suffix("..") {
+        Some(begin) => text.starts_with(begin) && text.len() > begin.len(),
+        None => text == want,
+    }
 }
 
 fn is_so(alloc: Global, run: &Run<'_>) -> bool {
-    match play(alloc, run.words, run.setup, run.script) {
-        Ok(played) => {
-            played.status == run.status
-                && is_wanted(run.output, text_of(&played.output))
-                && is_wanted(run.errors, text_of(&played.errors))
-        }
-        Err(_) => false,
-    }
+    let Ok(words) = arguments(alloc, run.words) else {
+        return false;
+    };
+    let asked = Asked {
+        words: &words,
+        setup: run.setup,
+    };
+    let mut output = Vec::new(alloc);
+    let mut errors = Vec::new(alloc);
+    let status = simulate_behind(alloc, asked, run.script, &mut output, &mut errors);
+    status == run.status && is_wanted(run.output, &output) && is_wanted(run.errors, &errors)
 }
 
 /// Words that aren't understood.
