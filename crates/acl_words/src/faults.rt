@@ -1,21 +1,12 @@
-use thiserror::Error;
-
 /// Why a list command is refused.
-#[derive(Clone, Copy, PartialEq, Eq, Debug, Error)]
+#[derive(Clone, Copy, PartialEq, Eq, Debug)]
 pub enum AclFault {
-    #[error("the user isn't known")]
     UnknownUser,
-    #[error("the owner's rights are kept")]
     OwnerKept,
-    #[error("too many users are known")]
     TooManyUsers,
-    #[error("the word is no name")]
     ReservedName,
-    #[error("there is no such group")]
     NoSuchGroup,
-    #[error("out of memory")]
     NoMemory,
-    #[error("the user is in eight groups")]
     TooManyGroups,
 }
 

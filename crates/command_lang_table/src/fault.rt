@@ -1,31 +1,19 @@
-use thiserror::Error;
-
 /// Why a line is no command.
-#[derive(Clone, Copy, PartialEq, Eq, Debug, Error)]
+#[derive(Clone, Copy, PartialEq, Eq, Debug)]
 pub enum FaultKind {
-    #[error("there is no such command")]
     UnknownCommand,
-    #[error("a word is missing")]
     MissingWord,
-    #[error("a word is too many")]
     ExtraWord,
-    #[error("the word is no number, or out of range")]
     BadNumber,
-    #[error("the word has no bits")]
     BadBits,
-    #[error("the word is quoted badly")]
     BadQuote,
-    #[error("the line is too long")]
     TooLong,
-    #[error("out of memory")]
     NoMemory,
-    #[error("the word is none of those allowed")]
     BadWord,
 }
 
 /// Why a line is no command, and at which of its bytes.
-#[derive(Clone, Copy, PartialEq, Eq, Debug, Error)]
-#[error("{kind}, at {place}")]
+#[derive(Clone, Copy, PartialEq, Eq, Debug)]
 pub struct ParseFault {
     pub kind: FaultKind,
     pub place: usize,

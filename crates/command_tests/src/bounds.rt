@@ -1,23 +1,11 @@
-//! The longest line, and the texts of faults.
+//! How many acts of list commands a step files.
 
 use crate::stage::{Name, Stage, Want, user};
-use AclFault::{
-    NoMemory, NoSuchGroup, OwnerKept, ReservedName, TooManyGroups, TooManyUsers, UnknownUser,
-};
+use AclFault::NoMemory;
 use acl::{AclFault, Bit, BitChange, Edition, Object, RightsChange};
 use std::alloc::Global;
 
 const WINDOW: Object = Object::Window(0);
-
-static TEXTS: [(AclFault, &str); 7] = [
-    (UnknownUser, "the user isn't known"),
-    (OwnerKept, "the owner's rights are kept"),
-    (TooManyUsers, "too many users are known"),
-    (ReservedName, "the word is no name"),
-    (NoSuchGroup, "there is no such group"),
-    (NoMemory, "out of memory"),
-    (TooManyGroups, "the user is in eight groups"),
-];
 
 /// Sets bob's r of window 0 so often, by a line of 1,024 changes for each of its objects, once more
 /// where memory is refused.
@@ -65,25 +53,4 @@ fn is_bounded(alloc: Global) -> bool {
 #[test]
 fn steps_file_65536_acts_at_most_though_refused_once(rt: HostRuntime) {
     assert!(rt; is_bounded(rt.alloc()));
-}
-
-fn is_shown(alloc: Global, fault: AclFault, text: &str) -> bool {
-    match fault.to_string(alloc) {
-        Ok(shown) => shown.as_str() == text,
-        Err(_) => false,
-    }
-}
-
-fn are_shown(alloc: Global) -> bool {
-    for (fault, text) in &TEXTS {
-        if !is_shown(alloc, *fault, text) {
-            return false;
-        }
-    }
-    true
-}
-
-#[test]
-fn texts(rt: HostRuntime) {
-    assert!(rt; are_shown(rt.alloc()));
 }

@@ -1,4 +1,4 @@
-//! Layouts of regions: worked ones, and texts of faults.
+//! Worked layouts of regions.
 
 use regions::{Layout, Rect, Rects, RegionFault, Shown, Way};
 use std::alloc::Global;
@@ -262,26 +262,4 @@ fn first_wrong(alloc: Global) -> Option<usize> {
 #[test]
 fn layouts_give_their_rows_though_refused_once(rt: HostRuntime) {
     assert_eq!(rt; first_wrong(rt.alloc()), None);
-}
-
-static TEXTS: [(RegionFault, &str); 4] = [
-    (RegionFault::TooSmall, "a region would be too small"),
-    (RegionFault::TooMany, "there are 16 regions"),
-    (RegionFault::LastRegion, "the last region stays"),
-    (RegionFault::NoMemory, "out of memory"),
-];
-
-fn are_shown(alloc: Global) -> bool {
-    for (fault, text) in &TEXTS {
-        match fault.to_string(alloc) {
-            Ok(shown) if shown.as_str() == *text => {}
-            _ => return false,
-        }
-    }
-    true
-}
-
-#[test]
-fn texts_of_faults(rt: HostRuntime) {
-    assert!(rt; are_shown(rt.alloc()));
 }

@@ -5,18 +5,13 @@ ghost use Rattle.regions.specs.Faults.{number};
 ghost use Rattle.regions.specs.declared.fault.RegionFault.TheVariants.{NoMemory};
 
 use std::alloc::{AllocError, AllocFailed};
-use thiserror::Error;
 
 /// Why a call on a layout is refused.
-#[derive(Clone, Copy, Debug, PartialEq, Eq, Error)]
+#[derive(Clone, Copy, Debug, PartialEq, Eq)]
 pub enum RegionFault {
-    #[error("a region would be too small")]
     TooSmall,
-    #[error("there are 16 regions")]
     TooMany,
-    #[error("the last region stays")]
     LastRegion,
-    #[error("out of memory")]
     NoMemory,
 }
 
