@@ -43,7 +43,7 @@ use Rattle.session_guests.proofs.Steps.{with_clients}
 use Rattle.session_guests.proofs.Events.{all_left}
 use Rattle.session_guests.proofs.Staying.{Own, IsOf, unique, all_mapped, own_read}
 use Rattle.session_confined.specs.Keeping.{FreesBy}
-use Rattle.session_confined.proofs.Leaving.{Leaves, left_where, parted, turned, shut}
+use Rattle.session_guests.proofs.Leaving.{Leaves, left_where, parted, turned, shut}
 use Rattle.session_confined.proofs.Calming.{moves, IsCalm, KeepsWindow}
 use Rattle.session_confined.proofs.Sparing.{split_all, both_all, Alone, alone, takes_rights, mask_all, Silent}
 use Rattle.session_confined.proofs.Sparing.{listing_silent, any_window, not_true, Others, Elsewhere, others_part}

@@ -28,7 +28,7 @@ use Rattle.session_guests.specs.Contained.{stood}
 use Rattle.session_guests.specs.Locking.{user_of, client_user}
 use Rattle.session_guests.proofs.Events.{gives_commands, all_left, changed_by}
 use Rattle.session_guests.proofs.Staying.{Own, unique}
-use Rattle.session_confined.proofs.Leaving.{left_where, nobody, parted, turned, appended, shut}
+use Rattle.session_guests.proofs.Leaving.{left_where, nobody, parted, turned, appended, shut}
 use Rattle.session_confined.proofs.Calming.{moves, IsCalm}
 use Rattle.session_confined.proofs.Sparing.{both_all, Alone, alone, Silent, Others, Elsewhere, others_part, calm_left}
 use Rattle.session_confined.proofs.Sparing.{others_left, elsewhere_left}

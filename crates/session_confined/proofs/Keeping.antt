@@ -37,7 +37,7 @@ use Rattle.session_guests.proofs.Holding.{kept as kept_tables, by_acts, givers}
 use Rattle.session_guests.proofs.Parting.{did_x}
 use Rattle.session_guests.proofs.Staying.{IsOf, callers}
 use Rattle.session_confined.specs.Keeping.{LosesIn, FreesBy, Frees, IsFreed, LocksStayIn}
-use Rattle.session_confined.proofs.Leaving.{left_read}
+use Rattle.session_guests.proofs.Leaving.{left_read}
 use Rattle.session_confined.proofs.Calming.{moves, IsCalm, KeepsWindow, stays_calm, able_calm, loses_or_keeps}
 use Rattle.session_confined.proofs.Sparing.{takes_rights, Silent, silent_all, Mine}
 use Rattle.session_confined.proofs.Commanding.{Affects, calms, lists, frees_it, does_comes}

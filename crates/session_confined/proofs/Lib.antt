@@ -1,6 +1,5 @@
 pub mod Comings
 pub mod Confining
-pub mod Leaving
 pub mod Calming
 pub mod Sparing
 pub mod Commanding

@@ -35,7 +35,7 @@ use Rattle.session_laws.proofs.Lists.{contradicts, equal, all_weaken, all_append
 use Rattle.session_guests.proofs.Listing.{is_listing}
 use Rattle.session_guests.proofs.Harmless.{NoneOf}
 use Rattle.session_guests.proofs.Staying.{Own, above, all_reverse, all_mapped}
-use Rattle.session_confined.proofs.Leaving.{LeftBy}
+use Rattle.session_guests.proofs.Leaving.{LeftBy}
 use Rattle.session_confined.proofs.Calming.{IsCalm}
 
 -- ---- lists

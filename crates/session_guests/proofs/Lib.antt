@@ -15,3 +15,4 @@ pub mod Staying
 pub mod Labels
 pub mod Named
 pub mod Pages
+pub mod Leaving
