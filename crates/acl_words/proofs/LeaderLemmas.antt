@@ -4,7 +4,8 @@ use Rattle.std.proofs.lemmas.List.{drop-set-lt, drop-replicate, length-set, drop
 use Rattle.acl_words.specs.Leaders.{AreFront, blank}
 use Rattle.acl_words.specs.declared.user_id.UserId.{UserId}
 
-pub front_pushed : (count : ℕ) (x : UserId) (names : List UserId) → AreFront count names → count < 8 → AreFront (count + 1) (set names count x)
+pub front_pushed : (count : ℕ) (x : UserId) (names : List UserId) → AreFront count names → count < 8
+    → AreFront (count + 1) (set names count x)
 front_pushed count x names h k = (
   omega arith,
   length-set names count x ∙ h.1,

@@ -12,7 +12,8 @@ use Rattle.terminal_model.specs.Drawing.{IsDiscreet, IsSpare, IsListed}
 use Rattle.terminal_model.proofs.Spellings.{spelled-acts}
 use Rattle.terminal_model.proofs.Further.{spelled-one}
 use Rattle.redraw.specs.declared.command.Command.{Command}
-use Rattle.redraw.specs.declared.command.Command.TheVariants.{Glyph, MoveTo, NextLine, Forward, Render, EraseCells, EraseToEnd, Arrows, ShowCursor, Keypad}
+use Rattle.redraw.specs.declared.command.Command.TheVariants.{Glyph, MoveTo, NextLine, Forward, Render, EraseCells}
+use Rattle.redraw.specs.declared.command.Command.TheVariants.{EraseToEnd, Arrows, ShowCursor, Keypad}
 use Rattle.redraw.specs.Commands.{func_of, IsCommand}
 use Rattle.redraw.specs.Renditions.{rendition_params}
 use Rattle.redraw.specs.Drawing.{Leads}
@@ -43,8 +44,10 @@ small n h = lt-ltb n 10000 h
 given : (c : Command) → IsCommand c → IsGiven (func_of c)
 given (Glyph c) h = h
 given (MoveTo line column) h = ⊎_elim
-    (λ (e : eqb column 0 ≡ true). rw (e, small (line + 1) (omega arith)) (tt, omega arith, omega arith, refl, refl, omega arith, omega arith))
-    (λ (e : eqb column 0 ≡ false). rw (e, small (line + 1) (omega arith), small (column + 1) (omega arith)) (tt, omega arith, omega arith, refl, refl, omega arith, omega arith))
+    (λ (e : eqb column 0 ≡ true). rw (e, small (line + 1) (omega arith))
+    (tt, omega arith, omega arith, refl, refl, omega arith, omega arith))
+    (λ (e : eqb column 0 ≡ false). rw (e, small (line + 1) (omega arith), small (column + 1) (omega arith))
+    (tt, omega arith, omega arith, refl, refl, omega arith, omega arith))
     (cases_Bool (eqb column 0))
 given NextLine h = (refl, omega arith, omega arith, refl)
 given (Forward n) h = (tt, omega arith, omega arith, rw (small n (omega arith)) refl, refl, omega arith, omega arith)
@@ -82,7 +85,8 @@ unfolding plain_sequence private_sequence
 listed rows (Glyph c) h = absurd h
 listed rows (MoveTo line column) h = record {
   acts = omega arith;
-  named = ⊎_elim (λ (e : eqb column 0 ≡ true). rw e refl) (λ (e : eqb column 0 ≡ false). rw e refl) (cases_Bool (eqb column 0));
+  named = ⊎_elim (λ (e : eqb column 0 ≡ true). rw e refl) (λ (e : eqb column 0 ≡ false). rw e refl)
+      (cases_Bool (eqb column 0));
   in_order = refl;
 }
 listed rows NextLine h = record { acts = omega arith; named = refl; in_order = refl }
@@ -97,7 +101,8 @@ listed rows (ShowCursor false) h = record { acts = omega arith; named = refl; in
 listed rows (Keypad true) h = record { acts = omega arith; named = refl; in_order = refl }
 listed rows (Keypad false) h = record { acts = omega arith; named = refl; in_order = refl }
 
-discreet_one : (page : Page) (x : Screen) (c : Command) → PrintsNone c → IsDiscreet page (record { before = x; func = func_of c })
+discreet_one : (page : Page) (x : Screen) (c : Command) → PrintsNone c
+    → IsDiscreet page (record { before = x; func = func_of c })
 discreet_one page x (Glyph c) h = absurd h
 discreet_one page x (MoveTo line column) h = listed x.state.rows (MoveTo line column) h
 discreet_one page x NextLine h = listed x.state.rows NextLine h
@@ -109,7 +114,8 @@ discreet_one page x (Arrows on) h = listed x.state.rows (Arrows on) h
 discreet_one page x (ShowCursor on) h = listed x.state.rows (ShowCursor on) h
 discreet_one page x (Keypad on) h = listed x.state.rows (Keypad on) h
 
-spare_one : (old page : Page) (x : Screen) (c : Command) → PrintsNone c → IsSpare old page (record { before = x; func = func_of c })
+spare_one : (old page : Page) (x : Screen) (c : Command) → PrintsNone c
+    → IsSpare old page (record { before = x; func = func_of c })
 spare_one old page x (Glyph c) h = absurd h
 spare_one old page x (MoveTo line column) h = tt
 spare_one old page x NextLine h = tt
@@ -122,15 +128,21 @@ spare_one old page x (ShowCursor on) h = tt
 spare_one old page x (Keypad on) h = tt
 
 -- a command leads to its effect
-pub one_leads : (old new : Page) (x : Screen) (c : Command) → x.state.coding ≡ Utf8 → IsCommand c → IsDiscreet new (record { before = x; func = func_of c }) → IsSpare old new (record { before = x; func = func_of c })
+pub one_leads : (old new : Page) (x : Screen) (c : Command) → x.state.coding ≡ Utf8 → IsCommand c
+    → IsDiscreet new (record { before = x; func = func_of c })
+    → IsSpare old new (record { before = x; func = func_of c })
     → Leads old new x (spelling (func_of c)) (effect x (func_of c))
 one_leads old new x c utf8 is discreet spare = record {
   acts = record { before = x; func = func_of c } ∷ [];
   reading = spelled-acts x (func_of c) (given c is) (utf8 ∙ sym (utf8_read c))
-      ∙ ap (λ r. record { terminal = ready (effect x (func_of c)); reports = r; acts = record { before = x; func = func_of c } ∷ [] }) (no_report x c);
+      ∙ ap (λ r. record
+      { terminal = ready (effect x (func_of c)); reports = r; acts = record { before = x; func = func_of c } ∷ [] })
+      (no_report x c);
   draws = record { discreet = (discreet, tt); spare = (spare, tt) };
   spelled = spelled-one x (func_of c);
 }
 
-pub silent_leads : (old new : Page) (x : Screen) (c : Command) → x.state.coding ≡ Utf8 → IsCommand c → PrintsNone c → Leads old new x (spelling (func_of c)) (effect x (func_of c))
-silent_leads old new x c utf8 is none = one_leads old new x c utf8 is (discreet_one new x c none) (spare_one old new x c none)
+pub silent_leads : (old new : Page) (x : Screen) (c : Command) → x.state.coding ≡ Utf8 → IsCommand c → PrintsNone c
+    → Leads old new x (spelling (func_of c)) (effect x (func_of c))
+silent_leads old new x c utf8 is none = one_leads old new x c utf8 is (discreet_one new x c none)
+    (spare_one old new x c none)

@@ -1,5 +1,6 @@
 -- SGR from any rendition, and from one that is known.
-use Rattle.std.proofs.Common.{◌≡◌, ℕ, ◌+◌, ◌<◌, ◌≤◌, ◌==◌, eqb, Bool, true, false, List, [], ◌∷◌, ◌++◌, length, Option, Some, None, refl, sym, ap, ◌∙◌, arith, append_assoc}
+use Rattle.std.proofs.Common.{◌≡◌, ℕ, ◌+◌, ◌<◌, ◌≤◌, ◌==◌, eqb, Bool, true, false, List, [], ◌∷◌, ◌++◌, length, Option}
+use Rattle.std.proofs.Common.{Some, None, refl, sym, ap, ◌∙◌, arith, append_assoc}
 use Rattle.std.specs.Prelude.{if◌then◌else◌, nat_lt, option_to_list}
 use Rattle.std.specs.List.{AllByRecursion, list_all}
 use Rattle.std.proofs.lemmas.List.{length-append}
@@ -10,7 +11,8 @@ use Rattle.cells.specs.declared.cell.Rendition.{Rendition}
 use Rattle.control_parser.specs.declared.func.Func.TheVariants.{Csi}
 use Rattle.terminal_model.specs.declared.action.Action.TheVariants.{Render}
 use Rattle.terminal_model.specs.declared.action.Attribute.{Attribute}
-use Rattle.terminal_model.specs.declared.action.Attribute.TheVariants.{Plain, Bold, Underlined, Blinking, Reversed, Foreground, Background}
+use Rattle.terminal_model.specs.declared.action.Attribute.TheVariants.{Plain, Bold, Underlined, Blinking, Reversed}
+use Rattle.terminal_model.specs.declared.action.Attribute.TheVariants.{Foreground, Background}
 use Rattle.terminal_model.specs.Screen.{Screen, with_state}
 use Rattle.terminal_model.specs.Functions.{plain_sequence, each, rendered, colour_digit}
 use Rattle.terminal_model.specs.Motion.{unjoined}
@@ -20,7 +22,8 @@ use Rattle.terminal_model.specs.Places.{value_if, value_of_colour, rendition_val
 use Rattle.terminal_model.proofs.Frames.{all_acted-append, each-append}
 use Rattle.terminal_model.proofs.Renditions.{is_named, named-listed, rendition-is}
 use Rattle.redraw.specs.Drawing.{Knows}
-use Rattle.redraw.specs.Renditions.{whole_params, switched, recoloured, change_params, all_bytes, shorter, rendition_params}
+use Rattle.redraw.specs.Renditions.{whole_params, switched, recoloured, change_params, all_bytes, shorter}
+use Rattle.redraw.specs.Renditions.{rendition_params}
 
 -- THE VALUES
 
@@ -81,7 +84,10 @@ whole-values r =
     let v : List ℕ = value_if r.is_reversed 7 in
     let f : List ℕ = value_of_colour 30 r.fore in
     let g : List ℕ = value_of_colour 40 r.back in
-    values-append (((((0 ∷ [] ++ b) ++ u) ++ k) ++ v) ++ f) g (values-append ((((0 ∷ [] ++ b) ++ u) ++ k) ++ v) f (values-append (((0 ∷ [] ++ b) ++ u) ++ k) v (values-append ((0 ∷ [] ++ b) ++ u) k (values-append (0 ∷ [] ++ b) u (values-append (0 ∷ []) b
+    values-append (((((0 ∷ [] ++ b) ++ u) ++ k) ++ v) ++ f) g
+    (values-append ((((0 ∷ [] ++ b) ++ u) ++ k) ++ v) f
+    (values-append (((0 ∷ [] ++ b) ++ u) ++ k) v
+    (values-append ((0 ∷ [] ++ b) ++ u) k (values-append (0 ∷ [] ++ b) u (values-append (0 ∷ []) b
     ((record { attribute = Plain; names = refl; small = refl }), tt)
     (values-if r.is_bold 1 (record { attribute = Bold true; names = refl; small = refl })))
     (values-if r.is_underlined 4 (record { attribute = Underlined true; names = refl; small = refl })))
@@ -98,11 +104,18 @@ change-values o r =
     let v : List ℕ = switched o.is_reversed r.is_reversed 7 27 in
     let f : List ℕ = recoloured o.fore r.fore 30 in
     let g : List ℕ = recoloured o.back r.back 40 in
-    values-append ((((b ++ u) ++ k) ++ v) ++ f) g (values-append (((b ++ u) ++ k) ++ v) f (values-append ((b ++ u) ++ k) v (values-append (b ++ u) k (values-append b u
-    (values-switched o.is_bold r.is_bold 1 22 (record { attribute = Bold true; names = refl; small = refl }) (record { attribute = Bold false; names = refl; small = refl }))
-    (values-switched o.is_underlined r.is_underlined 4 24 (record { attribute = Underlined true; names = refl; small = refl }) (record { attribute = Underlined false; names = refl; small = refl })))
-    (values-switched o.is_blinking r.is_blinking 5 25 (record { attribute = Blinking true; names = refl; small = refl }) (record { attribute = Blinking false; names = refl; small = refl })))
-    (values-switched o.is_reversed r.is_reversed 7 27 (record { attribute = Reversed true; names = refl; small = refl }) (record { attribute = Reversed false; names = refl; small = refl })))
+    values-append ((((b ++ u) ++ k) ++ v) ++ f) g
+    (values-append (((b ++ u) ++ k) ++ v) f
+    (values-append ((b ++ u) ++ k) v (values-append (b ++ u) k (values-append b u
+    (values-switched o.is_bold r.is_bold 1 22 (record { attribute = Bold true; names = refl; small = refl })
+    (record { attribute = Bold false; names = refl; small = refl }))
+    (values-switched o.is_underlined r.is_underlined 4 24
+    (record { attribute = Underlined true; names = refl; small = refl })
+    (record { attribute = Underlined false; names = refl; small = refl })))
+    (values-switched o.is_blinking r.is_blinking 5 25 (record { attribute = Blinking true; names = refl; small = refl })
+    (record { attribute = Blinking false; names = refl; small = refl })))
+    (values-switched o.is_reversed r.is_reversed 7 27 (record { attribute = Reversed true; names = refl; small = refl })
+    (record { attribute = Reversed false; names = refl; small = refl })))
     (values-unless (eqb (colour_digit o.fore) (colour_digit r.fore)) (30 + colour_digit r.fore) (fore-value r.fore)))
     (values-unless (eqb (colour_digit o.back) (colour_digit r.back)) (40 + colour_digit r.back) (back-value r.back))
 
@@ -121,7 +134,8 @@ switched-few true false on off = omega arith
 switched-few false true on off = omega arith
 switched-few false false on off = omega arith
 
-one-more : (a b : List ℕ) (least most : ℕ) → (least ≤ length a) × (length a ≤ most) → length b ≤ 1 → (least ≤ length (a ++ b)) × (length (a ++ b) ≤ most + 1)
+one-more : (a b : List ℕ) (least most : ℕ) → (least ≤ length a) × (length a ≤ most) → length b ≤ 1
+    → (least ≤ length (a ++ b)) × (length (a ++ b) ≤ most + 1)
 one-more a b least most h k = (omega (arith, length-append a b, h.0), omega (arith, length-append a b, h.1))
 
 whole-few : (r : Rendition) → (1 ≤ length (whole_params r)) × (length (whole_params r) ≤ 7)
@@ -132,9 +146,14 @@ whole-few r =
     let v : List ℕ = value_if r.is_reversed 7 in
     let f : List ℕ = value_of_colour 30 r.fore in
     let g : List ℕ = value_of_colour 40 r.back in
-    one-more (((((0 ∷ [] ++ b) ++ u) ++ k) ++ v) ++ f) g 1 6 (one-more ((((0 ∷ [] ++ b) ++ u) ++ k) ++ v) f 1 5 (one-more (((0 ∷ [] ++ b) ++ u) ++ k) v 1 4 (one-more ((0 ∷ [] ++ b) ++ u) k 1 3 (one-more (0 ∷ [] ++ b) u 1 2 (one-more (0 ∷ []) b 1 1 (omega arith, omega arith)
+    one-more (((((0 ∷ [] ++ b) ++ u) ++ k) ++ v) ++ f) g 1 6
+    (one-more ((((0 ∷ [] ++ b) ++ u) ++ k) ++ v) f 1 5
+    (one-more (((0 ∷ [] ++ b) ++ u) ++ k) v 1 4
+    (one-more ((0 ∷ [] ++ b) ++ u) k 1 3
+    (one-more (0 ∷ [] ++ b) u 1 2 (one-more (0 ∷ []) b 1 1 (omega arith, omega arith)
     (if-few r.is_bold 1)) (if-few r.is_underlined 4)) (if-few r.is_blinking 5)) (if-few r.is_reversed 7))
-    (unless-few (eqb (colour_digit r.fore) 9) (30 + colour_digit r.fore))) (unless-few (eqb (colour_digit r.back) 9) (40 + colour_digit r.back))
+    (unless-few (eqb (colour_digit r.fore) 9) (30 + colour_digit r.fore)))
+    (unless-few (eqb (colour_digit r.back) 9) (40 + colour_digit r.back))
 
 change-few : (o r : Rendition) → (0 ≤ length (change_params o r)) × (length (change_params o r) ≤ 6)
 change-few o r =
@@ -144,9 +163,14 @@ change-few o r =
     let v : List ℕ = switched o.is_reversed r.is_reversed 7 27 in
     let f : List ℕ = recoloured o.fore r.fore 30 in
     let g : List ℕ = recoloured o.back r.back 40 in
-    one-more ((((b ++ u) ++ k) ++ v) ++ f) g 0 5 (one-more (((b ++ u) ++ k) ++ v) f 0 4 (one-more ((b ++ u) ++ k) v 0 3 (one-more (b ++ u) k 0 2 (one-more b u 0 1 (omega arith, switched-few o.is_bold r.is_bold 1 22)
-    (switched-few o.is_underlined r.is_underlined 4 24)) (switched-few o.is_blinking r.is_blinking 5 25)) (switched-few o.is_reversed r.is_reversed 7 27))
-    (unless-few (eqb (colour_digit o.fore) (colour_digit r.fore)) (30 + colour_digit r.fore))) (unless-few (eqb (colour_digit o.back) (colour_digit r.back)) (40 + colour_digit r.back))
+    one-more ((((b ++ u) ++ k) ++ v) ++ f) g 0 5
+    (one-more (((b ++ u) ++ k) ++ v) f 0 4
+    (one-more ((b ++ u) ++ k) v 0 3
+    (one-more (b ++ u) k 0 2 (one-more b u 0 1 (omega arith, switched-few o.is_bold r.is_bold 1 22)
+    (switched-few o.is_underlined r.is_underlined 4 24)) (switched-few o.is_blinking r.is_blinking 5 25))
+    (switched-few o.is_reversed r.is_reversed 7 27))
+    (unless-few (eqb (colour_digit o.fore) (colour_digit r.fore)) (30 + colour_digit r.fore)))
+    (unless-few (eqb (colour_digit o.back) (colour_digit r.back)) (40 + colour_digit r.back))
 
 -- what holds of both lists holds of the shorter one
 either : (P : List ℕ → Type 0) (a b : List ℕ) → (0 < length a → P a) → P b → P (shorter a b)
@@ -164,7 +188,8 @@ pub record AreGiven (values : List ℕ) : Type 0 where
   pub few : length values ≤ 16
 
 whole-given : (r : Rendition) → AreGiven (whole_params r)
-whole-given r = record { named = whole-values r; some = omega (arith, (whole-few r).0); few = omega (arith, (whole-few r).1) }
+whole-given r = record
+    { named = whole-values r; some = omega (arith, (whole-few r).0); few = omega (arith, (whole-few r).1) }
 
 pub params-given : (known : Option Rendition) (r : Rendition) → AreGiven (rendition_params known r)
 params-given None r = whole-given r
@@ -188,28 +213,35 @@ params-listed rows (n ∷ values) h = named-listed rows n values (all-named (n �
 abbrev pub with_rendition : Screen → Rendition → Screen
 with_rendition x r = with_state x (unjoined (record x.state { rendition = r }))
 
-switch-bold : (x : Screen) (r : Rendition) (o n : Bool) → r.is_bold ≡ o → all_acted (with_rendition x r) (each rendered (switched o n 1 22)) ≡ with_rendition x (record r { is_bold = n })
+switch-bold : (x : Screen) (r : Rendition) (o n : Bool) → r.is_bold ≡ o
+    → all_acted (with_rendition x r) (each rendered (switched o n 1 22)) ≡ with_rendition x (record r { is_bold = n })
 unfolding acted_from
 switch-bold x r true true h = ap (λ b. with_rendition x (record r { is_bold = b })) h
 switch-bold x r true false h = refl
 switch-bold x r false true h = refl
 switch-bold x r false false h = ap (λ b. with_rendition x (record r { is_bold = b })) h
 
-switch-underlined : (x : Screen) (r : Rendition) (o n : Bool) → r.is_underlined ≡ o → all_acted (with_rendition x r) (each rendered (switched o n 4 24)) ≡ with_rendition x (record r { is_underlined = n })
+switch-underlined : (x : Screen) (r : Rendition) (o n : Bool) → r.is_underlined ≡ o
+    → all_acted (with_rendition x r) (each rendered (switched o n 4 24)) ≡ with_rendition x
+    (record r { is_underlined = n })
 unfolding acted_from
 switch-underlined x r true true h = ap (λ b. with_rendition x (record r { is_underlined = b })) h
 switch-underlined x r true false h = refl
 switch-underlined x r false true h = refl
 switch-underlined x r false false h = ap (λ b. with_rendition x (record r { is_underlined = b })) h
 
-switch-blinking : (x : Screen) (r : Rendition) (o n : Bool) → r.is_blinking ≡ o → all_acted (with_rendition x r) (each rendered (switched o n 5 25)) ≡ with_rendition x (record r { is_blinking = n })
+switch-blinking : (x : Screen) (r : Rendition) (o n : Bool) → r.is_blinking ≡ o
+    → all_acted (with_rendition x r) (each rendered (switched o n 5 25)) ≡ with_rendition x
+    (record r { is_blinking = n })
 unfolding acted_from
 switch-blinking x r true true h = ap (λ b. with_rendition x (record r { is_blinking = b })) h
 switch-blinking x r true false h = refl
 switch-blinking x r false true h = refl
 switch-blinking x r false false h = ap (λ b. with_rendition x (record r { is_blinking = b })) h
 
-switch-reversed : (x : Screen) (r : Rendition) (o n : Bool) → r.is_reversed ≡ o → all_acted (with_rendition x r) (each rendered (switched o n 7 27)) ≡ with_rendition x (record r { is_reversed = n })
+switch-reversed : (x : Screen) (r : Rendition) (o n : Bool) → r.is_reversed ≡ o
+    → all_acted (with_rendition x r) (each rendered (switched o n 7 27)) ≡ with_rendition x
+    (record r { is_reversed = n })
 unfolding acted_from
 switch-reversed x r true true h = ap (λ b. with_rendition x (record r { is_reversed = b })) h
 switch-reversed x r true false h = refl
@@ -243,7 +275,9 @@ digit-back White = refl
 digit-tells : (a b : Colour) → colour_digit a ≡ colour_digit b → a ≡ b
 digit-tells a b h = sym (digit-back a) ∙ ap colour_of h ∙ digit-back b
 
-fore-set : (x : Screen) (r : Rendition) (c : Colour) → all_acted (with_rendition x r) (each rendered ((30 + colour_digit c) ∷ [])) ≡ with_rendition x (record r { fore = c })
+fore-set : (x : Screen) (r : Rendition) (c : Colour)
+    → all_acted (with_rendition x r) (each rendered ((30 + colour_digit c) ∷ [])) ≡ with_rendition x
+    (record r { fore = c })
 unfolding acted_from
 fore-set x r Default = refl
 fore-set x r Black = refl
@@ -255,7 +289,9 @@ fore-set x r Magenta = refl
 fore-set x r Cyan = refl
 fore-set x r White = refl
 
-back-set : (x : Screen) (r : Rendition) (c : Colour) → all_acted (with_rendition x r) (each rendered ((40 + colour_digit c) ∷ [])) ≡ with_rendition x (record r { back = c })
+back-set : (x : Screen) (r : Rendition) (c : Colour)
+    → all_acted (with_rendition x r) (each rendered ((40 + colour_digit c) ∷ [])) ≡ with_rendition x
+    (record r { back = c })
 unfolding acted_from
 back-set x r Default = refl
 back-set x r Black = refl
@@ -267,23 +303,33 @@ back-set x r Magenta = refl
 back-set x r Cyan = refl
 back-set x r White = refl
 
-unless-set : (y z : Screen) (t : Bool) (n : ℕ) → (t ≡ true → y ≡ z) → all_acted y (each rendered (n ∷ [])) ≡ z → all_acted y (each rendered (if t then [] else n ∷ [])) ≡ z
+unless-set : (y z : Screen) (t : Bool) (n : ℕ) → (t ≡ true → y ≡ z) → all_acted y (each rendered (n ∷ [])) ≡ z
+    → all_acted y (each rendered (if t then [] else n ∷ [])) ≡ z
 unless-set y z true n h k = h refl
 unless-set y z false n h k = k
 
-recolour-fore : (x : Screen) (r : Rendition) (c : Colour) → all_acted (with_rendition x r) (each rendered (recoloured r.fore c 30)) ≡ with_rendition x (record r { fore = c })
-recolour-fore x r c = unless-set (with_rendition x r) (with_rendition x (record r { fore = c })) (eqb (colour_digit r.fore) (colour_digit c)) (30 + colour_digit c)
-    (λ same. ap (λ k. with_rendition x (record r { fore = k })) (digit-tells r.fore c (eqb-true (colour_digit r.fore) (colour_digit c) same))) (fore-set x r c)
+recolour-fore : (x : Screen) (r : Rendition) (c : Colour)
+    → all_acted (with_rendition x r) (each rendered (recoloured r.fore c 30)) ≡ with_rendition x (record r { fore = c })
+recolour-fore x r c = unless-set (with_rendition x r) (with_rendition x (record r { fore = c }))
+    (eqb (colour_digit r.fore) (colour_digit c)) (30 + colour_digit c)
+    (λ same. ap (λ k. with_rendition x (record r { fore = k }))
+    (digit-tells r.fore c (eqb-true (colour_digit r.fore) (colour_digit c) same))) (fore-set x r c)
 
-recolour-back : (x : Screen) (r : Rendition) (c : Colour) → all_acted (with_rendition x r) (each rendered (recoloured r.back c 40)) ≡ with_rendition x (record r { back = c })
-recolour-back x r c = unless-set (with_rendition x r) (with_rendition x (record r { back = c })) (eqb (colour_digit r.back) (colour_digit c)) (40 + colour_digit c)
-    (λ same. ap (λ k. with_rendition x (record r { back = k })) (digit-tells r.back c (eqb-true (colour_digit r.back) (colour_digit c) same))) (back-set x r c)
+recolour-back : (x : Screen) (r : Rendition) (c : Colour)
+    → all_acted (with_rendition x r) (each rendered (recoloured r.back c 40)) ≡ with_rendition x (record r { back = c })
+recolour-back x r c = unless-set (with_rendition x r) (with_rendition x (record r { back = c }))
+    (eqb (colour_digit r.back) (colour_digit c)) (40 + colour_digit c)
+    (λ same. ap (λ k. with_rendition x (record r { back = k }))
+    (digit-tells r.back c (eqb-true (colour_digit r.back) (colour_digit c) same))) (back-set x r c)
 
-then-set : (x y z : Screen) (a b : List ℕ) → all_acted x (each rendered a) ≡ y → all_acted y (each rendered b) ≡ z → all_acted x (each rendered (a ++ b)) ≡ z
+then-set : (x y z : Screen) (a b : List ℕ) → all_acted x (each rendered a) ≡ y → all_acted y (each rendered b) ≡ z
+    → all_acted x (each rendered (a ++ b)) ≡ z
 then-set x y z a b h k =
-    ap (all_acted x) (each-append rendered a b) ∙ all_acted-append x (each rendered a) (each rendered b) ∙ ap (λ w. all_acted w (each rendered b)) h ∙ k
+    ap (all_acted x) (each-append rendered a b) ∙ all_acted-append x (each rendered a) (each rendered b)
+    ∙ ap (λ w. all_acted w (each rendered b)) h ∙ k
 
-changes-made : (x : Screen) (o r : Rendition) → all_acted (with_rendition x o) (each rendered (change_params o r)) ≡ with_rendition x r
+changes-made : (x : Screen) (o r : Rendition)
+    → all_acted (with_rendition x o) (each rendered (change_params o r)) ≡ with_rendition x r
 changes-made x o r =
     let a : Rendition = record o { is_bold = r.is_bold } in
     let b : Rendition = record a { is_underlined = r.is_underlined } in
@@ -309,12 +355,14 @@ changes-made x o r =
     (recolour-back x e r.back)
 
 -- a first value ends the joining of marks, and has the present rendition before it
-from-present : (x : Screen) (values : List ℕ) → AreValues values → 0 < length values → effect x (Csi None values [] 0x6D) ≡ all_acted (with_rendition x x.state.rendition) (each rendered values)
+from-present : (x : Screen) (values : List ℕ) → AreValues values → 0 < length values
+    → effect x (Csi None values [] 0x6D) ≡ all_acted (with_rendition x x.state.rendition) (each rendered values)
 unfolding acted_from plain_sequence
 from-present x [] h some = absurd (omega (arith, some))
 from-present x (n ∷ values) h some =
     ap (λ o. all_acted x (option_to_list o ++ each rendered values)) h.0.names
-    ∙ sym (ap (λ o. all_acted (with_rendition x x.state.rendition) (option_to_list o ++ each rendered values)) h.0.names)
+    ∙ sym
+    (ap (λ o. all_acted (with_rendition x x.state.rendition) (option_to_list o ++ each rendered values)) h.0.names)
 
 -- the same parameters, put together from the left and from the right
 whole-is : (r : Rendition) → whole_params r ≡ rendition_values r
@@ -333,8 +381,12 @@ whole-is r =
 whole-made : (x : Screen) (r : Rendition) → effect x (Csi None (whole_params r) [] 0x6D) ≡ with_rendition x r
 whole-made x r = ap (λ values. effect x (Csi None values [] 0x6D)) (whole-is r) ∙ rendition-is x r
 
-pub params-made : (x : Screen) (known : Option Rendition) (r : Rendition) → Knows known x.state.rendition → effect x (Csi None (rendition_params known r) [] 0x6D) ≡ with_rendition x r
+pub params-made : (x : Screen) (known : Option Rendition) (r : Rendition) → Knows known x.state.rendition
+    → effect x (Csi None (rendition_params known r) [] 0x6D) ≡ with_rendition x r
 params-made x None r h = whole-made x r
-params-made x (Some o) r h = either (λ values. effect x (Csi None values [] 0x6D) ≡ with_rendition x r) (change_params o r) (whole_params r)
-    (λ some. from-present x (change_params o r) (change-values o r) some ∙ ap (λ (p : Rendition). all_acted (with_rendition x p) (each rendered (change_params o r))) h ∙ changes-made x o r)
+params-made x (Some o) r h = either (λ values. effect x (Csi None values [] 0x6D) ≡ with_rendition x r)
+    (change_params o r) (whole_params r)
+    (λ some. from-present x (change_params o r) (change-values o r) some
+    ∙ ap (λ (p : Rendition). all_acted (with_rendition x p) (each rendered (change_params o r))) h
+    ∙ changes-made x o r)
     (whole-made x r)

@@ -1,5 +1,6 @@
 -- A screen on which a frame is drawn, after each command.
-use Rattle.std.proofs.Common.{◌≡◌, ℕ, ◌+◌, ◌-◌, ◌<◌, min, max, true, false, eqb, List, Option, Some, refl, sym, ap, subst, arith, ⊎_elim}
+use Rattle.std.proofs.Common.{◌≡◌, ℕ, ◌+◌, ◌-◌, ◌<◌, min, max, true, false, eqb, List, Option, Some, refl, sym, ap}
+use Rattle.std.proofs.Common.{subst, arith, ⊎_elim}
 use Rattle.std.proofs.lemmas.Bool.{cases_Bool, ne_eqb, eqb-true}
 use Rattle.charsets.specs.declared.unit.Coding.TheVariants.{Utf8}
 use Rattle.cells.specs.declared.cell.Rendition.{Rendition}
@@ -14,7 +15,8 @@ use Rattle.terminal_model.specs.Drawing.{drawn_state}
 use Rattle.terminal_model.proofs.Sound.{IsSound-effect}
 use Rattle.redraw.specs.declared.pen.Pen.{Pen}
 use Rattle.redraw.specs.declared.command.Command.{Command}
-use Rattle.redraw.specs.declared.command.Command.TheVariants.{Glyph, MoveTo, NextLine, Forward, Render, EraseCells, EraseToEnd, Arrows, ShowCursor, Keypad}
+use Rattle.redraw.specs.declared.command.Command.TheVariants.{Glyph, MoveTo, NextLine, Forward, Render, EraseCells}
+use Rattle.redraw.specs.declared.command.Command.TheVariants.{EraseToEnd, Arrows, ShowCursor, Keypad}
 use Rattle.redraw.specs.Commands.{func_of, place_params}
 use Rattle.redraw.specs.Drawing.{Drawing, Knows, Leads, Keeps, IsWay}
 use Rattle.redraw.proofs.Effects.{silent_leads}
@@ -28,7 +30,8 @@ moved_drawn s l c e = ap (λ z. moved_to z l c) e
 settled_drawn : (s : State) → s ≡ drawn_state s → unpending s ≡ drawn_state (unpending s)
 settled_drawn s e = ap unpending e
 
-rendered_drawn : (s : State) (r : Rendition) → s ≡ drawn_state s → unjoined (record s { rendition = r }) ≡ drawn_state (unjoined (record s { rendition = r }))
+rendered_drawn : (s : State) (r : Rendition) → s ≡ drawn_state s
+    → unjoined (record s { rendition = r }) ≡ drawn_state (unjoined (record s { rendition = r }))
 rendered_drawn s r e = ap (λ (z : State). unjoined (record z { rendition = r })) e
 
 -- a pen at a place
@@ -59,14 +62,16 @@ module _ (rows columns : ℕ) where
     last_line = ap (λ (s : State). s.bottom) d.state_is
 
     pub sized : IsPage rows columns x.page
-    sized = subst (λ n. IsPage n columns x.page) d.rows_are (subst (λ n. IsPage x.state.rows n x.page) d.columns_are d.sound.sized)
+    sized = subst (λ n. IsPage n columns x.page) d.rows_are
+        (subst (λ n. IsPage x.state.rows n x.page) d.columns_are d.sound.sized)
 
   -- a command leads to a screen of which R holds
   abbrev pub LeadsTo : Page → Page → Screen → List ℕ → (Screen → Type 0) → Type 0
   LeadsTo old new x bytes R = (y : Screen) × Leads old new x bytes y × R y
 
   first_place : (line column : ℕ) → first (place_params line column) ≡ line + 1
-  first_place line column = ⊎_elim (λ (e : eqb column 0 ≡ true). rw e refl) (λ (e : eqb column 0 ≡ false). rw e refl) (cases_Bool (eqb column 0))
+  first_place line column = ⊎_elim (λ (e : eqb column 0 ≡ true). rw e refl) (λ (e : eqb column 0 ≡ false). rw e refl)
+      (cases_Bool (eqb column 0))
 
   second_place : (line column : ℕ) → second (place_params line column) - 1 ≡ column
   second_place line column = ⊎_elim
@@ -76,7 +81,8 @@ module _ (rows columns : ℕ) where
 
   module _ (old new : Page) (pen : Pen) (x : Screen) (d : Drawing rows columns pen x) where
     move_leads : (line column : ℕ) → line < rows → rows < 9999 → column < columns → columns < 9999
-        → LeadsTo old new x (spelling (func_of (MoveTo line column))) (Keeps rows columns (at_place line column pen.rendition) x)
+        → LeadsTo old new x (spelling (func_of (MoveTo line column)))
+        (Keeps rows columns (at_place line column pen.rendition) x)
     unfolding acted_from plain_sequence
     move_leads line column lh rh ch cl =
         let s : State = x.state in
@@ -103,7 +109,8 @@ module _ (rows columns : ℕ) where
           },
         )
 
-    next_leads : (line : ℕ) → pen.line ≡ Some line → (line + 1 < rows) → 0 < columns → LeadsTo old new x (spelling (func_of NextLine)) (Keeps rows columns (at_place (line + 1) 0 pen.rendition) x)
+    next_leads : (line : ℕ) → pen.line ≡ Some line → (line + 1 < rows) → 0 < columns
+        → LeadsTo old new x (spelling (func_of NextLine)) (Keeps rows columns (at_place (line + 1) 0 pen.rendition) x)
     unfolding acted_from
     next_leads line is lh ch =
         let s : State = x.state in
@@ -118,7 +125,8 @@ module _ (rows columns : ℕ) where
               sound = IsSound-effect x (func_of NextLine) d.sound;
               rows_are = d.rows_are;
               columns_are = d.columns_are;
-              state_is = moved_drawn (moved_to s s.line 0) (line_below (moved_to s s.line 0)) 0 (moved_drawn s s.line 0 d.state_is);
+              state_is = moved_drawn (moved_to s s.line 0) (line_below (moved_to s s.line 0)) 0
+                  (moved_drawn s s.line 0 d.state_is);
               tabs_are = d.tabs_are;
               none_saved = d.none_saved;
               line_is = below;
@@ -130,8 +138,10 @@ module _ (rows columns : ℕ) where
           },
         )
 
-    forward_leads : (line column n : ℕ) → pen.line ≡ Some line → pen.column ≡ Some column → line < rows → column + n < columns → 0 < n → n < 9999
-        → LeadsTo old new x (spelling (func_of (Forward n))) (Keeps rows columns (at_place line (column + n) pen.rendition) x)
+    forward_leads : (line column n : ℕ) → pen.line ≡ Some line → pen.column ≡ Some column → line < rows
+        → column + n < columns → 0 < n → n < 9999
+        → LeadsTo old new x (spelling (func_of (Forward n)))
+        (Keeps rows columns (at_place line (column + n) pen.rendition) x)
     unfolding acted_from plain_sequence
     forward_leads line column n is_line is_column lh ch some few =
         let s : State = x.state in
@@ -157,9 +167,12 @@ module _ (rows columns : ℕ) where
           },
         )
 
-    pub render_leads : (r : Rendition) → LeadsTo old new x (spelling (func_of (Render pen.rendition r))) (Keeps rows columns (record pen { rendition = Some r }) x)
+    pub render_leads : (r : Rendition)
+        → LeadsTo old new x (spelling (func_of (Render pen.rendition r)))
+        (Keeps rows columns (record pen { rendition = Some r }) x)
     render_leads r =
-        let is : effect x (func_of (Render pen.rendition r)) ≡ with_rendition x r = params-made x pen.rendition r d.rendition_is in
+        let is : effect x (func_of (Render pen.rendition r)) ≡ with_rendition x r = params-made x pen.rendition r
+        d.rendition_is in
         let leads = silent_leads old new x (Render pen.rendition r) (utf8 pen x d) tt tt in (
           with_rendition x r,
           subst (Leads old new x (spelling (func_of (Render pen.rendition r)))) is leads,
@@ -180,18 +193,31 @@ module _ (rows columns : ℕ) where
           },
         )
 
-    pub way_leads : (line column : ℕ) (way : Command) → line < rows → rows < 9999 → column < columns → columns < 9999 → IsWay pen line column (Some way)
+    pub way_leads : (line column : ℕ) (way : Command) → line < rows → rows < 9999 → column < columns → columns < 9999
+        → IsWay pen line column (Some way)
         → LeadsTo old new x (spelling (func_of way)) (Keeps rows columns (at_place line column pen.rendition) x)
     way_leads line column (MoveTo l c) lh rh ch cl is =
-        subst (λ k. LeadsTo old new x (spelling (func_of (MoveTo k c))) (Keeps rows columns (at_place line column pen.rendition) x)) (sym is.0)
-        (subst (λ k. LeadsTo old new x (spelling (func_of (MoveTo line k))) (Keeps rows columns (at_place line column pen.rendition) x)) (sym is.1) (move_leads line column lh rh ch cl))
+        subst
+        (λ k. LeadsTo old new x (spelling (func_of (MoveTo k c)))
+        (Keeps rows columns (at_place line column pen.rendition) x)) (sym is.0)
+        (subst
+        (λ k. LeadsTo old new x (spelling (func_of (MoveTo line k)))
+        (Keeps rows columns (at_place line column pen.rendition) x)) (sym is.1)
+        (move_leads line column lh rh ch cl))
     way_leads line column NextLine lh rh ch cl is =
         let below : line - 1 + 1 ≡ line = omega (arith, is.0) in
-        subst (λ k. LeadsTo old new x (spelling (func_of NextLine)) (Keeps rows columns (at_place k column pen.rendition) x)) below
-        (subst (λ k. LeadsTo old new x (spelling (func_of NextLine)) (Keeps rows columns (at_place (line - 1 + 1) k pen.rendition) x)) (sym is.2) (next_leads (line - 1) is.1 (omega arith) (omega arith)))
+        subst
+        (λ k. LeadsTo old new x (spelling (func_of NextLine))
+        (Keeps rows columns (at_place k column pen.rendition) x)) below
+        (subst
+        (λ k. LeadsTo old new x (spelling (func_of NextLine))
+        (Keeps rows columns (at_place (line - 1 + 1) k pen.rendition) x)) (sym is.2)
+        (next_leads (line - 1) is.1 (omega arith) (omega arith)))
     way_leads line column (Forward n) lh rh ch cl is =
         let across : column - n + n ≡ column = omega (arith, is.3) in
-        subst (λ k. LeadsTo old new x (spelling (func_of (Forward n))) (Keeps rows columns (at_place line k pen.rendition) x)) across
+        subst
+        (λ k. LeadsTo old new x (spelling (func_of (Forward n)))
+        (Keeps rows columns (at_place line k pen.rendition) x)) across
         (forward_leads line (column - n) n is.0 is.1 lh (omega arith) is.2 (omega (arith, is.3)))
     way_leads line column (Glyph c) lh rh ch cl is = absurd is
     way_leads line column (Render known r) lh rh ch cl is = absurd is

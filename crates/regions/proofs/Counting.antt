@@ -4,7 +4,8 @@ use Rattle.std.proofs.lemmas.Bool.{cases_lt, lt-ltb, le-ltb}
 use Rattle.regions.specs.declared.rect.Rect.{Rect}
 use Rattle.regions.specs.declared.way.Way.{Way}
 use Rattle.regions.specs.declared.way.Way.TheVariants.{Below, Right}
-use Rattle.regions.specs.Shapes.{Shape, region, split, upper, lower, left, right, boxes, regions, split_at, without, after, is_region}
+use Rattle.regions.specs.Shapes.{Shape, region, split, upper, lower, left, right, boxes, regions, split_at, without}
+use Rattle.regions.specs.Shapes.{after, is_region}
 
 pub some_region : (s : Shape) → 0 < regions s
 some_region region = omega arith
@@ -21,7 +22,8 @@ pub which : (s : Shape) → ((is_region s ≡ true) × (regions s ≡ 1)) ⊎ ((
 which region = inl (refl, refl)
 which (split w a b) = inr (refl, omega (arith, some_region a, some_region b))
 
-pub regions_without : (s : Shape) (n : ℕ) → n < regions s → 1 < regions s → (regions (without n s) + 1 ≡ regions s) × (after n s < regions (without n s))
+pub regions_without : (s : Shape) (n : ℕ) → n < regions s → 1 < regions s → (regions (without n s) + 1 ≡ regions s)
+    × (after n s < regions (without n s))
 regions_without region n lt more = absurd (omega arith)
 regions_without (split w a b) n lt more = elim (cases_lt n (regions a)) [
   | inl first ↦ rw (lt-ltb n (regions a) first) (elim (which a) [
@@ -30,12 +32,15 @@ regions_without (split w a b) n lt more = elim (cases_lt n (regions a)) [
   ])
   | inr second ↦ rw (le-ltb n (regions a) second) (elim (which b) [
     | inl one ↦ rw one.0 (omega (arith, one.1), some_region a)
-    | inr two ↦ let h = regions_without b (n - regions a) (omega (arith, lt)) two.1 in rw two.0 (omega (arith, h.0), omega (arith, h.1))
+    | inr two ↦ let h = regions_without b (n - regions a) (omega (arith, lt)) two.1 in rw two.0
+        (omega (arith, h.0), omega (arith, h.1))
   ])
 ]
 
 -- a box for each region
 pub length_boxes : (s : Shape) (r : Rect) → length (boxes s r) ≡ regions s
 length_boxes region r = refl
-length_boxes (split Below a b) r = omega (arith, length-append (boxes a (upper r)) (boxes b (lower r)), length_boxes a (upper r), length_boxes b (lower r))
-length_boxes (split Right a b) r = omega (arith, length-append (boxes a (left r)) (boxes b (right r)), length_boxes a (left r), length_boxes b (right r))
+length_boxes (split Below a b) r = omega
+    (arith, length-append (boxes a (upper r)) (boxes b (lower r)), length_boxes a (upper r), length_boxes b (lower r))
+length_boxes (split Right a b) r = omega
+    (arith, length-append (boxes a (left r)) (boxes b (right r)), length_boxes a (left r), length_boxes b (right r))

@@ -20,12 +20,16 @@ use Rattle.regions.specs.contracts.way.Way as Way
 -- the boxes of one layer, where what they hold may go
 hole_send : IsSend knot.hole-Node
 hole_send = fix_send knot.ring (Node.by_members (Sends knot.ring) (record {
-  send = λ h all. let R = h knot.member-Node in let half = as_row_send (row_field (Box.the_row R Global.the_row heap.ghosts)) (Box-send R (all knot.member-Node)) in
-      variants_send (knot.type-Node R R) (tt, ((as_row_send (row_field (as_row Way.the_field)) way.the_send, (half, (half, tt))), tt));
+  send = λ h all. let R = h knot.member-Node in let half = as_row_send
+      (row_field (Box.the_row R Global.the_row heap.ghosts)) (Box-send R (all knot.member-Node)) in
+      variants_send (knot.type-Node R R)
+      (tt, ((as_row_send (row_field (as_row Way.the_field)) way.the_send, (half, (half, tt))), tt));
 })) knot.member-Node
 
 node_send : IsSend Node.the_row
-node_send = let half = Box-send knot.hole-Node hole_send in variants_send Node.enum (tt, ((way.the_send, (half, (half, tt))), tt))
+node_send = let half = Box-send knot.hole-Node hole_send in variants_send Node.enum
+    (tt, ((way.the_send, (half, (half, tt))), tt))
 
 pub layout_send : IsSend Layout.the_row
-layout_send = view_send inside.the_row _ _ _ _ (declared_send inside.the_type (node_send, (plain_send _ _ _ _ _, (Vec-send Shown.the_row shown.the_send, tt))))
+layout_send = view_send inside.the_row _ _ _ _
+    (declared_send inside.the_type (node_send, (plain_send _ _ _ _ _, (Vec-send Shown.the_row shown.the_send, tt))))

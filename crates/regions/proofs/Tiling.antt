@@ -1,11 +1,13 @@
 -- The parts of a page cover each place once.
-use Rattle.std.proofs.Common.{◌≡◌, ℕ, ◌+◌, ◌-◌, ◌/◌, ◌<◌, Bool, true, false, ◌&&◌, ltb, le-leb, List, [], ◌∷◌, ◌++◌, map, refl, sym, ap, subst, ◌∙◌, arith}
+use Rattle.std.proofs.Common.{◌≡◌, ℕ, ◌+◌, ◌-◌, ◌/◌, ◌<◌, Bool, true, false, ◌&&◌, ltb, le-leb, List, [], ◌∷◌, ◌++◌}
+use Rattle.std.proofs.Common.{map, refl, sym, ap, subst, ◌∙◌, arith}
 use Rattle.std.proofs.lemmas.Bool.Decides.{nat_tests}
 use Rattle.std.proofs.lemmas.Bool.{ltb-true}
 use Rattle.regions.specs.declared.rect.Rect.{Rect}
 use Rattle.regions.specs.declared.way.Way.TheVariants.{Below, Right}
 use Rattle.regions.specs.Shapes.{Shape, region, split, upper, lower, left, right, boxes, separators, fits}
-use Rattle.regions.specs.Pages.{box_of, status_of, has_room, inner, caption, parts, among, has, one_if, times, TilesPage}
+use Rattle.regions.specs.Pages.{box_of, status_of, has_room, inner, caption, parts, among, has, one_if, times}
+use Rattle.regions.specs.Pages.{TilesPage}
 use Rattle.regions.proofs.Room.{both_true, wide, tall, room_fits}
 
 times_append : (xs ys : List Rect) (l c : ℕ) → times (xs ++ ys) l c ≡ times xs l c + times ys l c
@@ -24,27 +26,37 @@ and_false : (b : Bool) → (b && false) ≡ false
 and_false true = refl
 and_false false = refl
 
-rows_join : (a m n x : ℕ) (k : Bool) → one_if (among a (m + n) x && k) ≡ one_if (among a m x && k) + one_if (among (a + m) n x && k)
-rows_join a m n x true = rw (and_true (among a (m + n) x), and_true (among a m x), and_true (among (a + m) n x)) (among_parts a m n x)
-rows_join a m n x false = rw (and_false (among a (m + n) x), and_false (among a m x), and_false (among (a + m) n x)) refl
+rows_join : (a m n x : ℕ) (k : Bool)
+    → one_if (among a (m + n) x && k) ≡ one_if (among a m x && k) + one_if (among (a + m) n x && k)
+rows_join a m n x true = rw (and_true (among a (m + n) x), and_true (among a m x), and_true (among (a + m) n x))
+    (among_parts a m n x)
+rows_join a m n x false = rw (and_false (among a (m + n) x), and_false (among a m x), and_false (among (a + m) n x))
+    refl
 
-columns_join : (a m n x : ℕ) (k : Bool) → one_if (k && among a (m + n) x) ≡ one_if (k && among a m x) + one_if (k && among (a + m) n x)
+columns_join : (a m n x : ℕ) (k : Bool)
+    → one_if (k && among a (m + n) x) ≡ one_if (k && among a m x) + one_if (k && among (a + m) n x)
 columns_join a m n x true = among_parts a m n x
 columns_join a m n x false = refl
 
 -- a place of r, by the rows of its two parts
-by_rows : (r : Rect) (m n l c : ℕ) → m + n ≡ r.rows → one_if (has r l c) ≡ one_if (has (record r { rows = m }) l c) + one_if (has (record r { line = r.line + m; rows = n }) l c)
+by_rows : (r : Rect) (m n l c : ℕ) → m + n ≡ r.rows
+    → one_if (has r l c) ≡ one_if (has (record r { rows = m }) l c) + one_if
+    (has (record r { line = r.line + m; rows = n }) l c)
 by_rows r m n l c e = rw (← e) (rows_join r.line m n l (among r.column r.columns c))
 
-by_columns : (r : Rect) (m n l c : ℕ) → m + n ≡ r.columns → one_if (has r l c) ≡ one_if (has (record r { columns = m }) l c) + one_if (has (record r { column = r.column + m; columns = n }) l c)
+by_columns : (r : Rect) (m n l c : ℕ) → m + n ≡ r.columns
+    → one_if (has r l c) ≡ one_if (has (record r { columns = m }) l c) + one_if
+    (has (record r { column = r.column + m; columns = n }) l c)
 by_columns r m n l c e = rw (← e) (columns_join r.column m n c (among r.line r.rows l))
 
 map_append : (f : Rect → Rect) (xs ys : List Rect) → map f (xs ++ ys) ≡ map f xs ++ map f ys
 map_append f [] ys = refl
 map_append f (x ∷ xs) ys = ap (λ (rs : List Rect). f x ∷ rs) (map_append f xs ys)
 
-times_map : (f : Rect → Rect) (xs ys : List Rect) (l c : ℕ) → times (map f (xs ++ ys)) l c ≡ times (map f xs) l c + times (map f ys) l c
-times_map f xs ys l c = ap (λ (rs : List Rect). times rs l c) (map_append f xs ys) ∙ times_append (map f xs) (map f ys) l c
+times_map : (f : Rect → Rect) (xs ys : List Rect) (l c : ℕ)
+    → times (map f (xs ++ ys)) l c ≡ times (map f xs) l c + times (map f ys) l c
+times_map f xs ys l c = ap (λ (rs : List Rect). times rs l c) (map_append f xs ys)
+    ∙ times_append (map f xs) (map f ys) l c
 
 abbrev total : Shape → Rect → ℕ → ℕ → ℕ
 total s r l c = times (map inner (boxes s r)) l c + (times (map caption (boxes s r)) l c + times (separators s r) l c)
@@ -93,7 +105,9 @@ from_zero n x = let all : 0 + n ≡ n = omega arith in rw (le-leb 0 x (omega ari
 pub page_has : (rows columns l c : ℕ) → has (page_of rows columns) l c ≡ (ltb l rows && ltb c columns)
 page_has rows columns l c = rw (from_zero rows l, from_zero columns c) refl
 
-pub page_once : (s : Shape) (rows columns : ℕ) → has_room s rows columns ≡ true → TilesPage rows columns (parts (boxes s (box_of rows columns)) (separators s (box_of rows columns)) (status_of rows columns))
+pub page_once : (s : Shape) (rows columns : ℕ) → has_room s rows columns ≡ true
+    → TilesPage rows columns
+    (parts (boxes s (box_of rows columns)) (separators s (box_of rows columns)) (status_of rows columns))
 page_once s rows columns h l c =
     let box = box_of rows columns in
     let bs = boxes s box in
@@ -101,9 +115,13 @@ page_once s rows columns h l c =
     let high : 1 < rows - 1 = tall s (rows - 1) columns f in
     let e : (rows - 1) + 1 ≡ rows = omega arith in
     let above : 0 + (rows - 1) ≡ rows - 1 = omega arith in
-    let joined : one_if (ltb l rows && ltb c columns) ≡ one_if (has box l c) + one_if (has (status_of rows columns) l c) =
+    let joined : one_if (ltb l rows && ltb c columns) ≡ one_if (has box l c) + one_if (has (status_of rows columns) l c)
+    =
     ap one_if (sym (page_has rows columns l c))
-    ∙ subst (λ (n : ℕ). one_if (has (page_of rows columns) l c) ≡ one_if (has box l c) + one_if (has (record { line = n; column = 0; rows = 1; columns = columns }) l c)) above (by_rows (page_of rows columns) (rows - 1) 1 l c e) in
+    ∙ subst
+    (λ (n : ℕ). one_if (has (page_of rows columns) l c) ≡ one_if (has box l c) + one_if
+    (has (record { line = n; column = 0; rows = 1; columns = columns }) l c)) above
+    (by_rows (page_of rows columns) (rows - 1) 1 l c e) in
     omega (
       arith,
       covers s box l c f,

@@ -1,5 +1,6 @@
 -- Rights change by a granted list command alone.
-use Rattle.std.proofs.Common.{◌≡◌, Bool, true, false, not, List, [], ◌∷◌, Option, Some, None, refl, ap, sym, ◌∙◌, subst, inl, inr, ⊎_elim}
+use Rattle.std.proofs.Common.{◌≡◌, Bool, true, false, not, List, [], ◌∷◌, Option, Some, None, refl, ap, sym, ◌∙◌, subst}
+use Rattle.std.proofs.Common.{inl, inr, ⊎_elim}
 use Rattle.std.specs.Prelude.{if◌then◌else◌, ◌⊎◌, is_some}
 use Rattle.std.specs.List.{AllByRecursion}
 use Rattle.acl.specs.declared.act.Act.{Act}
@@ -50,14 +51,18 @@ pub record Below : Type 0 where
 abbrev pub Steps : Tables → Entry → Type 0
 Steps t e = Plain t e.event e.acts (after t e) ⊎ Obeys t e
 
-obeys_by : Below → (t : Tables) (event : EventValue) (reply : Reply) (acts : List Act) (vs : List Verdict) (effects : List Effect)
-    → let e : Entry = record { event = event; reply = reply; acts = acts; verdicts = vs; effects = effects } in IsStep t e → gives_commands event ≡ true → Obeys t e
+obeys_by : Below
+    → (t : Tables) (event : EventValue) (reply : Reply) (acts : List Act) (vs : List Verdict) (effects : List Effect)
+    → let e : Entry = record { event = event; reply = reply; acts = acts; verdicts = vs; effects = effects } in IsStep t
+    e → gives_commands event ≡ true → Obeys t e
 obeys_by laws t (Keys client bytes) reply acts vs effects step is =
-    let e : Entry = record { event = Keys client bytes; reply = reply; acts = acts; verdicts = vs; effects = effects } in
+    let e : Entry = record { event = Keys client bytes; reply = reply; acts = acts; verdicts = vs; effects = effects }
+    in
     let kept : KeepsPromise t e = laws.keep t e step in
     keys_obeys t reply acts vs effects client bytes kept.refusals step.reply (laws.keyed t e step)
 obeys_by laws t (Command user number bytes) reply acts vs effects step is =
-    let e : Entry = record { event = Command user number bytes; reply = reply; acts = acts; verdicts = vs; effects = effects } in
+    let e : Entry = record
+    { event = Command user number bytes; reply = reply; acts = acts; verdicts = vs; effects = effects } in
     let kept : KeepsPromise t e = laws.keep t e step in
     command_obeys t reply acts vs effects user number bytes kept.refusals (laws.refused t e step) (laws.done t e step)
 obeys_by laws t event reply acts vs effects step is = absurd (cc (is))
@@ -72,11 +77,16 @@ steps_of laws t e step = on (gives_commands e.event) refl where
   on true is = inr (obeys_of laws t e step is)
   on false is = inl (step_plain t e step is)
 
-pub row_did : (t : Tables) (e : Entry) (g : Given) → (d : Did t e g) → IsRow (with_clients t d.clients) g.caller g.order d.deed
-row_did t e g d = on (does (with_clients t d.clients) g.caller g.order) d.does_it (row_of (with_clients t d.clients) g.caller d.by g.order) where
-  on : (a : Answer) → a ≡ Rattle.std.specs.Prelude.Ok d.deed → Either (IsRow (with_clients t d.clients) g.caller g.order) a → IsRow (with_clients t d.clients) g.caller g.order d.deed
-  on (Rattle.std.specs.Prelude.Ok x) is r = subst (IsRow (with_clients t d.clients) g.caller g.order) (let same : x ≡ d.deed = cc (is) in same) r
-  on (Rattle.std.specs.Prelude.Err f) is r = absurd (cc (is))
+pub row_did : (t : Tables) (e : Entry) (g : Given) → (d : Did t e g)
+    → IsRow (with_clients t d.clients) g.caller g.order d.deed
+row_did t e g d = on (does (with_clients t d.clients) g.caller g.order) d.does_it
+    (row_of (with_clients t d.clients) g.caller d.by g.order) where
+      on : (a : Answer) → a ≡ Rattle.std.specs.Prelude.Ok d.deed
+          → Either (IsRow (with_clients t d.clients) g.caller g.order) a
+          → IsRow (with_clients t d.clients) g.caller g.order d.deed
+      on (Rattle.std.specs.Prelude.Ok x) is r = subst (IsRow (with_clients t d.clients) g.caller g.order)
+          (let same : x ≡ d.deed = cc (is) in same) r
+      on (Rattle.std.specs.Prelude.Err f) is r = absurd (cc (is))
 
 -- ---- which acts are on lists
 
@@ -89,7 +99,8 @@ plain_listing t event (act.Masked by user bit value) is = absurd is
 plain_listing t event (act.Preset kind bit value) is = absurd is
 plain_listing t event a is = refl
 
-row_listing : (k : Caller) (c : Order) → changes_rights (name_of c) ≡ false → (a : Act) → IsActOf k c a → is_listing a ≡ false
+row_listing : (k : Caller) (c : Order) → changes_rights (name_of c) ≡ false → (a : Act) → IsActOf k c a
+    → is_listing a ≡ false
 row_listing k c not (act.Known user) is = contradicts (changes_rights (name_of c)) is not
 row_listing k c not (act.Gone user) is = contradicts (changes_rights (name_of c)) is not
 row_listing k c not (act.Set user bit object value) is = contradicts (changes_rights (name_of c)) is not
@@ -98,12 +109,14 @@ row_listing k c not (act.Masked by user bit value) is = contradicts (changes_rig
 row_listing k c not (act.Preset kind bit value) is = contradicts (changes_rights (name_of c)) is not
 row_listing k c not a is = refl
 
-pub did_listing : (t : Tables) (e : Entry) (g : Given) → changes_rights (name_of g.order) ≡ false → Did t e g → NoListing e.acts
+pub did_listing : (t : Tables) (e : Entry) (g : Given) → changes_rights (name_of g.order) ≡ false → Did t e g
+    → NoListing e.acts
 did_listing t e g not d =
     let r : IsRow (with_clients t d.clients) g.caller g.order d.deed = row_did t e g d in
     subst NoListing (sym d.acts)
     (all_append (λ a. is_listing a ≡ false) d.deed.acts (left_acts t.clients d.deed.tables.clients)
-    (all_weaken (IsActOf g.caller g.order) (λ a. is_listing a ≡ false) d.deed.acts (row_listing g.caller g.order not) r.acts)
+    (all_weaken (IsActOf g.caller g.order) (λ a. is_listing a ≡ false) d.deed.acts (row_listing g.caller g.order not)
+    r.acts)
     (all_left (λ a. is_listing a ≡ false) t.clients d.deed.tables.clients (λ user w. refl)))
 
 -- ---- the first checks of a list command
@@ -116,7 +129,8 @@ pub then_passed : (b : Bool) (o : Option Refusal) (r : Refusal) → (if b then o
 then_passed true o r is = is
 then_passed false o r is = absurd (cc (is))
 
-multiuser_passed : (t : Tables) (k : Caller) (c : Order) → changes_rights (name_of c) ≡ true → first_fault t (checks_by t k (needs c)) ≡ None → t.is_multiuser ≡ true
+multiuser_passed : (t : Tables) (k : Caller) (c : Order) → changes_rights (name_of c) ≡ true
+    → first_fault t (checks_by t k (needs c)) ≡ None → t.is_multiuser ≡ true
 multiuser_passed t k (command.Acladd users) changes is = first_passed t.is_multiuser None NotMultiuser is
 multiuser_passed t k (command.Aclchg users bits list) changes is = first_passed t.is_multiuser None NotMultiuser is
 multiuser_passed t k (command.Acldel user) changes is = first_passed t.is_multiuser None NotMultiuser is
@@ -125,39 +139,50 @@ multiuser_passed t k (command.Aclumask masks) changes is = first_passed t.is_mul
 multiuser_passed t k c changes is = absurd (cc (changes))
 
 -- x on a command that was done
-pub had_x : (t : Tables) (e : Entry) (g : Given) → Did t e g → may_in t g.caller.user Execute (object.Command (name_of g.order)) ≡ true
-had_x t e g d = first_passed (may_in t g.caller.user Execute (object.Command (name_of g.order))) (first_fault t (checks_by t g.caller (needs g.order))) _ d.passes
+pub had_x : (t : Tables) (e : Entry) (g : Given) → Did t e g
+    → may_in t g.caller.user Execute (object.Command (name_of g.order)) ≡ true
+had_x t e g d = first_passed (may_in t g.caller.user Execute (object.Command (name_of g.order)))
+    (first_fault t (checks_by t g.caller (needs g.order))) _ d.passes
 
-may_change : (t : Tables) (e : Entry) (g : Given) → changes_rights (name_of g.order) ≡ true → Did t e g → MayChangeRights t g
+may_change : (t : Tables) (e : Entry) (g : Given) → changes_rights (name_of g.order) ≡ true → Did t e g
+    → MayChangeRights t g
 may_change t e g changes d = record {
   changes = changes;
   multiuser = multiuser_passed t g.caller g.order changes
-      (then_passed (may_in t g.caller.user Execute (object.Command (name_of g.order))) (first_fault t (checks_by t g.caller (needs g.order))) _ d.passes);
+      (then_passed (may_in t g.caller.user Execute (object.Command (name_of g.order)))
+      (first_fault t (checks_by t g.caller (needs g.order))) _ d.passes);
   granted = had_x t e g d;
 }
 
 -- ---- the law
 
-did_rights : (t : Tables) (e : Entry) (g : Given) → changes_rights (name_of g.order) ≡ false → Did t e g → SameRights t (after t e) e.acts
+did_rights : (t : Tables) (e : Entry) (g : Given) → changes_rights (name_of g.order) ≡ false → Did t e g
+    → SameRights t (after t e) e.acts
 did_rights t e g not d =
     let r : IsRow (with_clients t d.clients) g.caller g.order d.deed = row_did t e g d in
-    same_rights t (after t e) e.acts (d.tables.owner ∙ r.owner) (d.tables.edition ∙ r.edition) d.tables.acts (did_listing t e g not d)
+    same_rights t (after t e) e.acts (d.tables.owner ∙ r.owner) (d.tables.edition ∙ r.edition) d.tables.acts
+    (did_listing t e g not d)
 
 pub rests_rights : (t : Tables) (e : Entry) → Rests t e → SameRights t (after t e) e.acts
 rests_rights t e r =
-    same_rights t (after t e) e.acts r.tables.owner r.tables.edition (r.tables.acts ∙ sym (ap (followed_by t.acts) r.acts)) (subst NoListing (sym r.acts) tt)
+    same_rights t (after t e) e.acts r.tables.owner r.tables.edition
+    (r.tables.acts ∙ sym (ap (followed_by t.acts) r.acts)) (subst NoListing (sym r.acts) tt)
 
 pub plain_rights : (t : Tables) (e : Entry) → Plain t e.event e.acts (after t e) → SameRights t (after t e) e.acts
-plain_rights t e p = same_rights t (after t e) e.acts p.owner p.edition p.acts_are (all_weaken (IsActIn t e.event) (λ a. is_listing a ≡ false) e.acts (plain_listing t e.event) p.acts_in)
+plain_rights t e p = same_rights t (after t e) e.acts p.owner p.edition p.acts_are
+    (all_weaken (IsActIn t e.event) (λ a. is_listing a ≡ false) e.acts (plain_listing t e.event) p.acts_in)
 
 -- of the commands of a step there is one that may change rights, or rights are the same
-some_rights : (t : Tables) (e : Entry) (gs : List Given) → SomeOf (Did t e) gs → SameRights t (after t e) e.acts ⊎ SomeOf (MayChangeRights t) gs
+some_rights : (t : Tables) (e : Entry) (gs : List Given) → SomeOf (Did t e) gs
+    → SameRights t (after t e) e.acts ⊎ SomeOf (MayChangeRights t) gs
 some_rights t e [] some = absurd some
 some_rights t e (g ∷ gs) (inl did) = on (changes_rights (name_of g.order)) refl where
-  on : (b : Bool) → changes_rights (name_of g.order) ≡ b → SameRights t (after t e) e.acts ⊎ SomeOf (MayChangeRights t) (g ∷ gs)
+  on : (b : Bool) → changes_rights (name_of g.order) ≡ b
+      → SameRights t (after t e) e.acts ⊎ SomeOf (MayChangeRights t) (g ∷ gs)
   on true is = inr (inl (may_change t e g is did))
   on false is = inl (did_rights t e g is did)
-some_rights t e (g ∷ gs) (inr later) = ⊎_elim (λ (same : SameRights t (after t e) e.acts). inl same) (λ (some : SomeOf (MayChangeRights t) gs). inr (inr some)) (some_rights t e gs later)
+some_rights t e (g ∷ gs) (inr later) = ⊎_elim (λ (same : SameRights t (after t e) e.acts). inl same)
+    (λ (some : SomeOf (MayChangeRights t) gs). inr (inr some)) (some_rights t e gs later)
 
 pub gated : Below → (t : Tables) (e : Entry) → IsStep t e → RightsAreGated t e
 gated laws t e step = on (steps_of laws t e step) where

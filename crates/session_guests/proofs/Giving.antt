@@ -1,5 +1,6 @@
 -- Acts give locks to users who may write.
-use Rattle.std.proofs.Common.{◌≡◌, ℕ, Bool, true, false, not, List, [], ◌∷◌, Option, Some, None, refl, ap, sym, ◌∙◌, subst, inl, inr, ⊎_elim}
+use Rattle.std.proofs.Common.{◌≡◌, ℕ, Bool, true, false, not, List, [], ◌∷◌, Option, Some, None, refl, ap, sym, ◌∙◌}
+use Rattle.std.proofs.Common.{subst, inl, inr, ⊎_elim}
 use Rattle.std.specs.Prelude.{if◌then◌else◌, ◌==◌, ◌||◌, ◌&&◌, ◌⊎◌, is_none}
 use Rattle.std.specs.List.{AllByRecursion, list_any}
 use Rattle.acl.specs.declared.edition.Edition.{Edition}
@@ -10,7 +11,8 @@ use Rattle.acl.specs.declared.act.Act.TheVariants as act
 use Rattle.acl.specs.declared.act.Object.TheVariants as object
 use Rattle.acl.specs.Same.{same_user}
 use Rattle.acl.specs.History.{History, followed_by, may, has, leaders_of, decided}
-use Rattle.writelock.specs.Holding.{holder, given, kept, releases, ends, or_else, is_off, is_auto, is_on, mode_of, default_of}
+use Rattle.writelock.specs.Holding.{holder, given, kept, releases, ends, or_else, is_off, is_auto, is_on, mode_of}
+use Rattle.writelock.specs.Holding.{default_of}
 use Rattle.session_laws.proofs.Lists.{equal, and_first, and_second}
 use Rattle.session_guests.specs.Changing.{opens_window, opened_by}
 
@@ -36,16 +38,23 @@ module _ (edition : Edition) (owner : UserId) (P : UserId → Type 0) (base : Hi
   or_true false true is = refl
   or_true false false is = absurd (cc (is))
 
-  keeps : (r : Bool) (h : History) (a : Act) (w : ℕ) (u x : UserId) → releases edition owner a h u w ≡ r → (if r then None else Some u) ≡ Some x → (Some u ≡ Some x) × (writes (a ∷ h) x w ≡ true)
+  keeps : (r : Bool) (h : History) (a : Act) (w : ℕ) (u x : UserId) → releases edition owner a h u w ≡ r
+      → (if r then None else Some u) ≡ Some x → (Some u ≡ Some x) × (writes (a ∷ h) x w ≡ true)
   keeps true h a w u x r is = absurd (cc (is))
-  keeps false h a w u x r is = (is, let same : u ≡ x = cc (is) in subst (λ y. writes (a ∷ h) y w ≡ true) same (or_true (ends a h u w) (writes (a ∷ h) u w) r))
+  keeps false h a w u x r is = (
+    is,
+    let same : u ≡ x = cc (is) in subst (λ y. writes (a ∷ h) y w ≡ true) same
+        (or_true (ends a h u w) (writes (a ∷ h) u w) r),
+  )
 
-  held_on : (h : History) (a : Act) (w : ℕ) (held : Option UserId) (x : UserId) → kept edition owner a h w held ≡ Some x → (held ≡ Some x) × (writes (a ∷ h) x w ≡ true)
+  held_on : (h : History) (a : Act) (w : ℕ) (held : Option UserId) (x : UserId) → kept edition owner a h w held ≡ Some x
+      → (held ≡ Some x) × (writes (a ∷ h) x w ≡ true)
   held_on h a w None x is = absurd (cc (is))
   held_on h a w (Some u) x is = keeps (releases edition owner a h u w) h a w u x refl is
 
   -- who holds a lock after an act
-  holds : (h : History) (a : Act) (w : ℕ) (held g : Option UserId) (x : UserId) → given edition owner a h w held ≡ g → Gives h a → or_else g (kept edition owner a h w held) ≡ Some x
+  holds : (h : History) (a : Act) (w : ℕ) (held g : Option UserId) (x : UserId) → given edition owner a h w held ≡ g
+      → Gives h a → or_else g (kept edition owner a h w held) ≡ Some x
       → ((held ≡ Some x) × (writes (a ∷ h) x w ≡ true)) ⊎ GivenTo h a w x
   holds h a w held None x at gives is = inl (held_on h a w held x is)
   holds h a w held (Some y) x at gives is = inr (gives w x held (at ∙ is))
@@ -66,17 +75,28 @@ module _ (edition : Edition) (owner : UserId) (P : UserId → Type 0) (base : Hi
   later a acts w x (p, inr may) = (p, inr may)
 
   now : (h : History) (a : Act) (acts : List Act) (w : ℕ) (x : UserId) → GivenTo h a w x → Taken (a ∷ acts) w x
-  now h a acts w x g = (g.own, ⊎_elim (λ (opened : opens_window w a ≡ true). inl (or_before (opens_window w a) (list_any (opens_window w) acts) opened)) (λ (may : writes base x w ≡ true). inr may) g.had)
+  now h a acts w x g = (
+    g.own,
+    ⊎_elim
+        (λ (opened : opens_window w a ≡ true). inl (or_before (opens_window w a) (list_any (opens_window w) acts) opened))
+        (λ (may : writes base x w ≡ true). inr may) g.had,
+  )
 
-  first : (h : History) (a : Act) (acts : List Act) (w : ℕ) (x : UserId) → Gives h a → (holder edition owner (a ∷ h) w ≡ Some x) ⊎ Taken acts w x → (holder edition owner h w ≡ Some x) ⊎ Taken (a ∷ acts) w x
+  first : (h : History) (a : Act) (acts : List Act) (w : ℕ) (x : UserId) → Gives h a
+      → (holder edition owner (a ∷ h) w ≡ Some x) ⊎ Taken acts w x
+      → (holder edition owner h w ≡ Some x) ⊎ Taken (a ∷ acts) w x
   first h a acts w x gives (inr taken) = inr (later a acts w x taken)
-  first h a acts w x gives (inl is) = on (holds h a w (holder edition owner h w) (given edition owner a h w (holder edition owner h w)) x refl gives is) where
-    on : ((holder edition owner h w ≡ Some x) × (writes (a ∷ h) x w ≡ true)) ⊎ GivenTo h a w x → (holder edition owner h w ≡ Some x) ⊎ Taken (a ∷ acts) w x
-    on (inl k) = inl k.0
-    on (inr g) = inr (now h a acts w x g)
+  first h a acts w x gives (inl is) = on
+      (holds h a w (holder edition owner h w) (given edition owner a h w (holder edition owner h w)) x refl gives is)
+    where
+      on : ((holder edition owner h w ≡ Some x) × (writes (a ∷ h) x w ≡ true)) ⊎ GivenTo h a w x
+          → (holder edition owner h w ≡ Some x) ⊎ Taken (a ∷ acts) w x
+      on (inl k) = inl k.0
+      on (inr g) = inr (now h a acts w x g)
 
   -- who holds a lock after acts held it before, or took it
-  pub taken : (h : History) (acts : List Act) → GivesAll h acts → (w : ℕ) (x : UserId) → holder edition owner (followed_by h acts) w ≡ Some x → (holder edition owner h w ≡ Some x) ⊎ Taken acts w x
+  pub taken : (h : History) (acts : List Act) → GivesAll h acts → (w : ℕ) (x : UserId)
+      → holder edition owner (followed_by h acts) w ≡ Some x → (holder edition owner h w ≡ Some x) ⊎ Taken acts w x
   taken h [] all w x is = inl is
   taken h (a ∷ acts) all w x is = first h a acts w x all.0 (taken (a ∷ h) acts all.1 w x is)
 
@@ -85,7 +105,8 @@ module _ (edition : Edition) (owner : UserId) (P : UserId → Type 0) (base : Hi
 
   -- and may write
   able_one : (h : History) (a : Act) → Gives h a → Able (a ∷ h)
-  able_one h a gives w x is = ⊎_elim (λ (k : (holder edition owner h w ≡ Some x) × (writes (a ∷ h) x w ≡ true)). k.1) (λ (g : GivenTo h a w x). g.has_it)
+  able_one h a gives w x is = ⊎_elim (λ (k : (holder edition owner h w ≡ Some x) × (writes (a ∷ h) x w ≡ true)). k.1)
+      (λ (g : GivenTo h a w x). g.has_it)
       (holds h a w (holder edition owner h w) (given edition owner a h w (holder edition owner h w)) x refl gives is)
 
   pub able : (h : History) (acts : List Act) → GivesAll h acts → Able h → Able (followed_by h acts)
@@ -137,14 +158,18 @@ module _ (edition : Edition) (owner : UserId) (P : UserId → Type 0) (base : Hi
   own_one user p h (act.Mode by v mode) based is w u held at =
       let d : ((v == w && not (is_off mode)) ≡ true) × (by ≡ u) = decides (v == w && not (is_off mode)) by u at in
       let here : v ≡ w = equal v w (and_first (v == w) (not (is_off mode)) d.0) in
-      let may : writes base u w ≡ true = subst (λ y. writes base y w ≡ true) d.1 (subst (λ n. writes base by n ≡ true) here (is.1 (not_true (is_off mode) (and_second (v == w) (not (is_off mode)) d.0)))) in record {
+      let may : writes base u w ≡ true = subst (λ y. writes base y w ≡ true) d.1
+      (subst (λ n. writes base by n ≡ true) here
+      (is.1 (not_true (is_off mode) (and_second (v == w) (not (is_off mode)) d.0)))) in record {
         own = subst P (sym is.0 ∙ d.1) p;
         had = inr may;
         has_it = based u w ∙ may;
       }
   own_one user p h (act.Entered y v) based is w u held at =
-      let d : ((v == w && is_auto (mode_of h w) && is_none held && writes h y w) ≡ true) × (y ≡ u) = decides (v == w && is_auto (mode_of h w) && is_none held && writes h y w) y u at in
-      let may : writes h u w ≡ true = subst (λ x. writes h x w ≡ true) d.1 (last (v == w) (is_auto (mode_of h w)) (is_none held) (writes h y w) d.0) in record {
+      let d : ((v == w && is_auto (mode_of h w) && is_none held && writes h y w) ≡ true)
+      × (y ≡ u) = decides (v == w && is_auto (mode_of h w) && is_none held && writes h y w) y u at in
+      let may : writes h u w ≡ true = subst (λ x. writes h x w ≡ true) d.1
+      (last (v == w) (is_auto (mode_of h w)) (is_none held) (writes h y w) d.0) in record {
         own = subst P (sym is ∙ d.1) p;
         had = inr (sym (based u w) ∙ may);
         has_it = may;
@@ -172,17 +197,24 @@ module _ (edition : Edition) (owner : UserId) (P : UserId → Type 0) (base : Hi
   still_based user h (act.Default mode) based is = based
   still_based user h a based is = absurd is
 
-  pub own : (user : UserId) → P user → (h : History) (acts : List Act) → Based h → AllByRecursion (IsOwn user) acts → GivesAll h acts
+  pub own : (user : UserId) → P user → (h : History) (acts : List Act) → Based h → AllByRecursion (IsOwn user) acts
+      → GivesAll h acts
   own user p h [] based all = tt
-  own user p h (a ∷ acts) based all = (own_one user p h a based all.0, own user p (a ∷ h) acts (still_based user h a based all.0) all.1)
+  own user p h (a ∷ acts) based all =
+      (own_one user p h a based all.0, own user p (a ∷ h) acts (still_based user h a based all.0) all.1)
 
   -- who opens a window has every right there
   pub opening : (user : UserId) → P user → (h : History) (n : ℕ) → Gives h (act.Opened user n)
   opening user p h n = gives where
-    opener : (v w : ℕ) (u : UserId) → (v == w) ≡ true → user ≡ u → has owner (act.Opened user v ∷ h) u Write (object.Window w) ≡ true
+    opener : (v w : ℕ) (u : UserId) → (v == w) ≡ true → user ≡ u
+        → has owner (act.Opened user v ∷ h) u Write (object.Window w) ≡ true
     opener v w u here same =
-        ap (λ (b : Bool). Rattle.std.specs.Prelude.unwrap_or (if b then Rattle.acl.specs.History.opening owner h user u Write else None) (has owner h u Write (object.Window w))) here
-        ∙ ap (λ (b : Bool). Rattle.std.specs.Prelude.unwrap_or (if b then Some true else decided (Rattle.acl.specs.History.is_known owner h u) (Rattle.acl.specs.History.mask h user u Write)) (has owner h u Write (object.Window w)))
+        ap (λ (b : Bool). Rattle.std.specs.Prelude.unwrap_or
+        (if b then Rattle.acl.specs.History.opening owner h user u Write else None)
+        (has owner h u Write (object.Window w))) here
+        ∙ ap (λ (b : Bool). Rattle.std.specs.Prelude.unwrap_or
+        (if b then Some true else decided (Rattle.acl.specs.History.is_known owner h u)
+        (Rattle.acl.specs.History.mask h user u Write)) (has owner h u Write (object.Window w)))
         (ap (λ x. same_user user x) (sym same) ∙ Rattle.acl.proofs.StandsForLemmas.same_user-refl user)
 
     or_middle : (a b c : Bool) → b ≡ true → (a || b || c) ≡ true
@@ -192,9 +224,11 @@ module _ (edition : Edition) (owner : UserId) (P : UserId → Type 0) (base : Hi
 
     gives : Gives h (act.Opened user n)
     gives w u held at =
-        let d : ((n == w && is_on (default_of h)) ≡ true) × (user ≡ u) = decides (n == w && is_on (default_of h)) user u at in
+        let d : ((n == w && is_on (default_of h)) ≡ true)
+        × (user ≡ u) = decides (n == w && is_on (default_of h)) user u at in
         let here : (n == w) ≡ true = and_first (n == w) (is_on (default_of h)) d.0 in record {
           own = subst P d.1 p;
           had = inl here;
-          has_it = or_middle (same_user owner u) (has owner (act.Opened user n ∷ h) u Write (object.Window w)) _ (opener n w u here d.1);
+          has_it = or_middle (same_user owner u) (has owner (act.Opened user n ∷ h) u Write (object.Window w)) _
+              (opener n w u here d.1);
         }

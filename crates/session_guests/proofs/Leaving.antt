@@ -90,7 +90,8 @@ sees_own [] = tt
 sees_own (c ∷ cs) = (
   (λ w at. or_early (shows c.user w c) (is_in_focus cs c.user w) (shows_own c w at)),
   all_weaken (Sees cs)
-      (Sees (c ∷ cs)) cs (λ d sees w at. or_late (shows d.user w c) (is_in_focus cs d.user w) (sees w at)) (sees_own cs),
+      (Sees (c ∷ cs)) cs (λ d sees w at. or_late (shows d.user w c) (is_in_focus cs d.user w) (sees w at))
+      (sees_own cs),
 )
 
 as_leaves : (Q : UserId → ℕ → Type 0) (after : List Client) (c : Client) → Sees after c → Leaves Q after c

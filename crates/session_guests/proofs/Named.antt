@@ -1,5 +1,6 @@
 -- Windows keep their numbers and titles, but for granted commands on them.
-use Rattle.std.proofs.Common.{◌≡◌, ℕ, Bool, true, false, List, [], ◌∷◌, ◌++◌, Option, Some, None, Ok, Err, refl, ap, ◌∙◌, subst, inl, inr}
+use Rattle.std.proofs.Common.{◌≡◌, ℕ, Bool, true, false, List, [], ◌∷◌, ◌++◌, Option, Some, None, Ok, Err, refl, ap}
+use Rattle.std.proofs.Common.{◌∙◌, subst, inl, inr}
 use Rattle.std.specs.Prelude.{if◌then◌else◌, ◌==◌, ◌⊎◌}
 use Rattle.std.specs.List.{AllByRecursion}
 use Rattle.std.specs.Option.{option_map_or}
@@ -44,17 +45,24 @@ use Rattle.session_guests.proofs.Parting.{did_x}
 abbrev IsRowOf : Tables → Caller → Type 0
 IsRowOf t k = (w : Window) → k.window ≡ Some w → window_at t w.serial ≡ Some w
 
-row_given : (t : Tables) (k : Caller) (o : Option Order) → IsRowOf t k → AllByRecursion (λ (g : Given). IsRowOf t g.caller) (with_order k o)
+row_given : (t : Tables) (k : Caller) (o : Option Order) → IsRowOf t k
+    → AllByRecursion (λ (g : Given). IsRowOf t g.caller) (with_order k o)
 row_given t k None row = tt
 row_given t k (Some c) row = (row, tt)
 
-rows_given : (t : Tables) (event : EventValue) → AreFit t → AllByRecursion (λ (g : Given). IsRowOf t g.caller) (commands_of t event)
+rows_given : (t : Tables) (event : EventValue) → AreFit t
+    → AllByRecursion (λ (g : Given). IsRowOf t g.caller) (commands_of t event)
 rows_given t (Command user number bytes) fit = on (is_known t user) where
-  on : (b : Bool) → AllByRecursion (λ (g : Given). IsRowOf t g.caller) (if b then with_order (line_caller t user number) (ok_of (read_line bytes)) else [])
-  on true = row_given t (line_caller t user number) (ok_of (read_line bytes)) (λ w is. line_row t number w (differ t.windows t.next_window fit.sound.windows_rise) is)
+  on : (b : Bool)
+      → AllByRecursion (λ (g : Given). IsRowOf t g.caller)
+      (if b then with_order (line_caller t user number) (ok_of (read_line bytes)) else [])
+  on true = row_given t (line_caller t user number) (ok_of (read_line bytes))
+      (λ w is. line_row t number w (differ t.windows t.next_window fit.sound.windows_rise) is)
   on false = tt
 rows_given t (Keys client bytes) fit = on (client_at t client) where
-  on : (o : Option Client) → AllByRecursion (λ (g : Given). IsRowOf t g.caller) (option_map_or (λ c. with_order (caller_of t c) (order_in (command_item (step_items c bytes)))) o [])
+  on : (o : Option Client)
+      → AllByRecursion (λ (g : Given). IsRowOf t g.caller)
+      (option_map_or (λ c. with_order (caller_of t c) (order_in (command_item (step_items c bytes)))) o [])
   on None = tt
   on (Some c) = row_given t (caller_of t c) (order_in (command_item (step_items c bytes))) (focus_row t (focused c))
 rows_given t event fit = tt
@@ -71,12 +79,15 @@ module _ (t : Tables) (w : ℕ) where
 
   did_named : (e : Entry) (g : Given) → IsRowOf t g.caller → Did t e g → Same (after t e) ⊎ MayName t w g
   did_named e g row d =
-      on (deed_of g.order (does (with_clients t d.clients) g.caller g.order) d.deed (Kept (with_clients t d.clients) g.caller row w g.order) d.does_it (labels_kept (with_clients t d.clients) g.caller row w g.order)) where
+      on (deed_of g.order (does (with_clients t d.clients) g.caller g.order) d.deed
+      (Kept (with_clients t d.clients) g.caller row w g.order) d.does_it
+      (labels_kept (with_clients t d.clients) g.caller row w g.order)) where
         on : Kept (with_clients t d.clients) g.caller row w g.order d.deed → Same (after t e) ⊎ MayName t w g
         on (inl same) = inl (ap (λ ws. label_in ws w) d.tables.windows ∙ same)
         on (inr names) = inr (record { granted = did_x t e g d; acts = names })
 
-  some_named : (e : Entry) (gs : List Given) → AllByRecursion (λ (g : Given). IsRowOf t g.caller) gs → SomeOf (Did t e) gs → Same (after t e) ⊎ SomeOf (MayName t w) gs
+  some_named : (e : Entry) (gs : List Given) → AllByRecursion (λ (g : Given). IsRowOf t g.caller) gs
+      → SomeOf (Did t e) gs → Same (after t e) ⊎ SomeOf (MayName t w) gs
   some_named e [] rows some = absurd some
   some_named e (g ∷ gs) rows (inl d) = on (did_named e g rows.0 d) where
     on : Same (after t e) ⊎ MayName t w g → Same (after t e) ⊎ SomeOf (MayName t w) (g ∷ gs)
@@ -99,7 +110,8 @@ module _ (t : Tables) (w : ℕ) where
   output_same : (window : ℕ) (bytes : List ℕ) → SameIn (outcome t (Output window bytes))
   output_same window bytes =
       outcomes.found SameIn t (λ v. finished t [] done (outputs t v bytes)) (window_at t window) refl
-      (λ v at. written_label t v (record v { writing = v.writing ++ written.Output bytes ∷ [] }) w (ap (window_at t) (row_serial serial t.windows window v at) ∙ at) refl refl)
+      (λ v at. written_label t v (record v { writing = v.writing ++ written.Output bytes ∷ [] }) w
+      (ap (window_at t) (row_serial serial t.windows window v at) ∙ at) refl refl)
 
   windows_same : (event : EventValue) → outcomes.leaves_windows event ≡ true → SameIn (outcome t event)
   windows_same event leaves = ap (λ ws. label_in ws w) (outcomes.same_windows t event leaves)
@@ -109,18 +121,27 @@ module _ (t : Tables) (w : ℕ) where
   drawn_same (Some c) effects u same = same
 
   closed_same : (window : ℕ) → (window == w) ≡ false → SameIn (outcome t (Closed window))
-  closed_same window off = outcomes.found SameIn t (λ v. finished t [] done (closes (λ x. x.serial == window) reason.Detached t)) (window_at t window) refl (λ v at. closed t.windows window w off)
+  closed_same window off = outcomes.found SameIn t
+      (λ v. finished t [] done (closes (λ x. x.serial == window) reason.Detached t)) (window_at t window) refl
+      (λ v at. closed t.windows window w off)
 
   abbrev OpensIt : UserId → Outcome → Type 0
   OpensIt user o = SameIn o ⊎ ((t.next_window ≡ w) × (may_in t user Execute (object.Command name.Screen) ≡ true))
 
-  open_named : (user : UserId) (rows columns keep : ℕ) (title : List ℕ) → OpensIt user (outcome t (Open user rows columns keep title))
+  open_named : (user : UserId) (rows columns keep : ℕ) (title : List ℕ)
+      → OpensIt user (outcome t (Open user rows columns keep title))
   open_named user rows columns keep title =
       let v : Window = new_window t rows columns keep title in
-      outcomes.passed (OpensIt user) t (verdicts t (open_checks t user rows columns keep title)) (first_fault t (open_checks t user rows columns keep title)) (reply_of 0 v.serial v.number None) (opens t user v)
-      (λ r is. inl refl) (λ is. on (t.next_window == w) refl (first_passed (may_in t user Execute (object.Command name.Screen)) _ _ (then_passed (is_known t user) _ _ is))) where
+      outcomes.passed (OpensIt user) t (verdicts t (open_checks t user rows columns keep title))
+      (first_fault t (open_checks t user rows columns keep title)) (reply_of 0 v.serial v.number None)
+      (opens t user v)
+      (λ r is. inl refl)
+      (λ is. on (t.next_window == w) refl
+      (first_passed (may_in t user Execute (object.Command name.Screen)) _ _
+      (then_passed (is_known t user) _ _ is))) where
         on : (b : Bool) → (t.next_window == w) ≡ b → may_in t user Execute (object.Command name.Screen) ≡ true
-            → (label_in (t.windows ++ new_window t rows columns keep title ∷ []) w ≡ label_in t.windows w) ⊎ ((t.next_window ≡ w) × (may_in t user Execute (object.Command name.Screen) ≡ true))
+            → (label_in (t.windows ++ new_window t rows columns keep title ∷ []) w ≡ label_in t.windows w) ⊎
+            ((t.next_window ≡ w) × (may_in t user Execute (object.Command name.Screen) ≡ true))
         on true here x = inr (equal t.next_window w here, x)
         on false here x = inl (opened t.windows (new_window t rows columns keep title) w here)
 
@@ -132,15 +153,23 @@ module _ (t : Tables) (w : ℕ) where
 
   -- ---- each step
 
-  stay_by : Below → AreFit t → (event : EventValue) (reply : Reply) (acts : List Act) (vs : List Verdict) (effects : List Effect)
-      → let e : Entry = record { event = event; reply = reply; acts = acts; verdicts = vs; effects = effects } in IsStep t e → Same (after t e) ⊎ IsNamed t e event w
+  stay_by : Below → AreFit t
+      → (event : EventValue) (reply : Reply) (acts : List Act) (vs : List Verdict) (effects : List Effect)
+      → let e : Entry = record { event = event; reply = reply; acts = acts; verdicts = vs; effects = effects } in IsStep
+      t e → Same (after t e) ⊎ IsNamed t e event w
   stay_by laws fit (Keys client bytes) reply acts vs effects step =
-      let e : Entry = record { event = Keys client bytes; reply = reply; acts = acts; verdicts = vs; effects = effects } in obeys_named e fit (obeys_of laws t e step refl)
+      let e : Entry = record { event = Keys client bytes; reply = reply; acts = acts; verdicts = vs; effects = effects }
+      in obeys_named e fit (obeys_of laws t e step refl)
   stay_by laws fit (Command user number bytes) reply acts vs effects step =
-      let e : Entry = record { event = Command user number bytes; reply = reply; acts = acts; verdicts = vs; effects = effects } in obeys_named e fit (obeys_of laws t e step refl)
+      let e : Entry = record
+      { event = Command user number bytes; reply = reply; acts = acts; verdicts = vs; effects = effects } in
+      obeys_named e fit (obeys_of laws t e step refl)
   stay_by laws fit (Output window bytes) reply acts vs effects step = inl (output_same window bytes)
-  stay_by laws fit (Draw client) reply acts vs effects step = inl (drawn_same (client_at (outcome t (Draw client)).tables client) effects (outcome t (Draw client)).tables (windows_same (Draw client) refl))
-  stay_by laws fit (Open user rows columns keep title) reply acts vs effects step = open_named user rows columns keep title
+  stay_by laws fit (Draw client) reply acts vs effects step = inl
+      (drawn_same (client_at (outcome t (Draw client)).tables client) effects (outcome t (Draw client)).tables
+      (windows_same (Draw client) refl))
+  stay_by laws fit (Open user rows columns keep title) reply acts vs effects step = open_named user rows columns keep
+      title
   stay_by laws fit (Closed window) reply acts vs effects step = closed_named window
   stay_by laws fit event reply acts vs effects step = inl (windows_same event refl)
 

@@ -1,5 +1,6 @@
 -- Which acts each command has, and what it leaves.
-use Rattle.std.proofs.Common.{◌≡◌, ℕ, Bool, true, false, not, List, [], ◌∷◌, Option, Some, None, refl, ap, sym, ◌∙◌, subst, map, filter}
+use Rattle.std.proofs.Common.{◌≡◌, ℕ, Bool, true, false, not, List, [], ◌∷◌, Option, Some, None, refl, ap, sym, ◌∙◌}
+use Rattle.std.proofs.Common.{subst, map, filter}
 use Rattle.std.specs.Prelude.{◌==◌}
 use Rattle.std.specs.List.{AllByRecursion}
 use Rattle.acl.specs.declared.user_id.UserId.{UserId}
@@ -49,7 +50,8 @@ is_mode (command.Multiuser is_on) = true
 is_mode _ = false
 
 -- the acts of list commands
-listing : (k : Caller) (c : Order) (acts : List Act) → changes_rights (name_of c) ≡ true → AllListing acts → AllByRecursion (IsActOf k c) acts
+listing : (k : Caller) (c : Order) (acts : List Act) → changes_rights (name_of c) ≡ true → AllListing acts
+    → AllByRecursion (IsActOf k c) acts
 listing k c acts changes all = all_weaken (λ a. is_listing a ≡ true) (IsActOf k c) acts one all where
   one : (a : Act) → is_listing a ≡ true → IsActOf k c a
   one (act.Known user) is = changes
@@ -79,34 +81,43 @@ pub record IsRow (t : Tables) (k : Caller) (c : Order) (d : Deed) : Type 0 where
 abbrev pub IsCaller : Tables → Caller → Type 0
 IsCaller t k = (c : Client) → caller_client t k ≡ Some c → c.user ≡ k.user
 
-row : (t : Tables) (k : Caller) (c : Order) (d : Deed) → AllByRecursion (IsActOf k c) d.acts → d.tables.owner ≡ t.owner → d.tables.edition ≡ t.edition
+row : (t : Tables) (k : Caller) (c : Order) (d : Deed) → AllByRecursion (IsActOf k c) d.acts → d.tables.owner ≡ t.owner
+    → d.tables.edition ≡ t.edition
     → d.tables.next_window ≡ t.next_window → d.tables.is_multiuser ≡ t.is_multiuser → IsRow t k c d
-row t k c d acts owner edition next mode = record { acts = acts; owner = owner; edition = edition; next_window = next; mode = λ other. mode }
+row t k c d acts owner edition next mode = record
+    { acts = acts; owner = owner; edition = edition; next_window = next; mode = λ other. mode }
 
-entering_acts : (k : Caller) (c : Order) (user : UserId) (o : Option ℕ) → ((w : ℕ) → IsActOf k c (act.Entered user w)) → AllByRecursion (IsActOf k c) (entering user o)
+entering_acts : (k : Caller) (c : Order) (user : UserId) (o : Option ℕ) → ((w : ℕ) → IsActOf k c (act.Entered user w))
+    → AllByRecursion (IsActOf k c) (entering user o)
 entering_acts k c user None on = tt
 entering_acts k c user (Some w) on = (on w, tt)
 
-entered : (t : Tables) (k : Caller) (c : Order) (d : Client) (l : Arrangement) → ((w : ℕ) → IsActOf k c (act.Entered d.user w)) → IsRow t k c (deeds.enters t d l)
+entered : (t : Tables) (k : Caller) (c : Order) (d : Client) (l : Arrangement)
+    → ((w : ℕ) → IsActOf k c (act.Entered d.user w)) → IsRow t k c (deeds.enters t d l)
 entered t k c d l on = row t k c _ (entering_acts k c d.user (focused (with_layout l d)) on) refl refl refl refl
 
-parted_acts : (k : Caller) (c : Order) (goes : Client → Bool) (cs : List Client) → ((d : Client) → goes d ≡ true → IsActOf k c (act.Parted d.serial))
+parted_acts : (k : Caller) (c : Order) (goes : Client → Bool) (cs : List Client)
+    → ((d : Client) → goes d ≡ true → IsActOf k c (act.Parted d.serial))
     → AllByRecursion (IsActOf k c) (map (λ (d : Client). act.Parted d.serial) (filter goes cs))
 parted_acts k c goes cs on =
     all_map (IsActOf k c) (λ (d : Client). act.Parted d.serial) (filter goes cs)
-    (all_passed (λ (d : Client). IsActOf k c (act.Parted d.serial)) goes cs (all_of (λ (d : Client). goes d ≡ true → IsActOf k c (act.Parted d.serial)) cs on))
+    (all_passed (λ (d : Client). IsActOf k c (act.Parted d.serial)) goes cs
+    (all_of (λ (d : Client). goes d ≡ true → IsActOf k c (act.Parted d.serial)) cs on))
 
-closed_acts : (k : Caller) (c : Order) (goes : Window → Bool) (ws : List Window) → ((w : Window) → goes w ≡ true → IsActOf k c (act.Closed w.serial))
+closed_acts : (k : Caller) (c : Order) (goes : Window → Bool) (ws : List Window)
+    → ((w : Window) → goes w ≡ true → IsActOf k c (act.Closed w.serial))
     → AllByRecursion (IsActOf k c) (map (λ (w : Window). act.Closed w.serial) (filter goes ws))
 closed_acts k c goes ws on =
     all_map (IsActOf k c) (λ (w : Window). act.Closed w.serial) (filter goes ws)
-    (all_passed (λ (w : Window). IsActOf k c (act.Closed w.serial)) goes ws (all_of (λ (w : Window). goes w ≡ true → IsActOf k c (act.Closed w.serial)) ws on))
+    (all_passed (λ (w : Window). IsActOf k c (act.Closed w.serial)) goes ws
+    (all_of (λ (w : Window). goes w ≡ true → IsActOf k c (act.Closed w.serial)) ws on))
 
 removal : (t : Tables) (k : Caller) (word : List ℕ) (o : Option UserId) → IsRow t k (command.Acldel word) (removes o t)
 removal t k word None = row t k _ _ tt refl refl refl refl
 removal t k word (Some u) =
     row t k (command.Acldel word) _
-    (all_append (IsActOf k (command.Acldel word)) (map (λ (d : Client). act.Parted d.serial) (filter (deeds.is_of u) t.clients)) (act.Gone u ∷ [])
+    (all_append (IsActOf k (command.Acldel word))
+    (map (λ (d : Client). act.Parted d.serial) (filter (deeds.is_of u) t.clients)) (act.Gone u ∷ [])
     (parted_acts k (command.Acldel word) (deeds.is_of u) t.clients (λ d goes. tt)) (refl, tt)) refl refl refl refl
 
 own_window : (k : Caller) (w : Window) (n : ℕ) → k.window ≡ Some w → w.serial ≡ n → IsOn k.window n
@@ -133,18 +144,27 @@ module _ (t : Tables) (k : Caller) (by : IsCaller t k) where
     on true is = contradicts (needs c).multiuser (needs_mode c is) none
     on false is = refl
 
-  on_rights : (c x : Order) (acts : List Act) → c ≡ x → changes_rights (name_of x) ≡ true → AllListing acts → AllByRecursion (IsActOf k c) acts
+  on_rights : (c x : Order) (acts : List Act) → c ≡ x → changes_rights (name_of x) ≡ true → AllListing acts
+      → AllByRecursion (IsActOf k c) acts
   on_rights c x acts is changes all = listing k c acts (ap (λ (y : Order). changes_rights (name_of y)) is ∙ changes) all
 
   acted_row : (c : Order) (acts : List Act) → shapes.Acted t k c acts → AllByRecursion (IsActOf k c) acts
-  acted_row c acts (shapes.added names all is clear every) = on_rights c _ _ is refl (add_list (known_users t) (names_of t names) all)
-  acted_row c acts (shapes.changed names bits list all is clear objects) = on_rights c _ _ is refl (change_list (known_users t) (names_of t names) bits all)
-  acted_row c acts (shapes.grouped word leader is clear) = on_rights c _ _ is refl (group_list (named_by word) (new_leader_of leader))
+  acted_row c acts (shapes.added names all is clear every) = on_rights c _ _ is refl
+      (add_list (known_users t) (names_of t names) all)
+  acted_row c acts (shapes.changed names bits list all is clear objects) = on_rights c _ _ is refl
+      (change_list (known_users t) (names_of t names) bits all)
+  acted_row c acts (shapes.grouped word leader is clear) = on_rights c _ _ is refl
+      (group_list (named_by word) (new_leader_of leader))
   acted_row c acts (shapes.masked masks is clear) = on_rights c _ _ is refl (mask_list k.user (mask_entries t masks))
-  acted_row c acts (shapes.locked w mode is at) = (subst (λ (y : Order). IsActOf k y (act.Mode k.user w.serial mode)) (sym is) (refl, own_window k w w.serial at refl, refl), tt)
+  acted_row c acts (shapes.locked w mode is at) = (
+    subst (λ (y : Order). IsActOf k y (act.Mode k.user w.serial mode)) (sym is)
+        (refl, own_window k w w.serial at refl, refl),
+    tt,
+  )
   acted_row c acts (shapes.preset mode is) = (subst (λ (y : Order). IsActOf k y (act.Default mode)) (sym is) tt, tt)
 
-  shut_row : IsRow t k (command.Multiuser false) (parts (λ d. not (deeds.is_of t.owner d)) SingleUser (record t { is_multiuser = false }))
+  shut_row : IsRow t k (command.Multiuser false)
+      (parts (λ d. not (deeds.is_of t.owner d)) SingleUser (record t { is_multiuser = false }))
   shut_row = record {
     acts = parted_acts k (command.Multiuser false) (λ d. not (deeds.is_of t.owner d)) t.clients (λ d goes. refl);
     owner = refl;
@@ -154,22 +174,31 @@ module _ (t : Tables) (k : Caller) (by : IsCaller t k) where
   }
 
   opened_row : IsRow t k (command.Multiuser true) (deeds.changing (record t { is_multiuser = true }))
-  opened_row = record { acts = tt; owner = refl; edition = refl; next_window = refl; mode = λ other. absurd (cc (other)) }
+  opened_row = record
+      { acts = tt; owner = refl; edition = refl; next_window = refl; mode = λ other. absurd (cc (other)) }
 
-  detached_row : (d : Client) → caller_client t k ≡ Some d → IsRow t k command.Detach (parts (λ (x : Client). x.serial == d.serial) Detached t)
+  detached_row : (d : Client) → caller_client t k ≡ Some d
+      → IsRow t k command.Detach (parts (λ (x : Client). x.serial == d.serial) Detached t)
   detached_row d is =
-      row t k command.Detach _ (parted_acts k command.Detach (λ (x : Client). x.serial == d.serial) t.clients (λ x goes. caller_is t k.client d is ∙ ap Some (sym (equal x.serial d.serial goes)))) refl refl refl refl
+      row t k command.Detach _
+      (parted_acts k command.Detach (λ (x : Client). x.serial == d.serial) t.clients
+      (λ x goes. caller_is t k.client d is ∙ ap Some (sym (equal x.serial d.serial goes)))) refl refl refl refl
 
-  killed_row : (w : Window) → k.window ≡ Some w → IsRow t k command.Kill (closes (λ (v : Window). v.serial == w.serial) Killed t)
+  killed_row : (w : Window) → k.window ≡ Some w
+      → IsRow t k command.Kill (closes (λ (v : Window). v.serial == w.serial) Killed t)
   killed_row w is =
-      row t k command.Kill _ (closed_acts k command.Kill (λ (v : Window). v.serial == w.serial) t.windows (λ v goes. own_window k w v.serial is (sym (equal v.serial w.serial goes)))) refl refl refl refl
+      row t k command.Kill _
+      (closed_acts k command.Kill (λ (v : Window). v.serial == w.serial) t.windows
+      (λ v goes. own_window k w v.serial is (sym (equal v.serial w.serial goes)))) refl refl refl refl
 
   quit_row : IsRow t k command.Quit (deeds.both (closes (λ w. true) Quit t) (parts (λ d. true) Quit))
   quit_row =
       row t k command.Quit _
-      (all_append (IsActOf k command.Quit) (map (λ (w : Window). act.Closed w.serial) (filter (λ (w : Window). true) t.windows)) _
+      (all_append (IsActOf k command.Quit)
+      (map (λ (w : Window). act.Closed w.serial) (filter (λ (w : Window). true) t.windows)) _
       (closed_acts k command.Quit (λ (w : Window). true) t.windows (λ w goes. tt))
-      (parted_acts k command.Quit (λ (d : Client). true) (without_windows (filter (λ (w : Window). true) t.windows) t.clients) (λ d goes. tt))) refl refl refl refl
+      (parted_acts k command.Quit (λ (d : Client). true)
+      (without_windows (filter (λ (w : Window). true) t.windows) t.clients) (λ d goes. tt))) refl refl refl refl
 
   deed_row : (c : Order) (d : Deed) → shapes.Shape t k c d → IsRow t k c d
   deed_row c d (shapes.lists bytes none tells) = row t k c _ tt refl refl refl refl

@@ -1,5 +1,6 @@
 -- Holders stay in steps of users without rights.
-use Rattle.std.proofs.Common.{◌≡◌, ◌<◌, ℕ, Bool, true, false, not, List, [], ◌∷◌, ◌++◌, Option, Some, None, Ok, Err, refl, ap, sym, ◌∙◌, subst, map, filter, reverse, arith, inl, inr}
+use Rattle.std.proofs.Common.{◌≡◌, ◌<◌, ℕ, Bool, true, false, not, List, [], ◌∷◌, ◌++◌, Option, Some, None, Ok, Err}
+use Rattle.std.proofs.Common.{refl, ap, sym, ◌∙◌, subst, map, filter, reverse, arith, inl, inr}
 use Rattle.std.specs.Prelude.{if◌then◌else◌, ◌==◌, ◌||◌, ◌&&◌, ◌⊎◌}
 use Rattle.std.specs.List.{AllByRecursion, list_any}
 use Rattle.std.specs.Option.{option_map, option_map_or}
@@ -37,7 +38,8 @@ use Rattle.session_model.specs.Promises.{SomeOf, IsOn, unread}
 use Rattle.session_model.specs.Rights.{may_in, holder_in}
 use Rattle.session_model.specs.Run.{IsStep, after}
 use Rattle.session_model.specs.Sound.{Rises, AreFit}
-use Rattle.session_model.specs.Tables.{Tables, Window, Client, row_of, client_at, with_client, focused, shows, is_in_focus, is_known}
+use Rattle.session_model.specs.Tables.{Tables, Window, Client, row_of, client_at, with_client, focused, shows}
+use Rattle.session_model.specs.Tables.{is_in_focus, is_known}
 use Rattle.session_model.specs.Trace.{EventValue, Attach, Detach, Keys, Command, Open, Output, Closed, Draw, Entry}
 use Rattle.session_laws.proofs.Lists.{contradicts, equal, all_weaken, all_append, all_map, all_of, all_passed}
 use Rattle.session_laws.proofs.Doing.{Either}
@@ -46,7 +48,8 @@ use Rattle.session_laws.proofs.Outcomes.{Change, change_of, Changes, changes}
 use Rattle.session_laws.proofs.Unread.{SameClients, row_at}
 use Rattle.session_guests.specs.Changing.{changes_rights}
 use Rattle.session_guests.specs.Contained.{stood}
-use Rattle.session_guests.specs.Locking.{user_of, client_user, HoldersMayWrite, may_free, MayFree, IsPowerless, HoldersStayIn}
+use Rattle.session_guests.specs.Locking.{user_of, client_user, HoldersMayWrite, may_free, MayFree, IsPowerless}
+use Rattle.session_guests.specs.Locking.{HoldersStayIn}
 use Rattle.session_guests.proofs.Rows.{IsActOf}
 use Rattle.session_guests.proofs.Steps.{Did, Rests, Obeys, with_clients}
 use Rattle.session_guests.proofs.Events.{gives_commands, changed_by}
@@ -61,29 +64,41 @@ use Rattle.session_guests.proofs.Parting.{did_x}
 abbrev pub Own : ℕ → UserId → Client → Type 0
 Own s user d = (d.serial == s) ≡ true → d.user ≡ user
 
-pub above : (n s : ℕ) (user : UserId) (cs : List Client) → n ≡ s → AllByRecursion (λ m. n < m) (map (λ (c : Client). c.serial) cs) → AllByRecursion (Own s user) cs
+pub above : (n s : ℕ) (user : UserId) (cs : List Client) → n ≡ s
+    → AllByRecursion (λ m. n < m) (map (λ (c : Client). c.serial) cs) → AllByRecursion (Own s user) cs
 above n s user [] is all = tt
 above n s user (c ∷ cs) is all =
-    let less : n < c.serial = all.0 in
-    ((λ at. let same : c.serial ≡ s = equal c.serial s at in absurd (omega (arith, less, same, is))), above n s user cs is all.1)
+    let less : n < c.serial = all.0 in (
+      (λ at. let same : c.serial ≡ s = equal c.serial s at in absurd (omega (arith, less, same, is))),
+      above n s user cs
+          is all.1,
+    )
 
-pub unique : (cs : List Client) (next s : ℕ) (c : Client) → Rises (map (λ (d : Client). d.serial) cs) next → row_of (λ (d : Client). d.serial) cs s ≡ Some c → AllByRecursion (Own s c.user) cs
+pub unique : (cs : List Client) (next s : ℕ) (c : Client) → Rises (map (λ (d : Client). d.serial) cs) next
+    → row_of (λ (d : Client). d.serial) cs s ≡ Some c → AllByRecursion (Own s c.user) cs
 unique [] next s c rise is = tt
 unique (r ∷ cs) next s c rise is = on (r.serial == s) refl is (unique cs next s c rise.2) where
-  on : (b : Bool) → (r.serial == s) ≡ b → (if b then Some r else row_of (λ (d : Client). d.serial) cs s) ≡ Some c → (row_of (λ (d : Client). d.serial) cs s ≡ Some c → AllByRecursion (Own s c.user) cs) → AllByRecursion (Own s c.user) (r ∷ cs)
-  on true at is more = let same : r ≡ c = cc (is) in ((λ _. ap (λ (d : Client). d.user) same), above r.serial s c.user cs (equal r.serial s at) rise.1)
+  on : (b : Bool) → (r.serial == s) ≡ b → (if b then Some r else row_of (λ (d : Client). d.serial) cs s) ≡ Some c
+      → (row_of (λ (d : Client). d.serial) cs s ≡ Some c → AllByRecursion (Own s c.user) cs)
+      → AllByRecursion (Own s c.user) (r ∷ cs)
+  on true at is more = let same : r ≡ c = cc (is) in
+      ((λ _. ap (λ (d : Client). d.user) same), above r.serial s c.user cs (equal r.serial s at) rise.1)
   on false at is more = ((λ here. contradicts (r.serial == s) here at), more is)
 
 pub all_reverse : {A : Type 0} (P : A → Type 0) (xs : List A) → AllByRecursion P xs → AllByRecursion P (reverse xs)
 all_reverse P [] all = tt
-all_reverse P (x ∷ xs) all = subst (AllByRecursion P) (sym (reverse-append (x ∷ []) xs)) (all_append P (reverse xs) (x ∷ []) (all_reverse P xs all.1) (all.0, tt))
+all_reverse P (x ∷ xs) all = subst (AllByRecursion P) (sym (reverse-append (x ∷ []) xs))
+    (all_append P (reverse xs) (x ∷ []) (all_reverse P xs all.1) (all.0, tt))
 
-pub all_mapped : {A B : Type 0} (P : B → Type 0) (f : A → B) (xs : List A) → AllByRecursion P (map f xs) → AllByRecursion (λ x. P (f x)) xs
+pub all_mapped : {A B : Type 0} (P : B → Type 0) (f : A → B) (xs : List A) → AllByRecursion P (map f xs)
+    → AllByRecursion (λ x. P (f x)) xs
 all_mapped P f [] all = tt
 all_mapped P f (x ∷ xs) all = (all.0, all_mapped P f xs all.1)
 
-pub own_read : (t : Tables) (cs : List Client) (s : ℕ) (user : UserId) → SameClients t cs → AllByRecursion (Own s user) t.clients → AllByRecursion (Own s user) cs
-own_read t cs s user same all = all_mapped (Own s user) unread cs (subst (AllByRecursion (Own s user)) (sym same) (all_map (Own s user) unread t.clients all))
+pub own_read : (t : Tables) (cs : List Client) (s : ℕ) (user : UserId) → SameClients t cs
+    → AllByRecursion (Own s user) t.clients → AllByRecursion (Own s user) cs
+own_read t cs s user same all = all_mapped (Own s user) unread cs
+    (subst (AllByRecursion (Own s user)) (sym same) (all_map (Own s user) unread t.clients all))
 
 pub focus_read : (cs : List Client) (x : UserId) (w : ℕ) → is_in_focus cs x w ≡ is_in_focus (map unread cs) x w
 focus_read [] x w = refl
@@ -93,36 +108,47 @@ focus_read (c ∷ cs) x w = ap (λ b. shows x w c || b) (focus_read cs x w)
 abbrev pub IsOf : Tables → Caller → Type 0
 IsOf t k = (s : ℕ) → k.client ≡ Some s → (c : Client) × (client_at t s ≡ Some c) × (c.user ≡ k.user)
 
-line_of : (t : Tables) (user : UserId) (number : Option ℕ) (o : Option Order) → AllByRecursion (λ (g : Given). IsOf t g.caller) (with_order (line_caller t user number) o)
+line_of : (t : Tables) (user : UserId) (number : Option ℕ) (o : Option Order)
+    → AllByRecursion (λ (g : Given). IsOf t g.caller) (with_order (line_caller t user number) o)
 line_of t user number None = tt
 line_of t user number (Some c) = ((λ s is. absurd (cc (is))), tt)
 
-keys_of : (t : Tables) (c : Client) (o : Option Order) → client_at t c.serial ≡ Some c → AllByRecursion (λ (g : Given). IsOf t g.caller) (with_order (caller_of t c) o)
+keys_of : (t : Tables) (c : Client) (o : Option Order) → client_at t c.serial ≡ Some c
+    → AllByRecursion (λ (g : Given). IsOf t g.caller) (with_order (caller_of t c) o)
 keys_of t c None at = tt
-keys_of t c (Some order) at = ((λ s is. (c, (let same : c.serial ≡ s = cc (is) in ap (client_at t) (sym same) ∙ at), refl)), tt)
+keys_of t c (Some order) at =
+    ((λ s is. (c, (let same : c.serial ≡ s = cc (is) in ap (client_at t) (sym same) ∙ at), refl)), tt)
 
 pub callers : (t : Tables) (event : EventValue) → AllByRecursion (λ (g : Given). IsOf t g.caller) (commands_of t event)
 callers t (Command user number bytes) = on (is_known t user) where
-  on : (b : Bool) → AllByRecursion (λ (g : Given). IsOf t g.caller) (if b then with_order (line_caller t user number) (ok_of (read_line bytes)) else [])
+  on : (b : Bool)
+      → AllByRecursion (λ (g : Given). IsOf t g.caller)
+      (if b then with_order (line_caller t user number) (ok_of (read_line bytes)) else [])
   on true = line_of t user number (ok_of (read_line bytes))
   on false = tt
 callers t (Keys client bytes) = on (client_at t client) refl where
-  on : (o : Option Client) → client_at t client ≡ o → AllByRecursion (λ (g : Given). IsOf t g.caller) (option_map_or (λ c. with_order (caller_of t c) (order_in (command_item (step_items c bytes)))) o [])
+  on : (o : Option Client) → client_at t client ≡ o
+      → AllByRecursion (λ (g : Given). IsOf t g.caller)
+      (option_map_or (λ c. with_order (caller_of t c) (order_in (command_item (step_items c bytes)))) o [])
   on None is = tt
   on (Some c) is = keys_of t c (order_in (command_item (step_items c bytes))) (row_at t client c is)
 callers t event = tt
 
 -- ---- locks that are set
 
-lock_stopped : (t : Tables) (user x : UserId) (o : Option Window) (w : ℕ) → IsOn o w → first_fault t (window_checks user (need.of_lock Off) (option_map (λ (v : Window). v.serial) o)) ≡ None
+lock_stopped : (t : Tables) (user x : UserId) (o : Option Window) (w : ℕ) → IsOn o w
+    → first_fault t (window_checks user (need.of_lock Off) (option_map (λ (v : Window). v.serial) o)) ≡ None
     → holder_in t w ≡ Some x → same_user x user ≡ true
 lock_stopped t user x None w on is held = absurd on
 lock_stopped t user x (Some v) w on is held =
-    let rest : first_fault t (unlocked user v.serial ∷ []) ≡ None = then_passed (may_in t user Execute (object.Window v.serial)) _ _ is in
-    let free : stops_nobody_but user (holder_in t v.serial) ≡ true = first_passed (stops_nobody_but user (holder_in t v.serial)) _ _ rest in
+    let rest : first_fault t (unlocked user v.serial ∷ []) ≡ None = then_passed
+    (may_in t user Execute (object.Window v.serial)) _ _ is in
+    let free : stops_nobody_but user (holder_in t v.serial) ≡ true = first_passed
+    (stops_nobody_but user (holder_in t v.serial)) _ _ rest in
     ap (stops_nobody_but user) (sym held ∙ ap (holder_in t) (sym on)) ∙ free
 
-module _ (t : Tables) (fit : AreFit t) (able : HoldersMayWrite t) (w : ℕ) (user x : UserId) (weak : IsPowerless t user w) (old : stood t (object.Window w) ≡ true) (held : holder_in t w ≡ Some x) where
+module _ (t : Tables) (fit : AreFit t) (able : HoldersMayWrite t) (w : ℕ) (user x : UserId)
+    (weak : IsPowerless t user w) (old : stood t (object.Window w) ≡ true) (held : holder_in t w ≡ Some x) where
   abbrev Holds : Bool → Act → Type 0
   Holds b a = IsHarmless t.edition t.owner t.acts x w b a
 
@@ -130,15 +156,19 @@ module _ (t : Tables) (fit : AreFit t) (able : HoldersMayWrite t) (w : ℕ) (use
   other u is = on (same_user u x) refl where
     on : (b : Bool) → same_user u x ≡ b → b ≡ false
     on false same = refl
-    on true same = contradicts (may_in t user Write (object.Window w)) (ap (λ v. may_in t v Write (object.Window w)) (sym is ∙ same_user-true u x same) ∙ able w x held) weak.write
+    on true same = contradicts (may_in t user Write (object.Window w))
+        (ap (λ v. may_in t v Write (object.Window w)) (sym is ∙ same_user-true u x same) ∙ able w x held) weak.write
 
   -- the user's own clients
   none_of : (s : ℕ) (u : UserId) → u ≡ user → AllByRecursion (Own s u) t.clients → NoneOf x s (clients_of t.acts)
   none_of s u is all =
       subst (NoneOf x s) (sym fit.agree.clients_are)
-      (all_reverse (λ (p : ℕ × UserId). (p.0 == s) ≡ true → same_user p.1 x ≡ false) (map (λ (c : Client). (c.serial, c.user)) t.clients)
-      (all_map (λ (p : ℕ × UserId). (p.0 == s) ≡ true → same_user p.1 x ≡ false) (λ (c : Client). (c.serial, c.user)) t.clients
-      (all_weaken (Own s u) (λ (c : Client). (c.serial == s) ≡ true → same_user c.user x ≡ false) t.clients (λ c own at. other c.user (own at ∙ is)) all)))
+      (all_reverse (λ (p : ℕ × UserId). (p.0 == s) ≡ true → same_user p.1 x ≡ false)
+      (map (λ (c : Client). (c.serial, c.user)) t.clients)
+      (all_map (λ (p : ℕ × UserId). (p.0 == s) ≡ true → same_user p.1 x ≡ false) (λ (c : Client). (c.serial, c.user))
+      t.clients
+      (all_weaken (Own s u) (λ (c : Client). (c.serial == s) ≡ true → same_user c.user x ≡ false) t.clients
+      (λ c own at. other c.user (own at ∙ is)) all)))
 
   own_of : (s : ℕ) (c : Client) → client_at t s ≡ Some c → AllByRecursion (Own s c.user) t.clients
   own_of s c is = unique t.clients t.next_client s c fit.sound.clients_rise is
@@ -147,36 +177,52 @@ module _ (t : Tables) (fit : AreFit t) (able : HoldersMayWrite t) (w : ℕ) (use
   left_only b (act.Left v y) is = is
   left_only b a is = absurd is
 
-  lefts : (b : Bool) (after : List Client) → ((v : ℕ) → is_in_focus after x v ≡ is_in_focus t.clients x v) → AllByRecursion (Holds b) (left_acts t.clients after)
-  lefts b after same = all_weaken (NotHis x) (Holds b) (left_acts t.clients after) (left_only b) (nobody_else x t.clients after same)
+  lefts : (b : Bool) (after : List Client) → ((v : ℕ) → is_in_focus after x v ≡ is_in_focus t.clients x v)
+      → AllByRecursion (Holds b) (left_acts t.clients after)
+  lefts b after same = all_weaken (NotHis x) (Holds b) (left_acts t.clients after) (left_only b)
+      (nobody_else x t.clients after same)
 
   -- ---- commands
 
-  not_here : (k : Caller) (c : Order) → k.user ≡ user → first_fault t (checks_by t k (needs c)) ≡ None → (mode : LockMode) → c ≡ command.Writelock mode → (v : ℕ) → IsOn k.window v → (v == w) ≡ false
+  not_here : (k : Caller) (c : Order) → k.user ≡ user → first_fault t (checks_by t k (needs c)) ≡ None
+      → (mode : LockMode) → c ≡ command.Writelock mode → (v : ℕ) → IsOn k.window v → (v == w) ≡ false
   not_here k c is passed mode at v on = test (v == w) refl where
     locked : (m : LockMode) → IsOn k.window w → first_fault t (checks_by t k (needs (command.Writelock m))) ≡ None → ⊥
-    locked Off here passed = contradicts (same_user x user) (ap (same_user x) (sym is) ∙ lock_stopped t k.user x k.window w here passed held) (back refl) where
-      back : (user ≡ user) → same_user x user ≡ false
-      back _ = sides (same_user x user) refl where
-        sides : (b : Bool) → same_user x user ≡ b → b ≡ false
-        sides false e = refl
-        sides true e = contradicts (may_in t user Write (object.Window w)) (ap (λ y. may_in t y Write (object.Window w)) (sym (same_user-true x user e)) ∙ able w x held) weak.write
-    locked Auto here passed = contradicts (may_in t user Write (object.Window w)) (ap (λ y. may_in t y Write (object.Window w)) (sym is) ∙ Rattle.session_guests.proofs.Holding.write_on t k.user k.window w here passed) weak.write
-    locked On here passed = contradicts (may_in t user Write (object.Window w)) (ap (λ y. may_in t y Write (object.Window w)) (sym is) ∙ Rattle.session_guests.proofs.Holding.write_on t k.user k.window w here passed) weak.write
+    locked Off here passed = contradicts (same_user x user)
+        (ap (same_user x) (sym is) ∙ lock_stopped t k.user x k.window w here passed held) (back refl) where
+          back : (user ≡ user) → same_user x user ≡ false
+          back _ = sides (same_user x user) refl where
+            sides : (b : Bool) → same_user x user ≡ b → b ≡ false
+            sides false e = refl
+            sides true e = contradicts (may_in t user Write (object.Window w))
+                (ap (λ y. may_in t y Write (object.Window w)) (sym (same_user-true x user e)) ∙ able w x held) weak.write
+    locked Auto here passed = contradicts (may_in t user Write (object.Window w))
+        (ap (λ y. may_in t y Write (object.Window w)) (sym is)
+        ∙ Rattle.session_guests.proofs.Holding.write_on t k.user k.window w here passed) weak.write
+    locked On here passed = contradicts (may_in t user Write (object.Window w))
+        (ap (λ y. may_in t y Write (object.Window w)) (sym is)
+        ∙ Rattle.session_guests.proofs.Holding.write_on t k.user k.window w here passed) weak.write
 
     test : (b : Bool) → (v == w) ≡ b → b ≡ false
     test false e = refl
-    test true e = absurd (locked mode (subst (IsOn k.window) (equal v w e) on) (subst (λ o. first_fault t (checks_by t k (needs o)) ≡ None) at passed))
+    test true e = absurd
+        (locked mode (subst (IsOn k.window) (equal v w e) on)
+        (subst (λ o. first_fault t (checks_by t k (needs o)) ≡ None) at passed))
 
-  row_harmless : (k : Caller) → k.user ≡ user → IsOf t k → (c : Order) → changes_rights (name_of c) ≡ false → may_free c ≡ false → first_fault t (checks_by t k (needs c)) ≡ None → (a : Act) → IsActOf k c a → Holds false a
+  row_harmless : (k : Caller) → k.user ≡ user → IsOf t k → (c : Order) → changes_rights (name_of c) ≡ false
+      → may_free c ≡ false → first_fault t (checks_by t k (needs c)) ≡ None → (a : Act) → IsActOf k c a → Holds false a
   row_harmless k is of c not free passed (act.Known u) on = contradicts (changes_rights (name_of c)) on not
   row_harmless k is of c not free passed (act.Gone u) on = contradicts (changes_rights (name_of c)) on not
-  row_harmless k is of c not free passed (act.Set u bit object value) on = contradicts (changes_rights (name_of c)) on not
+  row_harmless k is of c not free passed (act.Set u bit object value) on = contradicts (changes_rights (name_of c)) on
+      not
   row_harmless k is of c not free passed (act.Grouped u leader) on = contradicts (changes_rights (name_of c)) on not
-  row_harmless k is of c not free passed (act.Masked by u bit value) on = contradicts (changes_rights (name_of c)) on not
-  row_harmless k is of c not free passed (act.Preset kind bit value) on = contradicts (changes_rights (name_of c)) on not
+  row_harmless k is of c not free passed (act.Masked by u bit value) on = contradicts (changes_rights (name_of c)) on
+      not
+  row_harmless k is of c not free passed (act.Preset kind bit value) on = contradicts (changes_rights (name_of c)) on
+      not
   row_harmless k is of c not free passed (act.Opened by v) on = absurd on
-  row_harmless k is of (command.Writelock mode) not free passed (act.Mode by v m) on = not_here k (command.Writelock mode) is passed mode refl v on.1
+  row_harmless k is of (command.Writelock mode) not free passed (act.Mode by v m) on = not_here k
+      (command.Writelock mode) is passed mode refl v on.1
   row_harmless k is of c not free passed (act.Mode by v m) on = absurd on
   row_harmless k is of command.Detach not free passed (act.Parted s) on =
       let r = of s on in
@@ -198,25 +244,32 @@ module _ (t : Tables) (fit : AreFit t) (able : HoldersMayWrite t) (w : ℕ) (use
   deed_of P (Ok e) d is p = let same : e ≡ d = cc (is) in subst P same p
   deed_of P (Err r) d is p = absurd (cc (is))
 
-  did_harmless : (e : Entry) (g : Given) → g.caller.user ≡ user → IsOf t g.caller → Did t e g → changes_rights (name_of g.order) ≡ false → may_free g.order ≡ false → AllByRecursion (Holds false) e.acts
+  did_harmless : (e : Entry) (g : Given) → g.caller.user ≡ user → IsOf t g.caller → Did t e g
+      → changes_rights (name_of g.order) ≡ false → may_free g.order ≡ false → AllByRecursion (Holds false) e.acts
   did_harmless e g is of d not free =
       subst (AllByRecursion (Holds false)) (sym d.acts)
       (all_append (Holds false) d.deed.acts (left_acts t.clients d.deed.tables.clients)
-      (all_weaken (IsActOf g.caller g.order) (Holds false) d.deed.acts (row_harmless g.caller is of g.order not free passed) (row_did t e g d).acts)
-      (lefts false d.deed.tables.clients (λ v. stays v ∙ (focus_read d.clients x v ∙ ap (λ cs. is_in_focus cs x v) d.same ∙ sym (focus_read t.clients x v))))) where
+      (all_weaken (IsActOf g.caller g.order) (Holds false) d.deed.acts
+      (row_harmless g.caller is of g.order not free passed) (row_did t e g d).acts)
+      (lefts false d.deed.tables.clients
+      (λ v. stays v
+      ∙ (focus_read d.clients x v ∙ ap (λ cs. is_in_focus cs x v) d.same ∙ sym (focus_read t.clients x v))))) where
         passed : first_fault t (checks_by t g.caller (needs g.order)) ≡ None
         passed = then_passed (may_in t g.caller.user Execute (object.Command (name_of g.order))) _ _ d.passes
 
         mine : IsMine (with_clients t d.clients) g.caller
-        mine s at = let r = of s at in own_read t d.clients s g.caller.user d.same (subst (λ u. AllByRecursion (Own s u) t.clients) r.2 (own_of s r.0 r.1))
+        mine s at = let r = of s at in own_read t d.clients s g.caller.user d.same
+            (subst (λ u. AllByRecursion (Own s u) t.clients) r.2 (own_of s r.0 r.1))
 
         stays : (v : ℕ) → is_in_focus d.deed.tables.clients x v ≡ is_in_focus d.clients x v
-        stays = deed_of (λ y. (v : ℕ) → is_in_focus y.tables.clients x v ≡ is_in_focus d.clients x v) (does (with_clients t d.clients) g.caller g.order) d.deed d.does_it
+        stays = deed_of (λ y. (v : ℕ) → is_in_focus y.tables.clients x v ≡ is_in_focus d.clients x v)
+            (does (with_clients t d.clients) g.caller g.order) d.deed d.does_it
             (focus_stays (with_clients t d.clients) g.caller d.by mine x (other g.caller.user is) g.order not free)
 
   -- ---- other events
 
-  any_one : (p : Client → Bool) (cs : List Client) (c : Client) → p c ≡ false → list_any p (cs ++ c ∷ []) ≡ list_any p cs
+  any_one : (p : Client → Bool) (cs : List Client) (c : Client) → p c ≡ false
+      → list_any p (cs ++ c ∷ []) ≡ list_any p cs
   any_one p [] c is = ap (λ b. b || false) is
   any_one p (d ∷ cs) c is = ap (λ b. p d || b) (any_one p cs c is)
 
@@ -233,63 +286,93 @@ module _ (t : Tables) (fit : AreFit t) (able : HoldersMayWrite t) (w : ℕ) (use
   attach_harmless : (rows columns : ℕ) → Harmless true (outcome t (Attach user rows columns))
   attach_harmless rows columns =
       let c : Client = new_client t user rows columns in
-      outcomes.passed (Harmless true) t (verdicts t (attach_checks t user rows columns)) (first_fault t (attach_checks t user rows columns)) (reply_of 0 t.next_client 0 None) (attaches t c)
-      (λ r is. tt) (λ is. all_append (Holds true) (act.Attached t.next_client user ∷ entering user (focused c)) (left_acts t.clients (t.clients ++ c ∷ [])) (refl, enters user (focused c))
+      outcomes.passed (Harmless true) t (verdicts t (attach_checks t user rows columns))
+      (first_fault t (attach_checks t user rows columns)) (reply_of 0 t.next_client 0 None) (attaches t c)
+      (λ r is. tt)
+      (λ is. all_append (Holds true) (act.Attached t.next_client user ∷ entering user (focused c))
+      (left_acts t.clients (t.clients ++ c ∷ [])) (refl, enters user (focused c))
       (lefts true (t.clients ++ c ∷ []) (λ v. any_one (shows x v) t.clients c (hidden c v refl))))
 
   not_new : (t.next_window == w) ≡ false
   not_new = grind (arith, nat_tests, old)
 
-  open_harmless : (rows columns keep : ℕ) (title : List ℕ) → Harmless true (outcome t (Open user rows columns keep title))
+  open_harmless : (rows columns keep : ℕ) (title : List ℕ)
+      → Harmless true (outcome t (Open user rows columns keep title))
   open_harmless rows columns keep title =
       let v : Window = new_window t rows columns keep title in
-      outcomes.passed (Harmless true) t (verdicts t (open_checks t user rows columns keep title)) (first_fault t (open_checks t user rows columns keep title)) (reply_of 0 v.serial v.number None) (opens t user v)
+      outcomes.passed (Harmless true) t (verdicts t (open_checks t user rows columns keep title))
+      (first_fault t (open_checks t user rows columns keep title)) (reply_of 0 v.serial v.number None)
+      (opens t user v)
       (λ r is. tt) (λ is. (not_new, lefts true t.clients (λ y. refl)))
 
   abbrev IsHers : ℕ → Type 0
   IsHers client = client_user t client ≡ Some user
 
   her_row : (client : ℕ) (c : Client) → IsHers client → client_at t client ≡ Some c → c.user ≡ user
-  her_row client c hers is = let same : Some c.user ≡ Some user = ap (option_map (λ (d : Client). d.user)) (sym is) ∙ hers in cc (same)
+  her_row client c hers is = let same : Some c.user ≡ Some user = ap (option_map (λ (d : Client). d.user)) (sym is)
+      ∙ hers in cc (same)
 
-  without : (client : ℕ) (c : Client) → c.user ≡ user → client_at t client ≡ Some c → (v : ℕ) → is_in_focus (filter (λ (d : Client). not (d.serial == client)) t.clients) x v ≡ is_in_focus t.clients x v
+  without : (client : ℕ) (c : Client) → c.user ≡ user → client_at t client ≡ Some c → (v : ℕ)
+      → is_in_focus (filter (λ (d : Client). not (d.serial == client)) t.clients) x v ≡ is_in_focus t.clients x v
   without client c is at v =
       Rattle.session_guests.proofs.Focusing.any_without (shows x v) (λ (d : Client). d.serial == client) t.clients
-      (all_weaken (Own client c.user) (λ (d : Client). (d.serial == client) ≡ true → shows x v d ≡ false) t.clients (λ d own here. hidden d v (own here ∙ is)) (own_of client c at))
+      (all_weaken (Own client c.user) (λ (d : Client). (d.serial == client) ≡ true → shows x v d ≡ false) t.clients
+      (λ d own here. hidden d v (own here ∙ is)) (own_of client c at))
 
   detach_harmless : (client : ℕ) → IsHers client → Harmless false (outcome t (Detach client))
   detach_harmless client hers =
-      outcomes.found (Harmless false) t (λ c. finished t [] done (parts (λ d. d.serial == client) reason.Detached t)) (client_at t client) tt
-      (λ c at. all_append (Holds false) (map (λ (d : Client). act.Parted d.serial) (filter (λ (d : Client). d.serial == client) t.clients)) (left_acts t.clients (filter (λ (d : Client). not (d.serial == client)) t.clients))
-      (all_map (Holds false) (λ (d : Client). act.Parted d.serial) (filter (λ (d : Client). d.serial == client) t.clients)
+      outcomes.found (Harmless false) t (λ c. finished t [] done (parts (λ d. d.serial == client) reason.Detached t))
+      (client_at t client) tt
+      (λ c at. all_append (Holds false)
+      (map (λ (d : Client). act.Parted d.serial) (filter (λ (d : Client). d.serial == client) t.clients))
+      (left_acts t.clients (filter (λ (d : Client). not (d.serial == client)) t.clients))
+      (all_map (Holds false) (λ (d : Client). act.Parted d.serial)
+      (filter (λ (d : Client). d.serial == client) t.clients)
       (all_passed (λ (d : Client). Holds false (act.Parted d.serial)) (λ (d : Client). d.serial == client) t.clients
       (all_of (λ (d : Client). (d.serial == client) ≡ true → Holds false (act.Parted d.serial)) t.clients
-      (λ d here. (refl, subst (λ n. NoneOf x n (clients_of t.acts)) (sym (equal d.serial client here)) (none_of client c.user (her_row client c hers at) (own_of client c at)))))))
-      (lefts false (filter (λ (d : Client). not (d.serial == client)) t.clients) (without client c (her_row client c hers at) at)))
+      (λ d here. (
+        refl,
+        subst (λ n. NoneOf x n (clients_of t.acts)) (sym (equal d.serial client here))
+            (none_of client c.user (her_row client c hers at) (own_of client c at)),
+      )))))
+      (lefts false (filter (λ (d : Client). not (d.serial == client)) t.clients)
+      (without client c (her_row client c hers at) at)))
 
-  change_harmless : (event : EventValue) (y : Change) → change_of event ≡ Some y → Changes event y → user_of t event ≡ Some user → Harmless false (outcome t event)
+  change_harmless : (event : EventValue) (y : Change) → change_of event ≡ Some y → Changes event y
+      → user_of t event ≡ Some user → Harmless false (outcome t event)
   change_harmless event y changes_it f is =
       subst (Harmless false) (sym (f.happens t))
-      (outcomes.found (Harmless false) t (λ c. where_passed t y.checks done (changing (with_client t (y.row c)))) (client_at t y.client) tt
-      (λ c at. outcomes.passed (Harmless false) t (verdicts t y.checks) (first_fault t y.checks) done (changing (with_client t (y.row c)))
+      (outcomes.found (Harmless false) t (λ c. where_passed t y.checks done (changing (with_client t (y.row c))))
+      (client_at t y.client) tt
+      (λ c at. outcomes.passed (Harmless false) t (verdicts t y.checks) (first_fault t y.checks) done
+      (changing (with_client t (y.row c)))
       (λ r fails. tt) (λ passes. lefts false (with_client t (y.row c)).clients (λ v.
-      Rattle.session_guests.proofs.Focusing.any_with_row (shows x v) (λ (d : Client). d.serial) t.clients (y.row c).serial (y.row c)
-      (λ d here. hidden (y.row c) v (f.user c ∙ hers c at) ∙ sym (hidden d v (ap (λ (e : Client). e.user) (same_row c d at here) ∙ hers c at))))))) where
+      Rattle.session_guests.proofs.Focusing.any_with_row (shows x v) (λ (d : Client). d.serial) t.clients
+      (y.row c).serial (y.row c)
+      (λ d here. hidden (y.row c) v (f.user c ∙ hers c at)
+      ∙ sym (hidden d v (ap (λ (e : Client). e.user) (same_row c d at here) ∙ hers c at))))))) where
         hers : (c : Client) → client_at t y.client ≡ Some c → c.user ≡ user
         hers c at = her_row y.client c (sym (changed_by t event y changes_it) ∙ is) at
 
         same_row : (c d : Client) → client_at t y.client ≡ Some c → client_at t (y.row c).serial ≡ Some d → d ≡ c
-        same_row c d at here = let same : Some d ≡ Some c = sym here ∙ ap (client_at t) (f.serial c) ∙ row_at t y.client c at in cc (same)
+        same_row c d at here = let same : Some d ≡ Some c = sym here ∙ ap (client_at t) (f.serial c)
+            ∙ row_at t y.client c at in cc (same)
 
   draw_harmless : (client : ℕ) → Harmless false (outcome t (Draw client))
-  draw_harmless client = outcomes.found (Harmless false) t (λ c. finished t [] done (changing t)) (client_at t client) tt (λ c at. lefts false t.clients (λ v. refl))
+  draw_harmless client = outcomes.found (Harmless false) t (λ c. finished t [] done (changing t)) (client_at t client)
+      tt (λ c at. lefts false t.clients (λ v. refl))
 
   abbrev Sum : List Act → Type 0
   Sum acts = AllByRecursion (Holds true) acts ⊎ AllByRecursion (Holds false) acts
 
-  plain_harmless : (event : EventValue) → gives_commands event ≡ false → user_of t event ≡ Some user → Sum (outcome t event).acts
-  plain_harmless (Attach u rows columns) not is = inl (subst (λ v. Harmless true (outcome t (Attach v rows columns))) (let same : u ≡ user = cc (is) in sym same) (attach_harmless rows columns))
-  plain_harmless (Open u rows columns keep title) not is = inl (subst (λ v. Harmless true (outcome t (Open v rows columns keep title))) (let same : u ≡ user = cc (is) in sym same) (open_harmless rows columns keep title))
+  plain_harmless : (event : EventValue) → gives_commands event ≡ false → user_of t event ≡ Some user
+      → Sum (outcome t event).acts
+  plain_harmless (Attach u rows columns) not is = inl
+      (subst (λ v. Harmless true (outcome t (Attach v rows columns))) (let same : u ≡ user = cc (is) in sym same)
+      (attach_harmless rows columns))
+  plain_harmless (Open u rows columns keep title) not is = inl
+      (subst (λ v. Harmless true (outcome t (Open v rows columns keep title)))
+      (let same : u ≡ user = cc (is) in sym same) (open_harmless rows columns keep title))
   plain_harmless (Detach client) not is = inr (detach_harmless client is)
   plain_harmless (Draw client) not is = inr (draw_harmless client)
   plain_harmless (Keys client bytes) not is = absurd (cc (not))
@@ -309,17 +392,22 @@ module _ (t : Tables) (fit : AreFit t) (able : HoldersMayWrite t) (w : ℕ) (use
   did_still : (e : Entry) (g : Given) → g.caller.user ≡ user → IsOf t g.caller → Did t e g → Still e ⊎ MayFree t g
   did_still e g is of d = on (changes_rights (name_of g.order)) refl (may_free g.order) refl where
     on : (a : Bool) → changes_rights (name_of g.order) ≡ a → (b : Bool) → may_free g.order ≡ b → Still e ⊎ MayFree t g
-    on true changes b free = absurd (contradicts (may_in t user Execute (object.Command (name_of g.order))) (ap (λ u. may_in t u Execute (object.Command (name_of g.order))) (sym is) ∙ had_x t e g d) (weak.lists (name_of g.order) changes))
+    on true changes b free = absurd
+        (contradicts (may_in t user Execute (object.Command (name_of g.order)))
+        (ap (λ u. may_in t u Execute (object.Command (name_of g.order))) (sym is) ∙ had_x t e g d)
+        (weak.lists (name_of g.order) changes))
     on false not true free = inr (record { frees = free; granted = did_x t e g d })
     on false not false free = inl (still_by e false (did_harmless e g is of d not free))
 
-  some_still : (e : Entry) (gs : List Given) → AllByRecursion (λ (g : Given). user_of t e.event ≡ Some g.caller.user) gs → AllByRecursion (λ (g : Given). IsOf t g.caller) gs → user_of t e.event ≡ Some user → SomeOf (Did t e) gs
+  some_still : (e : Entry) (gs : List Given) → AllByRecursion (λ (g : Given). user_of t e.event ≡ Some g.caller.user) gs
+      → AllByRecursion (λ (g : Given). IsOf t g.caller) gs → user_of t e.event ≡ Some user → SomeOf (Did t e) gs
       → Still e ⊎ SomeOf (MayFree t) gs
   some_still e [] users ofs is some = absurd some
-  some_still e (g ∷ gs) users ofs is (inl d) = first (did_still e g (let same : Some g.caller.user ≡ Some user = sym users.0 ∙ is in cc (same)) ofs.0 d) where
-    first : Still e ⊎ MayFree t g → Still e ⊎ SomeOf (MayFree t) (g ∷ gs)
-    first (inl s) = inl s
-    first (inr f) = inr (inl f)
+  some_still e (g ∷ gs) users ofs is (inl d) = first
+      (did_still e g (let same : Some g.caller.user ≡ Some user = sym users.0 ∙ is in cc (same)) ofs.0 d) where
+        first : Still e ⊎ MayFree t g → Still e ⊎ SomeOf (MayFree t) (g ∷ gs)
+        first (inl s) = inl s
+        first (inr f) = inr (inl f)
   some_still e (g ∷ gs) users ofs is (inr later) = rest (some_still e gs users.1 ofs.1 is later) where
     rest : Still e ⊎ SomeOf (MayFree t) gs → Still e ⊎ SomeOf (MayFree t) (g ∷ gs)
     rest (inl s) = inl s
@@ -334,7 +422,8 @@ module _ (t : Tables) (fit : AreFit t) (able : HoldersMayWrite t) (w : ℕ) (use
   rests_still : (e : Entry) → Rests t e → Still e
   rests_still e r = ap (λ acts. holder t.edition t.owner (followed_by t.acts acts) w) r.acts ∙ held
 
-  pub still : Below → (e : Entry) → IsStep t e → user_of t e.event ≡ Some user → Still e ⊎ SomeOf (MayFree t) (commands_of t e.event)
+  pub still : Below → (e : Entry) → IsStep t e → user_of t e.event ≡ Some user
+      → Still e ⊎ SomeOf (MayFree t) (commands_of t e.event)
   still laws e step is = on (gives_commands e.event) refl where
     by_command : Obeys t e → Still e ⊎ SomeOf (MayFree t) (commands_of t e.event)
     by_command (inl rests) = inl (rests_still e rests)
@@ -345,7 +434,9 @@ module _ (t : Tables) (fit : AreFit t) (able : HoldersMayWrite t) (w : ℕ) (use
     on false gives = inl (plain_still e step gives is)
 
 pub holders_stay : Below → (t : Tables) (e : Entry) → AreFit t → HoldersMayWrite t → IsStep t e → HoldersStayIn t e
-holders_stay laws t e fit able step w user x is weak old held = on (still t fit able w user x weak old held laws e step is) where
-  on : (holder t.edition t.owner (followed_by t.acts e.acts) w ≡ Some x) ⊎ SomeOf (MayFree t) (commands_of t e.event) → (holder_in (after t e) w ≡ Some x) ⊎ SomeOf (MayFree t) (commands_of t e.event)
-  on (inl there) = inl (by_acts (λ edition owner h. holder edition owner h w ≡ Some x) t e (kept laws t e step) there)
-  on (inr some) = inr some
+holders_stay laws t e fit able step w user x is weak old held = on
+    (still t fit able w user x weak old held laws e step is) where
+      on : (holder t.edition t.owner (followed_by t.acts e.acts) w ≡ Some x) ⊎ SomeOf (MayFree t) (commands_of t e.event)
+          → (holder_in (after t e) w ≡ Some x) ⊎ SomeOf (MayFree t) (commands_of t e.event)
+      on (inl there) = inl (by_acts (λ edition owner h. holder edition owner h w ≡ Some x) t e (kept laws t e step) there)
+      on (inr some) = inr some

@@ -1,5 +1,6 @@
 -- What an event asks for, and why it is refused.
-use Rattle.std.proofs.Common.{◌≡◌, ℕ, Bool, true, false, List, [], ◌∷◌, Option, Some, None, Ok, Err, Result, refl, ap, sym, ◌∙◌, subst, inl, inr}
+use Rattle.std.proofs.Common.{◌≡◌, ℕ, Bool, true, false, List, [], ◌∷◌, Option, Some, None, Ok, Err, Result, refl, ap}
+use Rattle.std.proofs.Common.{sym, ◌∙◌, subst, inl, inr}
 use Rattle.std.specs.Prelude.{if◌then◌else◌, ◌==◌}
 use Rattle.std.specs.Option.{option_map, option_map_or, option_and_then}
 use Rattle.acl.specs.declared.user_id.UserId.{UserId}
@@ -14,7 +15,8 @@ use Rattle.command_lang.specs.fault.ParseFault.{ParseFault}
 use Rattle.session_model.specs.declared.refusal.Refusal.{Refusal}
 use Rattle.session_model.specs.declared.verdict.Verdict.{Verdict}
 use Rattle.session_model.specs.Trace.{EventValue, Keys, Command, Open, Reply}
-use Rattle.session_model.specs.Tables.{Tables, Window, Client, row_of, window_at, client_at, focused, focused_window, is_known}
+use Rattle.session_model.specs.Tables.{Tables, Window, Client, row_of, window_at, client_at, focused, focused_window}
+use Rattle.session_model.specs.Tables.{is_known}
 use Rattle.session_model.specs.Naming.{with_number}
 use Rattle.session_model.specs.Lines.{Caller, caller_of, line_caller, read_line}
 use Rattle.session_model.specs.Checks.{checks, first_fault, typing_checks}
@@ -28,58 +30,75 @@ use Rattle.session_model.specs.Denying.{NamesTruly, Asks, AsksFor, TypesOn, IsWi
 use Rattle.session_laws.proofs.Lists.{row_serial, itself}
 use Rattle.session_laws.proofs.Doing.{giving}
 use Rattle.session_laws.proofs.Outcomes as outcomes
-use Rattle.session_laws.proofs.Denying.{OnFault, on_fault, missing, checks_each, typing_each, plain_names, IsAsked, IsAskedOfRow, IsListed}
+use Rattle.session_laws.proofs.Denying.{OnFault, on_fault, missing, checks_each, typing_each, plain_names, IsAsked}
+use Rattle.session_laws.proofs.Denying.{IsAskedOfRow, IsListed}
 
 -- ---- windows that are there
 
 row_listed : (t : Tables) (s : ℕ) (w : Window) → window_at t s ≡ Some w → IsListed t w.serial
 row_listed t s w is = (w, ap (window_at t) (row_serial (λ (x : Window). x.serial) t.windows s w is) ∙ is)
 
-numbered_row : (ws : List Window) (n : ℕ) (w : Window) → with_number ws n ≡ Some w → (v : Window) × (row_of (λ (x : Window). x.serial) ws w.serial ≡ Some v)
+numbered_row : (ws : List Window) (n : ℕ) (w : Window) → with_number ws n ≡ Some w → (v : Window)
+    × (row_of (λ (x : Window). x.serial) ws w.serial ≡ Some v)
 numbered_row [] n w is = absurd (cc (is))
 numbered_row (r ∷ ws) n w is = on (r.number == n) is (numbered_row ws n w) where
   self : (m : ℕ) → (if m == m then Some r else row_of (λ (x : Window). x.serial) ws m) ≡ Some r
   self m = ap (λ (b : Bool). if b then Some r else row_of (λ (x : Window). x.serial) ws m) (itself m)
 
-  either : (b : Bool) → (v : Window) × (row_of (λ (x : Window). x.serial) ws w.serial ≡ Some v) → (v : Window) × ((if b then Some r else row_of (λ (x : Window). x.serial) ws w.serial) ≡ Some v)
+  either : (b : Bool) → (v : Window) × (row_of (λ (x : Window). x.serial) ws w.serial ≡ Some v) → (v : Window)
+      × ((if b then Some r else row_of (λ (x : Window). x.serial) ws w.serial) ≡ Some v)
   either true found = (r, refl)
   either false found = found
 
-  on : (b : Bool) → (if b then Some r else with_number ws n) ≡ Some w → (with_number ws n ≡ Some w → (v : Window) × (row_of (λ (x : Window). x.serial) ws w.serial ≡ Some v)) → (v : Window) × (row_of (λ (x : Window). x.serial) (r ∷ ws) w.serial ≡ Some v)
-  on true is more = let e : r ≡ w = cc (is) in subst (λ (x : Window). (v : Window) × (row_of (λ (y : Window). y.serial) (r ∷ ws) x.serial ≡ Some v)) e (r, self r.serial)
+  on : (b : Bool) → (if b then Some r else with_number ws n) ≡ Some w
+      → (with_number ws n ≡ Some w → (v : Window) × (row_of (λ (x : Window). x.serial) ws w.serial ≡ Some v))
+      → (v : Window) × (row_of (λ (x : Window). x.serial) (r ∷ ws) w.serial ≡ Some v)
+  on true is more = let e : r ≡ w = cc (is) in subst
+      (λ (x : Window). (v : Window) × (row_of (λ (y : Window). y.serial) (r ∷ ws) x.serial ≡ Some v)) e
+      (r, self r.serial)
   on false is more = either (r.serial == w.serial) (more is)
 
-pub line_listed : (t : Tables) (number : Option ℕ) (w : Window) → option_and_then (with_number t.windows) number ≡ Some w → IsListed t w.serial
+pub line_listed : (t : Tables) (number : Option ℕ) (w : Window)
+    → option_and_then (with_number t.windows) number ≡ Some w → IsListed t w.serial
 line_listed t None w is = absurd (cc (is))
 line_listed t (Some n) w is = numbered_row t.windows n w is
 
-pub focus_listed : (t : Tables) (o : Option ℕ) (w : Window) → option_and_then (window_at t) o ≡ Some w → IsListed t w.serial
+pub focus_listed : (t : Tables) (o : Option ℕ) (w : Window) → option_and_then (window_at t) o ≡ Some w
+    → IsListed t w.serial
 focus_listed t None w is = absurd (cc (is))
 focus_listed t (Some s) w is = row_listed t s w is
 
 -- ---- what is asked
 
-asked_window : (t : Tables) (asks : UserId → Bit → Object → Type 0) (user : UserId) (client : Option ℕ) (c : Order) (o : Option Window)
-    → ((bit : Bit) (x : Object) → AsksFor user bit x (giving (record { user = user; client = client; window = o }) c) → asks user bit x)
+asked_window : (t : Tables) (asks : UserId → Bit → Object → Type 0) (user : UserId) (client : Option ℕ) (c : Order)
+    (o : Option Window)
+    → ((bit : Bit) (x : Object) → AsksFor user bit x (giving (record { user = user; client = client; window = o }) c)
+    → asks user bit x)
     → ((w : Window) → o ≡ Some w → IsListed t w.serial) → IsAsked t asks user (option_map (λ (w : Window). w.serial) o)
 asked_window t asks user client c None into listed = tt
-asked_window t asks user client c (Some w) into listed = ((λ bit. into bit (object.Window w.serial) (refl, inr refl)), listed w refl)
+asked_window t asks user client c (Some w) into listed =
+    ((λ bit. into bit (object.Window w.serial) (refl, inr refl)), listed w refl)
 
 command_names : (t : Tables) (asks : UserId → Bit → Object → Type 0) (k : Caller) (c : Order)
     → ((bit : Bit) (x : Object) → AsksFor k.user bit x (giving k c) → asks k.user bit x)
-    → ((w : Window) → k.window ≡ Some w → IsListed t w.serial) → OnFault (NamesTruly t asks) (first_fault t (checks t k c))
+    → ((w : Window) → k.window ≡ Some w → IsListed t w.serial)
+    → OnFault (NamesTruly t asks) (first_fault t (checks t k c))
 command_names t asks k c into listed =
     on_fault t (NamesTruly t asks) (checks t k c)
-    (checks_each t asks k c (into Execute (object.Command (name_of c)) (refl, inl (refl, refl))) (asked_window t asks k.user k.client c k.window into listed))
+    (checks_each t asks k c (into Execute (object.Command (name_of c)) (refl, inl (refl, refl)))
+    (asked_window t asks k.user k.client c k.window into listed))
 
 -- by a line
-pub line_names : (t : Tables) (user : UserId) (number : Option ℕ) (bytes : List ℕ) (c : Order) → commands_of t (Command user number bytes) ≡ giving (line_caller t user number) c ∷ []
-    → OnFault (NamesTruly t (Asks t (Command user number bytes))) (first_fault t (checks t (line_caller t user number) c))
+pub line_names : (t : Tables) (user : UserId) (number : Option ℕ) (bytes : List ℕ) (c : Order)
+    → commands_of t (Command user number bytes) ≡ giving (line_caller t user number) c ∷ []
+    → OnFault (NamesTruly t (Asks t (Command user number bytes)))
+    (first_fault t (checks t (line_caller t user number) c))
 line_names t user number bytes c is =
     command_names t (Asks t (Command user number bytes)) (line_caller t user number) c
     (λ bit x asks. inl (subst (λ gs. SomeOf (AsksFor user bit x) gs) (sym is) (inl asks))) (line_listed t number)
 
-pub line_given : (t : Tables) (user : UserId) (number : Option ℕ) (bytes : List ℕ) (b : Bool) (r : Result Order ParseFault) → is_known t user ≡ b → read_line bytes ≡ r
+pub line_given : (t : Tables) (user : UserId) (number : Option ℕ) (bytes : List ℕ) (b : Bool)
+    (r : Result Order ParseFault) → is_known t user ≡ b → read_line bytes ≡ r
     → commands_of t (Command user number bytes) ≡ (if b then with_order (line_caller t user number) (ok_of r) else [])
 line_given t user number bytes b r known read =
     ap (λ x. if x then with_order (line_caller t user number) (ok_of (read_line bytes)) else []) known
@@ -95,11 +114,13 @@ typed_given : (t : Tables) (client : ℕ) (bytes : List ℕ) (c : Client) → cl
     → keys_typed t (Keys client bytes) ≡ typed_by_client t c bytes ∷ []
 typed_given t client bytes c is = ap (λ o. option_map_or (λ c. typed_by_client t c bytes ∷ []) o []) is
 
-row_asked : (t : Tables) (client : ℕ) (bytes : List ℕ) (c : Client) → client_at t client ≡ Some c → (o : Option Window) → focused_window t c ≡ o
+row_asked : (t : Tables) (client : ℕ) (bytes : List ℕ) (c : Client) → client_at t client ≡ Some c → (o : Option Window)
+    → focused_window t c ≡ o
     → IsAskedOfRow t (Asks t (Keys client bytes)) c.user o
 row_asked t client bytes c is None at = tt
 row_asked t client bytes c is (Some v) at = (
-  inr (subst (λ ts. SomeOf (TypesOn c.user Write (object.Window v.serial)) ts) (sym (typed_given t client bytes c is)) (inl (refl, refl, subst (λ x. IsWindow x (object.Window v.serial)) (sym at) refl))),
+  inr (subst (λ ts. SomeOf (TypesOn c.user Write (object.Window v.serial)) ts) (sym (typed_given t client bytes c is))
+      (inl (refl, refl, subst (λ x. IsWindow x (object.Window v.serial)) (sym at) refl))),
   focus_listed t (focused c) v at,
 )
 
@@ -107,13 +128,16 @@ pub typing_names : (t : Tables) (client : ℕ) (bytes : List ℕ) (c : Client) �
     → OnFault (NamesTruly t (Asks t (Keys client bytes))) (first_fault t (typing_checks c.user (focused_window t c)))
 typing_names t client bytes c is =
     on_fault t (NamesTruly t (Asks t (Keys client bytes))) (typing_checks c.user (focused_window t c))
-    (typing_each t (Asks t (Keys client bytes)) c.user (focused_window t c) (row_asked t client bytes c is (focused_window t c) refl))
+    (typing_each t (Asks t (Keys client bytes)) c.user (focused_window t c)
+    (row_asked t client bytes c is (focused_window t c) refl))
 
-pub order_names : (t : Tables) (client : ℕ) (bytes : List ℕ) (c : Client) (order : Order) → commands_of t (Keys client bytes) ≡ giving (caller_of t c) order ∷ []
+pub order_names : (t : Tables) (client : ℕ) (bytes : List ℕ) (c : Client) (order : Order)
+    → commands_of t (Keys client bytes) ≡ giving (caller_of t c) order ∷ []
     → OnFault (NamesTruly t (Asks t (Keys client bytes))) (first_fault t (checks t (caller_of t c) order))
 order_names t client bytes c order given =
     command_names t (Asks t (Keys client bytes)) (caller_of t c) order
-    (λ bit x asks. inl (subst (λ gs. SomeOf (AsksFor c.user bit x) gs) (sym given) (inl asks))) (focus_listed t (focused c))
+    (λ bit x asks. inl (subst (λ gs. SomeOf (AsksFor c.user bit x) gs) (sym given) (inl asks)))
+    (focus_listed t (focused c))
 
 -- ---- replies
 
@@ -122,18 +146,26 @@ ReplyIs P (Err r) = P r
 ReplyIs P (Ok d) = Unit {0}
 
 -- a refusal names what stands against it
-why : (t : Tables) (event : EventValue) (vs : List Verdict) (r : Refusal) → outcomes.Refuses t event vs r → NamesTruly t (Asks t event) r
+why : (t : Tables) (event : EventValue) (vs : List Verdict) (r : Refusal) → outcomes.Refuses t event vs r
+    → NamesTruly t (Asks t event) r
 why t _ _ _ (outcomes.plainly event r is) = plain_names t (Asks t event) r is
 why t _ _ _ (outcomes.unopened user rows columns keep title r is) =
     let asks : UserId → Bit → Object → Type 0 = Asks t (Open user rows columns keep title) in
     subst (OnFault (NamesTruly t asks)) is
-    (on_fault t (NamesTruly t asks) (open_checks t user rows columns keep title)
-    ((λ is. tt), (missing t asks user Execute (object.Command Screen) (refl, refl, refl) refl, ((λ is. tt), ((λ is. tt), ((λ is. tt), ((λ is. tt), tt)))))))
+    (on_fault t (NamesTruly t asks) (open_checks t user rows columns keep title) (
+      (λ is. tt),
+      (
+        missing t asks user Execute (object.Command Screen) (refl, refl, refl) refl,
+        ((λ is. tt), ((λ is. tt), ((λ is. tt), ((λ is. tt), tt)))),
+      ),
+    ))
 why t _ _ _ (outcomes.unchecked user number bytes c r known read is) =
-    subst (OnFault (NamesTruly t (Asks t (Command user number bytes)))) is (line_names t user number bytes c (line_given t user number bytes true (Ok c) known read))
+    subst (OnFault (NamesTruly t (Asks t (Command user number bytes)))) is
+    (line_names t user number bytes c (line_given t user number bytes true (Ok c) known read))
 why t _ _ _ (outcomes.undone user number bytes c r read is) = plain_names t (Asks t (Command user number bytes)) r is
 
-replied : (t : Tables) (event : EventValue) (o : Outcome) → outcomes.Happens t event o → ReplyIs (NamesTruly t (Asks t event)) o.reply
+replied : (t : Tables) (event : EventValue) (o : Outcome) → outcomes.Happens t event o
+    → ReplyIs (NamesTruly t (Asks t event)) o.reply
 replied t _ _ (outcomes.failed event vs r is) = why t event vs r is
 replied t _ _ h = tt
 

@@ -1,5 +1,6 @@
 -- How many effects a step has.
-use Rattle.std.proofs.Common.{◌≡◌, ℕ, ◌+◌, ◌≤◌, List, [], ◌∷◌, ◌++◌, Option, Some, None, Ok, Err, Result, refl, ap, sym, subst, length, take, arith}
+use Rattle.std.proofs.Common.{◌≡◌, ℕ, ◌+◌, ◌≤◌, List, [], ◌∷◌, ◌++◌, Option, Some, None, Ok, Err, Result, refl, ap, sym}
+use Rattle.std.proofs.Common.{subst, length, take, arith}
 use Rattle.std.specs.Prelude.{◌==◌, MatchOption}
 use Rattle.command_lang.specs.command.Command.{Command as Order}
 use Rattle.command_lang.specs.fault.ParseFault.{ParseFault}
@@ -10,14 +11,16 @@ use Rattle.session_model.specs.declared.event.Effect.TheVariants.{Deliver}
 use Rattle.session_model.specs.declared.event.Reason.TheVariants as reason
 use Rattle.session_model.specs.declared.refusal.Refusal.{Refusal}
 use Rattle.session_model.specs.Trace.{EventValue, Detach, Keys, Command, Output, Closed, Draw, Entry}
-use Rattle.session_model.specs.Tables.{Tables, Window, Client, window_at, client_at, with_client, focused, focused_window, is_known}
+use Rattle.session_model.specs.Tables.{Tables, Window, Client, window_at, client_at, with_client, focused}
+use Rattle.session_model.specs.Tables.{focused_window, is_known}
 use Rattle.session_model.specs.Terminals.{terminal_of}
 use Rattle.session_model.specs.Lines.{Caller, caller_of, line_caller, read_line}
 use Rattle.session_model.specs.Checks.{checks, first_fault, typing_checks}
 use Rattle.session_model.specs.Deeds.{Deed, Answer, changing, parts, closes}
 use Rattle.session_model.specs.Commands.{does}
 use Rattle.session_model.specs.Keying.{typed_bytes, command_item, taken, step_items}
-use Rattle.session_model.specs.Answering.{types, says_why, input_in, ordered, keyed, with_listed, message_of, reading, unsaid, keys_outcome}
+use Rattle.session_model.specs.Answering.{types, says_why, input_in, ordered, keyed, with_listed, message_of, reading}
+use Rattle.session_model.specs.Answering.{unsaid, keys_outcome}
 use Rattle.session_model.specs.Events.{outcome}
 use Rattle.session_model.specs.Outcomes.{finished, done, Outcome}
 use Rattle.session_model.specs.Comings.{outputs}
@@ -26,7 +29,8 @@ use Rattle.session_model.specs.Run.{IsStep, HasEffects, IsDraw, DrawsWhereNeeded
 use Rattle.session_model.specs.Sound.{AreSound}
 use Rattle.session_laws.proofs.Doing.{Either}
 use Rattle.session_laws.proofs.Moving.{DeedMoves}
-use Rattle.session_laws.proofs.Rows.{moves, only_parts, closes_moves, input_few, length_append, length_filter, length_ids}
+use Rattle.session_laws.proofs.Rows.{moves, only_parts, closes_moves, input_few, length_append, length_filter}
+use Rattle.session_laws.proofs.Rows.{length_ids}
 use Rattle.session_laws.proofs.Lasting.{differ}
 use Rattle.session_laws.proofs.Settling.{focus_row, line_row, deed_moves, ids_same}
 use Rattle.session_laws.proofs.Unread.{typing_clients}
@@ -58,7 +62,8 @@ types_few u d (b ∷ bytes) = on (first_fault u (typing_checks d.user (focused_w
   on None None = omega arith
   on None (Some w) = omega arith
 
-keyed_few : (v : Tables) (client : ℕ) (m : List ℕ → Rattle.session_model.specs.declared.message.Message.Message) (a : Answer) → Either (DeedMoves v) a
+keyed_few : (v : Tables) (client : ℕ) (m : List ℕ → Rattle.session_model.specs.declared.message.Message.Message)
+    (a : Answer) → Either (DeedMoves v) a
     → length (keyed v client m a).effects ≤ length v.windows + length v.clients + 2
 keyed_few v client m (Err r) plain = omega arith
 keyed_few v client m (Ok d) all = on d.lists where
@@ -67,65 +72,84 @@ keyed_few v client m (Ok d) all = on d.lists where
 
   on : (o : Option (List ℕ)) → length (with_listed client m o d).effects ≤ length v.windows + length v.clients + 2
   on None = omega (arith, le)
-  on (Some bytes) = let sum : length (d.effects ++ Rattle.session_model.specs.declared.event.Effect.TheVariants.Say client bytes ∷ []) ≡ length d.effects + 1 = length_append d.effects _ in omega (arith, le, sum)
+  on (Some bytes) = let sum : length
+      (d.effects ++ Rattle.session_model.specs.declared.event.Effect.TheVariants.Say client bytes ∷ []) ≡ length
+      d.effects + 1 = length_append d.effects _ in omega (arith, le, sum)
 
-ruled_few : (v : Tables) (client : ℕ) (m : List ℕ → Rattle.session_model.specs.declared.message.Message.Message) (k : Caller) (c : Order) (o : Option Refusal) → ((w : Window) → k.window ≡ Some w → window_at v w.serial ≡ Some w)
-    → length (keyed v client m (elim o as (λ _. Answer) [ Some r ↦ Err r | None ↦ does v k c ])).effects ≤ length v.windows + length v.clients + 2
+ruled_few : (v : Tables) (client : ℕ) (m : List ℕ → Rattle.session_model.specs.declared.message.Message.Message)
+    (k : Caller) (c : Order) (o : Option Refusal) → ((w : Window) → k.window ≡ Some w → window_at v w.serial ≡ Some w)
+    → length (keyed v client m (elim o as (λ _. Answer) [ Some r ↦ Err r | None ↦ does v k c ])).effects ≤ length
+    v.windows + length v.clients + 2
 ruled_few v client m k c (Some r) row = omega arith
 ruled_few v client m k c None row = keyed_few v client m (does v k c) (moves v k row c)
 
-order_few : (v : Tables) (d : Client) (order : Order) → length (answering.by_line v d (Ok order)).deed.effects ≤ length v.windows + length v.clients + 2
-order_few v d order = ruled_few v d.serial (message_of order) (caller_of v d) order (first_fault v (checks v (caller_of v d) order)) (focus_row v (focused d))
+order_few : (v : Tables) (d : Client) (order : Order)
+    → length (answering.by_line v d (Ok order)).deed.effects ≤ length v.windows + length v.clients + 2
+order_few v d order = ruled_few v d.serial (message_of order) (caller_of v d) order
+    (first_fault v (checks v (caller_of v d) order)) (focus_row v (focused d))
 
-read_few : (v : Tables) (d : Client) (r : Result Order ParseFault) → length (answering.by_line v d r).deed.effects ≤ length v.windows + length v.clients + 2
+read_few : (v : Tables) (d : Client) (r : Result Order ParseFault)
+    → length (answering.by_line v d r).deed.effects ≤ length v.windows + length v.clients + 2
 read_few v d (Err f) = omega arith
 read_few v d (Ok order) = order_few v d order
 
-item_few : (v : Tables) (d : Client) (item : Option Item) → length (ordered v d item).deed.effects ≤ length v.windows + length v.clients + 2
+item_few : (v : Tables) (d : Client) (item : Option Item)
+    → length (ordered v d item).deed.effects ≤ length v.windows + length v.clients + 2
 item_few v d None = omega arith
 item_few v d (Some (typed b)) = omega arith
 item_few v d (Some (bound order)) = order_few v d order
 item_few v d (Some (line [])) = omega arith
 item_few v d (Some (line (b ∷ bs))) = read_few v d (read_line (b ∷ bs))
 
-keys_few : (t : Tables) (client : ℕ) (bytes : List ℕ) (c : Client) → client_at t client ≡ Some c → Few t (keys_outcome t c (take (taken c.keys bytes) bytes))
+keys_few : (t : Tables) (client : ℕ) (bytes : List ℕ) (c : Client) → client_at t client ≡ Some c
+    → Few t (keys_outcome t c (take (taken c.keys bytes) bytes))
 keys_few t client bytes c is =
     let read : List ℕ = take (taken c.keys bytes) bytes in
     let given : List Item = step_items c bytes in
     let d : Client = reading read c in
     let before : List Effect = (types (with_client t d) d (typed_bytes given)).effects in
     let one : length before ≤ 1 = types_few (with_client t d) d (typed_bytes given) in
-    typing_clients (λ v. IsFew t (length (before ++ unsaid before (ordered v d (command_item given)).deed.effects))) t client c d (typed_bytes given) is refl refl
+    typing_clients (λ v. IsFew t (length (before ++ unsaid before (ordered v d (command_item given)).deed.effects))) t
+    client c d (typed_bytes given) is refl refl
     (λ cs same.
     let v : Tables = record t { clients = cs } in
     let es : List Effect = (ordered v d (command_item given)).deed.effects in
     let more : length es ≤ length t.windows + length cs + 2 = item_few v d (command_item given) in
     let ones : length cs ≡ length t.clients = length_ids cs t.clients (ids_same t cs same) in
     let less : length (unsaid before es) ≤ length es = length_filter _ es in
-    let sum : length (before ++ unsaid before es) ≡ length before + length (unsaid before es) = length_append before (unsaid before es) in
+    let sum : length (before ++ unsaid before es) ≡ length before + length (unsaid before es) = length_append before
+    (unsaid before es) in
     omega (arith, one, more, ones, less, sum))
 
 -- ---- events
 
 few : (t : Tables) (event : EventValue) → AreSound t → Few t (outcome t event)
 few t (Detach client) s =
-    outcomes.found (Few t) t (λ c. finished t [] done (parts (λ d. d.serial == client) reason.Detached t)) (client_at t client) (none_few t)
-    (λ c is. deed_few t (parts (λ d. d.serial == client) reason.Detached t) (only_parts t (λ p. p.0 == client) reason.Detached))
+    outcomes.found (Few t) t (λ c. finished t [] done (parts (λ d. d.serial == client) reason.Detached t))
+    (client_at t client) (none_few t)
+    (λ c is. deed_few t (parts (λ d. d.serial == client) reason.Detached t)
+    (only_parts t (λ p. p.0 == client) reason.Detached))
 few t (Keys client bytes) s =
-    outcomes.found (Few t) t (λ c. keys_outcome t c (take (taken c.keys bytes) bytes)) (client_at t client) (none_few t) (λ c is. keys_few t client bytes c is)
+    outcomes.found (Few t) t (λ c. keys_outcome t c (take (taken c.keys bytes) bytes)) (client_at t client) (none_few t)
+    (λ c is. keys_few t client bytes c is)
 few t (Command user number bytes) s =
     outcomes.by_line (Few t) t (line_caller t user number) (is_known t user) (read_line bytes) (λ vs f. none_few t)
     (λ c d known read passes is. deed_few t d (deed_moves t (does t (line_caller t user number) c) d is
-    (moves t (line_caller t user number) (λ w at. line_row t number w (differ t.windows t.next_window s.windows_rise) at) c)))
+    (moves t (line_caller t user number)
+    (λ w at. line_row t number w (differ t.windows t.next_window s.windows_rise) at) c)))
 few t (Output window bytes) s =
     outcomes.found (Few t) t (λ v. finished t [] done (outputs t v bytes)) (window_at t window) (none_few t)
-    (λ v is. let le : length (outputs t v bytes).effects ≤ 1 = input_few v.serial (reads (terminal_of v) bytes).reports (length (reads (terminal_of v) bytes).reports == 0) in omega (arith, le))
+    (λ v is. let le : length (outputs t v bytes).effects ≤ 1 = input_few v.serial (reads (terminal_of v) bytes).reports
+    (length (reads (terminal_of v) bytes).reports == 0) in omega (arith, le))
 few t (Closed window) s =
-    outcomes.found (Few t) t (λ v. finished t [] done (closes (λ x. x.serial == window) reason.Detached t)) (window_at t window) (none_few t)
-    (λ v is. deed_few t (closes (λ x. x.serial == window) reason.Detached t) (closes_moves t (λ n. n == window) reason.Detached))
+    outcomes.found (Few t) t (λ v. finished t [] done (closes (λ x. x.serial == window) reason.Detached t))
+    (window_at t window) (none_few t)
+    (λ v is. deed_few t (closes (λ x. x.serial == window) reason.Detached t)
+    (closes_moves t (λ n. n == window) reason.Detached))
 few t event s = subst (λ (es : List Effect). IsFew t (length es)) (sym (outcomes.quiet t event refl)) (none_few t)
 
-drawn_few : (t : Tables) (effects : List Effect) (o : Option Client) → MatchOption o (effects ≡ []) (IsDraw t effects) → length effects ≤ 1
+drawn_few : (t : Tables) (effects : List Effect) (o : Option Client) → MatchOption o (effects ≡ []) (IsDraw t effects)
+    → length effects ≤ 1
 drawn_few t effects None is = let e : length effects ≡ 0 = ap length is in omega (arith, e)
 drawn_few t effects (Some c) is = on effects is.drawn where
   on : (es : List Effect) → DrawsWhereNeeded t c es → length es ≤ 1
@@ -136,8 +160,11 @@ drawn_few t effects (Some c) is = on effects is.drawn where
 pub step_few : (t : Tables) (e : Entry) → AreSound t → IsStep t e → length e.effects ≤ 256
 step_few t e s step = on e.event step.effects where
   bound : (n : ℕ) → IsFew t n → n ≤ 256
-  bound n le = let windows : length t.windows ≤ 40 = s.few_windows in let clients : length t.clients ≤ 64 = s.few_clients in omega (arith, le, windows, clients)
+  bound n le = let windows : length t.windows ≤ 40 = s.few_windows in let clients : length t.clients ≤ 64 =
+      s.few_clients in omega (arith, le, windows, clients)
 
   on : (event : EventValue) → HasEffects t event e.effects → length e.effects ≤ 256
-  on (Draw client) is = let le : length e.effects ≤ 1 = drawn_few t e.effects (client_at t client) is in omega (arith, le)
-  on event is = subst (λ (es : List Effect). length es ≤ 256) (sym is) (bound (length (outcome t event).effects) (few t event s))
+  on (Draw client) is = let le : length e.effects ≤ 1 = drawn_few t e.effects (client_at t client) is in omega
+      (arith, le)
+  on event is = subst (λ (es : List Effect). length es ≤ 256) (sym is)
+      (bound (length (outcome t event).effects) (few t event s))

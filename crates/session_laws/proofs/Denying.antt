@@ -1,5 +1,6 @@
 -- Denials name what stands against them.
-use Rattle.std.proofs.Common.{◌≡◌, ℕ, Bool, true, false, not, List, [], ◌∷◌, Option, Some, None, Ok, Err, refl, ap, ◌∙◌, arith}
+use Rattle.std.proofs.Common.{◌≡◌, ℕ, Bool, true, false, not, List, [], ◌∷◌, Option, Some, None, Ok, Err, refl, ap, ◌∙◌}
+use Rattle.std.proofs.Common.{arith}
 use Rattle.std.specs.Prelude.{if◌then◌else◌, ◌==◌, ◌||◌, MatchOption}
 use Rattle.std.specs.List.{list_any, AllByRecursion}
 use Rattle.std.specs.Option.{option_map, option_map_or, option_and_then}
@@ -44,11 +45,13 @@ Each t P cs = AllByRecursion (λ c. passes t c ≡ false → P (refusal_of t c))
 pub on_fault : (t : Tables) (P : Refusal → Type 0) (cs : List Check) → Each t P cs → OnFault P (first_fault t cs)
 on_fault t P [] all = tt
 on_fault t P (c ∷ cs) all = on (passes t c) all.0 (on_fault t P cs all.1) where
-  on : (b : Bool) → (b ≡ false → P (refusal_of t c)) → OnFault P (first_fault t cs) → OnFault P (if b then first_fault t cs else Some (refusal_of t c))
+  on : (b : Bool) → (b ≡ false → P (refusal_of t c)) → OnFault P (first_fault t cs)
+      → OnFault P (if b then first_fault t cs else Some (refusal_of t c))
   on true here rest = rest
   on false here rest = here refl
 
-each_where : (t : Tables) (P : Refusal → Type 0) (b : Bool) (cs : List Check) → Each t P cs → Each t P (where_needed b cs)
+each_where : (t : Tables) (P : Refusal → Type 0) (b : Bool) (cs : List Check) → Each t P cs
+    → Each t P (where_needed b cs)
 each_where t P true cs all = all
 each_where t P false cs all = tt
 
@@ -58,7 +61,8 @@ MatchAnswer P Q (Ok d) = Q d
 MatchAnswer P Q (Err r) = P r
 
 -- what a ruling answers, by what its checks and its own refusals do
-pub ruled_answer : (P : Refusal → Type 0) (Q : Deed → Type 0) (o : Option Refusal) (a : Answer) → OnFault P o → ((r : Refusal) → is_plain r ≡ true → P r) → (o ≡ None → Either Q a)
+pub ruled_answer : (P : Refusal → Type 0) (Q : Deed → Type 0) (o : Option Refusal) (a : Answer) → OnFault P o
+    → ((r : Refusal) → is_plain r ≡ true → P r) → (o ≡ None → Either Q a)
     → MatchAnswer P Q (elim o as (λ _. Answer) [ Some r ↦ Err r | None ↦ a ])
 ruled_answer P Q (Some r) a fails plain own = fails
 ruled_answer P Q None (Ok d) fails plain own = own refl
@@ -136,25 +140,32 @@ abbrev pub IsAsked : Tables → (UserId → Bit → Object → Type 0) → UserI
 IsAsked t asks user None = Unit {0}
 IsAsked t asks user (Some s) = ((bit : Bit) → asks user bit (object.Window s)) × IsListed t s
 
-window_each : (t : Tables) (asks : UserId → Bit → Object → Type 0) (user : UserId) (n : Needs) (o : Option ℕ) → IsAsked t asks user o → Each t (NamesTruly t asks) (window_checks user n o)
+window_each : (t : Tables) (asks : UserId → Bit → Object → Type 0) (user : UserId) (n : Needs) (o : Option ℕ)
+    → IsAsked t asks user o → Each t (NamesTruly t asks) (window_checks user n o)
 window_each t asks user n None asked = ((λ is. tt), tt)
 window_each t asks user n (Some s) asked =
     let P : Refusal → Type 0 = NamesTruly t asks in (
       missing t asks user Execute (object.Window s) (asked.0 Execute) (serial_named t s asked.1),
-      all_append (λ c. passes t c ≡ false → P (refusal_of t c)) (where_needed n.write (right user Write (object.Window s) ∷ [])) (where_needed n.lock (unlocked user s ∷ []))
-          (each_where t P n.write (right user Write (object.Window s) ∷ []) (missing t asks user Write (object.Window s) (asked.0 Write) (serial_named t s asked.1), tt))
-          (each_where t P n.lock (unlocked user s ∷ []) (locked t asks user s (holder_in t s) refl asked.1 (asked.0 Write), tt)),
+      all_append (λ c. passes t c ≡ false → P (refusal_of t c))
+          (where_needed n.write (right user Write (object.Window s) ∷ [])) (where_needed n.lock (unlocked user s ∷ []))
+          (each_where t P n.write (right user Write (object.Window s) ∷ [])
+          (missing t asks user Write (object.Window s) (asked.0 Write) (serial_named t s asked.1), tt))
+          (each_where t P n.lock (unlocked user s ∷ [])
+          (locked t asks user s (holder_in t s) refl asked.1 (asked.0 Write), tt)),
     )
 
-pub checks_each : (t : Tables) (asks : UserId → Bit → Object → Type 0) (k : Caller) (c : Order) → asks k.user Execute (object.Command (name_of c))
+pub checks_each : (t : Tables) (asks : UserId → Bit → Object → Type 0) (k : Caller) (c : Order)
+    → asks k.user Execute (object.Command (name_of c))
     → IsAsked t asks k.user (option_map (λ (w : Window). w.serial) k.window) → Each t (NamesTruly t asks) (checks t k c)
 checks_each t asks k c itself asked =
     let P : Refusal → Type 0 = NamesTruly t asks in
     let n : Needs = needs c in
     let o : Option ℕ = option_map (λ (w : Window). w.serial) k.window in (
       missing t asks k.user Execute (object.Command (name_of c)) itself refl,
-      all_append (λ c. passes t c ≡ false → P (refusal_of t c)) (where_needed n.multiuser _) _ (each_where t P n.multiuser _ ((λ is. tt), tt))
-          (all_append (λ c. passes t c ≡ false → P (refusal_of t c)) (where_needed n.client _) (where_needed n.window (window_checks k.user n o)) (each_where t P n.client _ ((λ is. tt), tt))
+      all_append (λ c. passes t c ≡ false → P (refusal_of t c)) (where_needed n.multiuser _) _
+          (each_where t P n.multiuser _ ((λ is. tt), tt))
+          (all_append (λ c. passes t c ≡ false → P (refusal_of t c)) (where_needed n.client _)
+          (where_needed n.window (window_checks k.user n o)) (each_where t P n.client _ ((λ is. tt), tt))
           (each_where t P n.window (window_checks k.user n o) (window_each t asks k.user n o asked))),
     )
 
@@ -162,14 +173,16 @@ abbrev pub IsAskedOfRow : Tables → (UserId → Bit → Object → Type 0) → 
 IsAskedOfRow t asks user None = Unit {0}
 IsAskedOfRow t asks user (Some v) = asks user Write (object.Window v.serial) × IsListed t v.serial
 
-pub typing_each : (t : Tables) (asks : UserId → Bit → Object → Type 0) (user : UserId) (o : Option Window) → IsAskedOfRow t asks user o → Each t (NamesTruly t asks) (typing_checks user o)
+pub typing_each : (t : Tables) (asks : UserId → Bit → Object → Type 0) (user : UserId) (o : Option Window)
+    → IsAskedOfRow t asks user o → Each t (NamesTruly t asks) (typing_checks user o)
 typing_each t asks user None asked = ((λ is. tt), tt)
 typing_each t asks user (Some v) asked = (
   missing t asks user Write (object.Window v.serial) asked.0 (serial_named t v.serial asked.1),
   (locked t asks user v.serial (holder_in t v.serial) refl asked.1 asked.0, tt),
 )
 
-pub plain_names : (t : Tables) (asks : UserId → Bit → Object → Type 0) (r : Refusal) → is_plain r ≡ true → NamesTruly t asks r
+pub plain_names : (t : Tables) (asks : UserId → Bit → Object → Type 0) (r : Refusal) → is_plain r ≡ true
+    → NamesTruly t asks r
 plain_names t asks (EntryDenied d) is = absurd (cc (is))
 plain_names t asks (LockDenied d) is = absurd (cc (is))
 plain_names t asks _ is = tt

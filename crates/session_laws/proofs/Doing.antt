@@ -27,35 +27,44 @@ abbrev pub Either : (Deed → Type 0) → Answer → Type 0
 Either P (Ok d) = P d
 Either P (Err r) = is_plain r ≡ true
 
-pub by_given : {X : Type 0} (P : Deed → Type 0) (o : Option X) (r : Refusal) (f : X → Answer) → is_plain r ≡ true → ((x : X) → o ≡ Some x → Either P (f x)) → Either P (given o r f)
+pub by_given : {X : Type 0} (P : Deed → Type 0) (o : Option X) (r : Refusal) (f : X → Answer) → is_plain r ≡ true
+    → ((x : X) → o ≡ Some x → Either P (f x)) → Either P (given o r f)
 unfolding given
 by_given P None r f is on = is
 by_given P (Some x) r f is on = on x refl
 
-pub by_unless : {F : Type 0} (P : Deed → Type 0) (of : F → Refusal) (o : Option F) (d : Deed) → ((f : F) → is_plain (of f) ≡ true) → P d → Either P (unless of o d)
+pub by_unless : {F : Type 0} (P : Deed → Type 0) (of : F → Refusal) (o : Option F) (d : Deed)
+    → ((f : F) → is_plain (of f) ≡ true) → P d → Either P (unless of o d)
 unfolding unless
 by_unless P of None d is p = p
 by_unless P of (Some f) d is p = is f
 
-pub by_refused : (P : Deed → Type 0) (b : Bool) (r : Refusal) (d : Deed) → is_plain r ≡ true → (b ≡ false → P d) → Either P (refused_if b r d)
+pub by_refused : (P : Deed → Type 0) (b : Bool) (r : Refusal) (d : Deed) → is_plain r ≡ true → (b ≡ false → P d)
+    → Either P (refused_if b r d)
 unfolding refused_if
 by_refused P true r d is p = is
 by_refused P false r d is p = p refl
 
 -- where there is no fault
-pub by_clear : {F : Type 0} (P : Deed → Type 0) (of : F → Refusal) (o : Option F) (d : Deed) → ((f : F) → is_plain (of f) ≡ true) → (o ≡ None → P d) → Either P (unless of o d)
+pub by_clear : {F : Type 0} (P : Deed → Type 0) (of : F → Refusal) (o : Option F) (d : Deed)
+    → ((f : F) → is_plain (of f) ≡ true) → (o ≡ None → P d) → Either P (unless of o d)
 unfolding unless
 by_clear P of None d is p = p refl
 by_clear P of (Some f) d is p = is f
 
-pub by_changes : (P : Deed → Type 0) (t : Tables) (f : Option AclFault) (objects : Option (List Object)) (acts : List Object → List Act)
+pub by_changes : (P : Deed → Type 0) (t : Tables) (f : Option AclFault) (objects : Option (List Object))
+    (acts : List Object → List Act)
     → (f ≡ None → (all : List Object) → objects ≡ Some all → P (deeds.acting t (acts all)))
-    → Either P (elim f [ Some f ↦ Err (Acl f) | None ↦ given objects (Windows NoSuchWindow) (λ all. Ok (deeds.acting t (acts all))) ])
+    → Either P
+    (elim f
+    [ Some f ↦ Err (Acl f) | None ↦ given objects (Windows NoSuchWindow) (λ all. Ok (deeds.acting t (acts all))) ])
 by_changes P t (Some f) objects acts on = refl
-by_changes P t None objects acts on = by_given P objects (Windows NoSuchWindow) (λ all. Ok (deeds.acting t (acts all))) refl (on refl)
+by_changes P t None objects acts on = by_given P objects (Windows NoSuchWindow) (λ all. Ok (deeds.acting t (acts all)))
+    refl (on refl)
 
 -- a command that shows a window
-pub by_shown : (P : Deed → Type 0) (t : Tables) (k : Caller) (o : Client → Option Window) (r : Refusal) → is_plain r ≡ true
+pub by_shown : (P : Deed → Type 0) (t : Tables) (k : Caller) (o : Client → Option Window) (r : Refusal)
+    → is_plain r ≡ true
     → ((c : Client) (w : Window) → caller_client t k ≡ Some c → o c ≡ Some w → P (selects t c w))
     → Either P (on_client t k (λ c. given (o c) r (λ w. Ok (selects t c w))))
 by_shown P t k o r is on =

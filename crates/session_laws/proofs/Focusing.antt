@@ -1,5 +1,6 @@
 -- How each command moves the focus of clients: one row a command.
-use Rattle.std.proofs.Common.{◌≡◌, ℕ, zero, suc, ◌<◌, Bool, true, false, not, List, [], ◌∷◌, ◌++◌, Option, Some, None, refl, ap, sym, ◌∙◌, subst, map, filter, inl, inr, ⊎_elim, arith}
+use Rattle.std.proofs.Common.{◌≡◌, ℕ, zero, suc, ◌<◌, Bool, true, false, not, List, [], ◌∷◌, ◌++◌, Option, Some, None}
+use Rattle.std.proofs.Common.{refl, ap, sym, ◌∙◌, subst, map, filter, inl, inr, ⊎_elim, arith}
 use Rattle.std.specs.Prelude.{◌⊎◌, if◌then◌else◌, ◌==◌}
 use Rattle.std.specs.List.{AllByRecursion}
 use Rattle.std.specs.Option.{option_and_then}
@@ -17,7 +18,8 @@ use Rattle.session_model.specs.declared.message.Message.TheVariants as message
 use Rattle.session_model.specs.Tables.{Tables, Window, Client, row_of, with_row, client_at, with_layout, focused}
 use Rattle.session_model.specs.Lines.{Caller}
 use Rattle.session_model.specs.Deeds as deeds
-use Rattle.session_model.specs.Deeds.{Deed, removes, parts, closes, is_of, without_window, without_windows, enters, arranges, entering, hearing}
+use Rattle.session_model.specs.Deeds.{Deed, removes, parts, closes, is_of, without_window, without_windows, enters}
+use Rattle.session_model.specs.Deeds.{arranges, entering, hearing}
 use Rattle.session_model.specs.Commands.{does, caller_client}
 use Rattle.session_model.specs.Promises.{SomeOf}
 use Rattle.session_model.specs.Sound.{Rises, client_serials}
@@ -39,11 +41,13 @@ rights_enter (act.Entered user window ∷ acts) all = absurd (let is : false ≡
 rights_enter (act.Opened by window ∷ acts) all = absurd (let is : false ≡ true = all.0 in cc (is))
 rights_enter (a ∷ acts) all = rights_enter acts all.1
 
-parted_enter : (cs : List Client) (more : List Act) → entered_by (map (λ (c : Client). act.Parted c.serial) cs ++ more) ≡ entered_by more
+parted_enter : (cs : List Client) (more : List Act)
+    → entered_by (map (λ (c : Client). act.Parted c.serial) cs ++ more) ≡ entered_by more
 parted_enter [] more = refl
 parted_enter (c ∷ cs) more = parted_enter cs more
 
-closed_enter : (ws : List Window) (more : List Act) → entered_by (map (λ (w : Window). act.Closed w.serial) ws ++ more) ≡ entered_by more
+closed_enter : (ws : List Window) (more : List Act)
+    → entered_by (map (λ (w : Window). act.Closed w.serial) ws ++ more) ≡ entered_by more
 closed_enter [] more = refl
 closed_enter (w ∷ ws) more = closed_enter ws more
 
@@ -58,13 +62,15 @@ GoesOn f c d =
 abbrev pub AllGoOn : List Client → (ℕ → Option (UserId × ℕ)) → List Client → Type 0
 AllGoOn cs f ds = AllByRecursion (λ d. SomeOf (λ c. GoesOn f c d) cs) ds
 
-pub alike : (cs : List Client) (f g : ℕ → Option (UserId × ℕ)) (ds : List Client) → ((n : ℕ) → g n ≡ f n) → AllGoOn cs f ds → AllGoOn cs g ds
+pub alike : (cs : List Client) (f g : ℕ → Option (UserId × ℕ)) (ds : List Client) → ((n : ℕ) → g n ≡ f n)
+    → AllGoOn cs f ds → AllGoOn cs g ds
 alike cs f g ds same all = all_weaken (λ d. SomeOf (λ c. GoesOn f c d) cs) (λ d. SomeOf (λ c. GoesOn g c d) cs) ds
     (λ d some. some_weaken (λ c. GoesOn f c d) (λ c. GoesOn g c d) cs (λ c go. (
       go.0,
       go.1,
       λ w is. ⊎_elim
-          (λ (here : f c.serial ≡ Some (c.user, w)). inl (same c.serial ∙ here)) (λ old. inr (same c.serial ∙ old.0, old.1)) (go.2 w is),
+          (λ (here : f c.serial ≡ Some (c.user, w)). inl (same c.serial ∙ here))
+          (λ old. inr (same c.serial ∙ old.0, old.1)) (go.2 w is),
     )) some) all
 
 -- its focus shows the same, or nothing
@@ -76,68 +82,94 @@ Kept cs ds = AllByRecursion (λ d. SomeOf (λ c. Same c d) cs) ds
 
 pub kept_same : (cs : List Client) → Kept cs cs
 kept_same cs = all_weaken (λ d. SomeOf (λ c. c ≡ d) cs) (λ d. SomeOf (λ c. Same c d) cs) cs
-    (λ d some. some_weaken (λ c. c ≡ d) (λ c. Same c d) cs (λ c e. (sym (ap (λ (x : Client). x.serial) e), sym (ap (λ (x : Client). x.user) e), λ w is. ap focused e ∙ is)) some) (members cs)
+    (λ d some. some_weaken (λ c. c ≡ d) (λ c. Same c d) cs
+    (λ c e. (sym (ap (λ (x : Client). x.serial) e), sym (ap (λ (x : Client). x.user) e), λ w is. ap focused e ∙ is))
+    some) (members cs)
 
 pub kept_fewer : (p : Client → Bool) (cs ds : List Client) → Kept cs ds → Kept cs (filter p ds)
 kept_fewer p cs ds all = all_filter (λ d. SomeOf (λ c. Same c d) cs) p ds all
 
-pub kept_map : (g : Client → Client) (cs ds : List Client) → ((d : Client) → Same d (g d)) → Kept cs ds → Kept cs (map g ds)
+pub kept_map : (g : Client → Client) (cs ds : List Client) → ((d : Client) → Same d (g d)) → Kept cs ds
+    → Kept cs (map g ds)
 kept_map g cs ds same all = all_map (λ d. SomeOf (λ c. Same c d) cs) g ds
     (all_weaken (λ d. SomeOf (λ c. Same c d) cs) (λ d. SomeOf (λ c. Same c (g d)) cs) ds
-    (λ d some. some_weaken (λ c. Same c d) (λ c. Same c (g d)) cs (λ c s. let t = same d in (t.0 ∙ s.0, t.1 ∙ s.1, λ w is. s.2 w (t.2 w is))) some) all)
+    (λ d some. some_weaken (λ c. Same c d) (λ c. Same c (g d)) cs
+    (λ c s. let t = same d in (t.0 ∙ s.0, t.1 ∙ s.1, λ w is. s.2 w (t.2 w is))) some) all)
 
-pub kept_go : (cs ds : List Client) (f : ℕ → Option (UserId × ℕ)) → ((n : ℕ) → f n ≡ None) → Kept cs ds → AllGoOn cs f ds
+pub kept_go : (cs ds : List Client) (f : ℕ → Option (UserId × ℕ)) → ((n : ℕ) → f n ≡ None) → Kept cs ds
+    → AllGoOn cs f ds
 kept_go cs ds f none all = all_weaken (λ d. SomeOf (λ c. Same c d) cs) (λ d. SomeOf (λ c. GoesOn f c d) cs) ds
-    (λ d some. some_weaken (λ c. Same c d) (λ c. GoesOn f c d) cs (λ c s. (s.0, s.1, λ w is. inr (none c.serial, s.2 w is))) some) all
+    (λ d some. some_weaken (λ c. Same c d) (λ c. GoesOn f c d) cs
+    (λ c s. (s.0, s.1, λ w is. inr (none c.serial, s.2 w is))) some) all
 
 -- ---- windows that are closed
 
-emptied_window : (serial : ℕ) (o : Option ℕ) (back w : ℕ) → (emptied serial (record { window = o; back = back })).window ≡ Some w → o ≡ Some w
+emptied_window : (serial : ℕ) (o : Option ℕ) (back w : ℕ)
+    → (emptied serial (record { window = o; back = back })).window ≡ Some w → o ≡ Some w
 emptied_window serial None back w is = is
 emptied_window serial (Some n) back w is = on (n == serial) is where
-  on : (b : Bool) → (let s : Shown = if b then record { window = None; back = back } else record { window = Some n; back = back } in s).window ≡ Some w → Some n ≡ Some w
+  on : (b : Bool)
+      →
+      (let s : Shown = if b then record { window = None; back = back } else record { window = Some n; back = back } in
+      s).window ≡ Some w → Some n ≡ Some w
   on true is = absurd (cc (is))
   on false is = is
 
 -- the window that a region shows
-emptied_place : (serial : ℕ) (shown : List Shown) (n w : ℕ) → at_place (map (emptied serial) shown) n ≡ Some w → at_place shown n ≡ Some w
+emptied_place : (serial : ℕ) (shown : List Shown) (n w : ℕ) → at_place (map (emptied serial) shown) n ≡ Some w
+    → at_place shown n ≡ Some w
 emptied_place serial [] n w is = is
 emptied_place serial (s ∷ shown) zero w is = emptied_window serial s.window s.back w is
 emptied_place serial (s ∷ shown) (suc n) w is = emptied_place serial shown n w is
 
-pub without_kept : (cs : List Client) (ws : List Window) (ds : List Client) → Kept cs ds → Kept cs (without_windows ws ds)
+pub without_kept : (cs : List Client) (ws : List Window) (ds : List Client) → Kept cs ds
+    → Kept cs (without_windows ws ds)
 without_kept cs [] ds all = all
-without_kept cs (w ∷ ws) ds all = without_kept cs ws (map (without_window w.serial) ds) (kept_map (without_window w.serial) cs ds (λ d. (refl, refl, λ v is. emptied_place w.serial d.layout.shown d.layout.focus v is)) all)
+without_kept cs (w ∷ ws) ds all = without_kept cs ws (map (without_window w.serial) ds)
+    (kept_map (without_window w.serial) cs ds
+    (λ d. (refl, refl, λ v is. emptied_place w.serial d.layout.shown d.layout.focus v is)) all)
 
-module _ (f : ℕ → Option (UserId × ℕ)) (c x : Client) (own : GoesOn f c x) (others : (n : ℕ) → (c.serial == n) ≡ false → f n ≡ None) where
+module _ (f : ℕ → Option (UserId × ℕ)) (c x : Client) (own : GoesOn f c x)
+    (others : (n : ℕ) → (c.serial == n) ≡ false → f n ≡ None) where
   goes_same : (r : Client) → (c.serial == r.serial) ≡ false → GoesOn f r r
   goes_same r off = (refl, refl, λ w is. inr (others r.serial off, is))
 
-  later_rows : (cs : List Client) → AllByRecursion (λ m. c.serial < m) (client_serials cs) → AllByRecursion (λ d. SomeOf (λ r. GoesOn f r d) cs) cs
+  later_rows : (cs : List Client) → AllByRecursion (λ m. c.serial < m) (client_serials cs)
+      → AllByRecursion (λ d. SomeOf (λ r. GoesOn f r d) cs) cs
   later_rows [] above = tt
   later_rows (r ∷ cs) above =
       let lt : c.serial < r.serial = above.0 in
-      let off : (c.serial == r.serial) ≡ false = grind (arith, nat_tests, lt) in
-      (inl (goes_same r off), all_weaken (λ d. SomeOf (λ q. GoesOn f q d) cs) (λ d. SomeOf (λ q. GoesOn f q d) (r ∷ cs)) cs (λ d some. inr some) (later_rows cs above.1))
+      let off : (c.serial == r.serial) ≡ false = grind (arith, nat_tests, lt) in (
+        inl (goes_same r off),
+        all_weaken (λ d. SomeOf (λ q. GoesOn f q d) cs) (λ d. SomeOf (λ q. GoesOn f q d) (r ∷ cs))
+            cs (λ d some. inr some) (later_rows cs above.1),
+      )
 
   other : (a b : ℕ) → (a == b) ≡ false → (b == a) ≡ false
   other a b is = grind (arith, nat_tests, is)
 
-  pub row_goes : (cs : List Client) (next : ℕ) → Rises (client_serials cs) next → row_of (λ (r : Client). r.serial) cs c.serial ≡ Some c → AllGoOn cs f (with_row (λ (r : Client). r.serial) cs c.serial x)
+  pub row_goes : (cs : List Client) (next : ℕ) → Rises (client_serials cs) next
+      → row_of (λ (r : Client). r.serial) cs c.serial ≡ Some c
+      → AllGoOn cs f (with_row (λ (r : Client). r.serial) cs c.serial x)
   row_goes [] next rise is = absurd (cc (is))
   row_goes (r ∷ cs) next rise is = on (r.serial == c.serial) refl is (row_goes cs next rise.2) where
-    on : (b : Bool) → (r.serial == c.serial) ≡ b → (if b then Some r else row_of (λ (q : Client). q.serial) cs c.serial) ≡ Some c
-        → (row_of (λ (q : Client). q.serial) cs c.serial ≡ Some c → AllGoOn cs f (with_row (λ (q : Client). q.serial) cs c.serial x))
+    on : (b : Bool) → (r.serial == c.serial) ≡ b
+        → (if b then Some r else row_of (λ (q : Client). q.serial) cs c.serial) ≡ Some c
+        → (row_of (λ (q : Client). q.serial) cs c.serial ≡ Some c
+        → AllGoOn cs f (with_row (λ (q : Client). q.serial) cs c.serial x))
         → AllGoOn (r ∷ cs) f (if b then x ∷ cs else r ∷ with_row (λ (q : Client). q.serial) cs c.serial x)
     on true at is rest =
         let e : r ≡ c = cc (is) in (
           inl (subst (λ (q : Client). GoesOn f q x) (sym e) own),
-          all_weaken (λ d. SomeOf (λ q. GoesOn f q d) cs) (λ d. SomeOf (λ q. GoesOn f q d) (r ∷ cs)) cs (λ d some. inr some)
-              (later_rows cs (subst (λ n. AllByRecursion (λ m. n < m) (client_serials cs)) (equal r.serial c.serial at) rise.1)),
+          all_weaken (λ d. SomeOf (λ q. GoesOn f q d) cs) (λ d. SomeOf (λ q. GoesOn f q d) (r ∷ cs)) cs
+              (λ d some. inr some)
+              (later_rows cs
+              (subst (λ n. AllByRecursion (λ m. n < m) (client_serials cs)) (equal r.serial c.serial at) rise.1)),
         )
     on false at is rest = (
       inl (goes_same r (other r.serial c.serial at)),
-      all_weaken (λ d. SomeOf (λ q. GoesOn f q d) cs) (λ d. SomeOf (λ q. GoesOn f q d) (r ∷ cs)) (with_row (λ (q : Client). q.serial) cs c.serial x) (λ d some. inr some) (rest is),
+      all_weaken (λ d. SomeOf (λ q. GoesOn f q d) cs) (λ d. SomeOf (λ q. GoesOn f q d) (r ∷ cs))
+          (with_row (λ (q : Client). q.serial) cs c.serial x) (λ d some. inr some) (rest is),
     )
 
 -- ---- the rows
@@ -157,7 +189,10 @@ none_if true = refl
 none_if false = refl
 
 calm : (t : Tables) (k : Caller) (d : Deed) → entered_by d.acts ≡ None → Kept t.clients d.tables.clients → HasGone t k d
-calm t k d none kept = record { all = kept_go t.clients d.tables.clients (entered_of k d.acts) (λ n. ap (λ o. if is_mine k.client n then o else None) none ∙ none_if (is_mine k.client n)) kept }
+calm t k d none kept = record {
+  all = kept_go t.clients d.tables.clients (entered_of k d.acts)
+      (λ n. ap (λ o. if is_mine k.client n then o else None) none ∙ none_if (is_mine k.client n)) kept;
+}
 
 rights : (t : Tables) (k : Caller) (acts : List Act) → AllRights acts → HasGone t k (deeds.acting t acts)
 rights t k acts all = calm t k (deeds.acting t acts) (rights_enter acts all) (kept_same t.clients)
@@ -165,27 +200,35 @@ rights t k acts all = calm t k (deeds.acting t acts) (rights_enter acts all) (ke
 lists : (t : Tables) (k : Caller) (bytes : List ℕ) → HasGone t k (deeds.listing t bytes)
 lists t k bytes = calm t k (deeds.listing t bytes) refl (kept_same t.clients)
 
-caller_row : (t : Tables) (o : Option ℕ) (c : Client) → option_and_then (client_at t) o ≡ Some c → client_at t c.serial ≡ Some c
+caller_row : (t : Tables) (o : Option ℕ) (c : Client) → option_and_then (client_at t) o ≡ Some c
+    → client_at t c.serial ≡ Some c
 caller_row t None c is = absurd (cc (is))
 caller_row t (Some n) c is = row_at t n c is
 
 parts_gone : (t : Tables) (k : Caller) (p : Client → Bool) (why : Reason) → HasGone t k (parts p why t)
-parts_gone t k p why = calm t k (parts p why t) (sym (ap entered_by (append_nil (parts p why t).acts)) ∙ parted_enter (filter p t.clients) []) (kept_fewer (λ c. not (p c)) t.clients t.clients (kept_same t.clients))
+parts_gone t k p why = calm t k (parts p why t)
+    (sym (ap entered_by (append_nil (parts p why t).acts)) ∙ parted_enter (filter p t.clients) [])
+    (kept_fewer (λ c. not (p c)) t.clients t.clients (kept_same t.clients))
 
 removal_gone : (t : Tables) (k : Caller) (o : Option UserId) → HasGone t k (removes o t)
 removal_gone t k None = calm t k (removes None t) refl (kept_same t.clients)
-removal_gone t k (Some u) = calm t k (removes (Some u) t) (parted_enter (filter (is_of u) t.clients) (act.Gone u ∷ [])) (kept_fewer (λ c. not (is_of u c)) t.clients t.clients (kept_same t.clients))
+removal_gone t k (Some u) = calm t k (removes (Some u) t) (parted_enter (filter (is_of u) t.clients) (act.Gone u ∷ []))
+    (kept_fewer (λ c. not (is_of u c)) t.clients t.clients (kept_same t.clients))
 
 closes_gone : (t : Tables) (k : Caller) (p : Window → Bool) (why : Reason) → HasGone t k (closes p why t)
-closes_gone t k p why = calm t k (closes p why t) (sym (ap entered_by (append_nil (closes p why t).acts)) ∙ closed_enter (filter p t.windows) []) (without_kept t.clients (filter p t.windows) t.clients (kept_same t.clients))
+closes_gone t k p why = calm t k (closes p why t)
+    (sym (ap entered_by (append_nil (closes p why t).acts)) ∙ closed_enter (filter p t.windows) [])
+    (without_kept t.clients (filter p t.windows) t.clients (kept_same t.clients))
 
 quit_gone : (t : Tables) (k : Caller) → HasGone t k (deeds.both (closes (λ w. true) Quit t) (parts (λ c. true) Quit))
 quit_gone t k =
     let first : Deed = closes (λ w. true) Quit t in
     let second : Deed = parts (λ c. true) Quit first.tables in
     calm t k (deeds.both first (parts (λ c. true) Quit))
-    (closed_enter (filter (λ (w : Window). true) t.windows) second.acts ∙ sym (ap entered_by (append_nil second.acts)) ∙ parted_enter (filter (λ (c : Client). true) first.tables.clients) [])
-    (kept_fewer (λ c. not true) t.clients first.tables.clients (without_kept t.clients (filter (λ (w : Window). true) t.windows) t.clients (kept_same t.clients)))
+    (closed_enter (filter (λ (w : Window). true) t.windows) second.acts ∙ sym (ap entered_by (append_nil second.acts))
+    ∙ parted_enter (filter (λ (c : Client). true) first.tables.clients) [])
+    (kept_fewer (λ c. not true) t.clients first.tables.clients
+    (without_kept t.clients (filter (λ (w : Window). true) t.windows) t.clients (kept_same t.clients)))
 
 module _ (t : Tables) (k : Caller) (s : Rises (client_serials t.clients) t.next_client) where
   mine_here : (c : Client) → caller_client t k ≡ Some c → is_mine k.client c.serial ≡ true
@@ -199,15 +242,23 @@ module _ (t : Tables) (k : Caller) (s : Rises (client_serials t.clients) t.next_
   entered c l is =
       let d : Client = with_layout l c in
       let acts : List Act = entering c.user (focused d) in record {
-        all = row_goes (entered_of k acts) c d
-            (refl, refl, λ w at. inl (ap (λ (b : Bool). if b then entered_by acts else None) (mine_here c is) ∙ ap (λ o. entered_by (entering c.user o)) at))
+        all = row_goes (entered_of k acts) c d (
+          refl,
+          refl,
+          λ w at. inl
+              (ap (λ (b : Bool). if b then entered_by acts else None) (mine_here c is)
+              ∙ ap (λ o. entered_by (entering c.user o)) at),
+        )
             (λ n off. ap (λ (b : Bool). if b then entered_by acts else None) (mine_off c n is off))
             t.clients t.next_client s (caller_row t k.client c is);
       }
 
-  arranged : (c : Client) (l : Arrangement) → caller_client t k ≡ Some c → ((w : ℕ) → at_place l.shown l.focus ≡ Some w → focused c ≡ Some w) → HasGone t k (arranges t c l)
+  arranged : (c : Client) (l : Arrangement) → caller_client t k ≡ Some c
+      → ((w : ℕ) → at_place l.shown l.focus ≡ Some w → focused c ≡ Some w) → HasGone t k (arranges t c l)
   arranged c l is same = record {
-    all = row_goes (entered_of k []) c (with_layout l c) (refl, refl, λ w at. inr (none_if (is_mine k.client c.serial), same w at)) (λ n off. none_if (is_mine k.client n)) t.clients t.next_client s (caller_row t k.client c is);
+    all = row_goes (entered_of k []) c (with_layout l c)
+        (refl, refl, λ w at. inr (none_if (is_mine k.client c.serial), same w at))
+        (λ n off. none_if (is_mine k.client n)) t.clients t.next_client s (caller_row t k.client c is);
   }
 
   gone_deed : (c : Order) (d : Deed) → shapes.Shape t k c d → HasGone t k d
@@ -217,9 +268,12 @@ module _ (t : Tables) (k : Caller) (s : Rises (client_serials t.clients) t.next_
   gone_deed c d (shapes.keeps_page x l of at shows same) = arranged x l at same
   gone_deed c d (shapes.writes_to w what one at) = calm t k _ refl (kept_same t.clients)
   gone_deed c d (shapes.opened is) = calm t k _ refl (kept_same t.clients)
-  gone_deed c d (shapes.shut is) = calm t k _ (sym (ap entered_by (append_nil (parts (λ x. not (is_of t.owner x)) SingleUser t).acts)) ∙ parted_enter (filter (λ x. not (is_of t.owner x)) t.clients) [])
+  gone_deed c d (shapes.shut is) = calm t k _
+      (sym (ap entered_by (append_nil (parts (λ x. not (is_of t.owner x)) SingleUser t).acts))
+      ∙ parted_enter (filter (λ x. not (is_of t.owner x)) t.clients) [])
       (kept_fewer (λ x. not (not (is_of t.owner x))) t.clients t.clients (kept_same t.clients))
-  gone_deed c d (shapes.told bytes is) = calm t k _ refl (kept_map (hearing (message.Text _)) t.clients t.clients (λ x. (refl, refl, λ w is. is)) (kept_same t.clients))
+  gone_deed c d (shapes.told bytes is) = calm t k _ refl
+      (kept_map (hearing (message.Text _)) t.clients t.clients (λ x. (refl, refl, λ w is. is)) (kept_same t.clients))
   gone_deed c d (shapes.removed word is clear) = removal_gone t k (named_by word)
   gone_deed c d (shapes.fitted w rows columns is at) = calm t k _ refl (kept_same t.clients)
   gone_deed c d (shapes.titled w bytes is at) = calm t k _ refl (kept_same t.clients)

@@ -1,5 +1,6 @@
 -- The bytes that effects put into windows.
-use Rattle.std.proofs.Common.{◌≡◌, ℕ, Bool, true, false, not, List, [], ◌∷◌, ◌++◌, Option, Some, None, Ok, Err, refl, ap, sym, ◌∙◌, append_assoc}
+use Rattle.std.proofs.Common.{◌≡◌, ℕ, Bool, true, false, not, List, [], ◌∷◌, ◌++◌, Option, Some, None, Ok, Err, refl}
+use Rattle.std.proofs.Common.{ap, sym, ◌∙◌, append_assoc}
 use Rattle.std.specs.Prelude.{if◌then◌else◌, ◌==◌}
 use Rattle.std.specs.List.{list_any}
 use Rattle.session_model.specs.declared.event.Effect.{Effect}
@@ -25,7 +26,8 @@ append_nil (x ∷ xs) = ap (λ ys. x ∷ ys) (append_nil xs)
 
 pub inputs_append : (a b : List Effect) (w : ℕ) → inputs (a ++ b) w ≡ inputs a w ++ inputs b w
 inputs_append [] b w = refl
-inputs_append (Input at bytes ∷ a) b w = ap (λ bs. (if at == w then bytes else []) ++ bs) (inputs_append a b w) ∙ sym (append_assoc (if at == w then bytes else []) (inputs a w) (inputs b w))
+inputs_append (Input at bytes ∷ a) b w = ap (λ bs. (if at == w then bytes else []) ++ bs) (inputs_append a b w)
+    ∙ sym (append_assoc (if at == w then bytes else []) (inputs a w) (inputs b w))
 inputs_append (Deliver to bytes ∷ a) b w = inputs_append a b w
 inputs_append (Say to bytes ∷ a) b w = inputs_append a b w
 inputs_append (Size at rows columns ∷ a) b w = inputs_append a b w
@@ -42,38 +44,48 @@ never_same (Size at rows columns) (s ∷ said) is = never_same (Size at rows col
 never_same (GoneWindow at why) (s ∷ said) is = never_same (GoneWindow at why) said is
 never_same (GoneClient at why) (s ∷ said) is = never_same (GoneClient at why) said is
 
-kept_inputs : (b : Bool) (e : Effect) (fs es : List Effect) (w : ℕ) → b ≡ false → inputs fs w ≡ inputs es w → inputs (if not b then e ∷ fs else fs) w ≡ inputs (e ∷ es) w
+kept_inputs : (b : Bool) (e : Effect) (fs es : List Effect) (w : ℕ) → b ≡ false → inputs fs w ≡ inputs es w
+    → inputs (if not b then e ∷ fs else fs) w ≡ inputs (e ∷ es) w
 kept_inputs true e fs es w is rest = absurd (cc (is))
-kept_inputs false e fs es w is rest = inputs_append (e ∷ []) fs w ∙ ap (λ bs. inputs (e ∷ []) w ++ bs) rest ∙ sym (inputs_append (e ∷ []) es w)
+kept_inputs false e fs es w is rest = inputs_append (e ∷ []) fs w ∙ ap (λ bs. inputs (e ∷ []) w ++ bs) rest
+    ∙ sym (inputs_append (e ∷ []) es w)
 
-said_inputs : (b : Bool) (to : ℕ) (bytes : List ℕ) (fs es : List Effect) (w : ℕ) → inputs fs w ≡ inputs es w → inputs (if not b then Say to bytes ∷ fs else fs) w ≡ inputs es w
+said_inputs : (b : Bool) (to : ℕ) (bytes : List ℕ) (fs es : List Effect) (w : ℕ) → inputs fs w ≡ inputs es w
+    → inputs (if not b then Say to bytes ∷ fs else fs) w ≡ inputs es w
 said_inputs true to bytes fs es w rest = rest
 said_inputs false to bytes fs es w rest = rest
 
 pub inputs_unsaid : (said es : List Effect) (w : ℕ) → inputs (unsaid said es) w ≡ inputs es w
 inputs_unsaid said [] w = refl
-inputs_unsaid said (Say to bytes ∷ es) w = said_inputs (list_any (says_same (Say to bytes)) said) to bytes (unsaid said es) es w (inputs_unsaid said es w)
-inputs_unsaid said (e ∷ es) w = kept_inputs (list_any (says_same e) said) e (unsaid said es) es w (never_same e said refl) (inputs_unsaid said es w)
+inputs_unsaid said (Say to bytes ∷ es) w = said_inputs (list_any (says_same (Say to bytes)) said) to bytes
+    (unsaid said es) es w (inputs_unsaid said es w)
+inputs_unsaid said (e ∷ es) w = kept_inputs (list_any (says_same e) said) e (unsaid said es) es w
+    (never_same e said refl) (inputs_unsaid said es w)
 
 -- the bytes of an answer
 abbrev pub answer_inputs : Answer → ℕ → List ℕ
 answer_inputs (Ok d) w = inputs d.effects w
 answer_inputs (Err r) w = []
 
-pub answered_inputs : (t : Tables) (vs : List Verdict) (a : Answer) (w : ℕ) → inputs (answered t vs a).effects w ≡ answer_inputs a w
+pub answered_inputs : (t : Tables) (vs : List Verdict) (a : Answer) (w : ℕ)
+    → inputs (answered t vs a).effects w ≡ answer_inputs a w
 answered_inputs t vs (Ok d) w = refl
 answered_inputs t vs (Err r) w = refl
 
-listed_inputs : (client : ℕ) (m : List ℕ → Message) (lists : Option (List ℕ)) (d : Deed) (w : ℕ) → inputs (with_listed client m lists d).effects w ≡ inputs d.effects w
+listed_inputs : (client : ℕ) (m : List ℕ → Message) (lists : Option (List ℕ)) (d : Deed) (w : ℕ)
+    → inputs (with_listed client m lists d).effects w ≡ inputs d.effects w
 listed_inputs client m None d w = refl
-listed_inputs client m (Some bytes) d w = inputs_append d.effects (Say client bytes ∷ []) w ∙ append_nil (inputs d.effects w)
+listed_inputs client m (Some bytes) d w = inputs_append d.effects (Say client bytes ∷ []) w
+    ∙ append_nil (inputs d.effects w)
 
-pub keyed_inputs : (u : Tables) (client : ℕ) (m : List ℕ → Message) (a : Answer) (w : ℕ) → inputs (keyed u client m a).effects w ≡ answer_inputs a w
+pub keyed_inputs : (u : Tables) (client : ℕ) (m : List ℕ → Message) (a : Answer) (w : ℕ)
+    → inputs (keyed u client m a).effects w ≡ answer_inputs a w
 keyed_inputs u client m (Ok d) w = listed_inputs client m d.lists d w
 keyed_inputs u client m (Err r) w = refl
 
 -- an event whose deed puts in nothing
-pub passed_inputs : (t : Tables) (o : Option Refusal) (vs : List Verdict) (reply : Reply) (d : Deed) (w : ℕ) → inputs d.effects w ≡ []
+pub passed_inputs : (t : Tables) (o : Option Refusal) (vs : List Verdict) (reply : Reply) (d : Deed) (w : ℕ)
+    → inputs d.effects w ≡ []
     → inputs (elim o as (λ _. Outcome) [ Some r ↦ refused t vs r | None ↦ finished t vs reply d ]).effects w ≡ []
 passed_inputs t None vs reply d w none = none
 passed_inputs t (Some r) vs reply d w none = refl

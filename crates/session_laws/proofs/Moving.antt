@@ -1,5 +1,6 @@
 -- How commands change which windows and clients there are, and by which acts: one row a command.
-use Rattle.std.proofs.Common.{◌≡◌, ℕ, ◌+◌, ◌≤◌, Bool, true, false, not, List, [], ◌∷◌, ◌++◌, Option, Some, None, refl, ap, sym, ◌∙◌, map, filter, length, arith}
+use Rattle.std.proofs.Common.{◌≡◌, ℕ, ◌+◌, ◌≤◌, Bool, true, false, not, List, [], ◌∷◌, ◌++◌, Option, Some, None, refl}
+use Rattle.std.proofs.Common.{ap, sym, ◌∙◌, map, filter, length, arith}
 use Rattle.std.specs.Prelude.{if◌then◌else◌, ◌==◌}
 use Rattle.std.specs.List.{AllByRecursion}
 use Rattle.acl.specs.declared.user_id.UserId.{UserId}
@@ -13,7 +14,8 @@ use Rattle.acl.specs.declared.entries.MaskScope.{MaskScope}
 use Rattle.acl.specs.declared.entries.MaskScope.TheVariants as scope
 use Rattle.acl.specs.declared.entries.NewLeader.{NewLeader}
 use Rattle.acl.specs.History.{among}
-use Rattle.acl.specs.Commands.{change_acts, name_acts, user_acts, sets, sets_on, with_name, add_acts, known_acts, new_acts, names_sets, name_sets, added, group_acts, mask_acts, scope_acts}
+use Rattle.acl.specs.Commands.{change_acts, name_acts, user_acts, sets, sets_on, with_name, add_acts, known_acts}
+use Rattle.acl.specs.Commands.{new_acts, names_sets, name_sets, added, group_acts, mask_acts, scope_acts}
 use Rattle.session_model.specs.Tables.{Tables, Client, row_of, with_row}
 use Rattle.session_model.specs.Deeds.{Deed, acting, listing}
 use Rattle.session_model.specs.Sound.{NumbersDiffer}
@@ -68,20 +70,25 @@ sets_on_rights u (b ∷ bits) o = (refl, sets_on_rights u bits o)
 
 sets_rights : (u : UserId) (bits : List BitChange) (objects : List Object) → AllRights (sets u bits objects)
 sets_rights u bits [] = tt
-sets_rights u bits (o ∷ objects) = rights_append (sets_on u bits o) (sets u bits objects) (sets_on_rights u bits o) (sets_rights u bits objects)
+sets_rights u bits (o ∷ objects) = rights_append (sets_on u bits o) (sets u bits objects) (sets_on_rights u bits o)
+    (sets_rights u bits objects)
 
-user_rights : (known : Bool) (u : UserId) (bits : List BitChange) (objects : List Object) → AllRights (user_acts known u bits objects)
+user_rights : (known : Bool) (u : UserId) (bits : List BitChange) (objects : List Object)
+    → AllRights (user_acts known u bits objects)
 user_rights true u bits objects = sets_rights u bits objects
 user_rights false u bits objects = (refl, sets_rights u bits objects)
 
-name_rights : (users : List UserId) (name : Option UserId) (bits : List BitChange) (objects : List Object) → AllRights (name_acts users name bits objects)
+name_rights : (users : List UserId) (name : Option UserId) (bits : List BitChange) (objects : List Object)
+    → AllRights (name_acts users name bits objects)
 name_rights users None bits objects = tt
 name_rights users (Some u) bits objects = user_rights (among users u) u bits objects
 
-pub change_rights : (users : List UserId) (names : List (Option UserId)) (bits : List BitChange) (objects : List Object) → AllRights (change_acts users names bits objects)
+pub change_rights : (users : List UserId) (names : List (Option UserId)) (bits : List BitChange) (objects : List Object)
+    → AllRights (change_acts users names bits objects)
 change_rights users [] bits objects = tt
 change_rights users (name ∷ names) bits objects =
-    rights_append (name_acts users name bits objects) (change_acts (with_name users name) names bits objects) (name_rights users name bits objects) (change_rights (with_name users name) names bits objects)
+    rights_append (name_acts users name bits objects) (change_acts (with_name users name) names bits objects)
+    (name_rights users name bits objects) (change_rights (with_name users name) names bits objects)
 
 new_rights : (users : List UserId) (name : Option UserId) → AllRights (new_acts users name)
 new_rights users None = tt
@@ -92,18 +99,23 @@ new_rights users (Some u) = on (among users u) where
 
 known_rights : (users : List UserId) (names : List (Option UserId)) → AllRights (known_acts users names)
 known_rights users [] = tt
-known_rights users (name ∷ names) = rights_append (new_acts users name) (known_acts (with_name users name) names) (new_rights users name) (known_rights (with_name users name) names)
+known_rights users (name ∷ names) = rights_append (new_acts users name) (known_acts (with_name users name) names)
+    (new_rights users name) (known_rights (with_name users name) names)
 
-name_sets_rights : (bits : List BitChange) (objects : List Object) (name : Option UserId) → AllRights (name_sets bits objects name)
+name_sets_rights : (bits : List BitChange) (objects : List Object) (name : Option UserId)
+    → AllRights (name_sets bits objects name)
 name_sets_rights bits objects None = tt
 name_sets_rights bits objects (Some u) = sets_rights u bits objects
 
 names_sets_rights : (objects : List Object) (names : List (Option UserId)) → AllRights (names_sets objects names)
 names_sets_rights objects [] = tt
-names_sets_rights objects (name ∷ names) = rights_append (name_sets added objects name) (names_sets objects names) (name_sets_rights added objects name) (names_sets_rights objects names)
+names_sets_rights objects (name ∷ names) = rights_append (name_sets added objects name) (names_sets objects names)
+    (name_sets_rights added objects name) (names_sets_rights objects names)
 
-pub add_rights : (users : List UserId) (names : List (Option UserId)) (objects : List Object) → AllRights (add_acts users names objects)
-add_rights users names objects = rights_append (known_acts users names) (names_sets objects names) (known_rights users names) (names_sets_rights objects names)
+pub add_rights : (users : List UserId) (names : List (Option UserId)) (objects : List Object)
+    → AllRights (add_acts users names objects)
+add_rights users names objects = rights_append (known_acts users names) (names_sets objects names)
+    (known_rights users names) (names_sets_rights objects names)
 
 pub group_rights : (name : Option UserId) (leader : NewLeader) → AllRights (group_acts name leader)
 group_rights None leader = tt
@@ -116,7 +128,8 @@ scope_rights by (scope.User (Some u)) bit value = (refl, tt)
 
 pub mask_rights : (by : UserId) (entries : List MaskEntry) → AllRights (mask_acts by entries)
 mask_rights by [] = tt
-mask_rights by (e ∷ entries) = rights_append (scope_acts by e.scope e.bit e.value) (mask_acts by entries) (scope_rights by e.scope e.bit e.value) (mask_rights by entries)
+mask_rights by (e ∷ entries) = rights_append (scope_acts by e.scope e.bit e.value) (mask_acts by entries)
+    (scope_rights by e.scope e.bit e.value) (mask_rights by entries)
 
 -- ---- what a command moves
 
@@ -153,11 +166,13 @@ pub record Moves (t : Tables) (u : Tables) (acts : List Act) (effects : ℕ) : T
 abbrev pub DeedMoves : Tables → Deed → Type 0
 DeedMoves t d = Moves t d.tables d.acts (length d.effects)
 
-pub filter_map : {A B : Type 0} (f : A → B) (p : B → Bool) (xs : List A) → map f (filter (λ x. p (f x)) xs) ≡ filter p (map f xs)
+pub filter_map : {A B : Type 0} (f : A → B) (p : B → Bool) (xs : List A)
+    → map f (filter (λ x. p (f x)) xs) ≡ filter p (map f xs)
 filter_map f p [] = refl
 filter_map f p (x ∷ xs) = on (p (f x)) (filter_map f p xs) where
   on : (b : Bool) → map f (filter (λ x. p (f x)) xs) ≡ filter p (map f xs)
-      → map f (if b then x ∷ filter (λ x. p (f x)) xs else filter (λ x. p (f x)) xs) ≡ (if b then f x ∷ filter p (map f xs) else filter p (map f xs))
+      → map f (if b then x ∷ filter (λ x. p (f x)) xs else filter (λ x. p (f x)) xs) ≡
+      (if b then f x ∷ filter p (map f xs) else filter p (map f xs))
   on true same = ap (λ ys. f x ∷ ys) same
   on false same = same
 
@@ -174,7 +189,9 @@ stays t u acts effects aside windows clients next_window next_client few numbers
   parting = λ p. false;
   others = acts;
   aside = aside;
-  acts_are = sym (ap (λ ns. closed ns ++ (parted (filter (λ p. false) (ids t)) ++ acts)) (filter_none (serials t)) ∙ ap (λ ps. parted ps ++ acts) (filter_none (ids t)));
+  acts_are = sym
+      (ap (λ ns. closed ns ++ (parted (filter (λ p. false) (ids t)) ++ acts)) (filter_none (serials t))
+      ∙ ap (λ ps. parted ps ++ acts) (filter_none (ids t)));
   windows = windows ∙ sym (filter_all (serials t));
   clients = clients ∙ sym (filter_all (ids t));
   next_window = next_window;
@@ -191,10 +208,12 @@ pub lists_only : (t : Tables) (bytes : List ℕ) → DeedMoves t (listing t byte
 lists_only t bytes = stays t t [] 0 tt refl refl refl refl (omega arith) (λ differ numbers. numbers)
 
 -- a client's row
-pub map_with_row : {A B : Type 0} (f : A → B) (s : A → ℕ) (rows : List A) (n : ℕ) (x : A) → ((r : A) → row_of s rows n ≡ Some r → f x ≡ f r) → map f (with_row s rows n x) ≡ map f rows
+pub map_with_row : {A B : Type 0} (f : A → B) (s : A → ℕ) (rows : List A) (n : ℕ) (x : A)
+    → ((r : A) → row_of s rows n ≡ Some r → f x ≡ f r) → map f (with_row s rows n x) ≡ map f rows
 map_with_row f s [] n x same = refl
 map_with_row {A = A} f s (r ∷ rows) n x same = on (s r == n) same (map_with_row f s rows n x) where
-  on : (b : Bool) → ((q : A) → (if b then Some r else row_of s rows n) ≡ Some q → f x ≡ f q) → (((q : A) → row_of s rows n ≡ Some q → f x ≡ f q) → map f (with_row s rows n x) ≡ map f rows)
+  on : (b : Bool) → ((q : A) → (if b then Some r else row_of s rows n) ≡ Some q → f x ≡ f q)
+      → (((q : A) → row_of s rows n ≡ Some q → f x ≡ f q) → map f (with_row s rows n x) ≡ map f rows)
       → map f (if b then x ∷ rows else r ∷ with_row s rows n x) ≡ map f (r ∷ rows)
   on true same later = ap (λ y. y ∷ map f rows) (same r refl)
   on false same later = ap (λ ys. f r ∷ ys) (later same)

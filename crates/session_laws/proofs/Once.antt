@@ -1,5 +1,6 @@
 -- No client is told the same twice in a step.
-use Rattle.std.proofs.Common.{◌≡◌, ℕ, ◌<◌, Bool, true, false, not, List, [], ◌∷◌, ◌++◌, Option, Some, None, Ok, Err, Result, refl, ap, sym, ◌∙◌, subst, map, filter, length, take, arith, ⊎_elim}
+use Rattle.std.proofs.Common.{◌≡◌, ℕ, ◌<◌, Bool, true, false, not, List, [], ◌∷◌, ◌++◌, Option, Some, None, Ok, Err}
+use Rattle.std.proofs.Common.{Result, refl, ap, sym, ◌∙◌, subst, map, filter, length, take, arith, ⊎_elim}
 use Rattle.std.specs.Prelude.{if◌then◌else◌, ◌==◌, ◌||◌, MatchOption, codes}
 use Rattle.std.specs.List.{AllByRecursion, list_any}
 use Rattle.std.specs.Str.{bytes_eq}
@@ -17,14 +18,16 @@ use Rattle.session_model.specs.declared.event.Reason.TheVariants as reason
 use Rattle.session_model.specs.declared.message.Message.{Message}
 use Rattle.session_model.specs.declared.refusal.Refusal.{Refusal}
 use Rattle.session_model.specs.Trace.{EventValue, Detach, Keys, Command, Output, Closed, Draw, Entry}
-use Rattle.session_model.specs.Tables.{Tables, Window, Client, window_at, client_at, with_client, focused_window, is_known}
+use Rattle.session_model.specs.Tables.{Tables, Window, Client, window_at, client_at, with_client, focused_window}
+use Rattle.session_model.specs.Tables.{is_known}
 use Rattle.session_model.specs.Terminals.{terminal_of}
 use Rattle.session_model.specs.Lines.{Caller, caller_of, line_caller, read_line}
 use Rattle.session_model.specs.Checks.{checks, first_fault, typing_checks}
 use Rattle.session_model.specs.Deeds.{Deed, Answer, changing, parts, closes, tells}
 use Rattle.session_model.specs.Commands.{does}
 use Rattle.session_model.specs.Keying.{typed_bytes, command_item, taken, step_items}
-use Rattle.session_model.specs.Answering.{types, says_why, input_in, ordered, keyed, with_listed, message_of, reading, unsaid, says_same, keys_outcome}
+use Rattle.session_model.specs.Answering.{types, says_why, input_in, ordered, keyed, with_listed, message_of, reading}
+use Rattle.session_model.specs.Answering.{unsaid, says_same, keys_outcome}
 use Rattle.session_model.specs.Events.{outcome}
 use Rattle.session_model.specs.Outcomes.{finished, done, Outcome}
 use Rattle.session_model.specs.Comings.{outputs}
@@ -34,7 +37,8 @@ use Rattle.session_model.specs.Sound.{Rises, AreSound, client_serials}
 use Rattle.session_model.specs.Promises.{SomeOf, IsDoneBy}
 use Rattle.session_laws.specs.Laws.{IsSaidOnce, AreSaidOnce}
 use Rattle.session_laws.proofs.Inputs.{is_say}
-use Rattle.session_laws.proofs.Lists.{all_of, all_weaken, all_append, all_filter, all_passed, members, both_true, itself, contradicts}
+use Rattle.session_laws.proofs.Lists.{all_of, all_weaken, all_append, all_filter, all_passed, members, both_true}
+use Rattle.session_laws.proofs.Lists.{itself, contradicts}
 use Rattle.session_laws.proofs.Doing.{Either, giving}
 use Rattle.session_laws.proofs.Done.{HasDone, done_by}
 use Rattle.session_laws.proofs.Lasting.{client_firsts, firsts}
@@ -52,7 +56,8 @@ once_filter : (f : Effect) (p : Effect → Bool) (xs : List Effect) → IsSaidOn
 once_filter (Say to said) p xs all = all_filter (λ g. g ≡ Say to said → ⊥) p xs all
 once_filter f p xs all = tt
 
-said_append : (xs ys : List Effect) → AreSaidOnce xs → AreSaidOnce ys → AllByRecursion (λ x. IsSaidOnce x ys) xs → AreSaidOnce (xs ++ ys)
+said_append : (xs ys : List Effect) → AreSaidOnce xs → AreSaidOnce ys → AllByRecursion (λ x. IsSaidOnce x ys) xs
+    → AreSaidOnce (xs ++ ys)
 said_append [] ys p q apart = q
 said_append (x ∷ xs) ys p q apart = (once_append x xs ys p.0 apart.0, said_append xs ys p.1 q apart.1)
 
@@ -78,15 +83,17 @@ single f = (tt, tt)
 
 -- ---- what was said before isn't said again
 
-any_true : (p : Effect → Bool) (xs : List Effect) (x : Effect) → SomeOf (λ y. y ≡ x) xs → p x ≡ true → list_any p xs ≡ true
+any_true : (p : Effect → Bool) (xs : List Effect) (x : Effect) → SomeOf (λ y. y ≡ x) xs → p x ≡ true
+    → list_any p xs ≡ true
 any_true p [] x some is = absurd some
-any_true p (y ∷ xs) x some is = ⊎_elim (λ (e : y ≡ x). here (ap p e ∙ is)) (λ later. there (p y) (any_true p xs x later is)) some where
-  here : p y ≡ true → (p y || list_any p xs) ≡ true
-  here e = ap (λ b. b || list_any p xs) e
+any_true p (y ∷ xs) x some is = ⊎_elim (λ (e : y ≡ x). here (ap p e ∙ is))
+    (λ later. there (p y) (any_true p xs x later is)) some where
+      here : p y ≡ true → (p y || list_any p xs) ≡ true
+      here e = ap (λ b. b || list_any p xs) e
 
-  there : (b : Bool) → list_any p xs ≡ true → (b || list_any p xs) ≡ true
-  there true e = refl
-  there false e = e
+      there : (b : Bool) → list_any p xs ≡ true → (b || list_any p xs) ≡ true
+      there true e = refl
+      there false e = e
 
 same_itself : (to : ℕ) (said : List ℕ) → says_same (Say to said) (Say to said) ≡ true
 same_itself to said = both_true (to == to) (bytes_eq said said) (itself to) ((bytes_eq-Decides said said).1 refl)
@@ -96,27 +103,32 @@ negated true is = absurd (cc (is))
 negated false is = refl
 
 unsaid_apart : (said es : List Effect) → AllByRecursion (λ s. IsSaidOnce s (unsaid said es)) said
-unsaid_apart said es = all_weaken (λ s. SomeOf (λ y. y ≡ s) said) (λ s. IsSaidOnce s (unsaid said es)) said one (members said) where
-  one : (s : Effect) → SomeOf (λ y. y ≡ s) said → IsSaidOnce s (unsaid said es)
-  one (Say to text) some =
-      all_passed (λ g. g ≡ Say to text → ⊥) (λ g. not (list_any (says_same g) said)) es
-      (all_of (λ g. not (list_any (says_same g) said) ≡ true → g ≡ Say to text → ⊥) es
-      (λ g passes same. contradicts (list_any (says_same g) said)
-      (any_true (says_same g) said (Say to text) some (ap (λ x. says_same x (Say to text)) same ∙ same_itself to text)) (negated (list_any (says_same g) said) passes)))
-  one f some = tt
+unsaid_apart said es = all_weaken (λ s. SomeOf (λ y. y ≡ s) said) (λ s. IsSaidOnce s (unsaid said es)) said one
+    (members said) where
+      one : (s : Effect) → SomeOf (λ y. y ≡ s) said → IsSaidOnce s (unsaid said es)
+      one (Say to text) some =
+          all_passed (λ g. g ≡ Say to text → ⊥) (λ g. not (list_any (says_same g) said)) es
+          (all_of (λ g. not (list_any (says_same g) said) ≡ true → g ≡ Say to text → ⊥) es
+          (λ g passes same. contradicts (list_any (says_same g) said)
+          (any_true (says_same g) said (Say to text) some (ap (λ x. says_same x (Say to text)) same ∙ same_itself to text))
+          (negated (list_any (says_same g) said) passes)))
+      one f some = tt
 
 pub unsaid_once : (said es : List Effect) → AreSaidOnce said → AreSaidOnce es → AreSaidOnce (said ++ unsaid said es)
 unsaid_once said es p q = said_append said (unsaid said es) p (said_filter _ es q) (unsaid_apart said es)
 
 -- ---- wall: each client once
 
-later_clients : (n : ℕ) (text : List ℕ) (cs : List Client) → AllByRecursion (λ m. n < m) (client_serials cs) → AllByRecursion (λ g. g ≡ Say n text → ⊥) (map (λ (c : Client). Say c.serial text) cs)
+later_clients : (n : ℕ) (text : List ℕ) (cs : List Client) → AllByRecursion (λ m. n < m) (client_serials cs)
+    → AllByRecursion (λ g. g ≡ Say n text → ⊥) (map (λ (c : Client). Say c.serial text) cs)
 later_clients n text [] all = tt
 later_clients n text (c ∷ cs) all = (other, later_clients n text cs all.1) where
   other : Say c.serial text ≡ Say n text → ⊥
-  other same = let lt : n < c.serial = all.0 in let e : c.serial ≡ n = cc (same) in absurd (grind (arith, nat_tests, lt, e))
+  other same = let lt : n < c.serial = all.0 in let e : c.serial ≡ n = cc (same) in absurd
+      (grind (arith, nat_tests, lt, e))
 
-wall_once : (text : List ℕ) (cs : List Client) (next : ℕ) → Rises (client_serials cs) next → AreSaidOnce (map (λ (c : Client). Say c.serial text) cs)
+wall_once : (text : List ℕ) (cs : List Client) (next : ℕ) → Rises (client_serials cs) next
+    → AreSaidOnce (map (λ (c : Client). Say c.serial text) cs)
 wall_once text [] next all = tt
 wall_once text (c ∷ cs) next all = (later_clients c.serial text cs all.1, wall_once text cs next all.2)
 
@@ -126,7 +138,8 @@ abbrev is_wall : Order → Bool
 is_wall (command.Wall text) = true
 is_wall c = false
 
-mute_done : (t : Tables) (k : Caller) (c : Order) → is_wall c ≡ false → (f : Effect) → IsDoneBy t (giving k c) c f → is_say f ≡ false
+mute_done : (t : Tables) (k : Caller) (c : Order) → is_wall c ≡ false → (f : Effect) → IsDoneBy t (giving k c) c f
+    → is_say f ≡ false
 mute_done t k (command.Wall text) other f is = absurd (cc (other))
 mute_done t k (command.Multiuser true) other (Say to said) is = absurd is
 mute_done t k (command.Multiuser false) other (Say to said) is = absurd is
@@ -153,16 +166,20 @@ quiet_once t k c d other is = record {
   on : (client : ℕ) (m : List ℕ → Message) (o : Option (List ℕ)) → AreSaidOnce (with_listed client m o d).effects
   on client m None = silent d.effects mutes
   on client m (Some bytes) = said_append d.effects (Say client bytes ∷ []) (silent d.effects mutes) (tt, tt)
-      (all_weaken (λ f. is_say f ≡ false) (λ f. IsSaidOnce f (Say client bytes ∷ [])) d.effects (apart client bytes) mutes)
+      (all_weaken (λ f. is_say f ≡ false) (λ f. IsSaidOnce f (Say client bytes ∷ [])) d.effects (apart client bytes)
+      mutes)
 
 told_once : (t : Tables) (text : List ℕ) → Rises (client_serials t.clients) t.next_client → SaysOnce (tells text t)
-told_once t text rise = let all : AreSaidOnce (tells text t).effects = wall_once text t.clients t.next_client rise in record { effects = all; listed = λ client m. all }
+told_once t text rise = let all : AreSaidOnce (tells text t).effects = wall_once text t.clients t.next_client rise in
+    record { effects = all; listed = λ client m. all }
 
-either_once : (t : Tables) (k : Caller) (c : Order) (a : Answer) → is_wall c ≡ false → Either (HasDone t k c) a → Either SaysOnce a
+either_once : (t : Tables) (k : Caller) (c : Order) (a : Answer) → is_wall c ≡ false → Either (HasDone t k c) a
+    → Either SaysOnce a
 either_once t k c (Ok d) other is = quiet_once t k c d other is
 either_once t k c (Err r) other is = is
 
-pub says_once : (t : Tables) (k : Caller) (c : Order) → Rises (client_serials t.clients) t.next_client → Either SaysOnce (does t k c)
+pub says_once : (t : Tables) (k : Caller) (c : Order) → Rises (client_serials t.clients) t.next_client
+    → Either SaysOnce (does t k c)
 says_once t k (command.Wall text) rise = told_once t (name_of k.user ++ (codes ": " ++ text)) rise
 says_once t k c rise = either_once t k c (does t k c) refl (done_by t k c)
 
@@ -179,37 +196,49 @@ types_once u d (b ∷ bytes) = on (first_fault u (typing_checks d.user (focused_
   on None None = tt
   on None (Some w) = (tt, tt)
 
-keyed_once : (v : Tables) (client : ℕ) (m : List ℕ → Message) (a : Answer) → Either SaysOnce a → AreSaidOnce (keyed v client m a).effects
+keyed_once : (v : Tables) (client : ℕ) (m : List ℕ → Message) (a : Answer) → Either SaysOnce a
+    → AreSaidOnce (keyed v client m a).effects
 keyed_once v client m (Err r) plain = (tt, tt)
 keyed_once v client m (Ok d) all = all.listed client m
 
-order_once : (v : Tables) (d : Client) (order : Order) → Rises (client_serials v.clients) v.next_client → AreSaidOnce (answering.by_line v d (Ok order)).deed.effects
+order_once : (v : Tables) (d : Client) (order : Order) → Rises (client_serials v.clients) v.next_client
+    → AreSaidOnce (answering.by_line v d (Ok order)).deed.effects
 order_once v d order rise = on (first_fault v (checks v (caller_of v d) order)) where
-  on : (o : Option Refusal) → AreSaidOnce (keyed v d.serial (message_of order) (elim o as (λ _. Answer) [ Some r ↦ Err r | None ↦ does v (caller_of v d) order ])).effects
+  on : (o : Option Refusal)
+      → AreSaidOnce
+      (keyed v d.serial (message_of order)
+      (elim o as (λ _. Answer) [ Some r ↦ Err r | None ↦ does v (caller_of v d) order ])).effects
   on (Some r) = (tt, tt)
-  on None = keyed_once v d.serial (message_of order) (does v (caller_of v d) order) (says_once v (caller_of v d) order rise)
+  on None = keyed_once v d.serial (message_of order) (does v (caller_of v d) order)
+      (says_once v (caller_of v d) order rise)
 
-read_once : (v : Tables) (d : Client) (r : Result Order ParseFault) → Rises (client_serials v.clients) v.next_client → AreSaidOnce (answering.by_line v d r).deed.effects
+read_once : (v : Tables) (d : Client) (r : Result Order ParseFault) → Rises (client_serials v.clients) v.next_client
+    → AreSaidOnce (answering.by_line v d r).deed.effects
 read_once v d (Err f) rise = (tt, tt)
 read_once v d (Ok order) rise = order_once v d order rise
 
-item_once : (v : Tables) (d : Client) (item : Option Item) → Rises (client_serials v.clients) v.next_client → AreSaidOnce (ordered v d item).deed.effects
+item_once : (v : Tables) (d : Client) (item : Option Item) → Rises (client_serials v.clients) v.next_client
+    → AreSaidOnce (ordered v d item).deed.effects
 item_once v d None rise = tt
 item_once v d (Some (typed b)) rise = tt
 item_once v d (Some (bound order)) rise = order_once v d order rise
 item_once v d (Some (line [])) rise = tt
 item_once v d (Some (line (b ∷ bs))) rise = read_once v d (read_line (b ∷ bs)) rise
 
-keys_once : (t : Tables) (client : ℕ) (bytes : List ℕ) (c : Client) → client_at t client ≡ Some c → AreSound t → AreSaidOnce (keys_outcome t c (take (taken c.keys bytes) bytes)).effects
+keys_once : (t : Tables) (client : ℕ) (bytes : List ℕ) (c : Client) → client_at t client ≡ Some c → AreSound t
+    → AreSaidOnce (keys_outcome t c (take (taken c.keys bytes) bytes)).effects
 keys_once t client bytes c is s =
     let read : List ℕ = take (taken c.keys bytes) bytes in
     let given : List Item = step_items c bytes in
     let d : Client = reading read c in
     let before : List Effect = (types (with_client t d) d (typed_bytes given)).effects in
-    typing_clients (λ v. AreSaidOnce (before ++ unsaid before (ordered v d (command_item given)).deed.effects)) t client c d (typed_bytes given) is refl refl
-    (λ cs same. unsaid_once before (ordered (record t { clients = cs }) d (command_item given)).deed.effects (types_once (with_client t d) d (typed_bytes given))
+    typing_clients (λ v. AreSaidOnce (before ++ unsaid before (ordered v d (command_item given)).deed.effects)) t client
+    c d (typed_bytes given) is refl refl
+    (λ cs same. unsaid_once before (ordered (record t { clients = cs }) d (command_item given)).deed.effects
+    (types_once (with_client t d) d (typed_bytes given))
     (item_once (record t { clients = cs }) d (command_item given)
-    (subst (λ ns. Rises ns t.next_client) (client_firsts t.clients ∙ sym (ap firsts (ids_same t cs same)) ∙ sym (client_firsts cs)) s.clients_rise)))
+    (subst (λ ns. Rises ns t.next_client)
+    (client_firsts t.clients ∙ sym (ap firsts (ids_same t cs same)) ∙ sym (client_firsts cs)) s.clients_rise)))
 
 -- ---- events
 
@@ -234,18 +263,25 @@ Once o = AreSaidOnce o.effects
 
 once : (t : Tables) (event : EventValue) → AreSound t → Once (outcome t event)
 once t (Detach client) s =
-    outcomes.found Once t (λ c. finished t [] done (parts (λ d. d.serial == client) reason.Detached t)) (client_at t client) tt (λ c is. gone_clients (filter (λ (d : Client). d.serial == client) t.clients))
-once t (Keys client bytes) s = outcomes.found Once t (λ c. keys_outcome t c (take (taken c.keys bytes) bytes)) (client_at t client) tt (λ c is. keys_once t client bytes c is s)
+    outcomes.found Once t (λ c. finished t [] done (parts (λ d. d.serial == client) reason.Detached t))
+    (client_at t client) tt (λ c is. gone_clients (filter (λ (d : Client). d.serial == client) t.clients))
+once t (Keys client bytes) s = outcomes.found Once t (λ c. keys_outcome t c (take (taken c.keys bytes) bytes))
+    (client_at t client) tt (λ c is. keys_once t client bytes c is s)
 once t (Command user number bytes) s =
     outcomes.by_line Once t (line_caller t user number) (is_known t user) (read_line bytes) (λ vs f. tt)
-    (λ c d known read passes is. deed_once (does t (line_caller t user number) c) d is (says_once t (line_caller t user number) c s.clients_rise))
+    (λ c d known read passes is. deed_once (does t (line_caller t user number) c) d is
+    (says_once t (line_caller t user number) c s.clients_rise))
 once t (Output window bytes) s =
-    outcomes.found Once t (λ v. finished t [] done (outputs t v bytes)) (window_at t window) tt (λ v is. input_once v.serial (reads (terminal_of v) bytes).reports (length (reads (terminal_of v) bytes).reports == 0))
+    outcomes.found Once t (λ v. finished t [] done (outputs t v bytes)) (window_at t window) tt
+    (λ v is. input_once v.serial (reads (terminal_of v) bytes).reports
+    (length (reads (terminal_of v) bytes).reports == 0))
 once t (Closed window) s =
-    outcomes.found Once t (λ v. finished t [] done (closes (λ x. x.serial == window) reason.Detached t)) (window_at t window) tt (λ v is. gone_windows (filter (λ (x : Window). x.serial == window) t.windows))
+    outcomes.found Once t (λ v. finished t [] done (closes (λ x. x.serial == window) reason.Detached t))
+    (window_at t window) tt (λ v is. gone_windows (filter (λ (x : Window). x.serial == window) t.windows))
 once t event s = subst AreSaidOnce (sym (outcomes.quiet t event refl)) tt
 
-drawn_once : (t : Tables) (effects : List Effect) (o : Option Client) → MatchOption o (effects ≡ []) (IsDraw t effects) → AreSaidOnce effects
+drawn_once : (t : Tables) (effects : List Effect) (o : Option Client) → MatchOption o (effects ≡ []) (IsDraw t effects)
+    → AreSaidOnce effects
 drawn_once t effects None is = subst AreSaidOnce (sym is) tt
 drawn_once t effects (Some c) is = on effects is.drawn where
   on : (es : List Effect) → DrawsWhereNeeded t c es → AreSaidOnce es

@@ -1,5 +1,6 @@
 -- The rows of clients after a step: keys and deliveries of the step stand behind those before it.
-use Rattle.std.proofs.Common.{◌≡◌, ℕ, ◌<◌, Bool, true, false, List, [], ◌∷◌, ◌++◌, Option, Some, None, Ok, Err, Result, refl, ap, sym, ◌∙◌, subst, inl, inr, ⊎_elim, arith}
+use Rattle.std.proofs.Common.{◌≡◌, ℕ, ◌<◌, Bool, true, false, List, [], ◌∷◌, ◌++◌, Option, Some, None, Ok, Err, Result}
+use Rattle.std.proofs.Common.{refl, ap, sym, ◌∙◌, subst, inl, inr, ⊎_elim, arith}
 use Rattle.std.specs.Prelude.{if◌then◌else◌, ◌==◌}
 use Rattle.std.specs.List.{AllByRecursion}
 use Rattle.std.proofs.lemmas.Bool.Decides.{nat_tests}
@@ -35,50 +36,69 @@ use Rattle.session_laws.proofs.Keeping.{core, Keeps, keeps_same, keeps_client, k
 
 abbrev pub GoesOn : EventValue → Reply → List Effect → Client → Client → Type 0
 GoesOn event reply effects c d =
-    (d.serial ≡ c.serial) × (d.keys ≡ c.keys ++ keys_read event reply c.serial) × (d.delivered ≡ delivered_by event reply effects c.serial c.delivered)
+    (d.serial ≡ c.serial) × (d.keys ≡ c.keys ++ keys_read event reply c.serial)
+    × (d.delivered ≡ delivered_by event reply effects c.serial c.delivered)
 
 abbrev pub AllGoOn : EventValue → Reply → List Effect → List Client → List Client → Type 0
 AllGoOn event reply effects cs ds = AllByRecursion (λ d. SomeOf (λ c. GoesOn event reply effects c d) cs) ds
 
 -- where nothing was read or delivered
-module _ (event : EventValue) (reply : Reply) (effects : List Effect) (c d : Client) (unread : keys_read event reply c.serial ≡ []) (same_size : is_resize event reply c.serial ≡ false) (undelivered : deliveries effects c.serial ≡ []) where
+module _ (event : EventValue) (reply : Reply) (effects : List Effect) (c d : Client)
+    (unread : keys_read event reply c.serial ≡ []) (same_size : is_resize event reply c.serial ≡ false)
+    (undelivered : deliveries effects c.serial ≡ []) where
   pub goes_on : core c ≡ core d → GoesOn event reply effects c d
   goes_on same = (
     sym (ap (λ (x : Client). x.serial) same),
     sym (ap (λ (x : Client). x.keys) same) ∙ sym (append_nil c.keys) ∙ ap (λ ks. c.keys ++ ks) (sym unread),
-    sym (ap (λ (x : Client). x.delivered) same) ∙ sym (append_nil c.delivered) ∙ ap (λ bs. c.delivered ++ bs) (sym undelivered)
+    sym (ap (λ (x : Client). x.delivered) same) ∙ sym (append_nil c.delivered)
+        ∙ ap (λ bs. c.delivered ++ bs) (sym undelivered)
         ∙ ap (λ (b : Bool). (if b then [] else c.delivered) ++ deliveries effects c.serial) (sym same_size),
   )
 
-pub all_go_on : (event : EventValue) (reply : Reply) (effects : List Effect) (cs ds : List Client) → ((n : ℕ) → keys_read event reply n ≡ []) → ((n : ℕ) → is_resize event reply n ≡ false) → ((n : ℕ) → deliveries effects n ≡ [])
+pub all_go_on : (event : EventValue) (reply : Reply) (effects : List Effect) (cs ds : List Client)
+    → ((n : ℕ) → keys_read event reply n ≡ []) → ((n : ℕ) → is_resize event reply n ≡ false)
+    → ((n : ℕ) → deliveries effects n ≡ [])
     → Keeps cs ds → AllGoOn event reply effects cs ds
 all_go_on event reply effects cs ds unread same_size undelivered kept =
     all_weaken (λ d. SomeOf (λ c. core c ≡ core d) cs) (λ d. SomeOf (λ c. GoesOn event reply effects c d) cs) ds
-    (λ d some. some_weaken (λ c. core c ≡ core d) (λ c. GoesOn event reply effects c d) cs (λ c same. goes_on event reply effects c d (unread c.serial) (same_size c.serial) (undelivered c.serial) same) some) kept
+    (λ d some. some_weaken (λ c. core c ≡ core d) (λ c. GoesOn event reply effects c d) cs
+    (λ c same. goes_on event reply effects c d (unread c.serial) (same_size c.serial) (undelivered c.serial) same)
+    some) kept
 
 -- one row in place of another, and the others as they were
 module _ (F : Client → Client → Type 0) (c x : Client)
-    (own : (d : Client) → core x ≡ core d → F c d) (others : (r : Client) → (r.serial == c.serial) ≡ false → (d : Client) → core r ≡ core d → F r d) where
-  later_rows : (cs : List Client) (d : Client) → AllByRecursion (λ m. c.serial < m) (client_serials cs) → SomeOf (λ r. core r ≡ core d) cs → SomeOf (λ r. F r d) cs
+    (own : (d : Client) → core x ≡ core d → F c d)
+    (others : (r : Client) → (r.serial == c.serial) ≡ false → (d : Client) → core r ≡ core d → F r d) where
+  later_rows : (cs : List Client) (d : Client) → AllByRecursion (λ m. c.serial < m) (client_serials cs)
+      → SomeOf (λ r. core r ≡ core d) cs → SomeOf (λ r. F r d) cs
   later_rows [] d above some = some
   later_rows (r ∷ cs) d above some =
       let lt : c.serial < r.serial = above.0 in
       let off : (r.serial == c.serial) ≡ false = grind (arith, nat_tests, lt) in
       ⊎_elim (λ (here : core r ≡ core d). inl (others r off d here)) (λ later. inr (later_rows cs d above.1 later)) some
 
-  pub changed_row : (cs : List Client) (next : ℕ) → Rises (client_serials cs) next → row_of (λ (r : Client). r.serial) cs c.serial ≡ Some c
-      → (d : Client) → SomeOf (λ r. core r ≡ core d) (with_row (λ (r : Client). r.serial) cs c.serial x) → SomeOf (λ r. F r d) cs
+  pub changed_row : (cs : List Client) (next : ℕ) → Rises (client_serials cs) next
+      → row_of (λ (r : Client). r.serial) cs c.serial ≡ Some c
+      → (d : Client) → SomeOf (λ r. core r ≡ core d) (with_row (λ (r : Client). r.serial) cs c.serial x)
+      → SomeOf (λ r. F r d) cs
   changed_row [] next rise is d some = absurd (cc (is))
   changed_row (r ∷ cs) next rise is d some = on (r.serial == c.serial) refl is some (changed_row cs next rise.2) where
-    on : (b : Bool) → (r.serial == c.serial) ≡ b → (if b then Some r else row_of (λ (q : Client). q.serial) cs c.serial) ≡ Some c
+    on : (b : Bool) → (r.serial == c.serial) ≡ b
+        → (if b then Some r else row_of (λ (q : Client). q.serial) cs c.serial) ≡ Some c
         → SomeOf (λ q. core q ≡ core d) (if b then x ∷ cs else r ∷ with_row (λ (q : Client). q.serial) cs c.serial x)
-        → (row_of (λ (q : Client). q.serial) cs c.serial ≡ Some c → (d : Client) → SomeOf (λ q. core q ≡ core d) (with_row (λ (q : Client). q.serial) cs c.serial x) → SomeOf (λ q. F q d) cs)
+        → (row_of (λ (q : Client). q.serial) cs c.serial ≡ Some c → (d : Client)
+        → SomeOf (λ q. core q ≡ core d) (with_row (λ (q : Client). q.serial) cs c.serial x)
+        → SomeOf (λ q. F q d) cs)
         → SomeOf (λ q. F q d) (r ∷ cs)
     on true at is some more =
         let e : r ≡ c = cc (is) in
         ⊎_elim (λ (here : core x ≡ core d). inl (subst (λ q. F q d) (sym e) (own d here)))
-        (λ later. inr (later_rows cs d (subst (λ n. AllByRecursion (λ m. n < m) (client_serials cs)) (equal r.serial c.serial at) rise.1) later)) some
-    on false at is some more = ⊎_elim (λ (here : core r ≡ core d). inl (others r at d here)) (λ later. inr (more is d later)) some
+        (λ later. inr
+        (later_rows cs d
+        (subst (λ n. AllByRecursion (λ m. n < m) (client_serials cs)) (equal r.serial c.serial at) rise.1) later))
+        some
+    on false at is some more = ⊎_elim (λ (here : core r ≡ core d). inl (others r at d here))
+        (λ later. inr (more is d later)) some
 
 -- ---- what isn't delivered
 
@@ -95,45 +115,61 @@ none_delivered (Size at rows columns ∷ effects) all n = none_delivered effects
 none_delivered (GoneWindow at why ∷ effects) all n = none_delivered effects all.1 n
 none_delivered (GoneClient at why ∷ effects) all n = none_delivered effects all.1 n
 
-not_by_right : (t : Tables) (to : ℕ) (bytes : List ℕ) (gs : List Given) → SomeOf (IsDoneByRight t (Deliver to bytes)) gs → ⊥
+not_by_right : (t : Tables) (to : ℕ) (bytes : List ℕ) (gs : List Given) → SomeOf (IsDoneByRight t (Deliver to bytes)) gs
+    → ⊥
 not_by_right t to bytes [] some = some
-not_by_right t to bytes (g ∷ gs) some = ⊎_elim (λ (here : IsDoneByRight t (Deliver to bytes) g). never_delivers t g g.order to bytes here.1) (λ later. not_by_right t to bytes gs later) some
+not_by_right t to bytes (g ∷ gs) some = ⊎_elim
+    (λ (here : IsDoneByRight t (Deliver to bytes) g). never_delivers t g g.order to bytes here.1)
+    (λ later. not_by_right t to bytes gs later) some
 
 abbrev pub is_draw : EventValue → Bool
 is_draw (Draw client) = true
 is_draw event = false
 
-no_deliver : (t : Tables) (event : EventValue) → is_draw event ≡ false → (f : Effect) → IsEffectOf t event f → IsNoDeliver f
+no_deliver : (t : Tables) (event : EventValue) → is_draw event ≡ false → (f : Effect) → IsEffectOf t event f
+    → IsNoDeliver f
 no_deliver t (Draw client) other f is = absurd (cc (other))
-no_deliver t (Keys client bytes) other (Deliver to said) is = ⊎_elim (λ (never : ⊥). never) (λ some. not_by_right t to said (commands_of t (Keys client bytes)) some) is
-no_deliver t (Command user number bytes) other (Deliver to said) is = not_by_right t to said (commands_of t (Command user number bytes)) is
+no_deliver t (Keys client bytes) other (Deliver to said) is = ⊎_elim (λ (never : ⊥). never)
+    (λ some. not_by_right t to said (commands_of t (Keys client bytes)) some) is
+no_deliver t (Command user number bytes) other (Deliver to said) is = not_by_right t to said
+    (commands_of t (Command user number bytes)) is
 no_deliver t (Detach client) other (Deliver to said) is = cc (is)
 no_deliver t (Closed window) other (Deliver to said) is = cc (is)
 no_deliver t event other (Deliver to said) is = is
 no_deliver t event other f is = tt
 
-pub undelivered : (t : Tables) (event : EventValue) (effects : List Effect) → is_draw event ≡ false → AllByRecursion (IsEffectOf t event) effects → (n : ℕ) → deliveries effects n ≡ []
-undelivered t event effects other all = none_delivered effects (all_weaken (IsEffectOf t event) IsNoDeliver effects (no_deliver t event other) all)
+pub undelivered : (t : Tables) (event : EventValue) (effects : List Effect) → is_draw event ≡ false
+    → AllByRecursion (IsEffectOf t event) effects → (n : ℕ) → deliveries effects n ≡ []
+undelivered t event effects other all = none_delivered effects
+    (all_weaken (IsEffectOf t event) IsNoDeliver effects (no_deliver t event other) all)
 
 -- ---- what keys and commands keep
 
 told_keeps : (v : Tables) (client : ℕ) (m : Message) → Keeps v.clients (told v client m).clients
-told_keeps v client m = told_same (λ u. Keeps v.clients u.clients) v client m (keeps_same v.clients) (λ c is. keeps_client v client c (hearing m c) is refl)
+told_keeps v client m = told_same (λ u. Keeps v.clients u.clients) v client m (keeps_same v.clients)
+    (λ c is. keeps_client v client c (hearing m c) is refl)
 
-keyed_keeps : (v : Tables) (client : ℕ) (m : List ℕ → Message) (a : Answer) → Either (λ d. Keeps v.clients d.tables.clients) a → Keeps v.clients (keyed v client m a).tables.clients
+keyed_keeps : (v : Tables) (client : ℕ) (m : List ℕ → Message) (a : Answer)
+    → Either (λ d. Keeps v.clients d.tables.clients) a → Keeps v.clients (keyed v client m a).tables.clients
 keyed_keeps v client m (Err r) plain = told_keeps v client _
 keyed_keeps v client m (Ok d) all = on d.lists where
   on : (o : Option (List ℕ)) → Keeps v.clients (with_listed client m o d).tables.clients
   on None = all
-  on (Some bytes) = keeps_then v.clients d.tables.clients (told d.tables client (m bytes)).clients all (told_keeps d.tables client (m bytes))
+  on (Some bytes) = keeps_then v.clients d.tables.clients (told d.tables client (m bytes)).clients all
+      (told_keeps d.tables client (m bytes))
 
-order_keeps : (v : Tables) (d : Client) (order : Order) → Keeps v.clients (answering.by_line v d (Ok order)).deed.tables.clients
+order_keeps : (v : Tables) (d : Client) (order : Order)
+    → Keeps v.clients (answering.by_line v d (Ok order)).deed.tables.clients
 order_keeps v d order = on (first_fault v (checks v (caller_of v d) order)) where
-  on : (o : Option Refusal) → Keeps v.clients (keyed v d.serial (message_of order) (elim o as (λ _. Answer) [ Some r ↦ Err r | None ↦ does v (caller_of v d) order ])).tables.clients
+  on : (o : Option Refusal)
+      → Keeps v.clients
+      (keyed v d.serial (message_of order)
+      (elim o as (λ _. Answer) [ Some r ↦ Err r | None ↦ does v (caller_of v d) order ])).tables.clients
   on (Some r) = told_keeps v d.serial _
   on None = keyed_keeps v d.serial (message_of order) (does v (caller_of v d) order) (keeps v (caller_of v d) order)
 
-read_keeps : (v : Tables) (d : Client) (r : Result Order ParseFault) → Keeps v.clients (answering.by_line v d r).deed.tables.clients
+read_keeps : (v : Tables) (d : Client) (r : Result Order ParseFault)
+    → Keeps v.clients (answering.by_line v d r).deed.tables.clients
 read_keeps v d (Err f) = told_keeps v d.serial _
 read_keeps v d (Ok order) = order_keeps v d order
 
@@ -145,8 +181,10 @@ item_keeps v d (Some (line [])) = keeps_same v.clients
 item_keeps v d (Some (line (b ∷ bs))) = read_keeps v d (read_line (b ∷ bs))
 
 -- typing, and then a command
-pub keys_keep : (u : Tables) (d : Client) (bytes : List ℕ) (item : Option Item) → Keeps u.clients (ordered (types u d bytes).tables d item).deed.tables.clients
+pub keys_keep : (u : Tables) (d : Client) (bytes : List ℕ) (item : Option Item)
+    → Keeps u.clients (ordered (types u d bytes).tables d item).deed.tables.clients
 keys_keep u d bytes item =
     keeps_then u.clients (types u d bytes).tables.clients (ordered (types u d bytes).tables d item).deed.tables.clients
-    (typing_told (λ w. Keeps u.clients w.clients) u d bytes (keeps_same u.clients) (λ m e at. keeps_client u d.serial e (hearing m e) at refl))
+    (typing_told (λ w. Keeps u.clients w.clients) u d bytes (keeps_same u.clients)
+    (λ m e at. keeps_client u d.serial e (hearing m e) at refl))
     (item_keeps (types u d bytes).tables d item)

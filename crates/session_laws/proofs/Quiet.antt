@@ -1,5 +1,6 @@
 -- Which commands put bytes into windows: stuff alone.
-use Rattle.std.proofs.Common.{◌≡◌, ℕ, Bool, true, false, not, List, [], ◌∷◌, ◌++◌, Option, Some, None, Ok, Err, map, filter, refl, ap, sym, ◌∙◌, true≢false}
+use Rattle.std.proofs.Common.{◌≡◌, ℕ, Bool, true, false, not, List, [], ◌∷◌, ◌++◌, Option, Some, None, Ok, Err, map}
+use Rattle.std.proofs.Common.{filter, refl, ap, sym, ◌∙◌, true≢false}
 use Rattle.std.specs.Prelude.{◌==◌, codes}
 use Rattle.command_lang.specs.command.Command.{Command}
 use Rattle.command_lang.specs.command.Command.TheVariants as command
@@ -24,15 +25,19 @@ Of P (Err r) = Unit {0}
 abbrev pub IsQuiet : Deed → Type 0
 IsQuiet d = (w : ℕ) → inputs d.effects w ≡ []
 
-pub gone_windows : (why : Reason) (ws : List Window) (v : ℕ) → inputs (map (λ (w : Window). GoneWindow w.serial why) ws) v ≡ []
+pub gone_windows : (why : Reason) (ws : List Window) (v : ℕ)
+    → inputs (map (λ (w : Window). GoneWindow w.serial why) ws) v ≡ []
 gone_windows why [] v = refl
 gone_windows why (w ∷ ws) v = gone_windows why ws v
 
-pub gone_clients : (why : Reason) (cs : List Client) (v : ℕ) → inputs (map (λ (c : Client). GoneClient c.serial why) cs) v ≡ []
+pub gone_clients : (why : Reason) (cs : List Client) (v : ℕ)
+    → inputs (map (λ (c : Client). GoneClient c.serial why) cs) v ≡ []
 gone_clients why [] v = refl
 gone_clients why (c ∷ cs) v = gone_clients why cs v
 
-gone_both : (why : Reason) (ws : List Window) (cs : List Client) (v : ℕ) → inputs (map (λ (w : Window). GoneWindow w.serial why) ws ++ map (λ (c : Client). GoneClient c.serial why) cs) v ≡ []
+gone_both : (why : Reason) (ws : List Window) (cs : List Client) (v : ℕ)
+    → inputs (map (λ (w : Window). GoneWindow w.serial why) ws ++ map (λ (c : Client). GoneClient c.serial why) cs) v ≡
+    []
 gone_both why [] cs v = gone_clients why cs v
 gone_both why (w ∷ ws) cs v = gone_both why ws cs v
 
@@ -55,16 +60,20 @@ quiet_deed t k c d other (shapes.enters_page x l of at shows) v = refl
 quiet_deed t k c d other (shapes.keeps_page x l of at shows same) v = refl
 quiet_deed t k c d other (shapes.writes_to w what one at) v = refl
 quiet_deed t k c d other (shapes.opened is) v = refl
-quiet_deed t k c d other (shapes.shut is) v = gone_clients SingleUser (filter (λ (x : Client). not (is_of t.owner x)) t.clients) v
+quiet_deed t k c d other (shapes.shut is) v = gone_clients SingleUser
+    (filter (λ (x : Client). not (is_of t.owner x)) t.clients) v
 quiet_deed t k c d other (shapes.told bytes is) v = said (name_of k.user ++ (codes ": " ++ bytes)) t.clients v
 quiet_deed t k c d other (shapes.removed word is clear) v = quiet_removal t (named_by word) v
 quiet_deed t k c d other (shapes.fitted w rows columns is at) v = refl
 quiet_deed t k c d other (shapes.titled w bytes is at) v = refl
 quiet_deed t k c d other (shapes.numbered w n is at free) v = refl
 quiet_deed t k c d other (shapes.typed w bytes is at) v = absurd (true≢false (sym (ap types is) ∙ other))
-quiet_deed t k c d other (shapes.detached x is at) v = gone_clients Detached (filter (λ (y : Client). y.serial == x.serial) t.clients) v
-quiet_deed t k c d other (shapes.killed w is at) v = gone_windows Killed (filter (λ (y : Window). y.serial == w.serial) t.windows) v
-quiet_deed t k c d other (shapes.quits is) v = gone_both Quit (filter (λ (w : Window). true) t.windows) (filter (λ (x : Client). true) (closes (λ w. true) Quit t).tables.clients) v
+quiet_deed t k c d other (shapes.detached x is at) v = gone_clients Detached
+    (filter (λ (y : Client). y.serial == x.serial) t.clients) v
+quiet_deed t k c d other (shapes.killed w is at) v = gone_windows Killed
+    (filter (λ (y : Window). y.serial == w.serial) t.windows) v
+quiet_deed t k c d other (shapes.quits is) v = gone_both Quit (filter (λ (w : Window). true) t.windows)
+    (filter (λ (x : Client). true) (closes (λ w. true) Quit t).tables.clients) v
 
 pub quiet : (t : Tables) (k : Caller) (c : Command) → types c ≡ false → Of IsQuiet (does t k c)
 quiet t k c other = through (does t k c) (shapes.by_shape IsQuiet t k c (λ d is. quiet_deed t k c d other is)) where

@@ -28,15 +28,18 @@ unchanged : (t : Tables) (event : EventValue) → Still t (outcome t event)
 unchanged t event = unchanged_end t (outcome t event) (outcomes.ends t event)
 
 -- a Draw that is refused has err client
-draw_refused : (t : Tables) (effects : List Effect) (o : Option Client) → MatchOption o (effects ≡ []) (IsDraw t effects)
-    → is_ok (elim o as (λ _. Outcome) [ None ↦ refused t [] NoWindow | Some c ↦ finished t [] done (changing t) ]).reply ≡ false
+draw_refused : (t : Tables) (effects : List Effect) (o : Option Client)
+    → MatchOption o (effects ≡ []) (IsDraw t effects)
+    → is_ok (elim o as (λ _. Outcome) [ None ↦ refused t [] NoWindow | Some c ↦ finished t [] done (changing t) ]).reply
+    ≡ false
     → (drawn_on o effects t ≡ t) × (effects ≡ [])
 draw_refused t effects None is err = (refl, is)
 draw_refused t effects (Some c) is err = absurd (cc (err))
 
 pub refusals : (t : Tables) (e : Entry) → IsStep t e → ChangesNothing t e (after t e)
 refusals t e step err = on e.event (sym (ap is_ok step.reply) ∙ err) step.effects step.acts where
-  on : (event : EventValue) → is_ok (outcome t event).reply ≡ false → HasEffects t event e.effects → e.acts ≡ (outcome t event).acts
+  on : (event : EventValue) → is_ok (outcome t event).reply ≡ false → HasEffects t event e.effects
+      → e.acts ≡ (outcome t event).acts
       → (drawn event e.effects (outcome t event).tables ≡ t) × (e.acts ≡ []) × (e.effects ≡ [])
   on (Draw client) err effects acts =
       let same = unchanged t (Draw client) err in
@@ -46,11 +49,14 @@ refusals t e step err = on e.event (sym (ap is_ok step.reply) ∙ err) step.effe
 
 -- ---- draws
 
-draw_shows : (t : Tables) (client : ℕ) (e : Entry) (o : Option Client) → client_at t client ≡ o → MatchOption o (e.effects ≡ []) (IsDraw t e.effects)
-    → MatchOption o (Unit {0}) (λ c. ShowsFromAny (c.delivered ++ deliveries e.effects client) c.rows c.columns (granted_view t c))
+draw_shows : (t : Tables) (client : ℕ) (e : Entry) (o : Option Client) → client_at t client ≡ o
+    → MatchOption o (e.effects ≡ []) (IsDraw t e.effects)
+    → MatchOption o (Unit {0})
+    (λ c. ShowsFromAny (c.delivered ++ deliveries e.effects client) c.rows c.columns (granted_view t c))
 draw_shows t client e None at is = tt
 draw_shows t client e (Some c) at is =
-    subst (λ n. ShowsFromAny (c.delivered ++ deliveries e.effects n) c.rows c.columns (granted_view t c)) (row_serial (λ (x : Client). x.serial) t.clients client c at) is.shows
+    subst (λ n. ShowsFromAny (c.delivered ++ deliveries e.effects n) c.rows c.columns (granted_view t c))
+    (row_serial (λ (x : Client). x.serial) t.clients client c at) is.shows
 
 pub draws : (t : Tables) (e : Entry) → IsStep t e → DrawShows t e
 draws t e step = on e.event step.effects where

@@ -1,5 +1,6 @@
 -- Commands that are read, and those that keys are bound to, give windows numbers below 40.
-use Rattle.std.proofs.Common.{◌≡◌, ℕ, zero, suc, ◌<◌, Bool, true, false, List, [], ◌∷◌, ◌++◌, Option, Some, None, Result, Ok, Err, drop, refl, ap, sym, ◌∙◌, arith}
+use Rattle.std.proofs.Common.{◌≡◌, ℕ, zero, suc, ◌<◌, Bool, true, false, List, [], ◌∷◌, ◌++◌, Option, Some, None}
+use Rattle.std.proofs.Common.{Result, Ok, Err, drop, refl, ap, sym, ◌∙◌, arith}
 use Rattle.std.specs.Prelude.{◌==◌, if◌then◌else◌, find, length}
 use Rattle.std.specs.List.{AllByRecursion, list_all}
 use Rattle.std.specs.Option.{option_map, option_map_or}
@@ -12,7 +13,9 @@ use Rattle.command_lang.specs.Lines.{words}
 use Rattle.command_lang.specs.Meaning.{line_command}
 use Rattle.command_lang.specs.Table.{first_of}
 use Rattle.command_lang.specs.Relation.{faults_of, command_or, read_line}
-use Rattle.keys.specs.Grammar.{Item, typed, bound, line, Rest, nothing, command_key, prompt, bindings, binding, bound_items, key_items, line_items, line_after_key, ends_line, stays, rest_step, items_from, items}
+use Rattle.keys.specs.Grammar.{Item, typed, bound, line, Rest, nothing, command_key, prompt, bindings, binding}
+use Rattle.keys.specs.Grammar.{bound_items, key_items, line_items, line_after_key, ends_line, stays, rest_step}
+use Rattle.keys.specs.Grammar.{items_from, items}
 use Rattle.session_model.specs.Tables.{Client}
 use Rattle.session_model.specs.Keying.{items_behind, is_command, command_item, step_items, taken}
 use Rattle.session_laws.proofs.Lists.{all_append, and_first, and_second}
@@ -23,7 +26,10 @@ read_small text c is = on (first_of (faults_of text)) is where
   one None small is = absurd (cc (is))
   one (Some d) small is = (let e : d ≡ c = cc (is) in ap is_small (sym e)) ∙ small
 
-  on : (o : Option ParseFault) → (elim o as (λ _. Result Order ParseFault) [ Some f ↦ Err f | None ↦ command_or (line_command (words (chars text))) ]) ≡ Ok c → is_small c ≡ true
+  on : (o : Option ParseFault)
+      →
+      (elim o as (λ _. Result Order ParseFault)
+      [ Some f ↦ Err f | None ↦ command_or (line_command (words (chars text))) ]) ≡ Ok c → is_small c ≡ true
   on (Some f) is = absurd (cc (is))
   on None is = one (line_command (words (chars text))) (line_small (words (chars text))) is
 
@@ -36,10 +42,13 @@ is_small_item i = true
 abbrev AllSmall : List Item → Type 0
 AllSmall given = AllByRecursion (λ i. is_small_item i ≡ true) given
 
-found_small : (p : (ℕ × Order) → Bool) (bs : List (ℕ × Order)) → AllByRecursion (λ (b : ℕ × Order). is_small b.1 ≡ true) bs → AllSmall (bound_items (option_map (λ (b : ℕ × Order). b.1) (find p bs)))
+found_small : (p : (ℕ × Order) → Bool) (bs : List (ℕ × Order))
+    → AllByRecursion (λ (b : ℕ × Order). is_small b.1 ≡ true) bs
+    → AllSmall (bound_items (option_map (λ (b : ℕ × Order). b.1) (find p bs)))
 found_small p [] all = tt
 found_small p (b ∷ bs) all = on (p b) (found_small p bs all.1) where
-  on : (is : Bool) → AllSmall (bound_items (option_map (λ (b : ℕ × Order). b.1) (find p bs))) → AllSmall (bound_items (option_map (λ (b : ℕ × Order). b.1) (if is then Some b else find p bs)))
+  on : (is : Bool) → AllSmall (bound_items (option_map (λ (b : ℕ × Order). b.1) (find p bs)))
+      → AllSmall (bound_items (option_map (λ (b : ℕ × Order). b.1) (if is then Some b else find p bs)))
   on true rest = (all.0, tt)
   on false rest = rest
 
@@ -58,7 +67,8 @@ key_small k = on (k == 0x61) where
 
 step_small : (rest : Rest) (k : ℕ) → AllSmall (rest_step rest k).0
 step_small nothing k = on (k == 0x01) where
-  on : (b : Bool) → AllSmall (let s : List Item × Rest = if b then ([], command_key) else (typed k ∷ [], nothing) in s).0
+  on : (b : Bool)
+      → AllSmall (let s : List Item × Rest = if b then ([], command_key) else (typed k ∷ [], nothing) in s).0
   on true = tt
   on false = (refl, tt)
 step_small command_key k = on (k == 0x3A) where
@@ -70,14 +80,18 @@ step_small (prompt bytes) k = on (stays k) where
   ends true = (refl, tt)
   ends false = tt
 
-  on : (b : Bool) → AllSmall (let s : List Item × Rest = if b then ([], prompt (line_after_key bytes k)) else (line_items bytes k, nothing) in s).0
+  on : (b : Bool)
+      → AllSmall
+      (let s : List Item
+      × Rest = if b then ([], prompt (line_after_key bytes k)) else (line_items bytes k, nothing) in s).0
   on true = tt
   on false = ends (ends_line k)
 
 items_small : (rest : Rest) (keys : List ℕ) → AllSmall (items_from rest keys).0
 unfolding items_from
 items_small rest [] = tt
-items_small rest (k ∷ keys) = all_append (λ i. is_small_item i ≡ true) (rest_step rest k).0 (items_from (rest_step rest k).1 keys).0 (step_small rest k) (items_small (rest_step rest k).1 keys)
+items_small rest (k ∷ keys) = all_append (λ i. is_small_item i ≡ true) (rest_step rest k).0
+    (items_from (rest_step rest k).1 keys).0 (step_small rest k) (items_small (rest_step rest k).1 keys)
 
 drop_all : {A : Type 0} (P : A → Type 0) (n : ℕ) (xs : List A) → AllByRecursion P xs → AllByRecursion P (drop n xs)
 drop_all P zero xs all = all
@@ -90,7 +104,8 @@ is_small_order o = option_map_or is_small_item o true
 command_small_in : (given : List Item) → AllSmall given → is_small_order (command_item given) ≡ true
 command_small_in [] all = refl
 command_small_in (i ∷ given) all = on (is_command i) (command_small_in given all.1) where
-  on : (b : Bool) → is_small_order (command_item given) ≡ true → is_small_order (if b then Some i else command_item given) ≡ true
+  on : (b : Bool) → is_small_order (command_item given) ≡ true
+      → is_small_order (if b then Some i else command_item given) ≡ true
   on true rest = all.0
   on false rest = rest
 
@@ -98,4 +113,6 @@ command_small_in (i ∷ given) all = on (is_command i) (command_small_in given a
 pub keys_small : (c : Client) (bytes : List ℕ) → is_small_order (command_item (step_items c bytes)) ≡ true
 keys_small c bytes =
     let keys : List ℕ = Rattle.std.proofs.Common.take (taken c.keys bytes) bytes in
-    command_small_in (items_behind c.keys keys) (drop_all (λ i. is_small_item i ≡ true) (length (items c.keys).0) (items (c.keys ++ keys)).0 (items_small nothing (c.keys ++ keys)))
+    command_small_in (items_behind c.keys keys)
+    (drop_all (λ i. is_small_item i ≡ true) (length (items c.keys).0) (items (c.keys ++ keys)).0
+    (items_small nothing (c.keys ++ keys)))

@@ -1,5 +1,6 @@
 -- Tables stay sound.
-use Rattle.std.proofs.Common.{◌≡◌, ℕ, ◌+◌, ◌<◌, ◌≤◌, ◌^◌, Bool, true, List, [], ◌∷◌, ◌++◌, Option, Some, None, refl, ap, sym, ◌∙◌, subst, map, length, arith}
+use Rattle.std.proofs.Common.{◌≡◌, ℕ, ◌+◌, ◌<◌, ◌≤◌, ◌^◌, Bool, true, List, [], ◌∷◌, ◌++◌, Option, Some, None, refl, ap}
+use Rattle.std.proofs.Common.{sym, ◌∙◌, subst, map, length, arith}
 use Rattle.std.specs.Prelude.{◌&&◌, nat_lt, is_some}
 use Rattle.std.proofs.lemmas.Bool.Decides.{nat_tests}
 use Rattle.acl.specs.declared.user_id.UserId.{UserId}
@@ -10,14 +11,16 @@ use Rattle.terminal_model.specs.Shows.{View}
 use Rattle.session_model.specs.declared.check.Check.{Check}
 use Rattle.session_model.specs.declared.check.Check.TheVariants.{Right as right, Must as must}
 use Rattle.session_model.specs.declared.event.Effect.{Effect}
-use Rattle.session_model.specs.declared.refusal.Refusal.TheVariants.{NotMultiuser, UnknownUser, TooManyClients, BadSize, Windows}
+use Rattle.session_model.specs.declared.refusal.Refusal.TheVariants.{NotMultiuser, UnknownUser, TooManyClients, BadSize}
+use Rattle.session_model.specs.declared.refusal.Refusal.TheVariants.{Windows}
 use Rattle.session_model.specs.windows_fault.WindowsFault.TheVariants.{Full, BadTitle}
 use Rattle.session_model.specs.Trace.{EventValue, Attach, Open, Draw, Entry}
 use Rattle.session_model.specs.Tables.{Tables, Window, Client, client_at, is_known, fresh}
 use Rattle.session_model.specs.Naming.{free_number, is_title}
 use Rattle.session_model.specs.Checks.{first_fault, verdicts}
 use Rattle.session_model.specs.Events.{outcome}
-use Rattle.session_model.specs.Comings.{attach_checks, attaches, new_client, open_checks, opens, new_window, has_place, is_client_size, is_window_size, is_let_in}
+use Rattle.session_model.specs.Comings.{attach_checks, attaches, new_client, open_checks, opens, new_window, has_place}
+use Rattle.session_model.specs.Comings.{is_client_size, is_window_size, is_let_in}
 use Rattle.session_model.specs.Outcomes.{reply_of}
 use Rattle.session_model.specs.Granted.{granted_view}
 use Rattle.session_model.specs.Run.{drawn, drawn_on, with_drawn, tables_from}
@@ -43,45 +46,69 @@ one_more xs x most less =
     omega (arith, sum, lt)
 
 -- where a list of checks passes, so does the last of some
-pub check_passed : (t : Tables) (cs ds : List Check) (b : Bool) (r : Rattle.session_model.specs.declared.refusal.Refusal.Refusal) → first_fault t (cs ++ must b r ∷ ds) ≡ None → b ≡ true
+pub check_passed : (t : Tables) (cs ds : List Check) (b : Bool)
+    (r : Rattle.session_model.specs.declared.refusal.Refusal.Refusal) → first_fault t (cs ++ must b r ∷ ds) ≡ None
+    → b ≡ true
 check_passed t cs ds b r is = first_passes b (first_fault t ds) r (behind t cs (must b r ∷ ds) is)
 
-attached : (t : Tables) (user : UserId) (rows columns : ℕ) → AreSound t → first_fault t (attach_checks t user rows columns) ≡ None → AreSound (attaches t (new_client t user rows columns)).tables
+attached : (t : Tables) (user : UserId) (rows columns : ℕ) → AreSound t
+    → first_fault t (attach_checks t user rows columns) ≡ None
+    → AreSound (attaches t (new_client t user rows columns)).tables
 attached t user rows columns s passes =
     let c : Client = new_client t user rows columns in
     let place : (nat_lt (length t.clients) 64 && nat_lt t.next_client (2 ^ 32)) ≡ true =
-    check_passed t (must (is_known t user) UnknownUser ∷ must (is_let_in t user) NotMultiuser ∷ must (is_client_size rows columns) BadSize ∷ []) [] _ TooManyClients passes in record {
+    check_passed t
+    (must (is_known t user) UnknownUser ∷ must (is_let_in t user) NotMultiuser ∷ must (is_client_size rows columns)
+    BadSize ∷ []) [] _ TooManyClients passes in record {
       windows_rise = s.windows_rise;
-      clients_rise = subst (λ ns. Rises ns (t.next_client + 1)) (sym (map_append (λ (d : Client). d.serial) t.clients c)) (rise_next (client_serials t.clients) t.next_client s.clients_rise);
+      clients_rise = subst (λ ns. Rises ns (t.next_client + 1))
+          (sym (map_append (λ (d : Client). d.serial) t.clients c))
+          (rise_next (client_serials t.clients) t.next_client s.clients_rise);
       numbers = s.numbers;
       few_windows = s.few_windows;
-      few_clients = one_more t.clients c 64 (and_first (nat_lt (length t.clients) 64) (nat_lt t.next_client (2 ^ 32)) place);
+      few_clients = one_more t.clients c 64
+          (and_first (nat_lt (length t.clients) 64) (nat_lt t.next_client (2 ^ 32)) place);
     }
 
-opened : (t : Tables) (user : UserId) (rows columns keep : ℕ) (title : List ℕ) → AreSound t → first_fault t (open_checks t user rows columns keep title) ≡ None
+opened : (t : Tables) (user : UserId) (rows columns keep : ℕ) (title : List ℕ) → AreSound t
+    → first_fault t (open_checks t user rows columns keep title) ≡ None
     → AreSound (opens t user (new_window t rows columns keep title)).tables
 opened t user rows columns keep title s passes =
     let w : Window = new_window t rows columns keep title in
     let place : (has_place t.windows && nat_lt t.next_window (2 ^ 32)) ≡ true =
-    check_passed t (must (is_known t user) UnknownUser ∷ right user Execute (object.Command Screen) ∷ must (is_let_in t user) NotMultiuser ∷ must (is_window_size rows columns keep) BadSize ∷ [])
+    check_passed t
+    (must (is_known t user) UnknownUser ∷ right user Execute (object.Command Screen) ∷ must (is_let_in t user)
+    NotMultiuser ∷ must (is_window_size rows columns keep) BadSize ∷ [])
     (must (is_title title) (Windows BadTitle) ∷ []) _ (Windows Full) passes in
-    let free : has_place t.windows ≡ true = and_first (has_place t.windows) (nat_lt t.next_window (2 ^ 32)) place in record {
-      windows_rise = subst (λ ns. Rises ns (t.next_window + 1)) (sym (map_append (λ (v : Window). v.serial) t.windows w)) (rise_next (window_serials t.windows) t.next_window s.windows_rise);
+    let free : has_place t.windows ≡ true = and_first (has_place t.windows) (nat_lt t.next_window (2 ^ 32)) place in
+    record {
+      windows_rise = subst (λ ns. Rises ns (t.next_window + 1))
+          (sym (map_append (λ (v : Window). v.serial) t.windows w))
+          (rise_next (window_serials t.windows) t.next_window s.windows_rise);
       clients_rise = s.clients_rise;
-      numbers = more_numbers t.windows w s.numbers (number_free t.windows (free_number t.windows) refl (Rattle.session_laws.proofs.Lists.and_second (nat_lt (length t.windows) 40) (is_some (free_number t.windows)) free));
-      few_windows = one_more t.windows w 40 (and_first (nat_lt (length t.windows) 40) (is_some (free_number t.windows)) free);
+      numbers = more_numbers t.windows w s.numbers
+          (number_free t.windows (free_number t.windows) refl
+          (Rattle.session_laws.proofs.Lists.and_second (nat_lt (length t.windows) 40) (is_some (free_number t.windows))
+          free));
+      few_windows = one_more t.windows w 40
+          (and_first (nat_lt (length t.windows) 40) (is_some (free_number t.windows)) free);
       few_clients = s.few_clients;
     }
 
 sound : (t : Tables) (event : EventValue) → AreSound t → AreSound (outcome t event).tables
 sound t (Attach user rows columns) s =
-    outcomes.passed (λ o. AreSound o.tables) t (verdicts t (attach_checks t user rows columns)) (first_fault t (attach_checks t user rows columns)) (reply_of 0 t.next_client 0 None) (attaches t (new_client t user rows columns))
+    outcomes.passed (λ o. AreSound o.tables) t (verdicts t (attach_checks t user rows columns))
+    (first_fault t (attach_checks t user rows columns)) (reply_of 0 t.next_client 0 None)
+    (attaches t (new_client t user rows columns))
     (λ r is. s) (λ is. sounds (attached t user rows columns s is)) where
-      sounds : AreSound (attaches t (new_client t user rows columns)).tables → AreSound (attaches t (new_client t user rows columns)).tables
+      sounds : AreSound (attaches t (new_client t user rows columns)).tables
+          → AreSound (attaches t (new_client t user rows columns)).tables
       sounds all = all
 sound t (Open user rows columns keep title) s =
     let v : Window = new_window t rows columns keep title in
-    outcomes.passed (λ o. AreSound o.tables) t (verdicts t (open_checks t user rows columns keep title)) (first_fault t (open_checks t user rows columns keep title)) (reply_of 0 v.serial v.number None) (opens t user v)
+    outcomes.passed (λ o. AreSound o.tables) t (verdicts t (open_checks t user rows columns keep title))
+    (first_fault t (open_checks t user rows columns keep title)) (reply_of 0 v.serial v.number None)
+    (opens t user v)
     (λ r is. s) (λ is. opened t user rows columns keep title s is)
 sound t event s = moved_sound t _ _ 0 s (moving t event s refl)
 
@@ -91,29 +118,38 @@ drawn_id : (effects : List Effect) (v : View) (c : Client) → id_of (with_drawn
 drawn_id [] v c = refl
 drawn_id (f ∷ effects) v c = refl
 
-pub drawn_ids : (t : Tables) (client : ℕ) (effects : List Effect) (o : Option Client) → client_at t client ≡ o → ids (drawn_on o effects t) ≡ ids t
+pub drawn_ids : (t : Tables) (client : ℕ) (effects : List Effect) (o : Option Client) → client_at t client ≡ o
+    → ids (drawn_on o effects t) ≡ ids t
 drawn_ids t client effects None is = refl
-drawn_ids t client effects (Some c) is = client_ids t c (with_drawn effects (granted_view t c) c) (row_at t client c is) (drawn_id effects (granted_view t c) c)
+drawn_ids t client effects (Some c) is = client_ids t c (with_drawn effects (granted_view t c) c) (row_at t client c is)
+    (drawn_id effects (granted_view t c) c)
 
-same_rows : (t : Tables) (effects : List Effect) (o : Option Client) → ids (drawn_on o effects t) ≡ ids t → AreSound t → AreSound (drawn_on o effects t)
+same_rows : (t : Tables) (effects : List Effect) (o : Option Client) → ids (drawn_on o effects t) ≡ ids t → AreSound t
+    → AreSound (drawn_on o effects t)
 same_rows t effects None same s = s
 same_rows t effects (Some c) same s =
     let u : Tables = drawn_on (Some c) effects t in record {
       windows_rise = s.windows_rise;
-      clients_rise = subst (λ ns. Rises ns t.next_client) (client_firsts t.clients ∙ sym (ap firsts same) ∙ sym (client_firsts u.clients)) s.clients_rise;
+      clients_rise = subst (λ ns. Rises ns t.next_client)
+          (client_firsts t.clients ∙ sym (ap firsts same) ∙ sym (client_firsts u.clients)) s.clients_rise;
       numbers = s.numbers;
       few_windows = s.few_windows;
-      few_clients = let e : length u.clients ≡ length t.clients = length_ids u.clients t.clients same in let le : length t.clients ≤ 64 = s.few_clients in omega (arith, e, le);
+      few_clients = let e : length u.clients ≡ length t.clients = length_ids u.clients t.clients same in let le : length
+          t.clients ≤ 64 = s.few_clients in omega (arith, e, le);
     }
 
-pub lasting : (t : Tables) (event : EventValue) (effects : List Effect) → AreSound t → AreSound (drawn event effects (outcome t event).tables)
+pub lasting : (t : Tables) (event : EventValue) (effects : List Effect) → AreSound t
+    → AreSound (drawn event effects (outcome t event).tables)
 lasting t (Draw client) effects s =
     let u : Tables = (outcome t (Draw client)).tables in
-    same_rows u effects (client_at u client) (drawn_ids u client effects (client_at u client) refl) (sound t (Draw client) s)
+    same_rows u effects (client_at u client) (drawn_ids u client effects (client_at u client) refl)
+    (sound t (Draw client) s)
 lasting t event effects s = sound t event s
 
-pub fresh_sound : (edition : Rattle.acl.specs.declared.edition.Edition.Edition) (owner : UserId) → AreSound (fresh edition owner)
-fresh_sound edition owner = record { windows_rise = tt; clients_rise = tt; numbers = tt; few_windows = omega arith; few_clients = omega arith }
+pub fresh_sound : (edition : Rattle.acl.specs.declared.edition.Edition.Edition) (owner : UserId)
+    → AreSound (fresh edition owner)
+fresh_sound edition owner = record
+    { windows_rise = tt; clients_rise = tt; numbers = tt; few_windows = omega arith; few_clients = omega arith }
 
 pub run_sound : (start : Tables) (entries : List Entry) → AreSound start → AreSound (tables_from start entries)
 run_sound start [] s = s

@@ -1,5 +1,6 @@
 -- Of typed bytes that don't reach their window it is told why.
-use Rattle.std.proofs.Common.{◌≡◌, ℕ, Bool, true, false, not, List, [], ◌∷◌, ◌++◌, Option, Some, None, Ok, Err, Result, refl, ap, sym, ◌∙◌, subst, inl, inr, ⊎_elim}
+use Rattle.std.proofs.Common.{◌≡◌, ℕ, Bool, true, false, not, List, [], ◌∷◌, ◌++◌, Option, Some, None, Ok, Err, Result}
+use Rattle.std.proofs.Common.{refl, ap, sym, ◌∙◌, subst, inl, inr, ⊎_elim}
 use Rattle.std.specs.Prelude.{if◌then◌else◌, ◌==◌, ◌&&◌, ◌||◌, take}
 use Rattle.std.specs.List.{AllByRecursion, list_any, flat_map}
 use Rattle.std.specs.Option.{option_map_or}
@@ -28,7 +29,8 @@ use Rattle.session_model.specs.Checks.{checks, first_fault, verdicts, typing_che
 use Rattle.session_model.specs.Deeds.{Answer, Deed, changing}
 use Rattle.session_model.specs.Commands.{does}
 use Rattle.session_model.specs.Keying.{typed_bytes, command_item, taken, step_items}
-use Rattle.session_model.specs.Answering.{types, says_why, input_in, ordered, message_of, keyed, reading, keys_outcome, unsaid, says_same, answered, commanded, line_ruling}
+use Rattle.session_model.specs.Answering.{types, says_why, input_in, ordered, message_of, keyed, reading, keys_outcome}
+use Rattle.session_model.specs.Answering.{unsaid, says_same, answered, commanded, line_ruling}
 use Rattle.session_model.specs.Outcomes.{refused, Outcome}
 use Rattle.session_model.specs.Answering as answering
 use Rattle.session_model.specs.Run.{IsStep}
@@ -62,28 +64,35 @@ same_say (Size at rows columns) to bytes is = absurd (cc (is))
 same_say (GoneWindow at why) to bytes is = absurd (cc (is))
 same_say (GoneClient at why) to bytes is = absurd (cc (is))
 
-said_there : (to : ℕ) (bytes : List ℕ) (said : List Effect) → list_any (says_same (Say to bytes)) said ≡ true → Says to bytes said
+said_there : (to : ℕ) (bytes : List ℕ) (said : List Effect) → list_any (says_same (Say to bytes)) said ≡ true
+    → Says to bytes said
 said_there to bytes [] is = absurd (cc (is))
 said_there to bytes (s ∷ said) is = on (says_same (Say to bytes) s) refl is (said_there to bytes said) where
-  on : (b : Bool) → says_same (Say to bytes) s ≡ b → (b || list_any (says_same (Say to bytes)) said) ≡ true → (list_any (says_same (Say to bytes)) said ≡ true → Says to bytes said) → Says to bytes (s ∷ said)
+  on : (b : Bool) → says_same (Say to bytes) s ≡ b → (b || list_any (says_same (Say to bytes)) said) ≡ true
+      → (list_any (says_same (Say to bytes)) said ≡ true → Says to bytes said) → Says to bytes (s ∷ said)
   on true same is later = inl (same_say s to bytes same)
   on false same is later = inr (later is)
 
 -- what is to be said is said, before or now
-pub unsaid_told : (said : List Effect) (to : ℕ) (bytes : List ℕ) → Says to bytes (said ++ unsaid said (Say to bytes ∷ []))
+pub unsaid_told : (said : List Effect) (to : ℕ) (bytes : List ℕ)
+    → Says to bytes (said ++ unsaid said (Say to bytes ∷ []))
 unsaid_told said to bytes = on (list_any (says_same (Say to bytes)) said) refl where
-  on : (b : Bool) → list_any (says_same (Say to bytes)) said ≡ b → Says to bytes (said ++ (if not b then Say to bytes ∷ [] else []))
+  on : (b : Bool) → list_any (says_same (Say to bytes)) said ≡ b
+      → Says to bytes (said ++ (if not b then Say to bytes ∷ [] else []))
   on true is = some_left (λ f. f ≡ Say to bytes) said [] (said_there to bytes said is)
   on false is = some_right (λ f. f ≡ Say to bytes) said (Say to bytes ∷ []) (inl refl)
 
-pub unsaid_listed : (said : List Effect) (es : List Effect) (to : ℕ) (bytes : List ℕ) → Says to bytes (said ++ unsaid said (es ++ Say to bytes ∷ []))
+pub unsaid_listed : (said : List Effect) (es : List Effect) (to : ℕ) (bytes : List ℕ)
+    → Says to bytes (said ++ unsaid said (es ++ Say to bytes ∷ []))
 unsaid_listed said [] to bytes = unsaid_told said to bytes
 unsaid_listed said (e ∷ es) to bytes = on (list_any (says_same e) said) (unsaid_listed said es to bytes) where
   between : (xs : List Effect) (ys : List Effect) → Says to bytes (xs ++ ys) → Says to bytes (xs ++ e ∷ ys)
   between [] ys some = inr some
   between (x ∷ xs) ys some = ⊎_elim (λ (here : x ≡ Say to bytes). inl here) (λ later. inr (between xs ys later)) some
 
-  on : (b : Bool) → Says to bytes (said ++ unsaid said (es ++ Say to bytes ∷ [])) → Says to bytes (said ++ (if not b then e ∷ unsaid said (es ++ Say to bytes ∷ []) else unsaid said (es ++ Say to bytes ∷ [])))
+  on : (b : Bool) → Says to bytes (said ++ unsaid said (es ++ Say to bytes ∷ []))
+      → Says to bytes
+      (said ++ (if not b then e ∷ unsaid said (es ++ Say to bytes ∷ []) else unsaid said (es ++ Say to bytes ∷ [])))
   on true rest = rest
   on false rest = between said (unsaid said (es ++ Say to bytes ∷ [])) rest
 
@@ -94,11 +103,13 @@ Why client effects None = Unit {0}
 Why client effects (Some r) = Says client (text_of r) effects
 
 -- the checks of typed bytes are what stands between
-fault_why : (t : Tables) (user : UserId) (o : Option Window) (bytes : List ℕ) → first_fault t (typing_checks user o) ≡ why_not t (record { user = user; window = o; bytes = bytes })
+fault_why : (t : Tables) (user : UserId) (o : Option Window) (bytes : List ℕ)
+    → first_fault t (typing_checks user o) ≡ why_not t (record { user = user; window = o; bytes = bytes })
 fault_why t user None bytes = refl
 fault_why t user (Some w) bytes = refl
 
-types_why : (u : Tables) (d : Client) (b : ℕ) (bs : List ℕ) → Why d.serial (types u d (b ∷ bs)).effects (first_fault u (typing_checks d.user (focused_window u d)))
+types_why : (u : Tables) (d : Client) (b : ℕ) (bs : List ℕ)
+    → Why d.serial (types u d (b ∷ bs)).effects (first_fault u (typing_checks d.user (focused_window u d)))
 types_why u d b bs = on (first_fault u (typing_checks d.user (focused_window u d))) (focused_window u d) where
   on : (x : Option Refusal) (f : Option Window) → Why d.serial (elim x as (λ _. Deed) [
     | Some r ↦ says_why u d.serial r
@@ -116,19 +127,24 @@ why_left client xs ys (Some r) why = some_left (λ f. f ≡ Say client (text_of 
 abbrev with_checks : Bool → Bool → Refusal → Refusal → Option Refusal → Option Refusal
 with_checks a b r s x = if a then (if b then x else Some s) else Some r
 
-checks_why : (a b : Bool) (r s : Refusal) (x : Option Refusal) → (a && (not true || b)) ≡ true → with_checks a b r s x ≡ x
+checks_why : (a b : Bool) (r s : Refusal) (x : Option Refusal) → (a && (not true || b)) ≡ true
+    → with_checks a b r s x ≡ x
 checks_why true true r s x is = refl
 checks_why true false r s x is = absurd (cc (is))
 checks_why false b r s x is = absurd (cc (is))
 
 stuff_why : (t : Tables) (user : UserId) (client : Option ℕ) (w : Window) (bytes : List ℕ)
     → has_x t (giving (record { user = user; client = client; window = Some w }) (command.Stuff bytes)) ≡ true
-    → first_fault t (checks t (record { user = user; client = client; window = Some w }) (command.Stuff bytes)) ≡ why_not_into t user w.serial
+    → first_fault t (checks t (record { user = user; client = client; window = Some w }) (command.Stuff bytes)) ≡
+    why_not_into t user w.serial
 stuff_why t user client w bytes has =
-    checks_why (may_in t user Execute (object.Command names.Stuff)) (may_in t user Execute (object.Window w.serial)) _ _ (why_not_into t user w.serial) has
+    checks_why (may_in t user Execute (object.Command names.Stuff)) (may_in t user Execute (object.Window w.serial)) _ _
+    (why_not_into t user w.serial) has
 
-keyed_why : (v : Tables) (client : ℕ) (m : List ℕ → Rattle.session_model.specs.declared.message.Message.Message) (said : List Effect) (x : Option Refusal) (a : Answer)
-    → Why client (said ++ unsaid said (keyed v client m (elim x as (λ _. Answer) [ Some r ↦ Err r | None ↦ a ])).effects) x
+keyed_why : (v : Tables) (client : ℕ) (m : List ℕ → Rattle.session_model.specs.declared.message.Message.Message)
+    (said : List Effect) (x : Option Refusal) (a : Answer)
+    → Why client
+    (said ++ unsaid said (keyed v client m (elim x as (λ _. Answer) [ Some r ↦ Err r | None ↦ a ])).effects) x
 keyed_why v client m said None a = tt
 keyed_why v client m said (Some r) a = unsaid_told said client (text_of r)
 
@@ -136,12 +152,15 @@ abbrev WhyNot : Reply → Option Refusal → Type 0
 WhyNot reply None = Unit {0}
 WhyNot reply (Some r) = reply ≡ Err r
 
-answered_why : (t : Tables) (k : Caller) (c : Order) (x : Option Refusal) → WhyNot (answered t (verdicts t (checks t k c)) (elim x as (λ _. Answer) [ Some r ↦ Err r | None ↦ does t k c ])).reply x
+answered_why : (t : Tables) (k : Caller) (c : Order) (x : Option Refusal)
+    → WhyNot
+    (answered t (verdicts t (checks t k c)) (elim x as (λ _. Answer) [ Some r ↦ Err r | None ↦ does t k c ])).reply x
 answered_why t k c None = tt
 answered_why t k c (Some r) = refl
 
 -- where a stuff types, it has a window
-no_window : (t : Tables) (user : UserId) (client : Option ℕ) (bytes : List ℕ) → has_x t (giving (record { user = user; client = client; window = None }) (command.Stuff bytes)) ≡ true → ⊥
+no_window : (t : Tables) (user : UserId) (client : Option ℕ) (bytes : List ℕ)
+    → has_x t (giving (record { user = user; client = client; window = None }) (command.Stuff bytes)) ≡ true → ⊥
 no_window t user client bytes has = on (may_in t user Execute (object.Command names.Stuff)) has where
   on : (a : Bool) → (a && (not true || false)) ≡ true → ⊥
   on true is = cc (is)
@@ -151,16 +170,25 @@ no_window t user client bytes has = on (may_in t user Execute (object.Command na
 
 -- a fact of what a command types
 stuffed_all : (P : Typed → Type 0) (t : Tables) (user : UserId) (client : Option ℕ) (o : Option Window) (c : Order)
-    → ((w : Window) (bytes : List ℕ) → o ≡ Some w → c ≡ command.Stuff bytes → has_x t (giving (record { user = user; client = client; window = Some w }) (command.Stuff bytes)) ≡ true → P (record { user = user; window = Some w; bytes = bytes }))
-    → let g : Given = giving (record { user = user; client = client; window = o }) c in AllByRecursion P (stuffed t g c ++ [])
-stuffed_all P t user client None (command.Stuff bytes) on = cases (has_x t (giving (record { user = user; client = client; window = None }) (command.Stuff bytes))) (no_window t user client bytes) where
-  cases : (b : Bool) → (b ≡ true → ⊥) → AllByRecursion P ((if b then record { user = user; window = None; bytes = bytes } ∷ [] else []) ++ [])
-  cases true never = absurd (never refl)
-  cases false never = tt
-stuffed_all P t user client (Some w) (command.Stuff bytes) on = cases (has_x t (giving (record { user = user; client = client; window = Some w }) (command.Stuff bytes))) (on w bytes refl refl) where
-  cases : (b : Bool) → (b ≡ true → P (record { user = user; window = Some w; bytes = bytes })) → AllByRecursion P ((if b then record { user = user; window = Some w; bytes = bytes } ∷ [] else []) ++ [])
-  cases true here = (here refl, tt)
-  cases false here = tt
+    → ((w : Window) (bytes : List ℕ) → o ≡ Some w → c ≡ command.Stuff bytes
+    → has_x t (giving (record { user = user; client = client; window = Some w }) (command.Stuff bytes)) ≡ true
+    → P (record { user = user; window = Some w; bytes = bytes }))
+    → let g : Given = giving (record { user = user; client = client; window = o }) c in AllByRecursion P
+    (stuffed t g c ++ [])
+stuffed_all P t user client None (command.Stuff bytes) on = cases
+    (has_x t (giving (record { user = user; client = client; window = None }) (command.Stuff bytes)))
+    (no_window t user client bytes) where
+      cases : (b : Bool) → (b ≡ true → ⊥)
+          → AllByRecursion P ((if b then record { user = user; window = None; bytes = bytes } ∷ [] else []) ++ [])
+      cases true never = absurd (never refl)
+      cases false never = tt
+stuffed_all P t user client (Some w) (command.Stuff bytes) on = cases
+    (has_x t (giving (record { user = user; client = client; window = Some w }) (command.Stuff bytes)))
+    (on w bytes refl refl) where
+      cases : (b : Bool) → (b ≡ true → P (record { user = user; window = Some w; bytes = bytes }))
+          → AllByRecursion P ((if b then record { user = user; window = Some w; bytes = bytes } ∷ [] else []) ++ [])
+      cases true here = (here refl, tt)
+      cases false here = tt
 stuffed_all P t user client o c on = tt
 
 -- ---- by keys
@@ -169,39 +197,56 @@ abbrev TellsIn : ℕ → List Effect → List ℕ → Option Refusal → Type 0
 TellsIn client effects [] why = Unit {0}
 TellsIn client effects (b ∷ bytes) why = Why client effects why
 
-tells_in : (client : ℕ) (effects : List Effect) (bytes : List ℕ) (why : Option Refusal) → Why client effects why → TellsIn client effects bytes why
+tells_in : (client : ℕ) (effects : List Effect) (bytes : List ℕ) (why : Option Refusal) → Why client effects why
+    → TellsIn client effects bytes why
 tells_in client effects [] why is = tt
 tells_in client effects (b ∷ bytes) why is = is
 
 typed_tells : (u : Tables) (d : Client) (bytes : List ℕ) (more : List Effect)
-    → TellsIn d.serial ((types u d bytes).effects ++ more) bytes (first_fault u (typing_checks d.user (focused_window u d)))
+    → TellsIn d.serial ((types u d bytes).effects ++ more) bytes
+    (first_fault u (typing_checks d.user (focused_window u d)))
 typed_tells u d [] more = tt
-typed_tells u d (b ∷ bytes) more = why_left d.serial (types u d (b ∷ bytes)).effects more (first_fault u (typing_checks d.user (focused_window u d))) (types_why u d b bytes)
+typed_tells u d (b ∷ bytes) more = why_left d.serial (types u d (b ∷ bytes)).effects more
+    (first_fault u (typing_checks d.user (focused_window u d))) (types_why u d b bytes)
 
 module _ (t : Tables) (c : Client) (said : List Effect) (cs : List Client) (read : List ℕ) where
   order_tells : (order : Order)
-      → AllByRecursion (λ (bs : Typed). TellsIn c.serial (said ++ unsaid said (answering.by_line (record t { clients = cs }) (reading read c) (Ok order)).deed.effects) bs.bytes (why_not t bs))
+      → AllByRecursion
+      (λ (bs : Typed). TellsIn c.serial
+      (said ++ unsaid said (answering.by_line (record t { clients = cs }) (reading read c) (Ok order)).deed.effects)
+      bs.bytes (why_not t bs))
       (stuffed t (giving (caller_of t c) order) order ++ [])
   order_tells order =
       let v : Tables = record t { clients = cs } in
       let effects : List Effect = said ++ unsaid said (answering.by_line v (reading read c) (Ok order)).deed.effects in
-      stuffed_all (λ (bs : Typed). TellsIn c.serial effects bs.bytes (why_not t bs)) t c.user (Some c.serial) (focused_window t c) order
+      stuffed_all (λ (bs : Typed). TellsIn c.serial effects bs.bytes (why_not t bs)) t c.user (Some c.serial)
+      (focused_window t c) order
       (λ w bytes at is has.
       let why : first_fault t (checks t (caller_of t c) order) ≡ why_not_into t c.user w.serial =
-      ap (λ (o : Option Window). first_fault t (checks t (record { user = c.user; client = Some c.serial; window = o }) order)) at
-      ∙ ap (λ (x : Order). first_fault t (checks t (record { user = c.user; client = Some c.serial; window = Some w }) x)) is
+      ap (λ (o : Option Window). first_fault t
+      (checks t (record { user = c.user; client = Some c.serial; window = o }) order)) at
+      ∙ ap (λ (x : Order). first_fault t
+      (checks t (record { user = c.user; client = Some c.serial; window = Some w }) x)) is
       ∙ stuff_why t c.user (Some c.serial) w bytes has in
       tells_in c.serial effects bytes (why_not_into t c.user w.serial)
-      (subst (Why c.serial effects) why (keyed_why v c.serial (message_of order) said (first_fault t (checks t (caller_of t c) order)) (does v (caller_of t c) order))))
+      (subst (Why c.serial effects) why
+      (keyed_why v c.serial (message_of order) said (first_fault t (checks t (caller_of t c) order))
+      (does v (caller_of t c) order))))
 
   line_tells : (r : Result Order ParseFault)
-      → AllByRecursion (λ (bs : Typed). TellsIn c.serial (said ++ unsaid said (answering.by_line (record t { clients = cs }) (reading read c) r).deed.effects) bs.bytes (why_not t bs))
+      → AllByRecursion
+      (λ (bs : Typed). TellsIn c.serial
+      (said ++ unsaid said (answering.by_line (record t { clients = cs }) (reading read c) r).deed.effects) bs.bytes
+      (why_not t bs))
       (flat_map (λ g. stuffed t g g.order) (with_order (caller_of t c) (ok_of r)))
   line_tells (Err f) = tt
   line_tells (Ok order) = order_tells order
 
   item_tells : (item : Option Item)
-      → AllByRecursion (λ (bs : Typed). TellsIn c.serial (said ++ unsaid said (ordered (record t { clients = cs }) (reading read c) item).deed.effects) bs.bytes (why_not t bs))
+      → AllByRecursion
+      (λ (bs : Typed). TellsIn c.serial
+      (said ++ unsaid said (ordered (record t { clients = cs }) (reading read c) item).deed.effects) bs.bytes
+      (why_not t bs))
       (flat_map (λ g. stuffed t g g.order) (with_order (caller_of t c) (order_in item)))
   item_tells None = tt
   item_tells (Some (typed b)) = tt
@@ -214,7 +259,8 @@ Told t client effects bs = TellsIn client effects bs.bytes (why_not t bs)
 
 keys_tell : (t : Tables) (client : ℕ) (bytes : List ℕ) (c : Client) → client_at t client ≡ Some c
     → AllByRecursion (Told t c.serial (keys_outcome t c (take (taken c.keys bytes) bytes)).effects)
-    (typed_by_client t c bytes ∷ flat_map (λ g. stuffed t g g.order) (with_order (caller_of t c) (order_in (command_item (step_items c bytes)))))
+    (typed_by_client t c bytes ∷ flat_map (λ g. stuffed t g g.order)
+    (with_order (caller_of t c) (order_in (command_item (step_items c bytes)))))
 keys_tell t client bytes c is =
     let read : List ℕ = take (taken c.keys bytes) bytes in
     let given : List Item = step_items c bytes in
@@ -222,10 +268,14 @@ keys_tell t client bytes c is =
     let u : Tables = with_client t d in
     let before : Deed = types u d (typed_bytes given) in
     let order : Tables → List Effect = λ v. (ordered v d (command_item given)).deed.effects in (
-      subst (TellsIn c.serial (before.effects ++ unsaid before.effects (order before.tables)) (typed_bytes given)) (fault_why t c.user (focused_window t c) (typed_bytes given))
+      subst (TellsIn c.serial (before.effects ++ unsaid before.effects (order before.tables)) (typed_bytes given))
+          (fault_why t c.user (focused_window t c) (typed_bytes given))
           (typed_tells u d (typed_bytes given) (unsaid before.effects (order before.tables))),
-      typing_clients (λ v. AllByRecursion (Told t c.serial (before.effects ++ unsaid before.effects (order v))) (flat_map (λ g. stuffed t g g.order) (with_order (caller_of t c) (order_in (command_item given)))))
-          t client c d (typed_bytes given) is refl refl (λ cs same. item_tells t c before.effects cs read (command_item given)),
+      typing_clients
+          (λ v. AllByRecursion (Told t c.serial (before.effects ++ unsaid before.effects (order v)))
+          (flat_map (λ g. stuffed t g g.order) (with_order (caller_of t c) (order_in (command_item given)))))
+          t client c d (typed_bytes given) is refl refl
+          (λ cs same. item_tells t c before.effects cs read (command_item given)),
     )
 
 -- ---- by a line
@@ -234,7 +284,9 @@ abbrev Answers : Tables → Reply → Typed → Type 0
 Answers t reply bs = WhyNot reply (why_not t bs)
 
 line_answers : (t : Tables) (user : UserId) (number : Option ℕ) (b : Bool) (r : Result Order ParseFault)
-    → AllByRecursion (Answers t (if b then commanded t (line_ruling t (line_caller t user number) r) else refused t [] UnknownUser).reply)
+    → AllByRecursion
+    (Answers t
+    (if b then commanded t (line_ruling t (line_caller t user number) r) else refused t [] UnknownUser).reply)
     (flat_map (λ g. stuffed t g g.order) (if b then with_order (line_caller t user number) (ok_of r) else []))
 line_answers t user number false r = tt
 line_answers t user number true (Err f) = tt
@@ -253,36 +305,72 @@ line_answers t user number true (Ok c) =
 
 module _ (t : Tables) (reply : Reply) (acts : List Act) (vs : List Verdict) (effects : List Effect) where
   keys_told : (client : ℕ) (bytes : List ℕ) (bs : Typed) → Told t client effects bs
-      → IsTold (record { event = Keys client bytes; reply = reply; acts = acts; verdicts = vs; effects = effects }) bs.bytes (why_not t bs)
+      → IsTold (record { event = Keys client bytes; reply = reply; acts = acts; verdicts = vs; effects = effects })
+      bs.bytes (why_not t bs)
   keys_told client bytes bs is = on bs.bytes (why_not t bs) is where
-    on : (bs : List ℕ) (why : Option Refusal) → TellsIn client effects bs why → IsTold (record { event = Keys client bytes; reply = reply; acts = acts; verdicts = vs; effects = effects }) bs why
+    on : (bs : List ℕ) (why : Option Refusal) → TellsIn client effects bs why
+        → IsTold (record { event = Keys client bytes; reply = reply; acts = acts; verdicts = vs; effects = effects }) bs
+        why
     on [] why is = tt
     on (b ∷ bs) None is = tt
     on (b ∷ bs) (Some r) is = is
 
   line_told : (user : UserId) (number : Option ℕ) (bytes : List ℕ) (bs : Typed) → Answers t reply bs
-      → IsTold (record { event = Command user number bytes; reply = reply; acts = acts; verdicts = vs; effects = effects }) bs.bytes (why_not t bs)
+      → IsTold
+      (record { event = Command user number bytes; reply = reply; acts = acts; verdicts = vs; effects = effects })
+      bs.bytes (why_not t bs)
   line_told user number bytes bs is = on bs.bytes (why_not t bs) is where
-    on : (bs : List ℕ) (why : Option Refusal) → WhyNot reply why → IsTold (record { event = Command user number bytes; reply = reply; acts = acts; verdicts = vs; effects = effects }) bs why
+    on : (bs : List ℕ) (why : Option Refusal) → WhyNot reply why
+        → IsTold
+        (record { event = Command user number bytes; reply = reply; acts = acts; verdicts = vs; effects = effects }) bs
+        why
     on [] why is = tt
     on (b ∷ bs) None is = tt
     on (b ∷ bs) (Some r) is = is
 
-  pub told : (event : EventValue) → let e : Entry = record { event = event; reply = reply; acts = acts; verdicts = vs; effects = effects } in IsStep t e → DenialIsTold t e
+  pub told : (event : EventValue)
+      → let e : Entry = record { event = event; reply = reply; acts = acts; verdicts = vs; effects = effects } in IsStep
+      t e → DenialIsTold t e
   told (Keys client bytes) step = on (client_at t client) refl step.effects where
-    on : (o : Option Client) → client_at t client ≡ o → effects ≡ (elim o as (λ _. Outcome) [ None ↦ refused t [] NoWindow | Some c ↦ keys_outcome t c (take (taken c.keys bytes) bytes) ]).effects
-        → AllByRecursion (λ bs. IsTold (record { event = Keys client bytes; reply = reply; acts = acts; verdicts = vs; effects = effects }) bs.bytes (why_not t bs))
-        (option_map_or (λ c. typed_by_client t c bytes ∷ []) o [] ++ flat_map (λ g. stuffed t g g.order) (option_map_or (λ c. with_order (caller_of t c) (order_in (command_item (step_items c bytes)))) o []))
+    on : (o : Option Client) → client_at t client ≡ o
+        → effects ≡
+        (elim o as (λ _. Outcome)
+        [ None ↦ refused t [] NoWindow | Some c ↦ keys_outcome t c (take (taken c.keys bytes) bytes) ]).effects
+        → AllByRecursion
+        (λ bs. IsTold
+        (record { event = Keys client bytes; reply = reply; acts = acts; verdicts = vs; effects = effects })
+        bs.bytes (why_not t bs))
+        (option_map_or (λ c. typed_by_client t c bytes ∷ []) o [] ++ flat_map (λ g. stuffed t g g.order)
+        (option_map_or (λ c. with_order (caller_of t c) (order_in (command_item (step_items c bytes)))) o []))
     on None at is = tt
     on (Some c) at is =
-        all_weaken (Told t client effects) (λ bs. IsTold (record { event = Keys client bytes; reply = reply; acts = acts; verdicts = vs; effects = effects }) bs.bytes (why_not t bs))
-        (typed_by_client t c bytes ∷ flat_map (λ g. stuffed t g g.order) (with_order (caller_of t c) (order_in (command_item (step_items c bytes)))))
+        all_weaken (Told t client effects)
+        (λ bs. IsTold
+        (record { event = Keys client bytes; reply = reply; acts = acts; verdicts = vs; effects = effects })
+        bs.bytes (why_not t bs))
+        (typed_by_client t c bytes ∷ flat_map (λ g. stuffed t g g.order)
+        (with_order (caller_of t c) (order_in (command_item (step_items c bytes)))))
         (keys_told client bytes)
-        (subst (λ n. AllByRecursion (Told t n effects) (typed_by_client t c bytes ∷ flat_map (λ g. stuffed t g g.order) (with_order (caller_of t c) (order_in (command_item (step_items c bytes)))))) (row_serial (λ (x : Client). x.serial) t.clients client c at)
-        (subst (λ es. AllByRecursion (Told t c.serial es) (typed_by_client t c bytes ∷ flat_map (λ g. stuffed t g g.order) (with_order (caller_of t c) (order_in (command_item (step_items c bytes)))))) (sym is) (keys_tell t client bytes c at)))
+        (subst
+        (λ n. AllByRecursion (Told t n effects)
+        (typed_by_client t c bytes ∷ flat_map (λ g. stuffed t g g.order)
+        (with_order (caller_of t c) (order_in (command_item (step_items c bytes))))))
+        (row_serial (λ (x : Client). x.serial) t.clients client c at)
+        (subst
+        (λ es. AllByRecursion (Told t c.serial es)
+        (typed_by_client t c bytes ∷ flat_map (λ g. stuffed t g g.order)
+        (with_order (caller_of t c) (order_in (command_item (step_items c bytes)))))) (sym is)
+        (keys_tell t client bytes c at)))
   told (Command user number bytes) step =
-      all_weaken (Answers t reply) (λ bs. IsTold (record { event = Command user number bytes; reply = reply; acts = acts; verdicts = vs; effects = effects }) bs.bytes (why_not t bs)) _
+      all_weaken (Answers t reply)
+      (λ bs. IsTold
+      (record { event = Command user number bytes; reply = reply; acts = acts; verdicts = vs; effects = effects })
+      bs.bytes (why_not t bs)) _
       (line_told user number bytes)
-      (subst (λ r. AllByRecursion (Answers t r) (flat_map (λ g. stuffed t g g.order) (if is_known t user then with_order (line_caller t user number) (ok_of (read_line bytes)) else []))) (sym step.reply)
+      (subst
+      (λ r. AllByRecursion (Answers t r)
+      (flat_map (λ g. stuffed t g g.order)
+      (if is_known t user then with_order (line_caller t user number) (ok_of (read_line bytes)) else [])))
+      (sym step.reply)
       (line_answers t user number (is_known t user) (read_line bytes)))
   told event step = tt

@@ -1,5 +1,7 @@
 -- What a composed view shows can be shown by a terminal.
-use Rattle.std.proofs.Common.{◌≡◌, ℕ, zero, suc, ◌+◌, ◌<◌, ◌≤◌, Bool, true, false, ◌&&◌, ◌||◌, cond, eqb, ltb, leb, List, [], ◌∷◌, ◌++◌, length, get_or, refl, sym, ap, subst, ◌∙◌, arith, ⊎_elim, ◌⊎◌, inl, inr, eq-eqb, lt-ltb}
+use Rattle.std.proofs.Common.{◌≡◌, ℕ, zero, suc, ◌+◌, ◌<◌, ◌≤◌, Bool, true, false, ◌&&◌, ◌||◌, cond, eqb, ltb, leb}
+use Rattle.std.proofs.Common.{List, [], ◌∷◌, ◌++◌, length, get_or, refl, sym, ap, subst, ◌∙◌, arith, ⊎_elim, ◌⊎◌, inl}
+use Rattle.std.proofs.Common.{inr, eq-eqb, lt-ltb}
 use Rattle.std.specs.Prelude.{Option, Some, None, ◌==◌}
 use lib.Utf8.{scalar}
 use Rattle.std.specs.Char.{IsScalar}
@@ -31,7 +33,8 @@ abbrev is_printable : ℕ → Bool
 is_printable c = (ltb 0x1F c && ltb c 0x7F) || ltb 0x9F c
 
 -- what has a width is printable
-printable_by : (c : ℕ) (low some high : Bool) (v w : ℕ) → ltb c 0x7F ≡ low → leb 0x20 c ≡ some → leb 0xA0 c ≡ high → cond low (cond some (Some 1) None) (cond high (Some v) None) ≡ Some w → is_printable c ≡ true
+printable_by : (c : ℕ) (low some high : Bool) (v w : ℕ) → ltb c 0x7F ≡ low → leb 0x20 c ≡ some → leb 0xA0 c ≡ high
+    → cond low (cond some (Some 1) None) (cond high (Some v) None) ≡ Some w → is_printable c ≡ true
 printable_by c true true high v w l s h e =
     let above : 0x1F < c = omega (arith, leb-true 0x20 c s) in
     rw (lt-ltb 0x1F c above, l) refl
@@ -52,7 +55,8 @@ visible-is : (c : ℕ) (w : Option ℕ) → char_width false c ≡ w → visible
 unfolding columns_of drawn
 visible-is c w e = ap (λ (x : Option ℕ). shown_by x c) e
 
-glyph_of : (c n w : ℕ) → IsScalar c → char_width false c ≡ Some w → glyph_columns (Some w) ≡ n → drawn_as (Some w) c ≡ c → IsGlyph n c
+glyph_of : (c n w : ℕ) → IsScalar c → char_width false c ≡ Some w → glyph_columns (Some w) ≡ n → drawn_as (Some w) c ≡ c
+    → IsGlyph n c
 unfolding columns_of drawn
 glyph_of c n w scalar e columns stays = record {
   given = (printable_of c w e, scalar);
@@ -115,22 +119,35 @@ both false b h = cc
 clash : (b : Bool) → b ≡ true → b ≡ false → ⊥
 clash b t f = cc
 
-text_printed : (r : Rendition) (cs : List ℕ) → all_scalars cs ≡ true → (k : ℕ) → IsDrawableCell (cell_at (text_cells r cs) k)
+text_printed : (r : Rendition) (cs : List ℕ) → all_scalars cs ≡ true → (k : ℕ)
+    → IsDrawableCell (cell_at (text_cells r cs) k)
 text_printed r [] h k = subst IsDrawableCell (sym (get_or_past [] k blank (omega arith))) drawable_blank
-text_printed r (c ∷ cs) h k = go (text_printed r cs (both (scalar c) (all_scalars cs) h).1) (eqb (columns_of c) 2) refl k
+text_printed r (c ∷ cs) h k = go (text_printed r cs (both (scalar c) (all_scalars cs) h).1) (eqb (columns_of c) 2) refl
+    k
   where
-    go : ((n : ℕ) → IsDrawableCell (cell_at (text_cells r cs) n)) → (wide : Bool) → eqb (columns_of c) 2 ≡ wide → (n : ℕ) → IsDrawableCell (cell_at (cond wide (left_cell c r false ∷ right_cell c r false ∷ []) (narrow_cell (visible c) r false ∷ []) ++ text_cells r cs) n)
-    go rest true e zero = record { glyph = wide_glyph c (both (scalar c) (all_scalars cs) h).0 (eqb-true (columns_of c) 2 e); marks = tt }
+    go : ((n : ℕ) → IsDrawableCell (cell_at (text_cells r cs) n)) → (wide : Bool) → eqb (columns_of c) 2 ≡ wide
+        → (n : ℕ)
+        → IsDrawableCell
+        (cell_at
+        (cond wide (left_cell c r false ∷ right_cell c r false ∷ []) (narrow_cell (visible c) r false ∷ []) ++
+        text_cells r cs) n)
+    go rest true e zero = record
+        { glyph = wide_glyph c (both (scalar c) (all_scalars cs) h).0 (eqb-true (columns_of c) 2 e); marks = tt }
     go rest true e (suc zero) = record { glyph = tt; marks = tt }
     go rest true e (suc (suc n)) = rest n
-    go rest false e zero = drawable_narrow (visible c) r (narrow_glyph c (both (scalar c) (all_scalars cs) h).0 (λ x. clash (eqb (columns_of c) 2) (eq-eqb (columns_of c) 2 x) e))
+    go rest false e zero = drawable_narrow (visible c) r
+        (narrow_glyph c (both (scalar c) (all_scalars cs) h).0
+        (λ x. clash (eqb (columns_of c) 2) (eq-eqb (columns_of c) 2 x) e))
     go rest false e (suc n) = rest n
 
 text_halves : (r : Rendition) (cs : List ℕ) → HasHalves (text_cells r cs)
 text_halves r [] k left = cc
 text_halves r (c ∷ cs) k left = go (text_halves r cs) (eqb (columns_of c) 2) k left
   where
-    go : HasHalves (text_cells r cs) → (wide : Bool) → HasHalves (cond wide (left_cell c r false ∷ right_cell c r false ∷ []) (narrow_cell (visible c) r false ∷ []) ++ text_cells r cs)
+    go : HasHalves (text_cells r cs) → (wide : Bool)
+        → HasHalves
+        (cond wide (left_cell c r false ∷ right_cell c r false ∷ []) (narrow_cell (visible c) r false ∷ []) ++
+        text_cells r cs)
     go rest true zero l = refl
     go rest true (suc zero) l = cc
     go rest true (suc (suc n)) l = rest n l
@@ -142,14 +159,17 @@ text_halves r (c ∷ cs) k left = go (text_halves r cs) (eqb (columns_of c) 2) k
 -- cells of which each can be printed, with right halves behind left ones
 pub record AreDrawn (whole : ℕ → Cell) : Type 0 where
   pub printed : (k : ℕ) → IsDrawableCell (whole k)
-  pub halves : (k : ℕ) → is_left (whole k).shape ≡ true → unprotected (whole (suc k)) ≡ right_cell (whole k).character (whole k).rendition false
+  pub halves : (k : ℕ) → is_left (whole k).shape ≡ true
+      → unprotected (whole (suc k)) ≡ right_cell (whole k).character (whole k).rendition false
 
 -- the same of a row of so many
 pub record IsDrawnRow (columns : ℕ) (cell : ℕ → Cell) : Type 0 where
   pub printed : (k : ℕ) → IsDrawableCell (cell k)
-  pub halves : (k : ℕ) → k < columns → is_left (cell k).shape ≡ true → (suc k < columns) × (unprotected (cell (suc k)) ≡ right_cell (cell k).character (cell k).rendition false)
+  pub halves : (k : ℕ) → k < columns → is_left (cell k).shape ≡ true → (suc k < columns)
+      × (unprotected (cell (suc k)) ≡ right_cell (cell k).character (cell k).rendition false)
 
-uncut_is : (b : Bool) (cell other : Cell) → IsDrawableCell cell → IsDrawableCell other → IsDrawableCell (cond b other cell)
+uncut_is : (b : Bool) (cell other : Cell) → IsDrawableCell cell → IsDrawableCell other
+    → IsDrawableCell (cond b other cell)
 uncut_is true cell other p q = q
 uncut_is false cell other p q = p
 
@@ -159,68 +179,91 @@ uncut_right_half columns k cell other h = rw (h, and_false (eqb (k + 1) columns)
 not_left : (cell : Cell) (c : ℕ) (r : Rendition) → unprotected cell ≡ right_cell c r false → is_left cell.shape ≡ false
 not_left cell c r e = ap (λ (x : Cell). is_left x.shape) e
 
-pub cut_drawn : (whole : ℕ → Cell) (columns : ℕ) (other : Cell) → AreDrawn whole → IsDrawableCell other → is_left other.shape ≡ false → IsDrawnRow columns (λ k. uncut columns k (whole k) other)
+pub cut_drawn : (whole : ℕ → Cell) (columns : ℕ) (other : Cell) → AreDrawn whole → IsDrawableCell other
+    → is_left other.shape ≡ false → IsDrawnRow columns (λ k. uncut columns k (whole k) other)
 cut_drawn whole columns other drawn ok ol = record {
   printed = λ k. uncut_is ((k + 1 == columns) && is_left (whole k).shape) (whole k) other (drawn.printed k) ok;
   halves = λ k h left.
       let inside : k + 1 ≡ columns → ⊥ = λ e. clash _ left (uncut_last columns k (whole k) other e ol) in
       let same : uncut columns k (whole k) other ≡ whole k = uncut_before columns k (whole k) other inside in
       let half = drawn.halves k (rw same at left) in
-      let next : uncut columns (suc k) (whole (suc k)) other ≡ whole (suc k) = uncut_right_half columns (suc k) (whole (suc k)) other (not_left (whole (suc k)) _ _ half) in
-      (omega (arith, inside), ap unprotected next ∙ half ∙ ap (λ (x : Cell). right_cell x.character x.rendition false) (sym same));
+      let next : uncut columns (suc k) (whole (suc k)) other ≡ whole (suc k) = uncut_right_half columns (suc k)
+      (whole (suc k)) other (not_left (whole (suc k)) _ _ half) in (
+        omega (arith, inside),
+        ap unprotected next ∙ half
+            ∙ ap (λ (x : Cell). right_cell x.character x.rendition false) (sym same),
+      );
 }
 
 pub same_drawn : (f g : ℕ → Cell) (columns : ℕ) → ((k : ℕ) → f k ≡ g k) → IsDrawnRow columns f → IsDrawnRow columns g
 same_drawn f g columns same row = record {
   printed = λ k. subst IsDrawableCell (same k) (row.printed k);
   halves = λ k h left.
-      let half = row.halves k h (ap (λ (x : Cell). is_left x.shape) (same k) ∙ left) in
-      (half.0, ap unprotected (sym (same (suc k))) ∙ half.1 ∙ ap (λ (x : Cell). right_cell x.character x.rendition false) (same k));
+      let half = row.halves k h (ap (λ (x : Cell). is_left x.shape) (same k) ∙ left) in (
+        half.0,
+        ap unprotected (sym (same (suc k))) ∙ half.1
+            ∙ ap (λ (x : Cell). right_cell x.character x.rendition false) (same k),
+      );
 }
 
 -- ---- a text
 
-spaced : (cells : List Cell) (r : Rendition) (k : ℕ) → (k < length cells) ⊎ ((get_or cells k (narrow_cell 0x20 r false) ≡ narrow_cell 0x20 r false) × (cell_at cells k ≡ blank))
-spaced cells r k = ⊎_elim (λ (h : k < length cells). inl h) (λ (h : length cells ≤ k). inr (get_or_past cells k (narrow_cell 0x20 r false) h, get_or_past cells k blank h)) (cases_lt k (length cells))
+spaced : (cells : List Cell) (r : Rendition) (k : ℕ)
+    → (k < length cells) ⊎
+    ((get_or cells k (narrow_cell 0x20 r false) ≡ narrow_cell 0x20 r false) × (cell_at cells k ≡ blank))
+spaced cells r k = ⊎_elim (λ (h : k < length cells). inl h)
+    (λ (h : length cells ≤ k). inr (get_or_past cells k (narrow_cell 0x20 r false) h, get_or_past cells k blank h))
+    (cases_lt k (length cells))
 
-text_whole : (r : Rendition) (cs : List ℕ) → all_scalars cs ≡ true → AreDrawn (λ k. get_or (text_cells r cs) k (narrow_cell 0x20 r false))
+text_whole : (r : Rendition) (cs : List ℕ) → all_scalars cs ≡ true
+    → AreDrawn (λ k. get_or (text_cells r cs) k (narrow_cell 0x20 r false))
 text_whole r cs h = record {
   printed = λ k. ⊎_elim
-      (λ (lt : k < length (text_cells r cs)). subst IsDrawableCell (get_or_default (text_cells r cs) k blank (narrow_cell 0x20 r false) lt) (text_printed r cs h k))
+      (λ (lt : k < length (text_cells r cs)). subst IsDrawableCell
+      (get_or_default (text_cells r cs) k blank (narrow_cell 0x20 r false) lt) (text_printed r cs h k))
       (λ past. subst IsDrawableCell (sym past.0) (drawable_narrow 0x20 r space_glyph))
       (spaced (text_cells r cs) r k);
   halves = λ k left. ⊎_elim
       (λ (lt : k < length (text_cells r cs)).
-      let here : get_or (text_cells r cs) k (narrow_cell 0x20 r false) ≡ cell_at (text_cells r cs) k = sym (get_or_default (text_cells r cs) k blank (narrow_cell 0x20 r false) lt) in
+      let here : get_or (text_cells r cs) k (narrow_cell 0x20 r false) ≡ cell_at (text_cells r cs) k = sym
+      (get_or_default (text_cells r cs) k blank (narrow_cell 0x20 r false) lt) in
       let half = text_halves r cs k (rw here at left) in
       ⊎_elim
       (λ (next : suc k < length (text_cells r cs)).
-      ap unprotected (sym (get_or_default (text_cells r cs) (suc k) blank (narrow_cell 0x20 r false) next)) ∙ half ∙ ap (λ (x : Cell). right_cell x.character x.rendition false) (sym here))
+      ap unprotected (sym (get_or_default (text_cells r cs) (suc k) blank (narrow_cell 0x20 r false) next)) ∙ half
+      ∙ ap (λ (x : Cell). right_cell x.character x.rendition false) (sym here))
       (λ past. let shape : Narrow ≡ Right = ap (λ (x : Cell). x.shape) (ap unprotected (sym past.1) ∙ half) in cc)
       (spaced (text_cells r cs) r (suc k)))
       (λ past. let not : is_left Narrow ≡ true = ap (λ (x : Cell). is_left x.shape) (sym past.0) ∙ left in cc)
       (spaced (text_cells r cs) r k);
 }
 
-pub text_drawn : (r : Rendition) (cs : List ℕ) (columns : ℕ) → all_scalars cs ≡ true → IsDrawnRow columns (text_at r cs columns)
-text_drawn r cs columns h = cut_drawn (λ k. get_or (text_cells r cs) k (narrow_cell 0x20 r false)) columns (narrow_cell 0x20 r false) (text_whole r cs h) (drawable_narrow 0x20 r space_glyph) refl
+pub text_drawn : (r : Rendition) (cs : List ℕ) (columns : ℕ) → all_scalars cs ≡ true
+    → IsDrawnRow columns (text_at r cs columns)
+text_drawn r cs columns h = cut_drawn (λ k. get_or (text_cells r cs) k (narrow_cell 0x20 r false)) columns
+    (narrow_cell 0x20 r false) (text_whole r cs h) (drawable_narrow 0x20 r space_glyph) refl
 
 -- ---- a line of a window
 
-pub line_drawn : (inverted : Bool) (line : List Cell) (columns : ℕ) → IsDrawableLine line → IsDrawnRow columns (line_cell inverted line columns)
-line_drawn inverted line columns is = same_drawn (λ k. uncut columns k (shown_line inverted line k) blank) (line_cell inverted line columns) columns (λ k. sym (line_is inverted line columns k))
+pub line_drawn : (inverted : Bool) (line : List Cell) (columns : ℕ) → IsDrawableLine line
+    → IsDrawnRow columns (line_cell inverted line columns)
+line_drawn inverted line columns is = same_drawn (λ k. uncut columns k (shown_line inverted line k) blank)
+    (line_cell inverted line columns) columns (λ k. sym (line_is inverted line columns k))
     (cut_drawn (shown_line inverted line) columns blank (record { printed = print; halves = half }) drawable_blank refl)
   where
     print : (k : ℕ) → IsDrawableCell (shown_line inverted line k)
     print k = ⊎_elim
-        (λ (h : k < length line). let d = is.printed k h in rw (lt-ltb k (length line) h) (record { glyph = d.glyph; marks = d.marks }))
+        (λ (h : k < length line). let d = is.printed k h in rw (lt-ltb k (length line) h)
+        (record { glyph = d.glyph; marks = d.marks }))
         (λ (h : length line ≤ k). rw (le-ltb k (length line) h) drawable_blank)
         (cases_lt k (length line))
 
     here : (k : ℕ) → k < length line → shown_line inverted line k ≡ shown_cell inverted (cell_at line k)
     here k h = rw (lt-ltb k (length line) h) refl
 
-    half : (k : ℕ) → is_left (shown_line inverted line k).shape ≡ true → unprotected (shown_line inverted line (suc k)) ≡ right_cell (shown_line inverted line k).character (shown_line inverted line k).rendition false
+    half : (k : ℕ) → is_left (shown_line inverted line k).shape ≡ true
+        → unprotected (shown_line inverted line (suc k)) ≡ right_cell (shown_line inverted line k).character
+        (shown_line inverted line k).rendition false
     half k left = ⊎_elim
         (λ (h : k < length line).
         let own = is.halves k (ap is_left (sym (shown_shape inverted line k)) ∙ left) in

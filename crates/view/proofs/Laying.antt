@@ -1,5 +1,6 @@
 -- Pieces that are laid over a page.
-use Rattle.std.proofs.Common.{◌≡◌, ℕ, suc, ◌+◌, ◌-◌, ◌<◌, ◌≤◌, Bool, true, false, ◌&&◌, eqb, leb, ltb, List, length, refl, sym, ap, subst, ◌∙◌, arith, ⊎_elim, inl, inr, ◌⊎◌, eq-eqb, lt-ltb, le-leb}
+use Rattle.std.proofs.Common.{◌≡◌, ℕ, suc, ◌+◌, ◌-◌, ◌<◌, ◌≤◌, Bool, true, false, ◌&&◌, eqb, leb, ltb, List, length}
+use Rattle.std.proofs.Common.{refl, sym, ap, subst, ◌∙◌, arith, ⊎_elim, inl, inr, ◌⊎◌, eq-eqb, lt-ltb, le-leb}
 use Rattle.std.specs.Prelude.{if◌then◌else◌, ◌==◌}
 use Rattle.std.proofs.lemmas.Bool.{cases_lt, cases_eq, cases_Bool, ne_eqb, ltb-true, leb-true}
 use Rattle.std.proofs.lemmas.Bool.Decides.{nat_tests}
@@ -44,17 +45,27 @@ has_in r l c h =
     }
 
 pub in_has : (r : Rect) (l c : ℕ) → InRect r l c → has r l c ≡ true
-in_has r l c i = rw (le-leb r.line l i.above, lt-ltb l (r.line + r.rows) i.below, le-leb r.column c i.left, lt-ltb c (r.column + r.columns) i.right) refl
+in_has r l c i = rw (
+  le-leb r.line l i.above,
+  lt-ltb l (r.line + r.rows) i.below,
+  le-leb r.column c i.left,
+  lt-ltb c
+      (r.column + r.columns) i.right,
+) refl
 
 pub not_has : (r : Rect) (l c : ℕ) → (InRect r l c → ⊥) → has r l c ≡ false
-not_has r l c none = ⊎_elim (λ (t : has r l c ≡ true). absurd (none (has_in r l c t))) (λ (f : has r l c ≡ false). f) (cases_Bool (has r l c))
+not_has r l c none = ⊎_elim (λ (t : has r l c ≡ true). absurd (none (has_in r l c t))) (λ (f : has r l c ≡ false). f)
+    (cases_Bool (has r l c))
 
 pub cases_has : (r : Rect) (l c : ℕ) → (InRect r l c) ⊎ (has r l c ≡ false)
-cases_has r l c = ⊎_elim (λ (t : has r l c ≡ true). inl (has_in r l c t)) (λ (f : has r l c ≡ false). inr f) (cases_Bool (has r l c))
+cases_has r l c = ⊎_elim (λ (t : has r l c ≡ true). inl (has_in r l c t)) (λ (f : has r l c ≡ false). inr f)
+    (cases_Bool (has r l c))
 
 -- ---- new cells at whose edges no wide character is cut in two
 
-module _ (old cells : List Cell) (at : ℕ) (paired : IsPaired old) (some : 0 < length cells) (starts : is_right (cell_at old at).shape ≡ false) (ends : is_left (cell_at old (at + (length cells - 1))).shape ≡ false) where
+module _ (old cells : List Cell) (at : ℕ) (paired : IsPaired old) (some : 0 < length cells)
+    (starts : is_right (cell_at old at).shape ≡ false)
+    (ends : is_left (cell_at old (at + (length cells - 1))).shape ≡ false) where
   whole_before : (c : ℕ) → c + 1 ≡ at → is_left (cell_at old c).shape ≡ false
   whole_before c e =
       let next : suc c ≡ at = omega arith in
@@ -68,7 +79,8 @@ module _ (old cells : List Cell) (at : ℕ) (paired : IsPaired old) (some : 0 < 
 
   beside : (c : ℕ) → (c < at) ⊎ (at + length cells ≤ c) → overlaid_cell cells at old c ≡ cell_at old c
   beside c side =
-      let out : (leb at c && ltb c (at + length cells)) ≡ false = ⊎_elim (λ (h : c < at). grind (arith, nat_tests)) (λ (h : at + length cells ≤ c). grind (arith, nat_tests)) side in
+      let out : (leb at c && ltb c (at + length cells)) ≡ false = ⊎_elim (λ (h : c < at). grind (arith, nat_tests))
+      (λ (h : at + length cells ≤ c). grind (arith, nat_tests)) side in
       let before : (eqb (c + 1) at && is_left (cell_at old c).shape) ≡ false = ⊎_elim
       (λ (e : c + 1 ≡ at). rw (whole_before c e) (and_false (eqb (c + 1) at)))
       (λ (ne : c + 1 ≡ at → ⊥). rw (ne_eqb (c + 1) at ne) refl)
@@ -85,7 +97,8 @@ module _ (old cells : List Cell) (at : ℕ) (paired : IsPaired old) (some : 0 < 
   inside c a b = rw (le-leb at c a, lt-ltb c (at + length cells) b) refl
 
 -- a row of cells in a free rectangle of one row
-module _ (r : Rect) (old : View) (cells : List Cell) (grid : IsGrid old.page) (free : IsFree r old.page) (one : r.rows ≡ 1) (paired : IsPaired cells) (wide : length cells ≡ r.columns) where
+module _ (r : Rect) (old : View) (cells : List Cell) (grid : IsGrid old.page) (free : IsFree r old.page)
+    (one : r.rows ≡ 1) (paired : IsPaired cells) (wide : length cells ≡ r.columns) where
   abbrev line : ℕ
   line = r.line
 
@@ -93,10 +106,14 @@ module _ (r : Rect) (old : View) (cells : List Cell) (grid : IsGrid old.page) (f
   column = r.column
 
   corner : IsOnPage old.page r.line r.column
-  corner = free.inside r.line r.column (in_has r r.line r.column (record { above = omega arith; below = omega arith; left = omega arith; right = omega (arith, free.wide) }))
+  corner = free.inside r.line r.column
+      (in_has r r.line r.column
+      (record { above = omega arith; below = omega arith; left = omega arith; right = omega (arith, free.wide) }))
 
   last : IsOnPage old.page r.line (r.column + (r.columns - 1))
-  last = free.inside r.line (r.column + (r.columns - 1)) (in_has r r.line (r.column + (r.columns - 1)) (record { above = omega arith; below = omega arith; left = omega arith; right = omega (arith, free.wide) }))
+  last = free.inside r.line (r.column + (r.columns - 1))
+      (in_has r r.line (r.column + (r.columns - 1))
+      (record { above = omega arith; below = omega arith; left = omega arith; right = omega (arith, free.wide) }))
 
   pub line_inside : line < length old.page
   line_inside = corner.0
@@ -105,10 +122,16 @@ module _ (r : Rect) (old : View) (cells : List Cell) (grid : IsGrid old.page) (f
   cells_fit = omega (arith, last.1, free.wide)
 
   starts : is_right (cell_at (line_at old.page line) column).shape ≡ false
-  starts = free.starts line column (in_has r line column (record { above = omega arith; below = omega arith; left = omega arith; right = omega (arith, free.wide) })) (omega arith)
+  starts = free.starts line column
+      (in_has r line column
+      (record { above = omega arith; below = omega arith; left = omega arith; right = omega (arith, free.wide) }))
+      (omega arith)
 
   ends : is_left (cell_at (line_at old.page line) (column + (length cells - 1))).shape ≡ false
-  ends = free.ends line (column + (length cells - 1)) (in_has r line (column + (length cells - 1)) (record { above = omega arith; below = omega arith; left = omega arith; right = omega (arith, free.wide) })) (omega (arith, free.wide))
+  ends = free.ends line (column + (length cells - 1))
+      (in_has r line (column + (length cells - 1))
+      (record { above = omega arith; below = omega arith; left = omega arith; right = omega (arith, free.wide) }))
+      (omega (arith, free.wide))
 
   wide_line : length (line_at old.page line) ≡ length (line_at old.page 0)
   wide_line = grid.well_formed.width line line_inside
@@ -116,10 +139,14 @@ module _ (r : Rect) (old : View) (cells : List Cell) (grid : IsGrid old.page) (f
   some : 0 < length cells
   some = omega (arith, free.wide)
 
-  written_at : (l c : ℕ) → place (written line column cells old.page) l c ≡ (if l == line then overlaid_cell cells column (line_at old.page line) c else place old.page l c)
+  written_at : (l c : ℕ)
+      → place (written line column cells old.page) l c ≡
+      (if l == line then overlaid_cell cells column (line_at old.page line) c else place old.page l c)
   written_at l c =
-      ap (λ (n : ℕ). place (page_from (edited line (spliced column cells (column + length cells) n)) old.page) l c) wide_line
-      ∙ over-at (length old.page) (length (line_at old.page 0)) line column (column + length cells) cells old.page grid.well_formed line_inside paired some cells_fit refl l c
+      ap (λ (n : ℕ). place (page_from (edited line (spliced column cells (column + length cells) n)) old.page) l c)
+      wide_line
+      ∙ over-at (length old.page) (length (line_at old.page 0)) line column (column + length cells) cells old.page
+      grid.well_formed line_inside paired some cells_fit refl l c
 
   module _ (new : View) (new_is : new ≡ record old { page = written line column cells old.page }) where
     page_is : new.page ≡ written line column cells old.page
@@ -130,9 +157,12 @@ module _ (r : Rect) (old : View) (cells : List Cell) (grid : IsGrid old.page) (f
         (λ (i : InRect r l c).
         let e : l ≡ line = omega (arith, i.above, i.below) in
         rw (in_has r l c i, eq-eqb l line e)
-        (inside (line_at old.page line) cells column (grid.well_formed.paired line) some starts ends c i.left (omega (arith, i.right))))
+        (inside (line_at old.page line) cells column (grid.well_formed.paired line) some starts ends c i.left
+        (omega (arith, i.right))))
         (λ (out : has r l c ≡ false). rw out (⊎_elim
-        (λ (e : l ≡ line). rw (eq-eqb l line e) (beside (line_at old.page line) cells column (grid.well_formed.paired line) some starts ends c (side l c e out) ∙ ap (λ (n : ℕ). place old.page n c) (sym e)))
+        (λ (e : l ≡ line). rw (eq-eqb l line e)
+        (beside (line_at old.page line) cells column (grid.well_formed.paired line) some starts ends c
+        (side l c e out) ∙ ap (λ (n : ℕ). place old.page n c) (sym e)))
         (λ (ne : l ≡ line → ⊥). rw (ne_eqb l line ne) refl)
         (cases_eq l line)))
         (cases_has r l c)
@@ -141,7 +171,9 @@ module _ (r : Rect) (old : View) (cells : List Cell) (grid : IsGrid old.page) (f
         side l c e out = ⊎_elim
             (λ (h : c < column). inl h)
             (λ (h : column ≤ c). ⊎_elim
-            (λ (k : c < column + length cells). let t : has r l c ≡ true = in_has r l c (record { above = omega arith; below = omega arith; left = omega arith; right = omega arith }) in absurd (go t out))
+            (λ (k : c < column + length cells). let t : has r l c ≡ true = in_has r l c
+            (record { above = omega arith; below = omega arith; left = omega arith; right = omega arith }) in absurd
+            (go t out))
             (λ (k : column + length cells ≤ c). inr k)
             (cases_lt c (column + length cells)))
             (cases_lt c column)
@@ -151,8 +183,12 @@ module _ (r : Rect) (old : View) (cells : List Cell) (grid : IsGrid old.page) (f
 
     pub row_lays : Lays (row_piece r cells) old new
     row_lays = record {
-      rows_are = ap length page_is ∙ length-page_from (edited line (spliced column cells (column + length cells) (length (line_at old.page line)))) old.page;
-      columns_are = ap (λ (p : List (List Cell)). length (line_at p 0)) page_is ∙ width-page_from (edited line (spliced column cells (column + length cells) (length (line_at old.page line)))) old.page 0;
+      rows_are = ap length page_is
+          ∙ length-page_from
+          (edited line (spliced column cells (column + length cells) (length (line_at old.page line)))) old.page;
+      columns_are = ap (λ (p : List (List Cell)). length (line_at p 0)) page_is
+          ∙ width-page_from
+          (edited line (spliced column cells (column + length cells) (length (line_at old.page line)))) old.page 0;
       cells_are = placed;
       rest = new_is ∙ ap (λ (p : List (List Cell)). record old { page = p }) (sym page_is);
     }
@@ -160,7 +196,8 @@ module _ (r : Rect) (old : View) (cells : List Cell) (grid : IsGrid old.page) (f
 -- ---- rectangles that are free
 
 -- on a page whose places in it are blanks
-pub free_of_blanks : (r : Rect) (page : List (List Cell)) → 0 < r.columns → ((l c : ℕ) → has r l c ≡ true → IsOnPage page l c) → ((l c : ℕ) → place page l c ≡ blank) → IsFree r page
+pub free_of_blanks : (r : Rect) (page : List (List Cell)) → 0 < r.columns
+    → ((l c : ℕ) → has r l c ≡ true → IsOnPage page l c) → ((l c : ℕ) → place page l c ≡ blank) → IsFree r page
 free_of_blanks r page some inside blanks = record {
   wide = some;
   inside = inside;
@@ -169,7 +206,8 @@ free_of_blanks r page some inside blanks = record {
 }
 
 -- as wide as a page
-pub free_if_wide : (r : Rect) (page : List (List Cell)) → IsGrid page → r.column ≡ 0 → r.columns ≡ length (line_at page 0) → r.line + r.rows ≤ length page → IsFree r page
+pub free_if_wide : (r : Rect) (page : List (List Cell)) → IsGrid page → r.column ≡ 0
+    → r.columns ≡ length (line_at page 0) → r.line + r.rows ≤ length page → IsFree r page
 free_if_wide r page grid first wide above = record {
   wide = omega (arith, wide, grid.size.least_columns);
   inside = λ l c h. let i = has_in r l c h in (omega (arith, i.below, above), omega (arith, first, wide, i.right));
@@ -178,12 +216,15 @@ free_if_wide r page grid first wide above = record {
       ap (λ (k : ℕ). is_right (place page l k).shape) none ∙ (grid.well_formed.paired l).first;
   ends = λ l c h at.
       let i = has_in r l c h in
-      let end : length (line_at page l) ≤ suc c = omega (arith, grid.well_formed.width l (omega (arith, i.below, above)), at, first, wide) in
-      (grid.well_formed.paired l).next c ∙ ap (λ (x : Cell). is_right x.shape) (get_or_past (line_at page l) (suc c) blank end);
+      let end : length (line_at page l) ≤ suc c = omega
+      (arith, grid.well_formed.width l (omega (arith, i.below, above)), at, first, wide) in
+      (grid.well_formed.paired l).next c
+      ∙ ap (λ (x : Cell). is_right x.shape) (get_or_past (line_at page l) (suc c) blank end);
 }
 
 -- where another piece was laid beside it
-pub still_free : (r : Rect) (p : Piece) (old new : View) → ((l c : ℕ) → has r l c ≡ true → has p.rect l c ≡ false) → Lays p old new → IsFree r old.page → IsFree r new.page
+pub still_free : (r : Rect) (p : Piece) (old new : View) → ((l c : ℕ) → has r l c ≡ true → has p.rect l c ≡ false)
+    → Lays p old new → IsFree r old.page → IsFree r new.page
 still_free r p old new apart lays free = record {
   wide = free.wide;
   inside = λ l c h. let on = free.inside l c h in (rw lays.rows_are on.0, rw lays.columns_are on.1);
@@ -206,16 +247,21 @@ pub none_lays : (p : Piece) (v : View) → Lays (first_rows p 0) v v
 none_lays p v = record {
   rows_are = refl;
   columns_are = refl;
-  cells_are = λ l c. let out : has (record p.rect { rows = 0 }) l c ≡ false = not_has (record p.rect { rows = 0 }) l c (λ i. omega (arith, i.above, i.below)) in rw out refl;
+  cells_are = λ l c. let out : has (record p.rect { rows = 0 }) l c ≡ false = not_has (record p.rect { rows = 0 }) l c
+      (λ i. omega (arith, i.above, i.below)) in rw out refl;
   rest = refl;
 }
 
-pub row_is_free : (p : Piece) (n : ℕ) (old mid : View) → IsFree p.rect old.page → n < p.rect.rows → Lays (first_rows p n) old mid → IsFree (row_of p.rect n) mid.page
+pub row_is_free : (p : Piece) (n : ℕ) (old mid : View) → IsFree p.rect old.page → n < p.rect.rows
+    → Lays (first_rows p n) old mid → IsFree (row_of p.rect n) mid.page
 row_is_free p n old mid free lt lays = record {
   wide = free.wide;
   inside = λ l c h.
       let i = has_in (row_of p.rect n) l c h in
-      let on = free.inside l c (in_has p.rect l c (record { above = omega (arith, i.above); below = omega (arith, i.below); left = i.left; right = i.right })) in
+      let on = free.inside l c
+      (in_has p.rect l c
+      (record { above = omega (arith, i.above); below = omega (arith, i.below); left = i.left; right = i.right }))
+      in
       (rw lays.rows_are on.0, rw lays.columns_are on.1);
   starts = λ l c h first. ap (λ (x : Cell). is_right x.shape) (unchanged l c h) ∙ free.starts l c (inside l c h) first;
   ends = λ l c h last. ap (λ (x : Cell). is_left x.shape) (unchanged l c h) ∙ free.ends l c (inside l c h) last;
@@ -224,30 +270,39 @@ row_is_free p n old mid free lt lays = record {
     inside : (l c : ℕ) → has (row_of p.rect n) l c ≡ true → has p.rect l c ≡ true
     inside l c h =
         let i = has_in (row_of p.rect n) l c h in
-        in_has p.rect l c (record { above = omega (arith, i.above); below = omega (arith, i.below); left = i.left; right = i.right })
+        in_has p.rect l c
+        (record { above = omega (arith, i.above); below = omega (arith, i.below); left = i.left; right = i.right })
 
     unchanged : (l c : ℕ) → has (row_of p.rect n) l c ≡ true → place mid.page l c ≡ place old.page l c
     unchanged l c h =
         let i = has_in (row_of p.rect n) l c h in
-        let out : has (record p.rect { rows = n }) l c ≡ false = not_has (record p.rect { rows = n }) l c (λ j. omega (arith, i.above, j.below)) in
+        let out : has (record p.rect { rows = n }) l c ≡ false = not_has (record p.rect { rows = n }) l c
+        (λ j. omega (arith, i.above, j.below)) in
         let same : laid (first_rows p n) old.page l c ≡ place old.page l c = rw out refl in
         lays.cells_are l c ∙ same
 
-pub one_more_row : (p : Piece) (n : ℕ) (old mid new : View) (cells : List Cell) → Lays (first_rows p n) old mid → Lays (row_piece (row_of p.rect n) cells) mid new → IsRow (p.cell n) p.rect.columns cells → Lays (first_rows p (n + 1)) old new
+pub one_more_row : (p : Piece) (n : ℕ) (old mid new : View) (cells : List Cell) → Lays (first_rows p n) old mid
+    → Lays (row_piece (row_of p.rect n) cells) mid new → IsRow (p.cell n) p.rect.columns cells
+    → Lays (first_rows p (n + 1)) old new
 one_more_row p n old mid new cells first next row = record {
   rows_are = next.rows_are ∙ first.rows_are;
   columns_are = next.columns_are ∙ first.columns_are;
   cells_are = λ l c. next.cells_are l c ∙ ⊎_elim
       (λ (i : InRect (row_of p.rect n) l c).
-      let more : has (record p.rect { rows = n + 1 }) l c ≡ true = in_has (record p.rect { rows = n + 1 }) l c (record { above = omega (arith, i.above); below = omega (arith, i.below); left = i.left; right = i.right }) in
+      let more : has (record p.rect { rows = n + 1 }) l c ≡ true = in_has (record p.rect { rows = n + 1 }) l c
+      (record { above = omega (arith, i.above); below = omega (arith, i.below); left = i.left; right = i.right }) in
       let at : n ≡ l - p.rect.line = omega (arith, i.above, i.below) in
-      rw (in_has (row_of p.rect n) l c i, more) (row.cells_are (c - p.rect.column) (omega (arith, i.left, i.right)) ∙ ap (λ (k : ℕ). p.cell k (c - p.rect.column)) at))
+      rw (in_has (row_of p.rect n) l c i, more)
+      (row.cells_are (c - p.rect.column) (omega (arith, i.left, i.right))
+      ∙ ap (λ (k : ℕ). p.cell k (c - p.rect.column)) at))
       (λ (out : has (row_of p.rect n) l c ≡ false). rw out (first.cells_are l c ∙ ⊎_elim
       (λ (i : InRect (record p.rect { rows = n }) l c).
-      let more : has (record p.rect { rows = n + 1 }) l c ≡ true = in_has (record p.rect { rows = n + 1 }) l c (record { above = i.above; below = omega (arith, i.below); left = i.left; right = i.right }) in
+      let more : has (record p.rect { rows = n + 1 }) l c ≡ true = in_has (record p.rect { rows = n + 1 }) l c
+      (record { above = i.above; below = omega (arith, i.below); left = i.left; right = i.right }) in
       rw (in_has (record p.rect { rows = n }) l c i, more) refl)
       (λ (none : has (record p.rect { rows = n }) l c ≡ false).
-      let less : has (record p.rect { rows = n + 1 }) l c ≡ false = not_has (record p.rect { rows = n + 1 }) l c (λ j. neither l c out none j) in
+      let less : has (record p.rect { rows = n + 1 }) l c ≡ false = not_has (record p.rect { rows = n + 1 }) l c
+      (λ j. neither l c out none j) in
       rw (none, less) refl)
       (cases_has (record p.rect { rows = n }) l c)))
       (cases_has (row_of p.rect n) l c);
@@ -257,10 +312,15 @@ one_more_row p n old mid new cells first next row = record {
     clash : (b : Bool) → b ≡ true → b ≡ false → ⊥
     clash b t f = cc
 
-    neither : (l c : ℕ) → has (row_of p.rect n) l c ≡ false → has (record p.rect { rows = n }) l c ≡ false → InRect (record p.rect { rows = n + 1 }) l c → ⊥
+    neither : (l c : ℕ) → has (row_of p.rect n) l c ≡ false → has (record p.rect { rows = n }) l c ≡ false
+        → InRect (record p.rect { rows = n + 1 }) l c → ⊥
     neither l c out none j = ⊎_elim
-        (λ (h : l < p.rect.line + n). clash _ (in_has (record p.rect { rows = n }) l c (record { above = j.above; below = h; left = j.left; right = j.right })) none)
-        (λ (h : p.rect.line + n ≤ l). clash _ (in_has (row_of p.rect n) l c (record { above = h; below = omega (arith, j.below); left = j.left; right = j.right })) out)
+        (λ (h : l < p.rect.line + n). clash _
+        (in_has (record p.rect { rows = n }) l c
+        (record { above = j.above; below = h; left = j.left; right = j.right })) none)
+        (λ (h : p.rect.line + n ≤ l). clash _
+        (in_has (row_of p.rect n) l c
+        (record { above = h; below = omega (arith, j.below); left = j.left; right = j.right })) out)
         (cases_lt l (p.rect.line + n))
 
 pub all_rows : (p : Piece) (n : ℕ) (old new : View) → n ≡ p.rect.rows → Lays (first_rows p n) old new → Lays p old new

@@ -1,5 +1,6 @@
 -- The cells of texts.
-use Rattle.std.proofs.Common.{◌≡◌, ℕ, zero, suc, ◌+◌, ◌<◌, ◌≤◌, false, cond, eqb, List, [], ◌∷◌, ◌++◌, length, get_or, drop, append_assoc, refl, sym, ap, ◌∙◌, arith}
+use Rattle.std.proofs.Common.{◌≡◌, ℕ, zero, suc, ◌+◌, ◌<◌, ◌≤◌, false, cond, eqb, List, [], ◌∷◌, ◌++◌, length, get_or}
+use Rattle.std.proofs.Common.{drop, append_assoc, refl, sym, ap, ◌∙◌, arith}
 use Rattle.std.specs.Prelude.{Option, Some, None, IfSome, unwrap_or, chars, decimal, IsAscii, ◌^◌}
 use Rattle.std.proofs.lemmas.Str.{chars-IsAscii, chars-append, IsAscii-append, IsUtf8-from_ascii}
 use Rattle.std.proofs.lemmas.Fmt.{IsAscii-decimal}
@@ -51,35 +52,47 @@ stays w c e some few = stays_by w c some few ∙ ap (λ (x : Option ℕ). shown_
 pub shows_none : (w : Option ℕ) (c : ℕ) → w ≡ char_width false c → unwrap_or w 0 ≡ 0 → 0xFFFD ≡ visible c
 shows_none w c e none = none_by w c none ∙ ap (λ (x : Option ℕ). shown_by x c) e ∙ sym (visible-is c)
 
-pub shows_widest : (w : Option ℕ) (c : ℕ) → w ≡ char_width false c → 2 < unwrap_or w 0 → IfSome w (λ n. n ≤ 3) → 0xFFFD ≡ visible c
+pub shows_widest : (w : Option ℕ) (c : ℕ) → w ≡ char_width false c → 2 < unwrap_or w 0 → IfSome w (λ n. n ≤ 3)
+    → 0xFFFD ≡ visible c
 shows_widest w c e wide few = widest_by w c wide few ∙ ap (λ (x : Option ℕ). shown_by x c) e ∙ sym (visible-is c)
 
 -- one character more
-pub text_more : (r : Rendition) (cs ys : List ℕ) (c : ℕ) (all now new : List Cell) → (length ys < length cs) × (c ≡ get_or cs (length ys) c)
-    → all ≡ now ++ text_cells r (drop (length ys) cs) → new ≡ now ++ char_cells r c → all ≡ new ++ text_cells r (drop (length (ys ++ c ∷ [])) cs)
+pub text_more : (r : Rendition) (cs ys : List ℕ) (c : ℕ) (all now new : List Cell) → (length ys < length cs)
+    × (c ≡ get_or cs (length ys) c)
+    → all ≡ now ++ text_cells r (drop (length ys) cs) → new ≡ now ++ char_cells r c
+    → all ≡ new ++ text_cells r (drop (length (ys ++ c ∷ [])) cs)
 text_more r cs ys c all now new t a b =
     let n : length ys + 1 ≡ length (ys ++ c ∷ []) = sym (length_push ys c) in
-    a ∙ ap (λ (l : List Cell). now ++ l) (at_drop_more (text_cells r) cs (length ys) c t.0 ∙ ap (λ (x : ℕ). char_cells r x ++ text_cells r (drop (length ys + 1) cs)) (sym t.1))
+    a ∙ ap (λ (l : List Cell). now ++ l)
+    (at_drop_more (text_cells r) cs (length ys) c t.0
+    ∙ ap (λ (x : ℕ). char_cells r x ++ text_cells r (drop (length ys + 1) cs)) (sym t.1))
     ∙ sym (append_assoc now (char_cells r c) (text_cells r (drop (length ys + 1) cs)))
     ∙ ap (λ (l : List Cell). l ++ text_cells r (drop (length ys + 1) cs)) (sym b)
     ∙ ap (λ (i : ℕ). new ++ text_cells r (drop i cs)) n
 
-pub text_end : (r : Rendition) (cs : List ℕ) (all now : List Cell) (n : ℕ) → n ≡ length cs → all ≡ now ++ text_cells r (drop n cs) → now ≡ all
-text_end r cs all now n e a = sym (a ∙ ap (λ (l : List Cell). now ++ l) (at_drop_all (text_cells r) cs n (omega (arith, e))) ∙ append-nil now)
+pub text_end : (r : Rendition) (cs : List ℕ) (all now : List Cell) (n : ℕ) → n ≡ length cs
+    → all ≡ now ++ text_cells r (drop n cs) → now ≡ all
+text_end r cs all now n e a = sym
+    (a ∙ ap (λ (l : List Cell). now ++ l) (at_drop_all (text_cells r) cs n (omega (arith, e))) ∙ append-nil now)
 
 -- the cells of a character, by its columns
-pub wide_cells : (r : Rendition) (c w : ℕ) → w ≡ glyph_columns (char_width false c) → w ≡ 2 → char_cells r c ≡ left_cell c r false ∷ right_cell c r false ∷ []
+pub wide_cells : (r : Rendition) (c w : ℕ) → w ≡ glyph_columns (char_width false c) → w ≡ 2
+    → char_cells r c ≡ left_cell c r false ∷ right_cell c r false ∷ []
 unfolding columns_of
 wide_cells r c w e h = let two : glyph_columns (char_width false c) ≡ 2 = sym e ∙ h in rw two refl
 
-pub narrow_cells : (r : Rendition) (c w : ℕ) → w ≡ glyph_columns (char_width false c) → (w ≡ 2 → ⊥) → char_cells r c ≡ narrow_cell (visible c) r false ∷ []
+pub narrow_cells : (r : Rendition) (c w : ℕ) → w ≡ glyph_columns (char_width false c) → (w ≡ 2 → ⊥)
+    → char_cells r c ≡ narrow_cell (visible c) r false ∷ []
 unfolding columns_of
-narrow_cells r c w e h = let one : eqb (glyph_columns (char_width false c)) 2 ≡ false = ne_eqb _ 2 (λ x. h (e ∙ x)) in rw one refl
+narrow_cells r c w e h = let one : eqb (glyph_columns (char_width false c)) 2 ≡ false = ne_eqb _ 2 (λ x. h (e ∙ x)) in
+    rw one refl
 
-two_more : (old mid new : List Cell) (a b : Cell) → mid ≡ old ++ a ∷ [] → new ≡ mid ++ b ∷ [] → new ≡ old ++ (a ∷ b ∷ [])
+two_more : (old mid new : List Cell) (a b : Cell) → mid ≡ old ++ a ∷ [] → new ≡ mid ++ b ∷ []
+    → new ≡ old ++ (a ∷ b ∷ [])
 two_more old mid new a b m n = n ∙ ap (λ (l : List Cell). l ++ b ∷ []) m ∙ append_assoc old (a ∷ []) (b ∷ [])
 
-pub wide_pushed : (r : Rendition) (c w : ℕ) (old mid new : List Cell) (a b : Cell) → w ≡ glyph_columns (char_width false c) → w ≡ 2 → a ≡ left_cell c r false → b ≡ right_cell c r false
+pub wide_pushed : (r : Rendition) (c w : ℕ) (old mid new : List Cell) (a b : Cell)
+    → w ≡ glyph_columns (char_width false c) → w ≡ 2 → a ≡ left_cell c r false → b ≡ right_cell c r false
     → mid ≡ old ++ a ∷ [] → new ≡ mid ++ b ∷ [] → new ≡ old ++ char_cells r c
 wide_pushed r c w old mid new a b e h l k m n =
     two_more old mid new a b m n
@@ -87,7 +100,8 @@ wide_pushed r c w old mid new a b e h l k m n =
     ∙ ap (λ (y : Cell). old ++ (left_cell c r false ∷ y ∷ [])) k
     ∙ ap (λ (cells : List Cell). old ++ cells) (sym (wide_cells r c w e h))
 
-pub narrow_pushed : (r : Rendition) (c w shown : ℕ) (old new : List Cell) (a : Cell) → w ≡ glyph_columns (char_width false c) → (w ≡ 2 → ⊥) → shown ≡ visible c → a ≡ narrow_cell shown r false
+pub narrow_pushed : (r : Rendition) (c w shown : ℕ) (old new : List Cell) (a : Cell)
+    → w ≡ glyph_columns (char_width false c) → (w ≡ 2 → ⊥) → shown ≡ visible c → a ≡ narrow_cell shown r false
     → new ≡ old ++ a ∷ [] → new ≡ old ++ char_cells r c
 narrow_pushed r c w shown old new a e h v l n =
     n ∙ ap (λ (x : Cell). old ++ x ∷ []) (l ∙ ap (λ (x : ℕ). narrow_cell x r false) v)
@@ -107,14 +121,22 @@ ascii_one a h (suc i) = omega arith
 pub vacant_text : (p : Pane) (bs : List ℕ) → p ≡ Empty → bs ≡ 45 ∷ 45 ∷ [] → chars bs ≡ caption_text (part_of p)
 vacant_text p bs e h = rw (e, h) (chars-IsAscii (45 ∷ 45 ∷ []) (ascii_two 45 45 (omega arith) (omega arith)))
 
-pub unread_text : (p : Pane) (n : ℕ) (bs : List ℕ) → p ≡ Hidden n → n < 2 ^ 64 → bs ≡ decimal n ++ (32 ∷ 63 ∷ []) → chars bs ≡ caption_text (part_of p)
+pub unread_text : (p : Pane) (n : ℕ) (bs : List ℕ) → p ≡ Hidden n → n < 2 ^ 64 → bs ≡ decimal n ++ (32 ∷ 63 ∷ [])
+    → chars bs ≡ caption_text (part_of p)
 unread_text p n bs e few h =
-    rw (e, h) (chars-IsAscii (decimal n ++ (32 ∷ 63 ∷ [])) (IsAscii-append (decimal n) (32 ∷ 63 ∷ []) (IsAscii-decimal n few) (ascii_two 32 63 (omega arith) (omega arith))))
+    rw (e, h)
+    (chars-IsAscii (decimal n ++ (32 ∷ 63 ∷ []))
+    (IsAscii-append (decimal n) (32 ∷ 63 ∷ []) (IsAscii-decimal n few)
+    (ascii_two 32 63 (omega arith) (omega arith))))
 
-pub read_text : (p : Pane) (k : Contents) (bs : List ℕ) → p ≡ Readable k → k.number < 2 ^ 64 → bs ≡ decimal k.number ++ (32 ∷ k.title.now) → chars bs ≡ caption_text (part_of p)
+pub read_text : (p : Pane) (k : Contents) (bs : List ℕ) → p ≡ Readable k → k.number < 2 ^ 64
+    → bs ≡ decimal k.number ++ (32 ∷ k.title.now) → chars bs ≡ caption_text (part_of p)
 read_text p k bs e few h =
     let front : List ℕ = decimal k.number ++ 32 ∷ [] in
-    let ascii : IsAscii front = IsAscii-append (decimal k.number) (32 ∷ []) (IsAscii-decimal k.number few) (ascii_one 32 (omega arith)) in
-    let joined : front ++ k.title.now ≡ decimal k.number ++ (32 ∷ k.title.now) = append_assoc (decimal k.number) (32 ∷ []) k.title.now in
-    rw e (ap chars (h ∙ sym joined) ∙ chars-append front k.title.now (IsUtf8-from_ascii front ascii) ∙ ap (λ (l : List ℕ). l ++ chars k.title.now) (chars-IsAscii front ascii)
+    let ascii : IsAscii front = IsAscii-append (decimal k.number) (32 ∷ []) (IsAscii-decimal k.number few)
+    (ascii_one 32 (omega arith)) in
+    let joined : front ++ k.title.now ≡ decimal k.number ++ (32 ∷ k.title.now) = append_assoc (decimal k.number)
+    (32 ∷ []) k.title.now in
+    rw e (ap chars (h ∙ sym joined) ∙ chars-append front k.title.now (IsUtf8-from_ascii front ascii)
+    ∙ ap (λ (l : List ℕ). l ++ chars k.title.now) (chars-IsAscii front ascii)
     ∙ append_assoc (decimal k.number) (32 ∷ []) (chars k.title.now))

@@ -12,4 +12,5 @@ pub returns-clause-step : goal.returns-clause-step
 returns-clause-step c = acts_agree
 
 pub returns-clause-run : goal.returns-clause-run
-returns-clause-run c = λ h. run_agrees (fresh h.edition h.owner) h.entries (fresh_sound h.edition h.owner) (fresh_agrees h.edition h.owner)
+returns-clause-run c = λ h. run_agrees (fresh h.edition h.owner) h.entries (fresh_sound h.edition h.owner)
+    (fresh_agrees h.edition h.owner)

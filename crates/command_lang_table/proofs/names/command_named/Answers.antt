@@ -7,5 +7,6 @@ use Rattle.command_lang_table.proofs.names.command_named.Goals as goal
 pub returns : goal.returns
 unfolding command_named
 returns c =
-    let e = find_from_yields_List (is_called c.args.word.now) _ _ c.find.result c.find.ensures.ran (YieldsList-from_slice all_names c.iter.ensures.rest) (λ x b q k. search (rules, tests)) in
+    let e = find_from_yields_List (is_called c.args.word.now) _ _ c.find.result c.find.ensures.ran
+    (YieldsList-from_slice all_names c.iter.ensures.rest) (λ x b q k. search (rules, tests)) in
     c.copied.ensures ∙ e

@@ -6,4 +6,6 @@ use Rattle.command_lang_table.proofs.Signs.{first-or}
 use Rattle.command_lang_table.proofs.values.first_sign.Goals as goal
 
 pub returns : goal.returns
-returns c = first-or c.args.text.now _ _ (position_from_yields_List is_sign _ _ _ c.position.ensures.ran (YieldsList-from_slice c.args.text.now cc) (λ x b q k. search (rules, tests))) c.unwrap_or.ensures
+returns c = first-or c.args.text.now _ _
+    (position_from_yields_List is_sign _ _ _ c.position.ensures.ran (YieldsList-from_slice c.args.text.now cc)
+    (λ x b q k. search (rules, tests))) c.unwrap_or.ensures

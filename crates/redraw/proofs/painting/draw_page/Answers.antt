@@ -10,7 +10,9 @@ use Rattle.redraw.proofs.painting.draw_page.Goals as goal
 
 pub loop-line-init : goal.loop-line-init
 loop-line-init c od nd =
-    page_start c.args.old.now.page c.args.new.now.page (length c.args.new.now.page) (length (line_at c.args.new.now.page 0)) c.args.pen.now c.args.from c.args.out.now.items c.requires.inside c.requires.above
+    page_start c.args.old.now.page c.args.new.now.page (length c.args.new.now.page)
+    (length (line_at c.args.new.now.page 0)) c.args.pen.now c.args.from c.args.out.now.items c.requires.inside
+    c.requires.above
 
 pub loop-line-preserved : goal.loop-line-preserved
 loop-line-preserved c od nd =
@@ -35,8 +37,12 @@ loop-line-preserved c od nd =
       new_drawable = subst IsDrawableLine (sym c.row-in-loop-line.ensures.cells) (nd.lines k inside);
     } in
     let drawn = c.in_ok-draw_line.ensures old new rows inside (omega arith) lines in
-    let drawn' = subst (λ (n : ℕ). Takes old new (HasLine rows n c.loop-line.pen k (seen_at old k)) (DrawsLine rows n c.draw_line.new.pen k (seen_at old k) (seen_at new k) n) c.loop-line.out.items c.draw_line.new.out.items) wide drawn.takes in
-    page_line old new rows columns c.args.pen.now c.loop-line.pen c.draw_line.new.pen k c.args.out.now.items c.loop-line.out.items c.draw_line.new.out.items inside (c.loop-line.invariant od nd) drawn'
+    let drawn' = subst
+    (λ (n : ℕ). Takes old new (HasLine rows n c.loop-line.pen k (seen_at old k))
+    (DrawsLine rows n c.draw_line.new.pen k (seen_at old k) (seen_at new k) n) c.loop-line.out.items
+    c.draw_line.new.out.items) wide drawn.takes in
+    page_line old new rows columns c.args.pen.now c.loop-line.pen c.draw_line.new.pen k c.args.out.now.items
+    c.loop-line.out.items c.draw_line.new.out.items inside (c.loop-line.invariant od nd) drawn'
 
 pub returns : goal.returns
 returns c od nd =
@@ -44,5 +50,8 @@ returns c od nd =
     let new : Page = c.args.new.now.page in
     let rows : ℕ = length new in
     let columns : ℕ = length (line_at new 0) in
-    let all : c.loop-line.line ≡ rows = omega (arith, c.loop-line-test.false, c.loop-line.auto.line-end, c.rows-line-end.ensures.value) in
-    subst (λ n. Takes old new (HasPage rows columns c.args.pen.now old) (DrawsPage rows columns c.loop-line.pen old new n) c.args.out.now.items c.loop-line.out.items) all (c.loop-line.invariant od nd)
+    let all : c.loop-line.line ≡ rows = omega
+    (arith, c.loop-line-test.false, c.loop-line.auto.line-end, c.rows-line-end.ensures.value) in
+    subst
+    (λ n. Takes old new (HasPage rows columns c.args.pen.now old) (DrawsPage rows columns c.loop-line.pen old new n)
+    c.args.out.now.items c.loop-line.out.items) all (c.loop-line.invariant od nd)

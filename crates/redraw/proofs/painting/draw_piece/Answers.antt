@@ -16,7 +16,8 @@ returns-then-column-blanks-clause-draws c old new rows before lh rh lines whole 
     let n : ℕ = c.blank_run-blanks.result in
     let some : 0 < n = omega arith in
     let end : c.args.run.0 + n ≡ columns = omega arith in
-    blank_piece old new rows columns c.args.pen.now c.erase_to_end.new.self c.args.line c.args.run.0 n columns c.args.after.now c.args.out.now.items c.erase_to_end.new.out.items
+    blank_piece old new rows columns c.args.pen.now c.erase_to_end.new.self c.args.line c.args.run.0 n columns
+    c.args.after.now c.args.out.now.items c.erase_to_end.new.out.items
     lines.new_is lines.new_paired (sym end) some (omega arith) c.blank_run-blanks.ensures.blanks
     (c.in_ok-erase_to_end.ensures.takes old new rows columns n lh rh some end (omega (arith, c.requires.few)))
 
@@ -24,9 +25,11 @@ pub returns-then-erased-fewest-clause-draws : goal.returns-then-erased-fewest-cl
 returns-then-erased-fewest-clause-draws c old new rows before lh rh lines whole differs =
     let columns : ℕ = length c.args.after.now in
     let n : ℕ = c.min-erased.result in
-    let some : 0 < n = elim c.if-column-erased.branch [ then-column-erased w ↦ omega arith | else-column-erased w ↦ omega arith ] in
+    let some : 0 < n = elim c.if-column-erased.branch
+    [ then-column-erased w ↦ omega arith | else-column-erased w ↦ omega arith ] in
     let room : c.args.run.0 + n ≤ columns = omega arith in
-    blank_piece old new rows columns c.args.pen.now c.erase_cells.new.self c.args.line c.args.run.0 n (c.args.run.0 + n) c.args.after.now c.args.out.now.items c.erase_cells.new.out.items
+    blank_piece old new rows columns c.args.pen.now c.erase_cells.new.self c.args.line c.args.run.0 n (c.args.run.0 + n)
+    c.args.after.now c.args.out.now.items c.erase_cells.new.out.items
     lines.new_is lines.new_paired refl some room (λ k i j. c.blank_run-blanks.ensures.blanks k i (omega arith))
     (c.in_ok-erase_cells.ensures.takes old new rows columns lh rh some room (omega (arith, c.requires.few)))
 
@@ -37,9 +40,13 @@ returns-clause-draws c old new rows before lh rh lines whole differs =
     let none : Cell = record { character = 0; marks = Bare; rendition = plain; shape = Narrow; is_protected = false } in
     let cell : Cell = get_or cells c.args.run.0 none in
     let here : cell ≡ cell_at cells c.args.run.0 = get_or_default cells c.args.run.0 none blank inside in
-    let fits : c.args.run.0 + width_of cell.shape ≤ length cells = rw here (cell_fits cells c.args.run.0 lines.new_paired inside) in
+    let fits : c.args.run.0 + width_of cell.shape ≤ length cells = rw here
+    (cell_fits cells c.args.run.0 lines.new_paired inside) in
     let width = c.columns_of.ensures.value in
-    cell_piece old new rows c.args.pen.now c.put_cell.new.self c.args.line c.args.run.0 (c.args.run.0 + c.columns_of.result) cell cells c.args.out.now.items c.put_cell.new.out.items
+    cell_piece old new rows c.args.pen.now c.put_cell.new.self c.args.line c.args.run.0
+    (c.args.run.0 + c.columns_of.result) cell cells c.args.out.now.items c.put_cell.new.out.items
     here lines.new_is lines.new_paired lines.new_drawable whole inside (ap (λ k. c.args.run.0 + k) width)
-    (c.in_ok-put_cell.ensures.takes old new rows lh rh fits (omega (arith, c.requires.few)) (subst IsDrawableCell (sym here) (lines.new_drawable.printed c.args.run.0 inside))
-    (ap (λ (z : Cell). is_right z.shape) here ∙ whole) (cell_stands old new c.args.line before cells lines c.args.run.0 cell here) differs)
+    (c.in_ok-put_cell.ensures.takes old new rows lh rh fits (omega (arith, c.requires.few))
+    (subst IsDrawableCell (sym here) (lines.new_drawable.printed c.args.run.0 inside))
+    (ap (λ (z : Cell). is_right z.shape) here ∙ whole)
+    (cell_stands old new c.args.line before cells lines c.args.run.0 cell here) differs)

@@ -7,10 +7,15 @@ pub loop-index-preserved : goal.loop-index-preserved
 loop-index-preserved c =
     let values : List ℕ = c.args.values.now in
     let i : ℕ = c.loop-index.index in
-    let step : all_bytes (drop i values) ≡ value_bytes (get_or values i 0) + all_bytes (drop (i + 1) values) = ap all_bytes (drop_more values i 0 c.loop-index-test.true) in
-    (omega (arith, step, c.loop-index.invariant.0, c.value_bytes-bytes.ensures.value), omega (arith, c.loop-index.invariant.1, c.value_bytes-bytes.ensures.few))
+    let step : all_bytes (drop i values) ≡ value_bytes (get_or values i 0) + all_bytes (drop (i + 1) values) = ap
+    all_bytes (drop_more values i 0 c.loop-index-test.true) in (
+      omega (arith, step, c.loop-index.invariant.0, c.value_bytes-bytes.ensures.value),
+      omega
+          (arith, c.loop-index.invariant.1, c.value_bytes-bytes.ensures.few),
+    )
 
 pub returns : goal.returns
 returns c =
-    let none : all_bytes (drop c.loop-index.index c.args.values.now) ≡ 0 = ap all_bytes (drop_all c.loop-index.index c.args.values.now c.loop-index-test.false) in
+    let none : all_bytes (drop c.loop-index.index c.args.values.now) ≡ 0 = ap all_bytes
+    (drop_all c.loop-index.index c.args.values.now c.loop-index-test.false) in
     omega (arith, none, c.loop-index.invariant.0)

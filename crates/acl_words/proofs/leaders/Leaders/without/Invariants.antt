@@ -4,4 +4,5 @@ use Rattle.acl_words.proofs.leaders.Leaders.without.Given as goal
 
 -- those so far who aren't gone
 abbrev pub invariant-loop-leader : goal.invariant-loop-leader
-invariant-loop-leader l = (l.left ≡ remaining_leaders l.gone (take l.leader-index l.fn.self)) × (length l.left ≤ l.leader-index)
+invariant-loop-leader l = (l.left ≡ remaining_leaders l.gone (take l.leader-index l.fn.self))
+    × (length l.left ≤ l.leader-index)

@@ -15,10 +15,16 @@ invariant_of-result c =
     let made : IsFrameFor k v c.in-Some.bytes.items = record {
       size = c.requires;
       draws = record {
-        needed = subst (NeedsDraw k.known) page (MatchOption-at_some _ (λ _. NeedsDraw k.known c.get.result.now) c.in-Some.bytes c.in-Some.is c.in_ok-bytes.ensures.needed);
+        needed = subst (NeedsDraw k.known) page
+            (MatchOption-at_some _ (λ _. NeedsDraw k.known c.get.result.now) c.in-Some.bytes c.in-Some.is
+            c.in_ok-bytes.ensures.needed);
         redraws = λ od nd. redraws k.rows k.columns k.known v c.in-Some.bytes.items c.requires c.get.ensures.grid
-            (subst (λ (w : View). CanBeShown k.known → IsDrawable w → DrawsBytes k.known w [] c.in-Some.bytes.items) page
-            (MatchOption-at_some _ (λ bytes. CanBeShown k.known → IsDrawable c.get.result.now → DrawsBytes k.known c.get.result.now [] bytes.items) c.in-Some.bytes c.in-Some.is c.in_ok-bytes.ensures.drawn) od nd);
+            (subst (λ (w : View). CanBeShown k.known → IsDrawable w → DrawsBytes k.known w [] c.in-Some.bytes.items)
+            page
+            (MatchOption-at_some _
+            (λ bytes. CanBeShown k.known → IsDrawable c.get.result.now
+            → DrawsBytes k.known c.get.result.now [] bytes.items) c.in-Some.bytes c.in-Some.is
+            c.in_ok-bytes.ensures.drawn) od nd);
         known = refl;
       };
     } in

@@ -9,5 +9,6 @@ loop-shown-preserved c =
     let here = get_or c.loop-shown.shown-items c.loop-shown.shown-index empty in
     let inside : c.loop-shown.shown-index < length c.loop-shown.shown-items = omega arith in
     rw c.without_window.ensures
-    (map_over_more (emptied c.args.serial) c.deref_mut-shown-items.result.now c.loop-shown.shown-items c.loop-shown.shown-index here c.loop-shown-test.true c.loop-shown.invariant
+    (map_over_more (emptied c.args.serial) c.deref_mut-shown-items.result.now c.loop-shown.shown-items
+    c.loop-shown.shown-index here c.loop-shown-test.true c.loop-shown.invariant
     (get_or_default c.loop-shown.shown-items c.loop-shown.shown-index empty here inside))

@@ -6,5 +6,6 @@ use Rattle.regions.proofs.layout.Layout.split.Goals as goal
 
 pub invariant_of-self-2 : goal.invariant_of-self-2
 invariant_of-self-2 c =
-    let more : regions (shape c.split.new.self) ≡ regions (shape c.self.inside.tree) + 1 = rw c.split.ensures (regions_split c.args.way c.self.inside.focus (shape c.self.inside.tree)) in
+    let more : regions (shape c.split.new.self) ≡ regions (shape c.self.inside.tree) + 1 = rw c.split.ensures
+    (regions_split c.args.way c.self.inside.focus (shape c.self.inside.tree)) in
     grind (arith, common_steps)

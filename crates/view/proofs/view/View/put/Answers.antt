@@ -8,7 +8,8 @@ use Rattle.view.proofs.view.View.put.Goals as goal
 pub returns-then-cells-columns : goal.returns-then-cells-columns
 returns-then-cells-columns c =
     let page : List (List Cell) = c.self.inside.grid in
-    let source = spliced c.args.column c.args.cells.now (c.args.column + length c.args.cells.now) (length (line_at page c.args.line)) in
+    let source = spliced c.args.column c.args.cells.now (c.args.column + length c.args.cells.now)
+    (length (line_at page c.args.line)) in
     rw (c.write.ensures, ← c.self.view_is) record {
       grid = c.self.invariant.grid;
       size = record {
@@ -21,8 +22,11 @@ returns-then-cells-columns c =
 pub invariant_of-self : goal.invariant_of-self
 invariant_of-self c =
     let page : List (List Cell) = c.self.inside.grid in
-    let source = spliced c.args.column c.args.cells.now (c.args.column + length c.args.cells.now) (length (line_at page c.args.line)) in
+    let source = spliced c.args.column c.args.cells.now (c.args.column + length c.args.cells.now)
+    (length (line_at page c.args.line)) in
     rw c.write.ensures record {
       grid = IsGrid-page_from (edited c.args.line source) page c.self.invariant.grid;
-      inside = rw (length-page_from (edited c.args.line source) page, width-page_from (edited c.args.line source) page 0) c.self.invariant.inside;
+      inside = rw
+          (length-page_from (edited c.args.line source) page, width-page_from (edited c.args.line source) page 0)
+          c.self.invariant.inside;
     }

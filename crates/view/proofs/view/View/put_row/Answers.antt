@@ -9,4 +9,5 @@ returns-clause-lays c = λ free paired wide.
     let old = c.args.self.now in
     let grid = c.put.ensures.grid in
     row_lays r old c.args.cells.now grid free refl paired wide c.put.new.self
-    (c.put.ensures.value (line_inside r old c.args.cells.now grid free refl paired wide) (cells_fit r old c.args.cells.now grid free refl paired wide))
+    (c.put.ensures.value (line_inside r old c.args.cells.now grid free refl paired wide)
+    (cells_fit r old c.args.cells.now grid free refl paired wide))

@@ -25,13 +25,17 @@ loop-row-preserved c =
       lays = λ narrow free.
           let cells : List Cell = c.narrow-bar.result ∷ [] in
           let same : cells ≡ narrow_cell 0x7C reverse false ∷ [] = ap (λ (bar : Cell). bar ∷ []) c.narrow-bar.ensures in
-          let row : IsRow (piece.cell c.loop-row.row) c.args.rect.columns cells = bar_row cells (narrow_cell 0x7C reverse false) c.args.rect.columns same narrow in
+          let row : IsRow (piece.cell c.loop-row.row) c.args.rect.columns cells = bar_row cells
+          (narrow_cell 0x7C reverse false) c.args.rect.columns same narrow in
           let before = inv.lays narrow free in
           one_more_row piece c.loop-row.row c.args.self.now c.loop-row.self c.put_row.new.self cells before
-          (c.put_row.ensures.lays (row_is_free piece c.loop-row.row c.args.self.now c.loop-row.self free c.loop-row-test.true before) (bar_pairs cells (narrow_cell 0x7C reverse false) refl same) row.width)
+          (c.put_row.ensures.lays
+          (row_is_free piece c.loop-row.row c.args.self.now c.loop-row.self free c.loop-row-test.true before)
+          (bar_pairs cells (narrow_cell 0x7C reverse false) refl same) row.width)
           row;
     }
 
 pub returns-clause-lays : goal.returns-clause-lays
 returns-clause-lays c = λ narrow free.
-    all_rows (separator_piece c.args.rect) c.loop-row.row c.args.self.now c.loop-row.self (omega (arith, c.loop-row-test.false, c.loop-row.auto.row-end)) (c.loop-row.invariant.lays narrow free)
+    all_rows (separator_piece c.args.rect) c.loop-row.row c.args.self.now c.loop-row.self
+    (omega (arith, c.loop-row-test.false, c.loop-row.auto.row-end)) (c.loop-row.invariant.lays narrow free)
