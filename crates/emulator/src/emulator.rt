@@ -26,7 +26,7 @@ use vt_screen::Screen;
 
 /// Memory was refused behind so many bytes, which were read, and their reports appended.
 #[derive(Clone, Copy, Debug, PartialEq, Eq, Error)]
-#[error("out of memory after {read} bytes")]
+#[error("out of memory behind {read} bytes")]
 pub struct Stopped {
     pub read: usize,
 }
