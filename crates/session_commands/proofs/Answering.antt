@@ -1,5 +1,6 @@
 -- What a row answers, once what it looks for was found, or wasn't.
-use Rattle.std.proofs.Common.{◌≡◌, ℕ, Bool, true, false, Option, Some, None, Ok, Err, refl, ap, sym, ◌∙◌, inl, inr, is_some}
+use Rattle.std.proofs.Common.{◌≡◌, ℕ, Bool, true, false, Option, Some, None, Ok, Err, refl, ap, sym, ◌∙◌, inl, inr}
+use Rattle.std.proofs.Common.{is_some}
 use Rattle.std.specs.Prelude.{◌⊎◌, unwrap_or, IfSome}
 use Rattle.regions.specs.declared.fault.RegionFault.{RegionFault}
 use Rattle.regions.specs.declared.fault.RegionFault.TheVariants as fault
@@ -32,7 +33,8 @@ pub given_none : {X : Type 0} (o : Option X) (r : Refusal) (f : X → Answer) �
 unfolding given
 given_none o r f is = ap (λ p. given p r f) is
 
-pub faultless : {F : Type 0} (as_refusal : F → Refusal) (o : Option F) (d : Deed) → o ≡ None → unless as_refusal o d ≡ Ok d
+pub faultless : {F : Type 0} (as_refusal : F → Refusal) (o : Option F) (d : Deed) → o ≡ None
+    → unless as_refusal o d ≡ Ok d
 unfolding unless
 faultless as_refusal o d is = ap (λ p. unless as_refusal p d) is
 
@@ -55,7 +57,8 @@ memory_or_not fault.TooMany = inr refl
 memory_or_not fault.LastRegion = inr refl
 
 -- a layout's fault, or want of memory
-pub split_refused : (o : Option RegionFault) (d : Deed) (f : RegionFault) → f ≡ unwrap_or o fault.NoMemory → (refusal_of f ≡ NoMemory) ⊎ (unless Regions o d ≡ Err (refusal_of f))
+pub split_refused : (o : Option RegionFault) (d : Deed) (f : RegionFault) → f ≡ unwrap_or o fault.NoMemory
+    → (refusal_of f ≡ NoMemory) ⊎ (unless Regions o d ≡ Err (refusal_of f))
 split_refused None d f is = inl (ap refusal_of is)
 split_refused (Some g) d f is = elim (memory_or_not f) [
   | inl full ↦ inl full
@@ -65,29 +68,40 @@ split_refused (Some g) d f is = elim (memory_or_not f) [
 -- ---- on the client that gives the command
 
 -- there is none
-pub no_client : (t : Tables) (k : Caller) (f : model.Client → Answer) → caller_client t (caller_in t k) ≡ None → on_client t (caller_in t k) f ≡ Err NoWindow
+pub no_client : (t : Tables) (k : Caller) (f : model.Client → Answer) → caller_client t (caller_in t k) ≡ None
+    → on_client t (caller_in t k) f ≡ Err NoWindow
 no_client t k f is = given_none (caller_client t (caller_in t k)) NoWindow f is
 
 module _ (t : Tables) (k : Caller) (client : ℕ) (m : model.Client) (by : Gives t k client m) where
   pub on_giver : (f : model.Client → Answer) → on_client t (caller_in t k) f ≡ f m
   on_giver f = given_some (caller_client t (caller_in t k)) NoWindow f m by.is
 
-  pub done_on : (f : model.Client → Answer) (d : Deed) (new : State) (before after : StepOutput) → f m ≡ Ok d → d.lists ≡ None → HasDone t d new before after
+  pub done_on : (f : model.Client → Answer) (d : Deed) (new : State) (before after : StepOutput) → f m ≡ Ok d
+      → d.lists ≡ None → HasDone t d new before after
       → Answers t (on_client t (caller_in t k) f) (Ok None) new before after
   done_on f d new before after is quiet done = (d, on_giver f ∙ is, sym quiet, done)
 
   -- a window that was looked for, and is shown
-  pub shown_on : (find : model.Client → Option model.Window) (r : Refusal) (found : Option Window) (v : Window) (old new : State) (before after : StepOutput)
-      → Stands t old → AreFit t → BothOrNone WindowStands (find m) found → found ≡ Some v → IfSome (find m) (StandsAt t.windows) → Selects client v.serial old new before after
-      → Answers t (on_client t (caller_in t k) (λ d. given (find d) r (λ w. Ok (selects t d w)))) (Ok None) new before after
+  pub shown_on : (find : model.Client → Option model.Window) (r : Refusal) (found : Option Window) (v : Window)
+      (old new : State) (before after : StepOutput)
+      → Stands t old → AreFit t → BothOrNone WindowStands (find m) found → found ≡ Some v
+      → IfSome (find m) (StandsAt t.windows) → Selects client v.serial old new before after
+      → Answers t (on_client t (caller_in t k) (λ d. given (find d) r (λ w. Ok (selects t d w)))) (Ok None) new before
+      after
   shown_on find r found v old new before after st fit both is there done =
       let row = both_back WindowStands (find m) found v both is in
-      let opened = fit.agree.open_is v.serial ∙ (ap (λ n. is_some (window_at t n)) row.2.serial_is ∙ of_some (StandsAt t.windows) (find m) row.0 row.1 there) in
-      done_on (λ d. given (find d) r (λ w. Ok (selects t d w))) (selects t m row.0) new before after (given_some (find m) r (λ w. Ok (selects t m w)) row.0 row.1) refl
+      let opened = fit.agree.open_is v.serial
+      ∙
+      (ap (λ n. is_some (window_at t n)) row.2.serial_is ∙ of_some (StandsAt t.windows) (find m) row.0 row.1 there)
+      in
+      done_on (λ d. given (find d) r (λ w. Ok (selects t d w))) (selects t m row.0) new before after
+      (given_some (find m) r (λ w. Ok (selects t m w)) row.0 row.1) refl
       (done t m row.0 st by.at (sym row.2.serial_is) opened)
 
   -- there is no such window
-  pub not_shown_on : (find : model.Client → Option model.Window) (r : Refusal) (found : Option Window) → BothOrNone WindowStands (find m) found → found ≡ None
+  pub not_shown_on : (find : model.Client → Option model.Window) (r : Refusal) (found : Option Window)
+      → BothOrNone WindowStands (find m) found → found ≡ None
       → on_client t (caller_in t k) (λ d. given (find d) r (λ w. Ok (selects t d w))) ≡ Err r
   not_shown_on find r found both is =
-      on_giver (λ d. given (find d) r (λ w. Ok (selects t d w))) ∙ given_none (find m) r (λ w. Ok (selects t m w)) (none_back WindowStands (find m) found both is)
+      on_giver (λ d. given (find d) r (λ w. Ok (selects t d w)))
+      ∙ given_none (find m) r (λ w. Ok (selects t m w)) (none_back WindowStands (find m) found both is)

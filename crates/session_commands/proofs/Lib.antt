@@ -7,3 +7,7 @@ pub mod Sizes
 pub mod Members
 pub mod Paging
 pub mod Shown
+pub mod Numbers
+pub mod Growing
+pub mod Numbered
+pub mod Listing

@@ -1,10 +1,12 @@
 -- Windows that were looked for are windows of the table.
-use Rattle.std.proofs.Common.{◌≡◌, ℕ, Bool, true, false, List, [], ◌∷◌, Option, Some, None, refl, ap, sym, subst, ◌∙◌, is_some, filter}
+use Rattle.std.proofs.Common.{◌≡◌, ℕ, Bool, true, false, List, [], ◌∷◌, Option, Some, None, refl, ap, sym, subst, ◌∙◌}
+use Rattle.std.proofs.Common.{is_some, filter}
 use Rattle.std.specs.Prelude.{if◌then◌else◌, ◌==◌, find, nat_lt, IfSome}
 use Rattle.std.specs.List.{AllByRecursion}
 use Rattle.std.specs.Option.{option_or, option_and_then}
 use Rattle.session_model.specs.Tables.{Window, Tables, row_of, window_at}
-use Rattle.session_model.specs.Naming.{lower, higher, lowest, highest, with_number, window_named, window_after, window_before}
+use Rattle.session_model.specs.Naming.{lower, higher, lowest, highest, with_number, window_named, window_after}
+use Rattle.session_model.specs.Naming.{window_before}
 use Rattle.serial_rows.specs.Matched.{BothOrNone}
 use Rattle.serial_rows.proofs.Serials.{same_number, serial_is}
 use Rattle.windows.specs.declared.window.Window as code
@@ -59,7 +61,8 @@ module _ (P : Window → Type 0) where
   of_highest (w ∷ ws) all = of_higher w (highest ws) all.0 (of_highest ws all.1)
 
   pub of_named : (ws : List Window) (word : List ℕ) → Each ws → Of (window_named ws word)
-  of_named ws word all = first_of _ _ (then_of (with_number ws) _ (λ n. of_find _ ws all)) (of_lowest _ (of_filter _ ws all))
+  of_named ws word all = first_of _ _ (then_of (with_number ws) _ (λ n. of_find _ ws all))
+      (of_lowest _ (of_filter _ ws all))
 
   pub of_after : (ws : List Window) (from : Option Window) → Each ws → Of (window_after ws from)
   of_after ws None all = of_lowest ws all
@@ -87,11 +90,16 @@ found_first false w o is = absurd (cc (is))
 
 stand_on : (w : Window) (ws vs : List Window) → AllByRecursion (StandsAt ws) vs → AllByRecursion (StandsAt (w ∷ ws)) vs
 stand_on w ws [] all = tt
-stand_on w ws (v ∷ vs) all = (at_first (w.serial == v.serial) w (row_of serial_of ws v.serial) all.0, stand_on w ws vs all.1)
+stand_on w ws (v ∷ vs) all =
+    (at_first (w.serial == v.serial) w (row_of serial_of ws v.serial) all.0, stand_on w ws vs all.1)
 
 pub stand_there : (ws : List Window) → AllByRecursion (StandsAt ws) ws
 stand_there [] = tt
-stand_there (w ∷ ws) = (found_first (w.serial == w.serial) w (row_of serial_of ws w.serial) (same_number w.serial), stand_on w ws ws (stand_there ws))
+stand_there (w ∷ ws) = (
+  found_first (w.serial == w.serial) w (row_of serial_of ws w.serial) (same_number w.serial),
+  stand_on w ws ws
+      (stand_there ws),
+)
 
 pub of_some : (P : Window → Type 0) (o : Option Window) (w : Window) → o ≡ Some w → IfSome o P → P w
 of_some P o w is x = subst (λ p. IfSome p P) is x
@@ -106,5 +114,8 @@ pub of_row : (t : Tables) (o : Option ℕ) → IfSome (option_and_then (window_a
 of_row t None = tt
 of_row t (Some s) = at_serial t.windows s (window_at t s) refl
 
-pub found_row : (t : Tables) (o p : Option ℕ) (found : Option code.Window) → BothOrNone WindowStands (option_and_then (window_at t) p) found → o ≡ p → BothOrNone WindowStands (option_and_then (window_at t) o) found
-found_row t o p found both is = subst (λ q. BothOrNone WindowStands (option_and_then (window_at t) q) found) (sym is) both
+pub found_row : (t : Tables) (o p : Option ℕ) (found : Option code.Window)
+    → BothOrNone WindowStands (option_and_then (window_at t) p) found → o ≡ p
+    → BothOrNone WindowStands (option_and_then (window_at t) o) found
+found_row t o p found both is = subst (λ q. BothOrNone WindowStands (option_and_then (window_at t) q) found) (sym is)
+    both

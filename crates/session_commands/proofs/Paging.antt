@@ -26,7 +26,8 @@ pub record Gives (t : Tables) (k : Caller) (client : ℕ) (m : model.Client) : T
   pub is : caller_client t (caller_in t k) ≡ Some m
   pub at : client_at t client ≡ Some m
 
-pub giver_there : (t : Tables) (k : Caller) (client : ℕ) (s : State) → Stands t s → GivesBy client s k → (m : model.Client) × Gives t k client m
+pub giver_there : (t : Tables) (k : Caller) (client : ℕ) (s : State) → Stands t s → GivesBy client s k
+    → (m : model.Client) × Gives t k client m
 giver_there t k client s st gives =
     let row = gives.attached t st in (
       row.0,
@@ -37,7 +38,8 @@ giver_there t k client s st gives =
     )
 
 -- what a client's row stands for, where that was found
-pub row_stands : (m : model.Client) (c : Client) (o : Option model.Client) (p : Option Client) → BothOrNone ClientStands o p → o ≡ Some m → p ≡ Some c → ClientStands m c
+pub row_stands : (m : model.Client) (c : Client) (o : Option model.Client) (p : Option Client)
+    → BothOrNone ClientStands o p → o ≡ Some m → p ≡ Some c → ClientStands m c
 row_stands m c o None both at is = absurd (cc (is))
 row_stands m c None (Some y) both at is = absurd (cc (at))
 row_stands m c (Some x) (Some y) both at is =
@@ -45,32 +47,41 @@ row_stands m c (Some x) (Some y) both at is =
     (subst (λ z. ClientStands z y) (let e : x ≡ m = cc (at) in e) both)
 
 -- it is found
-pub row_there : (m : model.Client) (o : Option model.Client) (p : Option Client) → BothOrNone ClientStands o p → o ≡ Some m → p ≡ None → ⊥
+pub row_there : (m : model.Client) (o : Option model.Client) (p : Option Client) → BothOrNone ClientStands o p
+    → o ≡ Some m → p ≡ None → ⊥
 row_there m o p both at is = let none = none_back ClientStands o p both is in absurd (cc (at, none))
 
 -- the page of a row is arranged so now
-pub arranged : (t : Tables) (s : State) (new : List Client) (serial : ℕ) (m : model.Client) (F : model.Client → Arrangement) → Stands t s → client_at t serial ≡ Some m
-    → Changes (λ m. with_layout (F m) m) serial s.clients new → Stands (with_client t (with_layout (F m) m)) (record s { clients = new })
+pub arranged : (t : Tables) (s : State) (new : List Client) (serial : ℕ) (m : model.Client)
+    (F : model.Client → Arrangement) → Stands t s → client_at t serial ≡ Some m
+    → Changes (λ m. with_layout (F m) m) serial s.clients new
+    → Stands (with_client t (with_layout (F m) m)) (record s { clients = new })
 arranged t s new serial m F st at changes = record {
   acl = st.acl;
   locks = st.locks;
   multiuser_is = st.multiuser_is;
   windows = st.windows;
-  clients = subst (λ n. AreClients (with_row model_serial t.clients n (with_layout (F m) m)) new) (sym (serial_is model_serial t.clients serial m at)) (changes t.clients m st.clients at);
+  clients = subst (λ n. AreClients (with_row model_serial t.clients n (with_layout (F m) m)) new)
+      (sym (serial_is model_serial t.clients serial m at)) (changes t.clients m st.clients at);
   next_window_is = st.next_window_is;
   next_client_is = st.next_client_is;
 }
 
 -- it stands there
-pub arranged_at : (t : Tables) (serial : ℕ) (m : model.Client) (l : Arrangement) → client_at t serial ≡ Some m → client_at (with_client t (with_layout l m)) serial ≡ Some (with_layout l m)
+pub arranged_at : (t : Tables) (serial : ℕ) (m : model.Client) (l : Arrangement) → client_at t serial ≡ Some m
+    → client_at (with_client t (with_layout l m)) serial ≡ Some (with_layout l m)
 arranged_at t serial m l at =
     let e : m.serial ≡ serial = serial_is model_serial t.clients serial m at in
-    subst (λ n. row_of model_serial (with_row model_serial t.clients n (with_layout l m)) serial ≡ Some (with_layout l m)) (sym e)
+    subst
+    (λ n. row_of model_serial (with_row model_serial t.clients n (with_layout l m)) serial ≡ Some (with_layout l m))
+    (sym e)
     (with_same model_serial t.clients serial m (with_layout l m) at e)
 
 -- where nothing is made beside
-pub done_quietly : (t : Tables) (s : State) (clients : List Client) (serial : ℕ) (m : model.Client) (F : model.Client → Arrangement) (made : StepOutput) → Stands t s → client_at t serial ≡ Some m
-    → Changes (λ m. with_layout (F m) m) serial s.clients clients → HasDone t (arranges t m (F m)) (record s { clients = clients }) made made
+pub done_quietly : (t : Tables) (s : State) (clients : List Client) (serial : ℕ) (m : model.Client)
+    (F : model.Client → Arrangement) (made : StepOutput) → Stands t s → client_at t serial ≡ Some m
+    → Changes (λ m. with_layout (F m) m) serial s.clients clients
+    → HasDone t (arranges t m (F m)) (record s { clients = clients }) made made
 done_quietly t s clients serial m F made st at changes = record {
   stands = arranged t s clients serial m F st at changes;
   acts = sym (append-nil made.acts.items);
@@ -82,9 +93,14 @@ still_open t m None is = tt
 still_open t m (Some w) is = is
 
 -- where its user enters the window in focus
-pub done_entering : (t : Tables) (s : State) (clients : List Client) (serial : ℕ) (m : model.Client) (F : model.Client → Arrangement) (new : State) (before after : StepOutput) → Stands t s → client_at t serial ≡ Some m
-    → Changes (λ m. with_layout (F m) m) serial s.clients clients → EntersFocus serial (record s { clients = clients }) new before after → IsOpenThere t (focused (with_layout (F m) m)) → HasDone t (enters t m (F m)) new before after
+pub done_entering : (t : Tables) (s : State) (clients : List Client) (serial : ℕ) (m : model.Client)
+    (F : model.Client → Arrangement) (new : State) (before after : StepOutput) → Stands t s
+    → client_at t serial ≡ Some m
+    → Changes (λ m. with_layout (F m) m) serial s.clients clients
+    → EntersFocus serial (record s { clients = clients }) new before after
+    → IsOpenThere t (focused (with_layout (F m) m)) → HasDone t (enters t m (F m)) new before after
 done_entering t s clients serial m F new before after st at changes enters there =
     let d : model.Client = with_layout (F m) m in
-    let did = enters (with_client t d) d (arranged t s clients serial m F st at changes) (arranged_at t serial m (F m) at) (still_open t d (focused d) there) in
+    let did = enters (with_client t d) d (arranged t s clients serial m F st at changes)
+    (arranged_at t serial m (F m) at) (still_open t d (focused d) there) in
     record { stands = did.stands; acts = did.acts; effects = did.effects }

@@ -1,5 +1,6 @@
 -- What is in focus is open.
-use Rattle.std.proofs.Common.{◌≡◌, ℕ, zero, suc, Bool, true, false, List, [], ◌∷◌, ◌++◌, take, drop, Option, Some, None, ◌∙◌, subst}
+use Rattle.std.proofs.Common.{◌≡◌, ℕ, zero, suc, Bool, true, false, List, [], ◌∷◌, ◌++◌, take, drop, Option, Some, None}
+use Rattle.std.proofs.Common.{◌∙◌, subst}
 use Rattle.std.specs.Prelude.{slice_get, slice_set, if◌then◌else◌, ◌==◌}
 use Rattle.std.specs.List.{AllByRecursion, remove}
 use Rattle.std.specs.Option.{option_and_then}
@@ -40,18 +41,21 @@ module _ (P : Option ℕ → Type 0) where
   of_removed all i is = of_append (take i all) (drop (suc i) all) (of_take i all is) (of_drop (suc i) all is)
 
   -- what was just put there
-  pub at_set : (all : List Shown) (i : ℕ) (s : Shown) → P None → P s.window → P (option_and_then window_in (slice_get (slice_set all i s) i))
+  pub at_set : (all : List Shown) (i : ℕ) (s : Shown) → P None → P s.window
+      → P (option_and_then window_in (slice_get (slice_set all i s) i))
   at_set [] i s none is = none
   at_set (r ∷ all) zero s none is = is
   at_set (r ∷ all) (suc i) s none is = at_set all i s none is
 
 -- ---- in fit tables
 
-all_by : (b : Bool) (P : Client → Type 0) (d c : Client) (o : Option Client) → (if b then Some d else o) ≡ Some c → P d → (o ≡ Some c → P c) → P c
+all_by : (b : Bool) (P : Client → Type 0) (d c : Client) (o : Option Client) → (if b then Some d else o) ≡ Some c → P d
+    → (o ≡ Some c → P c) → P c
 all_by true P d c o is p on = subst P (let e : d ≡ c = cc (is) in e) p
 all_by false P d c o is p on = on is
 
-row_has : (P : Client → Type 0) (cs : List Client) (s : ℕ) (c : Client) → row_of (λ (d : Client). d.serial) cs s ≡ Some c → AllByRecursion P cs → P c
+row_has : (P : Client → Type 0) (cs : List Client) (s : ℕ) (c : Client)
+    → row_of (λ (d : Client). d.serial) cs s ≡ Some c → AllByRecursion P cs → P c
 row_has P [] s c is all = absurd (cc (is))
 row_has P (d ∷ cs) s c is all = all_by (d.serial == s) P d c _ is all.0 (λ on. row_has P cs s c on all.1)
 
@@ -63,10 +67,14 @@ shows_open : (t : Tables) (serial : ℕ) (c : Client) → AreFit t → client_at
 shows_open t serial c fit at = row_has (ShowsOpen t) t.clients serial c at fit.shown
 
 -- the window in any region
-pub open_at : (t : Tables) (serial : ℕ) (c : Client) (i : ℕ) → AreFit t → client_at t serial ≡ Some c → IsOpenThere t (focused (with_layout (record c.layout { focus = i }) c))
+pub open_at : (t : Tables) (serial : ℕ) (c : Client) (i : ℕ) → AreFit t → client_at t serial ≡ Some c
+    → IsOpenThere t (focused (with_layout (record c.layout { focus = i }) c))
 open_at t serial c i fit at = opened t fit _ (at_any (IsOpen t) c.layout.shown i tt (shows_open t serial c fit at))
 
 -- the window in focus once a region was closed
-pub open_removed : (t : Tables) (serial : ℕ) (c : Client) → AreFit t → client_at t serial ≡ Some c → IsOpenThere t (focused (with_layout (remove_focused c.layout) c))
+pub open_removed : (t : Tables) (serial : ℕ) (c : Client) → AreFit t → client_at t serial ≡ Some c
+    → IsOpenThere t (focused (with_layout (remove_focused c.layout) c))
 open_removed t serial c fit at =
-    opened t fit _ (at_any (IsOpen t) (remove c.layout.shown c.layout.focus) _ tt (of_removed (IsOpen t) c.layout.shown c.layout.focus (shows_open t serial c fit at)))
+    opened t fit _
+    (at_any (IsOpen t) (remove c.layout.shown c.layout.focus) _ tt
+    (of_removed (IsOpen t) c.layout.shown c.layout.focus (shows_open t serial c fit at)))

@@ -1,5 +1,6 @@
 -- The rectangle of a focused region, and the size that a window gets there.
-use Rattle.std.proofs.Common.{◌≡◌, ℕ, zero, suc, ◌-◌, ◌<◌, ◌≤◌, Bool, true, false, List, [], ◌∷◌, ◌++◌, Option, Some, None, Ok, Err, refl, ap, sym, ◌∙◌, subst, arith, inl, inr, append-nil}
+use Rattle.std.proofs.Common.{◌≡◌, ℕ, zero, suc, ◌-◌, ◌<◌, ◌≤◌, Bool, true, false, List, [], ◌∷◌, ◌++◌, Option, Some}
+use Rattle.std.proofs.Common.{None, Ok, Err, refl, ap, sym, ◌∙◌, subst, arith, inl, inr, append-nil}
 use Rattle.std.specs.Prelude.{◌&&◌, ◌⊎◌, nat_lt, nat_le, slice_get}
 use Rattle.std.specs.List.{AllByRecursion, list_all}
 use Rattle.std.specs.Option.{option_map, option_and_then}
@@ -42,7 +43,8 @@ pub record IsWithin (rows columns : ℕ) (r : Rect) : Type 0 where
 abbrev AreWithin : ℕ → ℕ → List Rect → Type 0
 AreWithin rows columns rs = AllByRecursion (IsWithin rows columns) rs
 
-of_append : (rows columns : ℕ) (a b : List Rect) → AreWithin rows columns a → AreWithin rows columns b → AreWithin rows columns (a ++ b)
+of_append : (rows columns : ℕ) (a b : List Rect) → AreWithin rows columns a → AreWithin rows columns b
+    → AreWithin rows columns (a ++ b)
 of_append rows columns [] b x y = y
 of_append rows columns (r ∷ a) b x y = (x.0, of_append rows columns a b x.1 y)
 
@@ -50,12 +52,16 @@ boxes_within : (s : Shape) (rows columns : ℕ) (r : Rect) → IsWithin rows col
 boxes_within region rows columns r in_it = (in_it, tt)
 boxes_within (split Below a b) rows columns r in_it =
     of_append rows columns (boxes a (upper r)) (boxes b (lower r))
-    (boxes_within a rows columns (upper r) (record { rows_fit = omega (arith, in_it.rows_fit); columns_fit = in_it.columns_fit }))
-    (boxes_within b rows columns (lower r) (record { rows_fit = omega (arith, in_it.rows_fit); columns_fit = in_it.columns_fit }))
+    (boxes_within a rows columns (upper r)
+    (record { rows_fit = omega (arith, in_it.rows_fit); columns_fit = in_it.columns_fit }))
+    (boxes_within b rows columns (lower r)
+    (record { rows_fit = omega (arith, in_it.rows_fit); columns_fit = in_it.columns_fit }))
 boxes_within (split Right a b) rows columns r in_it =
     of_append rows columns (boxes a (left r)) (boxes b (right r))
-    (boxes_within a rows columns (left r) (record { rows_fit = in_it.rows_fit; columns_fit = omega (arith, in_it.columns_fit) }))
-    (boxes_within b rows columns (right r) (record { rows_fit = in_it.rows_fit; columns_fit = omega (arith, in_it.columns_fit) }))
+    (boxes_within a rows columns (left r)
+    (record { rows_fit = in_it.rows_fit; columns_fit = omega (arith, in_it.columns_fit) }))
+    (boxes_within b rows columns (right r)
+    (record { rows_fit = in_it.rows_fit; columns_fit = omega (arith, in_it.columns_fit) }))
 
 one_of : (P : Rect → Type 0) (rs : List Rect) (i : ℕ) (r : Rect) → slice_get rs i ≡ Some r → AllByRecursion P rs → P r
 one_of P [] i r at all = absurd (cc (at))
@@ -84,13 +90,16 @@ le_true : (m n : ℕ) → m ≤ n → nat_le m n ≡ true
 le_true m n is = grind (arith, nat_tests, is)
 
 -- a region with two rows beside its caption has the size of a window
-window_sized : (m : model.Client) (r : Rect) → is_client_size m.rows m.columns ≡ true → has_room m.layout.shape m.rows m.columns ≡ true → focused_box m ≡ Some r → 2 ≤ r.rows - 1
+window_sized : (m : model.Client) (r : Rect) → is_client_size m.rows m.columns ≡ true
+    → has_room m.layout.shape m.rows m.columns ≡ true → focused_box m ≡ Some r → 2 ≤ r.rows - 1
     → is_window_size (r.rows - 1) r.columns 0 ≡ true
 window_sized m r sized room at tall =
     let page : Rect = box_of m.rows m.columns in
     let in_page = one_of (IsWithin m.rows m.columns) (boxes m.layout.shape page) m.layout.focus r at
-    (boxes_within m.layout.shape m.rows m.columns page (record { rows_fit = omega arith; columns_fit = omega arith })) in
-    let roomy = one_of (λ q. is_roomy q ≡ true) (boxes m.layout.shape page) m.layout.focus r at (each_true is_roomy (boxes m.layout.shape page) room) in
+    (boxes_within m.layout.shape m.rows m.columns page (record { rows_fit = omega arith; columns_fit = omega arith }))
+    in
+    let roomy = one_of (λ q. is_roomy q ≡ true) (boxes m.layout.shape page) m.layout.focus r at
+    (each_true is_roomy (boxes m.layout.shape page) room) in
     let broad : 1 < r.columns = lt_is 1 r.columns (both_true (nat_lt 1 r.rows) (nat_lt 1 r.columns) roomy).1 in
     let a = both_true (nat_le 4 m.rows && nat_le m.rows 200 && nat_le 20 m.columns) (nat_le m.columns 300) sized in
     let b = both_true (nat_le 4 m.rows && nat_le m.rows 200) (nat_le 20 m.columns) a.0 in
@@ -99,7 +108,9 @@ window_sized m r sized room at tall =
     let n : ℕ = r.rows - 1 in
     and_true (nat_le 2 n && nat_le n 200 && nat_le 2 r.columns && nat_le r.columns 300) (nat_le 0 2000)
     (and_true (nat_le 2 n && nat_le n 200 && nat_le 2 r.columns) (nat_le r.columns 300)
-    (and_true (nat_le 2 n && nat_le n 200) (nat_le 2 r.columns) (and_true (nat_le 2 n) (nat_le n 200) (le_true 2 n tall) (le_true n 200 (omega (arith, high, in_page.rows_fit)))) (le_true 2 r.columns (omega (arith, broad))))
+    (and_true (nat_le 2 n && nat_le n 200) (nat_le 2 r.columns)
+    (and_true (nat_le 2 n) (nat_le n 200) (le_true 2 n tall)
+    (le_true n 200 (omega (arith, high, in_page.rows_fit)))) (le_true 2 r.columns (omega (arith, broad))))
     (le_true r.columns 300 (omega (arith, wide, in_page.columns_fit)))) refl
 
 lt_true : (m n : ℕ) → m < n → nat_lt m n ≡ true
@@ -110,13 +121,15 @@ lt_false m n is = grind (arith, nat_tests, is)
 
 -- ---- the window that a command acts on
 
-serial_at : (t : Tables) (n s : ℕ) (o : Option Window) → window_at t n ≡ o → option_map serial o ≡ Some s → (w : Window) × (window_at t n ≡ Some w) × (window_at t s ≡ Some w)
+serial_at : (t : Tables) (n s : ℕ) (o : Option Window) → window_at t n ≡ o → option_map serial o ≡ Some s → (w : Window)
+    × (window_at t n ≡ Some w) × (window_at t s ≡ Some w)
 serial_at t n s None at is = absurd (cc (is))
 serial_at t n s (Some w) at is =
     let same : n ≡ s = sym (serial_is serial t.windows n w at) ∙ (let e : w.serial ≡ s = cc (is) in e) in
     (w, at, subst (λ k. window_at t k ≡ Some w) same at)
 
-pub window_there : (t : Tables) (o found : Option ℕ) (s : ℕ) → option_map serial (option_and_then (window_at t) o) ≡ found → found ≡ Some s
+pub window_there : (t : Tables) (o found : Option ℕ) (s : ℕ)
+    → option_map serial (option_and_then (window_at t) o) ≡ found → found ≡ Some s
     → (w : Window) × (option_and_then (window_at t) o ≡ Some w) × (window_at t s ≡ Some w)
 window_there t None found s is at = absurd (cc (is, at))
 window_there t (Some n) found s is at = serial_at t n s (window_at t n) refl (is ∙ at)
@@ -124,9 +137,12 @@ window_there t (Some n) found s is at = serial_at t n s (window_at t n) refl (is
 -- ---- what is answered
 
 abbrev pub fit_row : Tables → Caller → Answer
-fit_row t k = on_client t (caller_in t k) (λ d. on_window t (caller_in t k) (λ v. given (focused_box d) NoWindow (fits t v)))
+fit_row t k = on_client t (caller_in t k)
+    (λ d. on_window t (caller_in t k) (λ v. given (focused_box d) NoWindow (fits t v)))
 
-module _ (t : Tables) (k : Caller) (client : ℕ) (c : Client) (m : model.Client) (by : Gives t k client m) (stands : ClientStands m c) (s : ℕ) (w : Window) (here : (caller_in t k).window ≡ Some w) (there : window_at t s ≡ Some w)
+module _ (t : Tables) (k : Caller) (client : ℕ) (c : Client) (m : model.Client) (by : Gives t k client m)
+    (stands : ClientStands m c) (s : ℕ) (w : Window) (here : (caller_in t k).window ≡ Some w)
+    (there : window_at t s ≡ Some w)
     (r : Rect) (place : focused_box m ≡ Some r) where
   abbrev rows : ℕ
   rows = r.rows - 1
@@ -137,7 +153,8 @@ module _ (t : Tables) (k : Caller) (client : ℕ) (c : Client) (m : model.Client
   fits_is : fit_row t k ≡ fits t w r
   fits_is =
       on_giver t k client m by (λ d. on_window t (caller_in t k) (λ v. given (focused_box d) NoWindow (fits t v)))
-      ∙ (given_some (caller_in t k).window NoWindow (λ v. given (focused_box m) NoWindow (fits t v)) w here ∙ given_some (focused_box m) NoWindow (fits t w) r place)
+      ∙ (given_some (caller_in t k).window NoWindow (λ v. given (focused_box m) NoWindow (fits t v)) w here
+      ∙ given_some (focused_box m) NoWindow (fits t w) r place)
 
   pub too_small : rows < 2 → fit_row t k ≡ Err (Regions TooSmall)
   too_small small = fits_is ∙ refused (nat_lt rows 2) (Regions TooSmall) fitted (lt_true rows 2 small)
@@ -151,15 +168,18 @@ module _ (t : Tables) (k : Caller) (client : ℕ) (c : Client) (m : model.Client
     good = window_sized m r stands.sized stands.room place tall
 
     -- a window of the size is refused for want of memory alone
-    pub for_memory : (why : WindowsFault) → (why ≡ fault.NoMemory) ⊎ (resized_in s rows r.columns t.windows ≡ Err why) → refusal_of why ≡ NoMemory
+    pub for_memory : (why : WindowsFault) → (why ≡ fault.NoMemory) ⊎ (resized_in s rows r.columns t.windows ≡ Err why)
+        → refusal_of why ≡ NoMemory
     for_memory why (inl full) = ap refusal_of full
     for_memory why (inr other) =
         let refusal = row_refused_as t.windows s (resized rows r.columns) w there why other in
         let never : Ok (written_to (terminal.Size rows r.columns) w) ≡ Err why = sym sized ∙ refusal in
         absurd (cc (never))
 
-    pub fits_there : {A : Type 0} (a : A) (old : State) (new : List code.Window) (before after : StepOutput) → Stands t old → Answered (resized_in s rows r.columns t.windows) (Ok a) new
-        → after.acts.items ≡ before.acts.items → after.effects.items ≡ before.effects.items ++ Size s rows r.columns ∷ []
+    pub fits_there : {A : Type 0} (a : A) (old : State) (new : List code.Window) (before after : StepOutput)
+        → Stands t old → Answered (resized_in s rows r.columns t.windows) (Ok a) new
+        → after.acts.items ≡ before.acts.items
+        → after.effects.items ≡ before.effects.items ++ Size s rows r.columns ∷ []
         → Answers t (fit_row t k) (Ok None) (record old { windows = new }) before after
     fits_there a old new before after st answer acts effects =
         let did = row_done t.windows s (resized rows r.columns) w there a new answer in
@@ -174,7 +194,8 @@ module _ (t : Tables) (k : Caller) (client : ℕ) (c : Client) (m : model.Client
               acl = st.acl;
               locks = st.locks;
               multiuser_is = st.multiuser_is;
-              windows = subst (λ n. StandFor (with_row serial t.windows n made) new) (sym at) (subst (λ (v : Window). StandFor (with_row serial t.windows s v) new) same did.2);
+              windows = subst (λ n. StandFor (with_row serial t.windows n made) new) (sym at)
+                  (subst (λ (v : Window). StandFor (with_row serial t.windows s v) new) same did.2);
               clients = st.clients;
               next_window_is = st.next_window_is;
               next_client_is = st.next_client_is;

@@ -1,2 +1,6 @@
 pub mod Entering
 pub mod Giving
+pub mod Items
+pub mod Orders
+pub mod Growing
+pub mod Listing

@@ -1,21 +1,23 @@
-//! What commands do to locks, to windows and to the page of the client that gives them, and what
-//! `wall` says.
+//! What commands do to windows, to their locks and to the page of the client that gives them; what
+//! they list, and what `wall` says.
 #![tactic(auto)]
 
 mod entering;
-mod fitting;
 mod giver;
+mod items;
+mod laws;
+mod lists;
 mod locks;
 mod messages;
-mod selecting;
-mod splitting;
+mod pages;
+mod texts;
 mod window;
 
 pub use entering::enter;
-pub use fitting::fit;
 pub use giver::client_of;
+pub use lists::{displays, screen, windows};
 pub use locks::{defwritelock, writelock};
 pub use messages::wall;
-pub use selecting::{next, other, prev, select};
-pub use splitting::{focus, only, remove, scrollview, split};
-pub use window::{clear, encoding, number, reset, stuff, title};
+pub use pages::{focus, next, only, other, prev, remove, scrollview, select, split};
+pub use texts::{clients_text, windows_text};
+pub use window::{clear, encoding, fit, number, reset, stuff, title};

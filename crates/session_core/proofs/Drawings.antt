@@ -28,34 +28,55 @@ module _ (client : ℕ) (old new : State) (shared shares : Sharing) (before afte
       → DrawsLike client l knows old new before after → Joins client shared shares
       → DrawsSharing client old shared new shares before after
   followed l knows at known draws joins = λ t st fit is.
-      let lead : IsLead t is.known shared.followers.items l = subst (IsLeadIfAny t is.known shared.followers.items) at is.lead in
-      on t is (draws t st fit lead.led (λ yes. subst (λ o. Knows t o client) (sym lead.before) (one_knows t is.known shared.alike.items client (sym known ∙ yes) is.alike))) where
-        on : (t : Tables) → IsShared t shared → ((c : Client) × (client_at t client ≡ Some c) × (l.frame.view ≡ granted_view t c) × HasDrawnSo IsSomething t c new before after)
-            → (c : Client) × (client_at t client ≡ Some c) × HasDrawnSo (λ effects. IsShared (drawn_on (Some c) effects t) shares) t c new before after
-        on t is (c, there, view, (drawn, some)) = (c, there, (drawn, joined_shared t client c there drawn.effects shared shares l some is at view joins))
+      let lead : IsLead t is.known shared.followers.items l = subst (IsLeadIfAny t is.known shared.followers.items) at
+      is.lead in
+      on t is
+      (draws t st fit lead.led
+      (λ yes. subst (λ o. Knows t o client) (sym lead.before)
+      (one_knows t is.known shared.alike.items client (sym known ∙ yes) is.alike))) where
+        on : (t : Tables) → IsShared t shared
+            →
+            ((c : Client) × (client_at t client ≡ Some c) × (l.frame.view ≡ granted_view t c)
+            × HasDrawnSo IsSomething t c new before after)
+            → (c : Client) × (client_at t client ≡ Some c)
+            × HasDrawnSo (λ effects. IsShared (drawn_on (Some c) effects t) shares) t c new before after
+        on t is (c, there, view, (drawn, some)) =
+            (c, there, (drawn, joined_shared t client c there drawn.effects shared shares l some is at view joins))
 
   -- one that is drawn by a frame of its own
   pub drawn_own : (f : Made) → DrawsBy client (Some f) old new before after → SharesOrForgets client f shared shares
       → DrawsSharing client old shared new shares before after
   drawn_own f by how = λ t st fit is. on t is (by t st fit) where
-    on : (t : Tables) → IsShared t shared → ((c : Client) × (client_at t client ≡ Some c) × IsDrawnBy (Some f) t c new before after)
-        → (c : Client) × (client_at t client ≡ Some c) × HasDrawnSo (λ effects. IsShared (drawn_on (Some c) effects t) shares) t c new before after
-    on t is (c, there, (leads, (drawn, some))) = (c, there, (drawn, own_shared t client c there drawn.effects shared shares f some is leads how))
+    on : (t : Tables) → IsShared t shared
+        → ((c : Client) × (client_at t client ≡ Some c) × IsDrawnBy (Some f) t c new before after)
+        → (c : Client) × (client_at t client ≡ Some c)
+        × HasDrawnSo (λ effects. IsShared (drawn_on (Some c) effects t) shares) t c new before after
+    on t is (c, there, (leads, (drawn, some))) =
+        (c, there, (drawn, own_shared t client c there drawn.effects shared shares f some is leads how))
 
   -- one that needs no draw
-  pub drawn_none : DrawsBy client None old new before after → shares ≡ shared → DrawsSharing client old shared new shares before after
+  pub drawn_none : DrawsBy client None old new before after → shares ≡ shared
+      → DrawsSharing client old shared new shares before after
   drawn_none by same = λ t st fit is. on t is (by t st fit) where
-    on : (t : Tables) → IsShared t shared → ((c : Client) × (client_at t client ≡ Some c) × HasDrawnSo IsNothing t c new before after)
-        → (c : Client) × (client_at t client ≡ Some c) × HasDrawnSo (λ effects. IsShared (drawn_on (Some c) effects t) shares) t c new before after
-    on t is (c, there, (drawn, none)) = (c, there, (drawn, none_shared t client c there drawn.effects shares none (subst (IsShared t) (sym same) is)))
+    on : (t : Tables) → IsShared t shared
+        → ((c : Client) × (client_at t client ≡ Some c) × HasDrawnSo IsNothing t c new before after)
+        → (c : Client) × (client_at t client ≡ Some c)
+        × HasDrawnSo (λ effects. IsShared (drawn_on (Some c) effects t) shares) t c new before after
+    on t is (c, there, (drawn, none)) =
+        (c, there, (drawn, none_shared t client c there drawn.effects shares none (subst (IsShared t) (sym same) is)))
 
   -- behind what changed nothing
-  pub from_before : (mid : State) (first : Sharing) (middle : StepOutput) → IsAsBefore old mid before middle → first ≡ shared
+  pub from_before : (mid : State) (first : Sharing) (middle : StepOutput) → IsAsBefore old mid before middle
+      → first ≡ shared
       → DrawsSharing client mid first new shares middle after → DrawsSharing client old shared new shares before after
   from_before mid first middle same shared_same draws = λ t st fit is.
       on t (draws t (subst (Stands t) (sym same.state) st) fit (subst (IsShared t) (sym shared_same) is)) where
-        on : (t : Tables) → ((c : Client) × (client_at t client ≡ Some c) × HasDrawnSo (λ effects. IsShared (drawn_on (Some c) effects t) shares) t c new middle after)
-            → (c : Client) × (client_at t client ≡ Some c) × HasDrawnSo (λ effects. IsShared (drawn_on (Some c) effects t) shares) t c new before after
+        on : (t : Tables)
+            →
+            ((c : Client) × (client_at t client ≡ Some c)
+            × HasDrawnSo (λ effects. IsShared (drawn_on (Some c) effects t) shares) t c new middle after)
+            → (c : Client) × (client_at t client ≡ Some c)
+            × HasDrawnSo (λ effects. IsShared (drawn_on (Some c) effects t) shares) t c new before after
         on t (c, there, (drawn, holds)) = (
           c,
           there,
@@ -73,27 +94,36 @@ module _ (client : ℕ) (old new : State) (shared shares : Sharing) (before afte
 
   -- ---- steps
 
-  pub draw_step : (reply : Reply) (past : List Verdict) → done ≡ reply → DrawsSharing client old shared new shares before after
+  pub draw_step : (reply : Reply) (past : List Verdict) → done ≡ reply
+      → DrawsSharing client old shared new shares before after
       → Takes (Draw client) old shared reply new shares before after past past
   draw_step reply past same draws = λ t st fit is other. on t (draws t st fit is) where
-    on : (t : Tables) → ((c : Client) × (client_at t client ≡ Some c) × HasDrawnSo (λ effects. IsShared (drawn_on (Some c) effects t) shares) t c new before after)
+    on : (t : Tables)
+        →
+        ((c : Client) × (client_at t client ≡ Some c)
+        × HasDrawnSo (λ effects. IsShared (drawn_on (Some c) effects t) shares) t c new before after)
         → TakenAs (Draw client) reply t (StayShared (Draw client) shared shares) new before after past past
-    on t (c, there, (drawn, holds)) = drawn_taken t client c reply new before after past (StayShared (Draw client) shared shares) there same drawn holds
+    on t (c, there, (drawn, holds)) = drawn_taken t client c reply new before after past
+        (StayShared (Draw client) shared shares) there same drawn holds
 
-  pub refused_step : (X : Type 0) (r : Refusal) (past : List Verdict) → IsRefusedFor {X = X} client old (Err r) → IsAsBefore old new before after
+  pub refused_step : (X : Type 0) (r : Refusal) (past : List Verdict) → IsRefusedFor {X = X} client old (Err r)
+      → IsAsBefore old new before after
       → shares ≡ shared → Takes (Draw client) old shared (Err r) new shares before after past past
   refused_step X r past why same unshared = λ t st fit is other.
-      undrawn_or t client r old new before after past (StayShared (Draw client) shared shares) (why t st fit) st same (subst (IsShared t) (sym unshared) is) other
+      undrawn_or t client r old new before after past (StayShared (Draw client) shared shares) (why t st fit) st same
+      (subst (IsShared t) (sym unshared) is) other
 
 -- ---- what changed nothing
 
-pub then_same : (first second third : State) (a b c : StepOutput) → IsAsBefore first second a b → IsAsBefore second third b c → IsAsBefore first third a c
+pub then_same : (first second third : State) (a b c : StepOutput) → IsAsBefore first second a b
+    → IsAsBefore second third b c → IsAsBefore first third a c
 then_same first second third a b c one two = record {
   state = two.state ∙ one.state;
   acts = two.acts ∙ one.acts;
   effects = two.effects ∙ one.effects;
 }
 
-pub refused_behind : (X : Type 0) (client : ℕ) (first second : State) (a b : StepOutput) (r : Refusal) → IsAsBefore first second a b
+pub refused_behind : (X : Type 0) (client : ℕ) (first second : State) (a b : StepOutput) (r : Refusal)
+    → IsAsBefore first second a b
     → IsRefusedFor {X = X} client second (Err r) → IsRefusedFor {X = X} client first (Err r)
 refused_behind X client first second a b r same why = λ t st fit. why t (subst (Stands t) (sym same.state) st) fit

@@ -50,7 +50,8 @@ module _ (t : Tables) (client : ℕ) where
       let kept : (outcome t (Draw client)).tables ≡ t =
       ap (λ (o : Outcome). o.tables) is
       ∙ ap (λ (acts : List Act). record t { acts = followed_by t.acts acts }) left in
-      let then : drawn_on (client_at (outcome t (Draw client)).tables client) drawn.effects (outcome t (Draw client)).tables
+      let then : drawn_on (client_at (outcome t (Draw client)).tables client) drawn.effects
+      (outcome t (Draw client)).tables
       ≡ drawn_on (Some c) drawn.effects t =
       ap (λ (u : Tables). drawn_on (client_at u client) drawn.effects u) kept
       ∙ ap (λ (o : Option Client). drawn_on o drawn.effects t) at in (

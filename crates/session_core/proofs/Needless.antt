@@ -1,5 +1,6 @@
 -- Clients that need no draw.
-use Rattle.std.proofs.Common.{◌≡◌, ◌≢◌, ℕ, ◌++◌, Bool, true, false, List, [], ◌∷◌, Option, Some, None, Ok, Err, map, refl, ap, sym, ◌∙◌, subst, inl, inr, append-nil}
+use Rattle.std.proofs.Common.{◌≡◌, ◌≢◌, ℕ, ◌++◌, Bool, true, false, List, [], ◌∷◌, Option, Some, None, Ok, Err, map}
+use Rattle.std.proofs.Common.{refl, ap, sym, ◌∙◌, subst, inl, inr, append-nil}
 use Rattle.std.specs.Prelude.{if◌then◌else◌, ◌==◌, ◌||◌, MatchOption, codes, nat_eq, is_ok}
 use Rattle.std.specs.List.{list_any}
 use Rattle.acl.specs.History.{followed_by}
@@ -32,7 +33,8 @@ serial_of c = c.serial
 -- ---- views, once a client was drawn
 
 -- a row of which the same is told
-map_row : {B : Type 0} (f : Client → B) (cs : List Client) (s : ℕ) (c d : Client) → row_of serial_of cs s ≡ Some c → f d ≡ f c
+map_row : {B : Type 0} (f : Client → B) (cs : List Client) (s : ℕ) (c d : Client) → row_of serial_of cs s ≡ Some c
+    → f d ≡ f c
     → map f (with_row serial_of cs s d) ≡ map f cs
 map_row f [] s c d at same = refl
 map_row f (r ∷ cs) s c d at same = on (r.serial == s) at (map_row f cs s c d) where
@@ -57,11 +59,14 @@ module _ (t : Tables) (c : Client) (own : client_at t c.serial ≡ Some c) (byte
   message_same d message.Silence = refl
   message_same d (message.Text said) = refl
   message_same d message.AllWindows = refl
-  message_same d message.AllClients = ap (separated (codes "  ")) (map_row (client_item t) t.clients c.serial c shown own refl)
+  message_same d message.AllClients = ap (separated (codes "  "))
+      (map_row (client_item t) t.clients c.serial c shown own refl)
 
   status_same : (d : Client) → status_text now d ≡ status_text t d
   status_same d = on (open_line (items d.keys).1) where
-    on : (o : Option (List ℕ)) → elim o as (λ _. List ℕ) [ Some line ↦ 0x3A ∷ line | None ↦ message_text now d d.message ] ≡ elim o as (λ _. List ℕ) [ Some line ↦ 0x3A ∷ line | None ↦ message_text t d d.message ]
+    on : (o : Option (List ℕ))
+        → elim o as (λ _. List ℕ) [ Some line ↦ 0x3A ∷ line | None ↦ message_text now d d.message ] ≡ elim o as
+        (λ _. List ℕ) [ Some line ↦ 0x3A ∷ line | None ↦ message_text t d d.message ]
     on (Some line) = refl
     on None = message_same d d.message
 
@@ -82,7 +87,8 @@ module _ (t : Tables) (c : Client) (own : client_at t c.serial ≡ Some c) (byte
       let is : IsDraw now [] shown = record {
         drawn = subst (LooksLike (granted_view t c)) (sym (view_same c)) (looks_itself (granted_view t c));
         shows = subst (ShowsFromAny ((c.delivered ++ bytes) ++ []) c.rows c.columns) (sym (view_same c))
-            (subst (λ all. ShowsFromAny all c.rows c.columns (granted_view t c)) (sym (append-nil (c.delivered ++ bytes))) shows);
+            (subst (λ all. ShowsFromAny all c.rows c.columns (granted_view t c))
+            (sym (append-nil (c.delivered ++ bytes))) shows);
       } in subst (λ o. MatchOption o ⊥ (IsDraw now [])) (sym at) is
 
   stays_drawn : (n : ℕ) → IsDrawn now c.serial → IsDrawn t n → IsDrawn now n
@@ -95,7 +101,8 @@ module _ (t : Tables) (c : Client) (own : client_at t c.serial ≡ Some c) (byte
     on true same = subst (IsDrawn now) (sym (is_equal n c.serial same)) its
     on false differs =
         let other : n ≢ c.serial = λ same. absurd (cc (ap (λ m. n == m) (sym same) ∙ same_number n, differs)) in
-        subst (λ o. MatchOption o ⊥ (IsDraw now [])) (sym (with_other serial_of t.clients c.serial n shown refl other)) (still (client_at t n) is)
+        subst (λ o. MatchOption o ⊥ (IsDraw now [])) (sym (with_other serial_of t.clients c.serial n shown refl other))
+        (still (client_at t n) is)
 
 -- ---- draws
 
@@ -107,7 +114,8 @@ module _ (t : Tables) (client : ℕ) where
   quiet = outcomes.found (λ o. o.tables ≡ t) t (λ c. finished t [] done (changing t)) (client_at t client) refl
       (λ c is. ap (λ acts. record t { acts = followed_by t.acts acts }) (none_left t.clients))
 
-  drawn_after : (effects : List Effect) → drawn (Draw client) effects (outcome t (Draw client)).tables ≡ drawn_on (client_at t client) effects t
+  drawn_after : (effects : List Effect)
+      → drawn (Draw client) effects (outcome t (Draw client)).tables ≡ drawn_on (client_at t client) effects t
   drawn_after effects = ap (λ u. drawn_on (client_at u client) effects u) quiet
 
   pub back : (c : Client) → client_at t client ≡ Some c → drawn_on (Some c) [] t ≡ t
@@ -132,7 +140,8 @@ module _ (t : Tables) (client : ℕ) where
   abbrev needless : Entry
   needless = record { event = Draw client; reply = done; acts = []; verdicts = []; effects = [] }
 
-  is_needless : (o : Option Client) → client_at t client ≡ o → MatchOption o ⊥ (IsDraw t []) → IsStep t needless × (after t needless ≡ t)
+  is_needless : (o : Option Client) → client_at t client ≡ o → MatchOption o ⊥ (IsDraw t []) → IsStep t needless
+      × (after t needless ≡ t)
   is_needless None at is = absurd is
   is_needless (Some c) at is =
       let comes : outcome t (Draw client) ≡ finished t [] done (changing t) = ap outcome_of at in (
@@ -151,8 +160,10 @@ module _ (t : Tables) (client : ℕ) where
 -- ---- steps
 
 module _ (t : Tables) (e : Entry) (step : IsStep t e) (old new : List ℕ) (all : AreDrawn t old) where
-  noted_draw : (client : ℕ) (o : Option Client) (u : Tables) → client_at t client ≡ o → MatchOption o (e.effects ≡ []) (IsDraw t e.effects)
-      → is_ok (outcome_of t client o).reply ≡ true → AreNoted done (Draw client) old new → u ≡ drawn_on o e.effects t → AreDrawn u new
+  noted_draw : (client : ℕ) (o : Option Client) (u : Tables) → client_at t client ≡ o
+      → MatchOption o (e.effects ≡ []) (IsDraw t e.effects)
+      → is_ok (outcome_of t client o).reply ≡ true → AreNoted done (Draw client) old new → u ≡ drawn_on o e.effects t
+      → AreDrawn u new
   noted_draw client None u at is answered noted tables = absurd (cc (answered))
   noted_draw client (Some c) u at is answered noted tables =
       let both = after_draw t client c e.effects at is in
@@ -165,18 +176,21 @@ module _ (t : Tables) (e : Entry) (step : IsStep t e) (old new : List ℕ) (all 
 
   pub stay_drawn : AreNoted e.reply e.event old new → AreDrawn (after t e) new
   stay_drawn noted = by e.reply e.event refl refl noted where
-    by : (reply : Reply) (event : EventValue) → e.event ≡ event → e.reply ≡ reply → AreNoted reply event old new → AreDrawn (after t e) new
+    by : (reply : Reply) (event : EventValue) → e.event ≡ event → e.reply ≡ reply → AreNoted reply event old new
+        → AreDrawn (after t e) new
     by (Err r) event at replied noted =
         let same : after t e ≡ t = (refusals t e step (ap is_ok replied)).0 in
         subst (λ u. AreDrawn u new) (sym same) (subst (AreDrawn t) (sym noted) all)
     by (Ok said) (Draw client) at replied noted =
-        noted_draw client (client_at t client) (after t e) refl (subst (λ ev. HasEffects t ev e.effects) at step.effects)
+        noted_draw client (client_at t client) (after t e) refl
+        (subst (λ ev. HasEffects t ev e.effects) at step.effects)
         (ap (λ ev. is_ok (outcome t ev).reply) (sym at) ∙ ap is_ok (sym step.reply) ∙ ap is_ok replied) noted
         (ap (λ ev. drawn ev e.effects (outcome t ev).tables) at ∙ drawn_after t client e.effects)
     by (Ok said) event at replied noted = subst (AreDrawn (after t e)) (sym noted) tt
 
 -- one of them
-pub one_drawn : (t : Tables) (clients : List ℕ) (client : ℕ) → list_any (nat_eq client) clients ≡ true → AreDrawn t clients → IsDrawn t client
+pub one_drawn : (t : Tables) (clients : List ℕ) (client : ℕ) → list_any (nat_eq client) clients ≡ true
+    → AreDrawn t clients → IsDrawn t client
 one_drawn t [] client any all = absurd (cc (any))
 one_drawn t (n ∷ clients) client any all = on (client == n) refl any (one_drawn t clients client) where
   on : (b : Bool) → (client == n) ≡ b → (b || list_any (nat_eq client) clients) ≡ true

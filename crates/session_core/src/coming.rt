@@ -7,9 +7,9 @@ ghost use Rattle.session_state.specs.Doing.{IsAsBefore};
 ghost use Rattle.session_input.specs.Stepping.{Steps};
 
 use acl::UserId;
+use session_checks::{check_attach, check_open, check_resize};
 use session_events::{Focuses, attach, leave, open, resize};
 use session_model::{Done, Refusal, Reply};
-use session_rights::{check_attach, check_open, check_resize};
 use session_state::{State, Step, WindowSize};
 
 /// What is answered where nothing was read and nothing is listed: the serial of what was made, and

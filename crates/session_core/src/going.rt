@@ -7,7 +7,8 @@ ghost use Rattle.session_state.specs.Doing.{IsAsBefore};
 ghost use Rattle.session_input.specs.Stepping.{Steps};
 
 use crate::coming::made_so;
-use session_events::{Focuses, close_window, detach_client, leave};
+use session_access::{close_window, detach_client};
+use session_events::{Focuses, leave};
 use session_model::Reply;
 use session_state::{State, StepOutput};
 

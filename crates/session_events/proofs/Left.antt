@@ -1,5 +1,6 @@
 -- Who has left which window, by the code's clients and by the definitions'.
-use Rattle.std.proofs.Common.{◌≡◌, ◌∙◌, ℕ, ◌+◌, Bool, true, false, List, [], ◌∷◌, ◌++◌, Option, Some, None, refl, ap, sym, subst, length, take, drop, append_assoc, arith, ◌≤◌, ◌-◌, length-drop}
+use Rattle.std.proofs.Common.{◌≡◌, ◌∙◌, ℕ, ◌+◌, Bool, true, false, List, [], ◌∷◌, ◌++◌, Option, Some, None, refl, ap}
+use Rattle.std.proofs.Common.{sym, subst, length, take, drop, append_assoc, arith, ◌≤◌, ◌-◌, length-drop}
 use Rattle.std.specs.Prelude.{Result, Ok, Err, IsOk, is_ok, if◌then◌else◌, ◌&&◌, ◌||◌, slice_get, map}
 use Rattle.std.specs.List.{AllByRecursion, list_any}
 use Rattle.std.proofs.lemmas.List.{take_all}
@@ -30,7 +31,8 @@ use Rattle.session_state.specs.declared.state.State.{State}
 use Rattle.session_state.specs.Stands.{Stands}
 use Rattle.session_state.specs.Doing.{did}
 use Rattle.session_events.specs.declared.focuses.Focus.{Focus}
-use Rattle.session_events.specs.Leaving.{focus_by, focus_in, focus_now, focuses_of, ended, looks_at, shows_now, left_window, leaving, all_left}
+use Rattle.session_events.specs.Leaving.{focus_by, focus_in, focus_now, focuses_of, ended, looks_at, shows_now}
+use Rattle.session_events.specs.Leaving.{left_window, leaving, all_left}
 
 -- ---- what is in focus
 
@@ -38,12 +40,14 @@ same_focus : (m : model.Client) (c : Client) → ClientStands m c → in_focus c
 same_focus m c st =
     ap (λ (l : Arrangement). option_and_then (λ (s : Shown). s.window) (slice_get l.shown l.focus)) st.layout_is
 
-same_shows : (user : UserId) (w : ℕ) (m : model.Client) (c : Client) → ClientStands m c → shows_now user w c ≡ shows user w m
+same_shows : (user : UserId) (w : ℕ) (m : model.Client) (c : Client) → ClientStands m c
+    → shows_now user w c ≡ shows user w m
 same_shows user w m c st =
     ap (λ u. same_user u user && is_window w (in_focus c)) st.user_is
     ∙ ap (λ o. same_user m.user user && is_window w o) (same_focus m c st)
 
-now_same : (user : UserId) (w : ℕ) (rows : List model.Client) (cs : List Client) → AreClients rows cs → list_any (shows_now user w) cs ≡ is_in_focus rows user w
+now_same : (user : UserId) (w : ℕ) (rows : List model.Client) (cs : List Client) → AreClients rows cs
+    → list_any (shows_now user w) cs ≡ is_in_focus rows user w
 now_same user w [] [] st = refl
 now_same user w (m ∷ rows) (c ∷ cs) st =
     ap (λ b. b || list_any (shows_now user w) cs) (same_shows user w m c st.0)
@@ -51,13 +55,16 @@ now_same user w (m ∷ rows) (c ∷ cs) st =
 now_same user w [] (c ∷ cs) st = absurd st
 now_same user w (m ∷ rows) [] st = absurd st
 
-before_same : (user : UserId) (w : ℕ) (rows : List model.Client) → list_any (looks_at user w) (focuses_of rows) ≡ is_in_focus rows user w
+before_same : (user : UserId) (w : ℕ) (rows : List model.Client)
+    → list_any (looks_at user w) (focuses_of rows) ≡ is_in_focus rows user w
 before_same user w [] = refl
 before_same user w (m ∷ rows) = ap (λ b. shows user w m || b) (before_same user w rows)
 
 -- ---- who has left
 
-by_if : (user : UserId) (w : ℕ) (a b : Bool) → leaving user (if a || b then (let none : Option ℕ = None in none) else Some w) ≡ (if a || b then (let none : List Act = [] in none) else leaving user (Some w))
+by_if : (user : UserId) (w : ℕ) (a b : Bool)
+    → leaving user (if a || b then (let none : Option ℕ = None in none) else Some w) ≡
+    (if a || b then (let none : List Act = [] in none) else leaving user (Some w))
 by_if user w true b = refl
 by_if user w false true = refl
 by_if user w false false = refl
@@ -67,11 +74,13 @@ one_same : (m : model.Client) (o : Option ℕ) (rows now : List model.Client) (c
 one_same m None rows now cs st = refl
 one_same m (Some w) rows now cs st =
     by_if m.user w (list_any (looks_at m.user w) (focuses_of rows)) (list_any (shows_now m.user w) cs)
-    ∙ ap (λ a. if a || list_any (shows_now m.user w) cs then [] else leaving m.user (Some w)) (before_same m.user w rows)
+    ∙ ap (λ a. if a || list_any (shows_now m.user w) cs then [] else leaving m.user (Some w))
+    (before_same m.user w rows)
     ∙ ap (λ b. if is_in_focus rows m.user w || b then [] else leaving m.user (Some w)) (now_same m.user w now cs st)
 
 -- those who have left, by the focuses before and the clients now
-pub left_same : (rows now : List model.Client) (cs : List Client) → AreClients now cs → all_left (focuses_of rows) cs ≡ left_acts rows now
+pub left_same : (rows now : List model.Client) (cs : List Client) → AreClients now cs
+    → all_left (focuses_of rows) cs ≡ left_acts rows now
 left_same [] now cs st = refl
 left_same (m ∷ rows) now cs st =
     ap (λ acts. acts ++ all_left (focuses_of rows) cs) (one_same m (focused m) rows now cs st)
@@ -82,9 +91,11 @@ left_same (m ∷ rows) now cs st =
 module _ (now : List Client) where
   pub one_more : (before : List Focus) (i : ℕ) (f : Focus) (so_far : List Act) → drop i before ≡ f ∷ drop (i + 1) before
       → so_far ++ all_left (drop i before) now ≡ all_left before now
-      → (so_far ++ leaving f.user (left_window f.user f.window (drop (i + 1) before) now)) ++ all_left (drop (i + 1) before) now ≡ all_left before now
+      → (so_far ++ leaving f.user (left_window f.user f.window (drop (i + 1) before) now)) ++ all_left
+      (drop (i + 1) before) now ≡ all_left before now
   one_more before i f so_far at is =
-      append_assoc so_far (leaving f.user (left_window f.user f.window (drop (i + 1) before) now)) (all_left (drop (i + 1) before) now)
+      append_assoc so_far (leaving f.user (left_window f.user f.window (drop (i + 1) before) now))
+      (all_left (drop (i + 1) before) now)
       ∙ ap (λ fs. so_far ++ all_left fs now) (sym at) ∙ is
 
 -- ---- what each client has in focus
@@ -98,7 +109,8 @@ focuses_same (m ∷ rows) (c ∷ cs) st =
 focuses_same [] (c ∷ cs) st = absurd st
 focuses_same (m ∷ rows) [] st = absurd st
 
-pub all_focused : (rows : List model.Client) (cs items : List Client) (i : ℕ) (made : List Focus) → AreClients rows cs → length rows ≤ 64
+pub all_focused : (rows : List model.Client) (cs items : List Client) (i : ℕ) (made : List Focus) → AreClients rows cs
+    → length rows ≤ 64
     → items ≡ cs → length items ≤ i → (length items ≤ 64 → made ≡ map focus_now (take i items)) → made ≡ focuses_of rows
 all_focused rows cs items i made st few same past is =
     let lengths : length rows ≡ length items = sym (length_match ClientStands rows cs st) ∙ ap length (sym same) in
@@ -106,33 +118,42 @@ all_focused rows cs items i made st few same past is =
 
 -- ---- a step's end
 
-aside_append : (xs ys : List Act) → AllByRecursion IsAside xs → AllByRecursion IsAside ys → AllByRecursion IsAside (xs ++ ys)
+aside_append : (xs ys : List Act) → AllByRecursion IsAside xs → AllByRecursion IsAside ys
+    → AllByRecursion IsAside (xs ++ ys)
 aside_append [] ys one rest = rest
 aside_append (x ∷ xs) ys one rest = (one.0, aside_append xs ys one.1 rest)
 
-aside_by : (user : UserId) (w : ℕ) (b : Bool) → AllByRecursion IsAside (if b then (let none : List Act = [] in none) else Left user w ∷ [])
+aside_by : (user : UserId) (w : ℕ) (b : Bool)
+    → AllByRecursion IsAside (if b then (let none : List Act = [] in none) else Left user w ∷ [])
 aside_by user w true = tt
 aside_by user w false = (tt, tt)
 
-aside_one : (m : model.Client) (o : Option ℕ) (rows now : List model.Client) → AllByRecursion IsAside (left_acts_of m o rows now)
+aside_one : (m : model.Client) (o : Option ℕ) (rows now : List model.Client)
+    → AllByRecursion IsAside (left_acts_of m o rows now)
 aside_one m None rows now = tt
 aside_one m (Some w) rows now = aside_by m.user w (is_in_focus rows m.user w || is_in_focus now m.user w)
 
 aside_left : (rows now : List model.Client) → AllByRecursion IsAside (left_acts rows now)
 aside_left [] now = tt
-aside_left (m ∷ rows) now = aside_append (left_acts_of m (focused m) rows now) (left_acts rows now) (aside_one m (focused m) rows now) (aside_left rows now)
+aside_left (m ∷ rows) now = aside_append (left_acts_of m (focused m) rows now) (left_acts rows now)
+    (aside_one m (focused m) rows now) (aside_left rows now)
 
 -- the state stands for the step's last tables
-pub has_ended : (t : Tables) (d : Deed) (s : State) (locks : Locks) (acts : List Act) → acts ≡ left_acts t.clients d.tables.clients → Stands (did t d) s
-    → ((edition : Edition) (owner : UserId) (h : History) → LocksStandFor s.locks edition owner h → LocksStandFor locks edition owner (followed_by h acts))
+pub has_ended : (t : Tables) (d : Deed) (s : State) (locks : Locks) (acts : List Act)
+    → acts ≡ left_acts t.clients d.tables.clients → Stands (did t d) s
+    → ((edition : Edition) (owner : UserId) (h : History) → LocksStandFor s.locks edition owner h
+    → LocksStandFor locks edition owner (followed_by h acts))
     → Stands (ended t d) (record s { locks = locks })
 has_ended t d s locks acts are st told =
     let left : List Act = left_acts t.clients d.tables.clients in
-    let order : followed_by t.acts (d.acts ++ left) ≡ followed_by (followed_by t.acts d.acts) left = followed_by-append t.acts d.acts left in
+    let order : followed_by t.acts (d.acts ++ left) ≡ followed_by (followed_by t.acts d.acts) left = followed_by-append
+    t.acts d.acts left in
     record {
       acl = subst (λ h. StandsFor s.acl d.tables.edition d.tables.owner h) (sym order)
-          (StandsFor-all_aside s.acl d.tables.edition d.tables.owner (followed_by t.acts d.acts) left (aside_left t.clients d.tables.clients) st.acl);
-      locks = subst (λ h. LocksStandFor locks d.tables.edition d.tables.owner h) (ap (followed_by (followed_by t.acts d.acts)) are ∙ sym order)
+          (StandsFor-all_aside s.acl d.tables.edition d.tables.owner (followed_by t.acts d.acts) left
+          (aside_left t.clients d.tables.clients) st.acl);
+      locks = subst (λ h. LocksStandFor locks d.tables.edition d.tables.owner h)
+          (ap (followed_by (followed_by t.acts d.acts)) are ∙ sym order)
           (told d.tables.edition d.tables.owner (followed_by t.acts d.acts) st.locks);
       multiuser_is = st.multiuser_is;
       windows = st.windows;
@@ -146,10 +167,7 @@ pub rest_is : {A : Type 0} (xs : List A) (i : ℕ) → take (length xs - i) (dro
 rest_is xs i = take_all (length xs - i) (drop i xs) (omega (arith, length-drop i xs))
 
 -- an element that was pushed
-pub pushed : {A E X : Type 0} (r : Result A E) (before after : List X) (x : X) → IsOk r → after ≡ (if is_ok r then before ++ x ∷ [] else before) → after ≡ before ++ x ∷ []
+pub pushed : {A E X : Type 0} (r : Result A E) (before after : List X) (x : X) → IsOk r
+    → after ≡ (if is_ok r then before ++ x ∷ [] else before) → after ≡ before ++ x ∷ []
 pushed (Ok a) before after x ok is = is
 pushed (Err e) before after x ok is = absurd (cc (ok))
-
-pub grown : {A E X : Type 0} (r : Result A E) (before after more : List X) → IsOk r → after ≡ (if is_ok r then before ++ more else before) → after ≡ before ++ more
-grown (Ok a) before after more ok is = is
-grown (Err e) before after more ok is = absurd (cc (ok))

@@ -5,6 +5,3 @@ pub mod NewWindows
 pub mod Feeding
 pub mod Parts
 pub mod Left
-pub mod Parting
-pub mod Answering
-pub mod Ending

@@ -37,12 +37,14 @@ module _ (t : Tables) (k : model.Caller) (none : caller_client t k ≡ None) whe
   refused c acts = absurd (cc (acts))
 
 -- such a command is refused where no client that is attached gives it
-pub nobody_gives : (k : Caller) (c : Command) (s : State) (made : StepOutput) (r : Refusal) → acts_on_client c ≡ true → (r ≡ NoWindow) × NobodyGives k s → Does k c s (Err r) s made made
+pub nobody_gives : (k : Caller) (c : Command) (s : State) (made : StepOutput) (r : Refusal) → acts_on_client c ≡ true
+    → (r ≡ NoWindow) × NobodyGives k s → Does k c s (Err r) s made made
 nobody_gives k c s made r acts none = λ t st fit passed.
     inr (refused t (caller_in t k) (none.1 t st) c acts ∙ ap (λ (e : Refusal). Err e) (sym none.0))
 
 -- what lists nothing leaves all as it was, where it lists something
-pub silent_lists : (r : Result (Option (List ℕ)) Refusal) (old new : State) (before after : StepOutput) → IsSilent r old new before after
+pub silent_lists : (r : Result (Option (List ℕ)) Refusal) (old new : State) (before after : StepOutput)
+    → IsSilent r old new before after
     → IfOk r (λ text. is_some text ≡ true → IsAsBefore old new before after)
 silent_lists (Ok None) old new before after silent = λ some. absurd (cc (some))
 silent_lists (Ok (Some text)) old new before after silent = absurd (cc (silent.0))

@@ -17,7 +17,7 @@ use Rattle.session_state.specs.declared.step_output.StepOutput.{StepOutput}
 use Rattle.session_state.specs.declared.state.State.{State}
 use Rattle.session_state.specs.Stands.{Stands}
 use Rattle.session_state.specs.Doing.{HasDone, IsAsBefore, did}
-use Rattle.session_rights.specs.Checked.{Failed}
+use Rattle.session_checks.specs.Checked.{Failed}
 use Rattle.session_events.specs.Leaving.{HasLeft}
 use Rattle.session_input.specs.Stepping.{HasHappened, Stepped}
 
@@ -112,6 +112,7 @@ pub was_passed : (t : Tables) (cs : List Check) (d : Deed) (o : Outcome) (reply 
     → first.acts.items ≡ before.acts.items → first.effects.items ≡ before.effects.items
     → HasDone t d middle first second → HasLeft t d new second after
     → noted ≡ past ++ verdicts t cs → HasHappened o said new before after past noted
-was_passed t cs d o reply said middle new before first second after past noted is none same acts effects done left told =
+was_passed t cs d o reply said middle new before first second after past noted is none same acts effects done left told
+    =
     was_done t (verdicts t cs) d o reply said middle new before first second after past noted
     (is ∙ passed_is t cs reply d none) same acts effects done left told

@@ -9,15 +9,16 @@ ghost use Rattle.session_input.specs.Acting.{acts_on_client};
 ghost use Rattle.session_input.specs.Ruled.{Rules};
 
 use command_lang::Command;
-use session_commands::{
-    clear, client_of, defwritelock, encoding, fit, focus, next, number, only, other, prev, remove,
-    reset, scrollview, select, split, stuff, title, wall, writelock,
+use session_access::{
+    acladd, aclchg, acldel, aclgrp, aclgrp_of, aclumask, detach, kill, multiuser, quit,
 };
-use session_events::{acldel, detach, kill, multiuser, quit};
+use session_checks::check_command;
+use session_commands::{
+    clear, client_of, defwritelock, displays, encoding, fit, focus, next, number, only, other,
+    prev, remove, reset, screen, scrollview, select, split, stuff, title, wall, windows, writelock,
+};
 use session_model::{Bytes, Refusal};
-use session_rights::{acladd, aclchg, aclgrp, aclumask, check_command};
 use session_state::{Caller, State, Step, StepOutput};
-use session_view::{aclgrp_of, displays, screen, windows};
 
 /// The window of a caller's command, by its serial.
 fn window_of(caller: Caller) -> Result<u32, Refusal>

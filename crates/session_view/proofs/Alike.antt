@@ -1,5 +1,6 @@
 -- Clients that are granted to see the same.
-use Rattle.std.proofs.Common.{◌≡◌, ◌↔◌, ℕ, ◌+◌, ◌<◌, zero, suc, Bool, true, false, List, [], ◌∷◌, Option, Some, None, refl, ap, sym, ◌∙◌, subst, map, take, length, get_or, arith}
+use Rattle.std.proofs.Common.{◌≡◌, ◌↔◌, ℕ, ◌+◌, ◌<◌, zero, suc, Bool, true, false, List, [], ◌∷◌, Option, Some, None}
+use Rattle.std.proofs.Common.{refl, ap, sym, ◌∙◌, subst, map, take, length, get_or, arith}
 use Prim.Native.Char.{code}
 use mathlib.Core.Bool.{beq}
 use Rattle.acl.specs.declared.user_id.UserId.{UserId}
@@ -32,7 +33,8 @@ page_of l rows columns = record {
 abbrev said : Tables → model.Client → Option (List ℕ) → List ℕ
 said t m o = elim o [ Some line ↦ code ":" ∷ line | None ↦ message_text t m m.message ]
 
-said_to_all : (t : Tables) (m n : model.Client) (x : Message) → is_for_all x ≡ true → message_text t m x ≡ message_text t n x
+said_to_all : (t : Tables) (m n : model.Client) (x : Message) → is_for_all x ≡ true
+    → message_text t m x ≡ message_text t n x
 said_to_all t m n message.Silence all = refl
 said_to_all t m n (message.Text bytes) all = refl
 said_to_all t m n message.AllWindows all = absurd (cc (all))
@@ -66,21 +68,33 @@ pub by_rights : (t : Tables) (user other : UserId) (shown : Shown) (serial : ℕ
     → shown.window ≡ Some serial → window_at t serial ≡ Some w → (p q : Bool)
     → p ≡ may_in t user Read (object.Window serial) → q ≡ may_in t other Read (object.Window serial)
     → (beq p q ≡ true) ↔ (part_shown t user shown ≡ part_shown t other shown)
-by_rights t user other shown serial w at here true true may also =
-    ((λ same. readable t user shown serial w at here (sym may) ∙ sym (readable t other shown serial w at here (sym also))), (λ same. refl))
-by_rights t user other shown serial w at here false false may also =
-    ((λ same. hidden t user shown serial w at here (sym may) ∙ sym (hidden t other shown serial w at here (sym also))), (λ same. refl))
+by_rights t user other shown serial w at here true true may also = (
+  (λ same. readable t user shown serial w at here (sym may)
+      ∙ sym (readable t other shown serial w at here (sym also))),
+  (λ same. refl),
+)
+by_rights t user other shown serial w at here false false may also = (
+  (λ same. hidden t user shown serial w at here (sym may) ∙ sym (hidden t other shown serial w at here (sym also))),
+  (λ same. refl),
+)
 by_rights t user other shown serial w at here true false may also = (
   (λ same. absurd (cc (same))),
-  (λ same. absurd (cc (sym (readable t user shown serial w at here (sym may)) ∙ (same ∙ hidden t other shown serial w at here (sym also))))),
+  (λ same. absurd
+      (cc
+      (sym (readable t user shown serial w at here (sym may))
+      ∙ (same ∙ hidden t other shown serial w at here (sym also))))),
 )
 by_rights t user other shown serial w at here false true may also = (
   (λ same. absurd (cc (same))),
-  (λ same. absurd (cc (sym (hidden t user shown serial w at here (sym may)) ∙ (same ∙ readable t other shown serial w at here (sym also))))),
+  (λ same. absurd
+      (cc
+      (sym (hidden t user shown serial w at here (sym may))
+      ∙ (same ∙ readable t other shown serial w at here (sym also))))),
 )
 
 -- one after another
-pub alike_more : {A B : Type 0} (f g : A → B) (xs : List A) (i : ℕ) (x d : A) → i < length xs → x ≡ get_or xs i d → f x ≡ g x
+pub alike_more : {A B : Type 0} (f g : A → B) (xs : List A) (i : ℕ) (x d : A) → i < length xs → x ≡ get_or xs i d
+    → f x ≡ g x
     → map f (take i xs) ≡ map g (take i xs) → map f (take (i + 1) xs) ≡ map g (take (i + 1) xs)
 alike_more f g [] i x d lt at same before = absurd (omega arith)
 alike_more f g (y ∷ ys) zero x d lt at same before = ap (λ z. z ∷ []) (sym (ap f at) ∙ (same ∙ ap g at))
@@ -89,10 +103,12 @@ alike_more f g (y ∷ ys) (suc i) x d lt at same before =
     let rest : map f (take i ys) ≡ map g (take i ys) = cc (before) in
     let more = alike_more f g ys i x d (omega arith) at same rest in
     let n : suc i + 1 ≡ suc (i + 1) = omega arith in
-    subst (λ k. map f (take k (y ∷ ys)) ≡ map g (take k (y ∷ ys))) (sym n) (ap (λ z. z ∷ map f (take (i + 1) ys)) first ∙ ap (λ zs. g y ∷ zs) more)
+    subst (λ k. map f (take k (y ∷ ys)) ≡ map g (take k (y ∷ ys))) (sym n)
+    (ap (λ z. z ∷ map f (take (i + 1) ys)) first ∙ ap (λ zs. g y ∷ zs) more)
 
 pub alike_each : {A B : Type 0} (f g : A → B) (xs : List A) (i : ℕ) (x d : A) → i < length xs → x ≡ get_or xs i d
     → map f xs ≡ map g xs → f x ≡ g x
 alike_each f g [] i x d lt at all = absurd (omega arith)
 alike_each f g (y ∷ ys) zero x d lt at all = let first : f y ≡ g y = cc (all) in ap f at ∙ (first ∙ sym (ap g at))
-alike_each f g (y ∷ ys) (suc i) x d lt at all = let rest : map f ys ≡ map g ys = cc (all) in alike_each f g ys i x d (omega arith) at rest
+alike_each f g (y ∷ ys) (suc i) x d lt at all = let rest : map f ys ≡ map g ys = cc (all) in alike_each f g ys i x d
+    (omega arith) at rest

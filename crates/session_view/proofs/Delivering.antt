@@ -25,7 +25,8 @@ use Rattle.session_clients.specs.Draws.{LeadsFrom}
 use Rattle.session_clients.proofs.Changing.{serials}
 use Rattle.session_clients.proofs.Changing as changing
 use Rattle.session_view.specs.Viewed.{IsGranted, IsViewFor}
-use Rattle.session_view.specs.Drawn.{HasDrawn, HasDrawnSo, IsNothing, IsSomething, LeadsOn, Delivers, IsDrawnBy, DrawsBy, DrawsFor}
+use Rattle.session_view.specs.Drawn.{HasDrawn, HasDrawnSo, IsNothing, IsSomething, LeadsOn, Delivers, IsDrawnBy}
+use Rattle.session_view.specs.Drawn.{DrawsBy, DrawsFor}
 
 abbrev serial_of : model.Client → ℕ
 serial_of m = m.serial
@@ -79,7 +80,8 @@ module _ (t : Tables) (s : State) (client : ℕ) (m : model.Client) (v : View) (
           subst (NeedsDraw m.drawn) granted drawn.needed,
           subst (λ (w : View). IsFrame m.rows m.columns m.delivered w bytes) granted drawn.frame,
         );
-        shows = subst (ShowsFromAny (m.delivered ++ deliveries (Deliver client bytes ∷ []) m.serial) m.rows m.columns) granted
+        shows = subst (ShowsFromAny (m.delivered ++ deliveries (Deliver client bytes ∷ []) m.serial) m.rows m.columns)
+            granted
             (subst (λ (b : List ℕ). ShowsFromAny (m.delivered ++ b) m.rows m.columns v) (sym (sent bytes)) drawn.shows);
       };
       effects_are = effects_are;
@@ -89,9 +91,12 @@ module _ (t : Tables) (s : State) (client : ℕ) (m : model.Client) (v : View) (
         locks = st.locks;
         multiuser_is = st.multiuser_is;
         windows = st.windows;
-        clients = subst (λ (b : List ℕ). AreClients (with_row serial_of t.clients m.serial (drawn_row b (granted_view t m))) new) (sym (sent bytes))
+        clients = subst
+            (λ (b : List ℕ). AreClients (with_row serial_of t.clients m.serial (drawn_row b (granted_view t m))) new)
+            (sym (sent bytes))
             (subst (λ (w : View). AreClients (with_row serial_of t.clients m.serial (drawn_row bytes w)) new) granted
-            (subst (λ (n : ℕ). AreClients (with_row serial_of t.clients n (drawn_row bytes v)) new) (sym own) drawn.stands));
+            (subst (λ (n : ℕ). AreClients (with_row serial_of t.clients n (drawn_row bytes v)) new) (sym own)
+            drawn.stands));
         next_window_is = st.next_window_is;
         next_client_is = st.next_client_is;
       };

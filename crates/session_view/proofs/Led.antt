@@ -53,7 +53,8 @@ module _ (t : Tables) (s : State) (client : ℕ) (l : Lead) (st : Stands t s) (m
   -- by a frame of its own
   pub own_leads : (f : Made) → LeadsFrom client s.clients f.before → f.view ≡ l.frame.view → LeadsOn t m f
   own_leads f leads view =
-      let row = row_there ClientStands model_serial serial_of serials t.clients s.clients client m st.clients at in record {
+      let row = row_there ClientStands model_serial serial_of serials t.clients s.clients client m st.clients at in
+      record {
         before = sym (leads row.0 row.1) ∙ shadow_is m row.0 row.2;
         granted = subst (IsGranted t m) (sym view) granted_also;
       }

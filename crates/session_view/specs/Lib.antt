@@ -1,7 +1,3 @@
-pub mod Items
-pub mod Orders
-pub mod Growing
-pub mod Listing
 pub mod Parts
 pub mod Status
 pub mod Viewed

@@ -3,8 +3,8 @@
 ghost use Rattle.std.specs.Prelude.{◌≡◌, ◌∷◌, IfOk};
 ghost use Rattle.session_view.specs.Status.{SaysStatus, SaysMessage};
 
-use crate::texts::{clients_text, windows_text};
 use session_clients::Client;
+use session_commands::{clients_text, windows_text};
 use session_model::{Bytes, Message};
 use session_state::State;
 use std::alloc::{AllocError, Global};

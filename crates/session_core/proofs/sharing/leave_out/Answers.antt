@@ -12,7 +12,8 @@ without_none client (n ∷ l) none = grind (arith, none, without_none client l)
 pub returns-then-contains : goal.returns-then-contains
 returns-then-contains c =
     let test = λ (n : ℕ). not (n == c.args.client) in
-    filter_same _ test _ (λ x b f called. search rules) c.args.clients.now.items c.retain.new.self.items c.retain.ensures.filtered
+    filter_same _ test _ (λ x b f called. search rules) c.args.clients.now.items c.retain.new.self.items
+    c.retain.ensures.filtered
 
 pub returns-else-contains : goal.returns-else-contains
 returns-else-contains c =

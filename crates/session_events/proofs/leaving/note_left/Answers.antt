@@ -1,4 +1,5 @@
-use Rattle.std.proofs.Common.{◌≡◌, ◌∙◌, ◌+◌, ◌<◌, List, [], ◌∷◌, ◌++◌, None, ap, sym, subst, append-nil, append_assoc, get_or, drop, length, arith, Vec, Global}
+use Rattle.std.proofs.Common.{◌≡◌, ◌∙◌, ◌+◌, ◌<◌, List, [], ◌∷◌, ◌++◌, None, ap, sym, subst, append-nil, append_assoc}
+use Rattle.std.proofs.Common.{get_or, drop, length, arith, Vec, Global}
 use Rattle.std.proofs.lemmas.List.{drop_all}
 use Rattle.acl.specs.History.{followed_by}
 use Rattle.acl.specs.declared.act.Act.{Act}
@@ -17,9 +18,11 @@ returns-clause-locks c = λ edition owner h st.
     let so_far = c.loop-i.invariant.0 in
     let whole : so_far ≡ all_left c.args.before.now c.args.clients.now =
     sym (append-nil so_far)
-    ∙ ap (λ fs. so_far ++ all_left fs c.args.clients.now) (sym (drop_all c.loop-i.i c.args.before.now c.loop-i-test.false))
+    ∙ ap (λ fs. so_far ++ all_left fs c.args.clients.now)
+    (sym (drop_all c.loop-i.i c.args.before.now c.loop-i-test.false))
     ∙ c.loop-i.invariant.1 in
-    subst (λ acts. LocksStandFor c.loop-i.locks edition owner (followed_by h acts)) whole (c.loop-i.invariant.5 edition owner h st)
+    subst (λ acts. LocksStandFor c.loop-i.locks edition owner (followed_by h acts)) whole
+    (c.loop-i.invariant.5 edition owner h st)
 
 pub loop-i-preserved : goal.loop-i-preserved
 loop-i-preserved c =
@@ -32,7 +35,8 @@ loop-i-preserved c =
     let inside : i < length before = c.loop-i-test.true in
     let found : c.left_window.result ≡ left_window f.user f.window (drop (i + 1) before) now =
     c.left_window.ensures ∙ ap (λ fs. left_window f.user f.window fs now) (rest_is before (i + 1)) in
-    let whole : (so_far ++ leaving f.user c.left_window.result) ++ all_left (drop (i + 1) before) now ≡ all_left before now =
+    let whole : (so_far ++ leaving f.user c.left_window.result) ++ all_left (drop (i + 1) before) now ≡ all_left before
+    now =
     ap (λ o. (so_far ++ leaving f.user o) ++ all_left (drop (i + 1) before) now) found
     ∙ one_more now before i f so_far (sym (drop-next before i blank inside)) c.loop-i.invariant.1 in
     elim c.match-left_window.branch [
@@ -42,7 +46,8 @@ loop-i-preserved c =
             more,
             ap (λ o. (so_far ++ leaving f.user o) ++ all_left (drop (i + 1) before) now) (sym w.in-Some.is) ∙ whole,
             ap (λ (v : Vec Act Global). v.items) w.acts-is
-                ∙ pushed w.push.result c.loop-i.acts.items w.push.new.self.items (Left f.user w.in-Some.window) (w.push.ensures.succeeds (omega arith)) w.push.ensures.items
+                ∙ pushed w.push.result c.loop-i.acts.items w.push.new.self.items (Left f.user w.in-Some.window)
+                (w.push.ensures.succeeds (omega arith)) w.push.ensures.items
                 ∙ ap (λ xs. xs ++ acts) c.loop-i.invariant.2
                 ∙ append_assoc c.args.acts.now.items so_far acts,
             rw w.acts-is (omega arith),
@@ -55,11 +60,13 @@ loop-i-preserved c =
       | in_default w ↦ (
         so_far,
         ap (λ xs. xs ++ all_left (drop (i + 1) before) now) (sym (append-nil so_far))
-            ∙ ap (λ o. (so_far ++ leaving f.user o) ++ all_left (drop (i + 1) before) now) (sym w.in_default.is) ∙ whole,
+            ∙ ap (λ o. (so_far ++ leaving f.user o) ++ all_left (drop (i + 1) before) now) (sym w.in_default.is)
+            ∙ whole,
         ap (λ (v : Vec Act Global). v.items) w.acts-is ∙ c.loop-i.invariant.2,
         rw w.acts-is (omega arith),
         rw w.acts-is (omega arith),
         λ edition owner h st.
-            subst (λ l. LocksStandFor l edition owner (followed_by h so_far)) (sym w.locks-is) (c.loop-i.invariant.5 edition owner h st),
+            subst (λ l. LocksStandFor l edition owner (followed_by h so_far)) (sym w.locks-is)
+            (c.loop-i.invariant.5 edition owner h st),
       )
     ]

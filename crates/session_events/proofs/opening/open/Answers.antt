@@ -68,7 +68,8 @@ returns-clause-answer c = λ t st fit passed.
           (record before { acts = c.push.new.self }) st
           (c.window_opened.ensures t.edition t.owner t.acts st.acl may.known unopened few)
           (c.opened.ensures t.edition t.owner t.acts st.locks unopened few)
-          (opened_rows t user c.args.size.rows c.args.size.columns c.args.size.keep c.args.title.now may window serial_is
+          (opened_rows t user c.args.size.rows c.args.size.columns c.args.size.keep c.args.title.now may window
+          serial_is
           (next_above t window fit serial_is) c.in_ok-number.number c.open.new.self
           (c.in_ok-number.ensures.answer t.windows st.windows))
           (pushed c.push.result c.unwrap.result c.push.new.self.items

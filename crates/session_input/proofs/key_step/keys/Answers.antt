@@ -9,7 +9,8 @@ use Rattle.session_input.specs.Reads.{read_of}
 use Rattle.session_input.proofs.Putting.{serial}
 use Rattle.session_input.proofs.KeyStepping.{called_by, were_read, err_always}
 use Rattle.session_input.proofs.key_step.keys.Goals as goal
-use Rattle.session_input.proofs.key_step.keys.Goals.{in-Some-order+in_ok-give_order-in-Some-order, in-None+in_ok-give_typed-in-None}
+use Rattle.session_input.proofs.key_step.keys.Goals.{in-Some-order+in_ok-give_order-in-Some-order}
+use Rattle.session_input.proofs.key_step.keys.Goals.{in-None+in_ok-give_typed-in-None}
 
 pub returns-in_err-give_order-in-Some-order-clause-err : goal.returns-in_err-give_order-in-Some-order-clause-err
 returns-in_err-give_order-in-Some-order-clause-err c =

@@ -14,10 +14,14 @@ returns-in_err-client-clause-answer c =
 
 pub returns-in-Screen-clause-answer : goal.returns-in-Screen-clause-answer
 returns-in-Screen-clause-answer c =
-    subst (λ (o : Command). Does c.args.caller o c.args.state.now c.screen.result c.args.state.now c.args.made.now c.args.made.now)
+    subst
+    (λ (o : Command). Does c.args.caller o c.args.state.now c.screen.result c.args.state.now c.args.made.now
+    c.args.made.now)
     (sym c.in-Screen.is) (c.screen.ensures c.args.made.now)
 
 pub returns-in-Windows-clause-answer : goal.returns-in-Windows-clause-answer
 returns-in-Windows-clause-answer c =
-    subst (λ (o : Command). Does c.args.caller o c.args.state.now c.windows.result c.args.state.now c.args.made.now c.args.made.now)
+    subst
+    (λ (o : Command). Does c.args.caller o c.args.state.now c.windows.result c.args.state.now c.args.made.now
+    c.args.made.now)
     (sym c.in-Windows.is) (c.windows.ensures c.args.made.now)

@@ -8,8 +8,10 @@ use Rattle.session_view.proofs.sameness.see_the_same.Goals as goal
 
 pub returns-clause-exact : goal.returns-clause-exact
 returns-clause-exact c = λ t st fit.
-    let a = both_back ClientStands (client_at t c.args.client) (Some c.in-Some.a.now) c.in-Some.a.now (c.in-Some.ensures.stands t.clients st.clients) refl in
-    let b = both_back ClientStands (client_at t c.args.other) (Some c.in-Some-get.b.now) c.in-Some-get.b.now (c.in-Some-get.ensures.stands t.clients st.clients) refl in
+    let a = both_back ClientStands (client_at t c.args.client) (Some c.in-Some.a.now) c.in-Some.a.now
+    (c.in-Some.ensures.stands t.clients st.clients) refl in
+    let b = both_back ClientStands (client_at t c.args.other) (Some c.in-Some-get.b.now) c.in-Some-get.b.now
+    (c.in-Some-get.ensures.stands t.clients st.clients) refl in
     let tells = c.are_alike.ensures t a.0 b.0 st fit a.2 b.2 in (
       (λ yes. (a.0, b.0, a.1, b.1, tells.0 yes)),
       (λ both.

@@ -11,6 +11,7 @@ returns c = λ t st fit.
     let row = both_back WindowStands (window_at t c.in-Some.serial) (Some c.in-Some-get._window.now)
     c.in-Some-get._window.now (c.in-Some-get.ensures.finds t.windows st.windows) refl in
     let here = there_by_acts t c.args.user c.args.shown c.in-Some.serial row.0 c.in-Some.is row.1 fit in
-    by_rights t c.args.user c.args.other c.args.shown c.in-Some.serial row.0 c.in-Some.is row.1 c.is_ok-may.result c.is_ok.result
+    by_rights t c.args.user c.args.other c.args.shown c.in-Some.serial row.0 c.in-Some.is row.1 c.is_ok-may.result
+    c.is_ok.result
     (c.is_ok-may.ensures.value ∙ c.may.ensures.answer t.edition t.owner t.acts st.acl here)
     (c.is_ok.ensures.value ∙ c.may-2.ensures.answer t.edition t.owner t.acts st.acl here)

@@ -1,0 +1,5 @@
+pub mod Asked
+pub mod Leaders
+pub mod Going
+pub mod Closing
+pub mod Settling

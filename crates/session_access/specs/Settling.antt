@@ -1,0 +1,30 @@
+-- What is answered where clients or windows only go.
+use Rattle.std.specs.Prelude.{ℕ, ◌==◌, None, Result, Ok, Err}
+use Rattle.session_model.specs.declared.event.Reason.TheVariants as reason
+use Rattle.session_model.specs.declared.refusal.Refusal.{Refusal}
+use Rattle.session_model.specs.declared.refusal.Refusal.TheVariants.{NoWindow}
+use Rattle.session_model.specs.Tables.{Tables, client_at}
+use Rattle.session_model.specs.Deeds.{Answer, given, parts}
+use Rattle.session_state.specs.declared.step_output.StepOutput.{StepOutput}
+use Rattle.session_state.specs.declared.state.State.{State}
+use Rattle.session_state.specs.Stands.{Stands}
+use Rattle.session_model.specs.Sound.{AreFit}
+use Rattle.session_state.specs.Doing.{Answers}
+
+-- as a command that lists nothing
+abbrev pub Settled :
+    Tables → Answer → Result (Unit {0}) Refusal → State → StepOutput → StepOutput → Type 0
+Settled t answer (Ok done) new before after = Answers t answer (Ok None) new before after
+Settled t answer (Err r) new before after = Answers t answer (Err r) new before after
+
+-- whichever tables the state stood for
+abbrev pub Settles :
+    (Tables → Answer) → State → Result (Unit {0}) Refusal → State → StepOutput → StepOutput → Type 0
+Settles answer old result new before after =
+    (t : Tables) → Stands t old → AreFit t → Settled t (answer t) result new before after
+
+-- a client goes, where there is one of the serial
+abbrev pub detaching : ℕ → Tables → Answer
+detaching client t =
+    given (client_at t client) NoWindow
+    (λ c. Ok (parts (λ d. d.serial == client) reason.Detached t))

@@ -1,0 +1,4 @@
+pub mod Checking
+pub mod Places
+pub mod Standing
+pub mod Listing

@@ -1,0 +1,19 @@
+use Rattle.std.proofs.Common.{ℕ, Some, sym, subst}
+use Rattle.regions.specs.declared.shown.Shown.{Shown}
+use Rattle.session_model.specs.Tables as model
+use Rattle.session_model.specs.Deeds.{enters, showing}
+use Rattle.session_state.specs.Doing.{HasDone}
+use Rattle.session_commands.specs.Entering.{IsOpenThere}
+use Rattle.session_commands.proofs.Paging.{done_entering}
+use Rattle.session_commands.proofs.Shown.{at_set}
+use Rattle.session_commands.proofs.pages.show.Goals as goal
+
+pub returns-clause-done : goal.returns-clause-done
+returns-clause-done c = λ t m w st at serial there.
+    let shown : Shown = record { window = Some c.args.window; back = 0 } in
+    subst
+    (λ (n : ℕ). HasDone t (enters t m (showing m (record { window = Some n; back = 0 }))) c.enter_focused.new.state
+    c.args.made.now c.enter_focused.new.made) (sym serial)
+    (done_entering t c.args.state.now c.show.new.self c.args.client m (λ (d : model.Client). showing d shown)
+    c.enter_focused.new.state c.args.made.now c.enter_focused.new.made st at c.show.ensures
+    c.enter_focused.ensures.done (at_set (IsOpenThere t) m.layout.shown m.layout.focus shown tt there))
