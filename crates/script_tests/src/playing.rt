@@ -1,7 +1,8 @@
 //! Plays a script.
 
-use session::{Asked, simulate_behind};
+use session::{Asked, simulate, simulate_behind};
 use std::alloc::{AllocError, Global};
+use std::fs::Files;
 
 /// What a run of the simulator left.
 #[derive(Drop)]
@@ -21,8 +22,25 @@ pub fn arguments(alloc: Global, words: &[&str]) -> Result<Vec<String>, AllocErro
     Ok(owned)
 }
 
+/// Plays a script, with these words behind the program's name.
+pub fn play<H: Files + AllocGlobal>(
+    rt: &H,
+    words: &[&str],
+    script: &[u8],
+) -> Result<Played, AllocError> {
+    let words = arguments(rt.alloc(), words)?;
+    let mut output = Vec::new(rt.alloc());
+    let mut errors = Vec::new(rt.alloc());
+    let status = simulate(rt, &words, script, &mut output, &mut errors);
+    Ok(Played {
+        output,
+        errors,
+        status,
+    })
+}
+
 /// Plays a script behind a setup, with these words behind the program's name.
-pub fn play(
+pub fn play_behind(
     alloc: Global,
     words: &[&str],
     setup: &[u8],
