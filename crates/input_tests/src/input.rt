@@ -1,7 +1,8 @@
 //! Scripts, setups and words that aren't understood, and readers and writers that fail.
 
-use session::{Asked, simulate_behind};
+use session::{Asked, simulate, simulate_behind};
 use std::alloc::{AllocError, Global};
+use std::fs::Files;
 use std::io::{Read, Write};
 use std::{io, str};
 
@@ -37,17 +38,22 @@ fn is_wanted(want: &str, bytes: &[u8]) -> bool {
     }
 }
 
-fn is_so(alloc: Global, run: &Run<'_>) -> bool {
+fn is_so<H: Files + AllocGlobal>(rt: &H, run: &Run<'_>) -> bool {
+    let alloc = rt.alloc();
     let Ok(words) = arguments(alloc, run.words) else {
         return false;
     };
-    let asked = Asked {
-        words: &words,
-        setup: run.setup,
-    };
     let mut output = Vec::new(alloc);
     let mut errors = Vec::new(alloc);
-    let status = simulate_behind(alloc, asked, run.script, &mut output, &mut errors);
+    let status = if run.setup.is_empty() {
+        simulate(rt, &words, run.script, &mut output, &mut errors)
+    } else {
+        let asked = Asked {
+            words: &words,
+            setup: run.setup,
+        };
+        simulate_behind(alloc, asked, run.script, &mut output, &mut errors)
+    };
     status == run.status && is_wanted(run.output, &output) && is_wanted(run.errors, &errors)
 }
 
@@ -80,23 +86,23 @@ const HELP: Run<'static> = Run {
     ..UNREAD
 };
 
-fn are_words_understood(alloc: Global) -> bool {
+fn are_words_understood<H: Files + AllocGlobal>(rt: &H) -> bool {
     for words in &NO_WORDS {
         let run = Run {
             words,
             errors: "..",
             ..UNREAD
         };
-        if !is_so(alloc, &run) {
+        if !is_so(rt, &run) {
             return false;
         }
     }
-    is_so(alloc, &UNREAD) && is_so(alloc, &HELP)
+    is_so(rt, &UNREAD) && is_so(rt, &HELP)
 }
 
 #[test]
 fn words_are_the_owner_the_edition_and_show(rt: HostRuntime) {
-    assert!(rt; are_words_understood(rt.alloc()));
+    assert!(rt; are_words_understood(&rt));
 }
 
 /// Lines that aren't understood, parted by bars.
@@ -116,20 +122,20 @@ const REFUSED: Run<'static> = Run {
 };
 
 /// Whether the lines before this one are played, and no line behind it.
-fn is_refused(alloc: Global, line: &str) -> bool {
-    let Ok(script) = format!(in alloc; "open own 2 5 0 sh\n\n{line}\nattach own 4 20\n") else {
+fn is_refused<H: Files + AllocGlobal>(rt: &H, line: &str) -> bool {
+    let Ok(script) = format!(in rt.alloc(); "open own 2 5 0 sh\n\n{line}\nattach own 4 20\n") else {
         return false;
     };
     let run = Run {
         script: script.as_bytes(),
         ..REFUSED
     };
-    is_so(alloc, &run)
+    is_so(rt, &run)
 }
 
-fn first_understood(alloc: Global) -> Option<&'static str> {
+fn first_understood<H: Files + AllocGlobal>(rt: &H) -> Option<&'static str> {
     for line in NO_EVENTS.split('|') {
-        if !is_refused(alloc, line.trim_start_matches('\n')) {
+        if !is_refused(rt, line.trim_start_matches('\n')) {
             return Some(line);
         }
     }
@@ -138,7 +144,7 @@ fn first_understood(alloc: Global) -> Option<&'static str> {
 
 #[test]
 fn lines_before_the_first_bad_one_are_played(rt: HostRuntime) {
-    assert_eq!(rt; first_understood(rt.alloc()), None);
+    assert_eq!(rt; first_understood(&rt), None);
 }
 
 /// Appends a script with a text of so many bytes.
@@ -149,8 +155,8 @@ fn put_text(count: usize, script: &mut Vec<u8>) -> Result<(), AllocError> {
 }
 
 /// Whether a script with such a text ends so.
-fn ends(alloc: Global, count: usize, run: Run<'_>) -> bool {
-    let mut script = Vec::new(alloc);
+fn ends<H: Files + AllocGlobal>(rt: &H, count: usize, run: Run<'_>) -> bool {
+    let mut script = Vec::new(rt.alloc());
     if put_text(count, &mut script).is_err() {
         return false;
     }
@@ -158,7 +164,7 @@ fn ends(alloc: Global, count: usize, run: Run<'_>) -> bool {
         script: &script,
         ..run
     };
-    is_so(alloc, &run)
+    is_so(rt, &run)
 }
 
 const READ: Run<'static> = Run {
@@ -171,7 +177,7 @@ const READ: Run<'static> = Run {
 
 #[test]
 fn texts_have_8192_bytes_at_most(rt: HostRuntime) {
-    assert!(rt; ends(rt.alloc(), 8192, READ) && ends(rt.alloc(), 8193, REFUSED));
+    assert!(rt; ends(&rt, 8192, READ) && ends(&rt, 8193, REFUSED));
 }
 
 const SCRIPT: &[u8] = b"open own 2 5 0 sh\n";
@@ -196,7 +202,7 @@ static SETUPS: [(&[u8], &str); 4] = [
     ),
 ];
 
-fn are_setups_refused(alloc: Global) -> bool {
+fn are_setups_refused<H: Files + AllocGlobal>(rt: &H) -> bool {
     for (setup, errors) in &SETUPS {
         let run = Run {
             words: &["--setup", "there", "own"],
@@ -206,7 +212,7 @@ fn are_setups_refused(alloc: Global) -> bool {
             errors,
             ..REFUSED
         };
-        if !is_so(alloc, &run) {
+        if !is_so(rt, &run) {
             return false;
         }
     }
@@ -215,7 +221,7 @@ fn are_setups_refused(alloc: Global) -> bool {
 
 #[test]
 fn refused_setups_are_told(rt: HostRuntime) {
-    assert!(rt; are_setups_refused(rt.alloc()));
+    assert!(rt; are_setups_refused(&rt));
 }
 
 /// A reader that fails once its bytes are read.
@@ -248,34 +254,29 @@ impl Write for Full {
 }
 
 /// Whether a reader that fails behind its lines is told of, and the lines are played.
-fn is_torn(alloc: Global, asked: Asked) -> bool {
-    let mut output = Vec::new(alloc);
-    let mut errors = Vec::new(alloc);
+fn is_torn<H: Files + AllocGlobal>(rt: &H, words: &[String]) -> bool {
+    let mut output = Vec::new(rt.alloc());
+    let mut errors = Vec::new(rt.alloc());
     let torn = Torn { bytes: SCRIPT };
-    simulate_behind(alloc, asked, torn, &mut output, &mut errors) == 1
+    simulate(rt, words, torn, &mut output, &mut errors) == 1
         && output.as_slice() == b"opened 0 0\n".as_slice()
         && errors.starts_with(b"muxsim: ")
 }
 
 /// Whether a writer that fails is told of.
-fn is_full(alloc: Global, asked: Asked) -> bool {
-    let mut errors = Vec::new(alloc);
-    simulate_behind(alloc, asked, SCRIPT, &mut Full, &mut errors) == 1
-        && errors.starts_with(b"muxsim: ")
+fn is_full<H: Files + AllocGlobal>(rt: &H, words: &[String]) -> bool {
+    let mut errors = Vec::new(rt.alloc());
+    simulate(rt, words, SCRIPT, &mut Full, &mut errors) == 1 && errors.starts_with(b"muxsim: ")
 }
 
-fn are_failures_told(alloc: Global) -> bool {
-    let Ok(words) = arguments(alloc, &["own"]) else {
-        return false;
-    };
-    let asked = Asked {
-        words: &words,
-        setup: b"",
-    };
-    is_torn(alloc, asked) && is_full(alloc, asked)
+fn are_failures_told<H: Files + AllocGlobal>(rt: &H) -> bool {
+    match arguments(rt.alloc(), &["own"]) {
+        Ok(words) => is_torn(rt, &words) && is_full(rt, &words),
+        Err(_) => false,
+    }
 }
 
 #[test]
 fn failing_reads_and_writes_are_told(rt: HostRuntime) {
-    assert!(rt; are_failures_told(rt.alloc()));
+    assert!(rt; are_failures_told(&rt));
 }

@@ -5,7 +5,7 @@
 
 use crate::playing::play;
 use crate::terminals::are_shown;
-use std::alloc::Global;
+use std::fs::Files;
 use std::str::{self, Lines};
 
 /// The first bytes of a frame for a terminal in an unknown state, as they are printed.
@@ -74,12 +74,12 @@ pub fn are_lines(text: &str, printed: &str) -> bool {
 
 /// Whether a script ends well and prints what its text wants, and terminals that read what was
 /// delivered to a client show what is printed of it.
-pub fn is_so(alloc: Global, words: &[&str], text: &str) -> bool {
-    let mut script = String::new(alloc);
+pub fn is_so<H: Files + AllocGlobal>(rt: &H, words: &[&str], text: &str) -> bool {
+    let mut script = String::new(rt.alloc());
     if !put_events(text, &mut script) {
         return false;
     }
-    let Ok(played) = play(alloc, words, script.as_bytes()) else {
+    let Ok(played) = play(rt, words, script.as_bytes()) else {
         return false;
     };
     match str::from_utf8(&played.output) {
@@ -87,7 +87,7 @@ pub fn is_so(alloc: Global, words: &[&str], text: &str) -> bool {
             played.status == 0
                 && played.errors.is_empty()
                 && are_lines(text, printed)
-                && are_shown(alloc, printed)
+                && are_shown(rt.alloc(), printed)
         }
         Err(_) => false,
     }
@@ -118,16 +118,16 @@ client 0
 |                    | / cursor 1 3
 ";
 
-fn are_judged(alloc: Global) -> bool {
+fn are_judged<H: Files + AllocGlobal>(rt: &H) -> bool {
     for (text, printed, is_so) in &JUDGED {
         if are_lines(text, printed) != *is_so {
             return false;
         }
     }
-    !is_so(alloc, &["--show", "own"], STALE) && !is_so(alloc, &["own"], "zap => ok\n")
+    !is_so(rt, &["--show", "own"], STALE) && !is_so(rt, &["own"], "zap => ok\n")
 }
 
 #[test]
 fn what_differs_is_found(rt: HostRuntime) {
-    assert!(rt; are_judged(rt.alloc()));
+    assert!(rt; are_judged(&rt));
 }

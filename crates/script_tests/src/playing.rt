@@ -1,7 +1,8 @@
 //! Plays a script.
 
-use session::{Asked, simulate_behind};
+use session::simulate;
 use std::alloc::{AllocError, Global};
+use std::fs::Files;
 
 /// What a run of the simulator left.
 #[derive(Drop)]
@@ -22,15 +23,15 @@ fn arguments(alloc: Global, words: &[&str]) -> Result<Vec<String>, AllocError> {
 }
 
 /// Plays a script with these words behind the program's name.
-pub fn play(alloc: Global, words: &[&str], script: &[u8]) -> Result<Played, AllocError> {
-    let words = arguments(alloc, words)?;
-    let mut output = Vec::new(alloc);
-    let mut errors = Vec::new(alloc);
-    let asked = Asked {
-        words: &words,
-        setup: b"",
-    };
-    let status = simulate_behind(alloc, asked, script, &mut output, &mut errors);
+pub fn play<H: Files + AllocGlobal>(
+    rt: &H,
+    words: &[&str],
+    script: &[u8],
+) -> Result<Played, AllocError> {
+    let words = arguments(rt.alloc(), words)?;
+    let mut output = Vec::new(rt.alloc());
+    let mut errors = Vec::new(rt.alloc());
+    let status = simulate(rt, &words, script, &mut output, &mut errors);
     Ok(Played {
         output,
         errors,

@@ -2,7 +2,8 @@
 
 use crate::judging::is_so;
 use crate::{draws, one_owner, several_users, splits, views};
-use std::alloc::{AllocError, Global};
+use std::alloc::AllocError;
+use std::fs::Files;
 
 /// Three windows of the owner, and a client of each of four users; bob and eve show window 2.
 pub const FOUR_CLIENTS: &str = r"command own - multiuser on
@@ -26,53 +27,53 @@ draw 0 => deliver 0 reset .. / ok
 keys 0 x => input 0 x / ok
 ";
 
-fn is_row_so(alloc: Global, words: &[&str], beginning: &str, row: &str) -> bool {
+fn is_row_so<H: Files + AllocGlobal>(rt: &H, words: &[&str], beginning: &str, row: &str) -> bool {
     let Some((_, events)) = row.split_once('\n') else {
         return false;
     };
-    match format!(in alloc; "{beginning}{events}\n") {
-        Ok(text) => is_so(alloc, words, text.as_str()),
+    match format!(in rt.alloc(); "{beginning}{events}\n") {
+        Ok(text) => is_so(rt, words, text.as_str()),
         Err(_) => false,
     }
 }
 
 /// The first row that isn't so when it is played with these words behind a beginning. A line `=
 /// TITLE` begins each of them.
-fn first_wrong(
-    alloc: Global,
+fn first_wrong<H: Files + AllocGlobal>(
+    rt: &H,
     words: &[&str],
     beginning: &str,
     rows: &'static str,
 ) -> Option<&'static str> {
     for row in rows.split("\n= ") {
-        if !row.is_empty() && !is_row_so(alloc, words, beginning, row) {
+        if !row.is_empty() && !is_row_so(rt, words, beginning, row) {
             return Some(row);
         }
     }
     None
 }
 
-fn first_wrong_page(alloc: Global) -> Option<&'static str> {
+fn first_wrong_page<H: Files + AllocGlobal>(rt: &H) -> Option<&'static str> {
     let words = ["--show", "own"];
-    first_wrong(alloc, &words, "", one_owner::ROWS)
-        .or(first_wrong(alloc, &words, "", views::ROWS))
-        .or(first_wrong(alloc, &words, "", splits::ROWS))
+    first_wrong(rt, &words, "", one_owner::ROWS)
+        .or(first_wrong(rt, &words, "", views::ROWS))
+        .or(first_wrong(rt, &words, "", splits::ROWS))
 }
 
-fn first_wrong_case(alloc: Global) -> Option<&'static str> {
+fn first_wrong_case<H: Files + AllocGlobal>(rt: &H) -> Option<&'static str> {
     let words = ["own"];
-    first_wrong(alloc, &words, FOUR_CLIENTS, several_users::CASES)
-        .or(first_wrong(alloc, &words, FOUR_CLIENTS, views::CASES))
-        .or(first_wrong(alloc, &words, "", splits::CASES))
-        .or(first_wrong(alloc, &words, DRAWN, draws::CASES))
-        .or(first_wrong(alloc, &words, FOUR_CLIENTS, draws::REVOKED))
+    first_wrong(rt, &words, FOUR_CLIENTS, several_users::CASES)
+        .or(first_wrong(rt, &words, FOUR_CLIENTS, views::CASES))
+        .or(first_wrong(rt, &words, "", splits::CASES))
+        .or(first_wrong(rt, &words, DRAWN, draws::CASES))
+        .or(first_wrong(rt, &words, FOUR_CLIENTS, draws::REVOKED))
 }
 
-fn first_wrong_edition(alloc: Global) -> Option<&'static str> {
+fn first_wrong_edition<H: Files + AllocGlobal>(rt: &H) -> Option<&'static str> {
     let words = ["--edition", "1", "own"];
     let others = ["--edition=2", "own"];
-    first_wrong(alloc, &words, FOUR_CLIENTS, several_users::FIRST).or(first_wrong(
-        alloc,
+    first_wrong(rt, &words, FOUR_CLIENTS, several_users::FIRST).or(first_wrong(
+        rt,
         &others,
         FOUR_CLIENTS,
         several_users::SECOND,
@@ -81,9 +82,9 @@ fn first_wrong_edition(alloc: Global) -> Option<&'static str> {
 
 #[test]
 fn rows_are_printed(rt: HostRuntime) {
-    let wrong = first_wrong_page(rt.alloc())
-        .or(first_wrong_case(rt.alloc()))
-        .or(first_wrong_edition(rt.alloc()));
+    let wrong = first_wrong_page(&rt)
+        .or(first_wrong_case(&rt))
+        .or(first_wrong_edition(&rt));
     assert_eq!(rt; wrong, None);
 }
 
@@ -98,12 +99,12 @@ pub fn put_windows(text: &mut String) -> Result<(), AllocError> {
     )
 }
 
-fn are_forty_open(alloc: Global) -> bool {
-    let mut text = String::new(alloc);
-    put_windows(&mut text).is_ok() && is_so(alloc, &["own"], text.as_str())
+fn are_forty_open<H: Files + AllocGlobal>(rt: &H) -> bool {
+    let mut text = String::new(rt.alloc());
+    put_windows(&mut text).is_ok() && is_so(rt, &["own"], text.as_str())
 }
 
 #[test]
 fn forty_windows_are_open_at_most(rt: HostRuntime) {
-    assert!(rt; are_forty_open(rt.alloc()));
+    assert!(rt; are_forty_open(&rt));
 }
