@@ -17,6 +17,8 @@ use Rattle.hub_trail.specs.declared.kept.Kept.{Kept}
 use Rattle.hub_trail.specs.Trails.{Ending, Entry}
 use Rattle.hub_trail.specs.Legal.{IsTrue, AsksFirst, AsksForCommand, CarriesFailed, IsDenied}
 use Rattle.hub_trail.specs.Legal.{IsLegalEntry, HasItsActs, failed, first_names, has_act_of}
+use Rattle.hub_trail.specs.Legal.{IsSaid}
+use Rattle.hub_trail.specs.Saying.{says}
 use Rattle.hub_trail.specs.Judging.{is_on_there, IsGood}
 use Rattle.hub_check.specs.declared.replay.Replay.{Replay}
 use Rattle.hub_check.specs.Following.{StandsAfter}
@@ -46,6 +48,14 @@ abbrev pub HaveActsIfDone : UserId → History → Command → Ending → List A
 HaveActsIfDone owner h c (Ok finished) acts = HaveActs owner h c acts
 HaveActsIfDone owner h c (Err r) acts = Unit {0}
 
+-- the command says each act on users and rights
+abbrev pub AreSaid : UserId → History → Command → List Act → Type 0
+AreSaid owner h c acts = AllByRecursion (λ a. says owner h c a ≡ true) acts
+
+abbrev pub AreSaidIfDone : UserId → History → Command → Ending → List Act → Type 0
+AreSaidIfDone owner h c (Ok finished) acts = AreSaid owner h c acts
+AreSaidIfDone owner h c (Err r) acts = Unit {0}
+
 -- a user who is known asks first for x on his command
 abbrev pub AsksIfKnown : UserId → History → UserId → Command → List Verdict → Type 0
 AsksIfKnown owner h user c verdicts =
@@ -55,11 +65,13 @@ AsksIfKnown owner h user c verdicts =
 abbrev pub FitsCommand : UserId → History → UserId → Command → Entry → Type 0
 FitsCommand owner h user c e =
     AsksIfKnown owner h user c e.verdicts × HaveActsIfDone owner h c e.reply e.acts
+    × AreSaidIfDone owner h c e.reply e.acts
 
 -- and one of an event
 abbrev pub FitsLine : UserId → History → Kept → Entry → Type 0
 FitsLine owner h event e =
     AsksForCommand owner h event e.verdicts × HasItsActs owner h event e.reply e.acts
+    × IsSaid owner h event e.reply e.acts
 
 -- ---- an entry
 

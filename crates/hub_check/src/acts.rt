@@ -1,49 +1,14 @@
 //! Acts of an entry.
 
-ghost use Rattle.std.specs.Prelude.{◌≡◌, ◌↔◌, ℕ, List, true};
-ghost use Rattle.std.specs.List.{list_any};
-ghost use Rattle.acl.specs.declared.user_id.UserId.{UserId};
-ghost use Rattle.acl.specs.History.{History};
-ghost use Rattle.hub_trail.specs.Legal.{is_act_of, has_act_of, is_let, AreLet, HasItsActs};
-ghost use Rattle.hub_trail.specs.Legal.{is_attached, is_parted, is_opened, is_closed};
-ghost use Rattle.hub_trail.specs.declared.kept.Kept.TheVariants as kept;
+ghost use Rattle.std.specs.Prelude.{◌≡◌, ◌↔◌, true};
+ghost use Rattle.hub_trail.specs.Legal.{is_let, AreLet};
 ghost use Rattle.hub_record.specs.Stored.{kept_lent};
 
-use crate::verdicts::{all_pass, is_granted, is_granted_behind};
-use acl::{Act, UserId};
+use crate::verdicts::{all_pass, is_granted};
+use acl::Act;
+use hub_acts::from_command;
 use hub_record::KeptRef;
-use hub_trail::Ending;
 use session_model::Verdict;
-
-/// Whether the act makes the user known or gone, or changes his entries or his leaders.
-fn is_act_of(act: Act, user: UserId) -> bool
-    ensures { result ≡ is_act_of user act }
-{
-    match act {
-        Act::Known { user: named }
-        | Act::Gone { user: named }
-        | Act::Set { user: named, .. }
-        | Act::Grouped { user: named, .. } => named == user,
-        _ => false,
-    }
-}
-
-/// Whether one of the acts is of the user.
-fn has_any_of(acts: &[Act], user: UserId) -> bool
-    ensures { result ≡ list_any (is_act_of user) acts.now }
-{
-    acts.iter().any(|act| is_act_of(*act, user))
-}
-
-/// Whether one of the acts is of the user, if he is one.
-pub fn has_act_of(acts: &[Act], name: Option<UserId>) -> bool
-    ensures { result ≡ has_act_of acts.now name }
-{
-    match name {
-        Some(user) => has_any_of(acts, user),
-        None => false,
-    }
-}
 
 /// Whether what the event does is let by the verdicts.
 fn is_let(event: KeptRef<'_>, verdicts: &[Verdict]) -> bool
@@ -51,7 +16,7 @@ fn is_let(event: KeptRef<'_>, verdicts: &[Verdict]) -> bool
 {
     match event {
         KeptRef::Command { .. } => is_granted(verdicts),
-        KeptRef::Keys { .. } => is_granted_behind(verdicts),
+        KeptRef::Keys { .. } => is_granted(from_command(verdicts)),
         KeptRef::Attach { .. }
         | KeptRef::Detach { .. }
         | KeptRef::Open { .. }
@@ -64,120 +29,4 @@ pub fn are_let(event: KeptRef<'_>, verdicts: &[Verdict], acts: &[Act]) -> bool
     ensures { (result ≡ true) ↔ AreLet (kept_lent event.entry) verdicts.now acts.now }
 {
     acts.is_empty() || is_let(event, verdicts)
-}
-
-/// Whether an Attach that was done has its act.
-pub fn has_come(ending: &Ending, acts: &[Act], user: UserId) -> bool
-    ensures { (owner : UserId) (h : History) (rows columns : ℕ) → (result ≡ true)
-        ↔ HasItsActs owner h (kept.Attach user rows columns) ending.now acts.now }
-{
-    match ending {
-        Ok(done) => have_attached(acts, done.made, user),
-        Err(_) => true,
-    }
-}
-
-/// Whether a Detach that was done has its act.
-pub fn has_gone(ending: &Ending, acts: &[Act], client: u32) -> bool
-    ensures { (owner : UserId) (h : History) → (result ≡ true)
-        ↔ HasItsActs owner h (kept.Detach client) ending.now acts.now }
-{
-    match ending {
-        Ok(_) => have_parted(acts, client),
-        Err(_) => true,
-    }
-}
-
-/// Whether an Open that was done has its act.
-pub fn has_opened(ending: &Ending, acts: &[Act], user: UserId) -> bool
-    ensures { (owner : UserId) (h : History) (rows columns keep : ℕ) (title : List ℕ) →
-        (result ≡ true)
-        ↔ HasItsActs owner h (kept.Open user rows columns keep title) ending.now acts.now }
-{
-    match ending {
-        Ok(done) => have_opened(acts, done.made, user),
-        Err(_) => true,
-    }
-}
-
-/// Whether a Closed that was done has its act.
-pub fn has_closed(ending: &Ending, acts: &[Act], window: u32) -> bool
-    ensures { (owner : UserId) (h : History) → (result ≡ true)
-        ↔ HasItsActs owner h (kept.Closed window) ending.now acts.now }
-{
-    match ending {
-        Ok(_) => have_closed(acts, window),
-        Err(_) => true,
-    }
-}
-
-/// Whether the act attaches this client of the user.
-fn is_attached(act: Act, client: u32, user: UserId) -> bool
-    ensures { result ≡ is_attached client user act }
-{
-    match act {
-        Act::Attached {
-            client: named,
-            user: other,
-        } => named == client && other == user,
-        _ => false,
-    }
-}
-
-/// Whether this client goes by the act.
-fn is_parted(act: Act, client: u32) -> bool
-    ensures { result ≡ is_parted client act }
-{
-    match act {
-        Act::Parted { client: named } => named == client,
-        _ => false,
-    }
-}
-
-/// Whether the user opens this window by the act.
-fn is_opened(act: Act, window: u32, user: UserId) -> bool
-    ensures { result ≡ is_opened window user act }
-{
-    match act {
-        Act::Opened { by, window: named } => named == window && by == user,
-        _ => false,
-    }
-}
-
-/// Whether this window is closed by the act.
-fn is_closed(act: Act, window: u32) -> bool
-    ensures { result ≡ is_closed window act }
-{
-    match act {
-        Act::Closed { window: named } => named == window,
-        _ => false,
-    }
-}
-
-/// Whether one of the acts attaches this client of the user.
-fn have_attached(acts: &[Act], client: u32, user: UserId) -> bool
-    ensures { result ≡ list_any (is_attached client user) acts.now }
-{
-    acts.iter().any(|act| is_attached(*act, client, user))
-}
-
-/// Whether this client goes by one of the acts.
-fn have_parted(acts: &[Act], client: u32) -> bool
-    ensures { result ≡ list_any (is_parted client) acts.now }
-{
-    acts.iter().any(|act| is_parted(*act, client))
-}
-
-/// Whether the user opens this window by one of the acts.
-fn have_opened(acts: &[Act], window: u32, user: UserId) -> bool
-    ensures { result ≡ list_any (is_opened window user) acts.now }
-{
-    acts.iter().any(|act| is_opened(*act, window, user))
-}
-
-/// Whether this window is closed by one of the acts.
-fn have_closed(acts: &[Act], window: u32) -> bool
-    ensures { result ≡ list_any (is_closed window) acts.now }
-{
-    acts.iter().any(|act| is_closed(*act, window))
 }

@@ -1,21 +1,22 @@
 //! What a Command's line asks of its entry.
 
-ghost use Rattle.std.specs.Prelude.{◌≡◌, ◌↔◌, ℕ, Option, true, IfOk};
+ghost use Rattle.std.specs.Prelude.{◌≡◌, ◌↔◌, ℕ, Option, true, is_err, IfOk};
 ghost use Rattle.hub_trail.specs.declared.kept.Kept.TheVariants as kept;
 ghost use Rattle.acl.specs.declared.edition.Edition.{Edition};
 ghost use Rattle.acl.specs.declared.user_id.UserId.{UserId};
 ghost use Rattle.acl.specs.History.{History};
 ghost use Rattle.hub_check.specs.Following.{StandsAfter};
 ghost use Rattle.hub_record.specs.Stored.{kept_lent};
-ghost use Rattle.hub_check.specs.Parts.{IsReading, AsksIfKnown, HaveActsIfDone};
+ghost use Rattle.hub_check.specs.Parts.{IsReading, AsksIfKnown, HaveActsIfDone, AreSaidIfDone};
 ghost use Rattle.hub_check.specs.Parts.{FitsCommand, FitsLine};
 
-use crate::acts::{has_closed, has_come, has_gone, has_opened};
 use crate::names::have_acts;
 use crate::replay::Replay;
+use crate::says::all_said;
 use crate::verdicts::asks_first;
 use acl::UserId;
 use command_lang::{Command, FaultKind, parse};
+use hub_acts::{has_closed, has_come, has_gone, has_opened};
 use hub_record::{Filed, KeptRef};
 use session_model::Verdict;
 use std::alloc::{AllocError, Global};
@@ -45,6 +46,18 @@ fn have_acts_if_done(owner: UserId, replay: &Replay, command: &Command, entry: &
     }
 }
 
+/// Whether this command says the acts of an entry on users and rights, if it was done.
+fn are_said_if_done(owner: UserId, replay: &Replay, command: &Command, entry: &Filed) -> bool
+    ensures { (edition : Edition) (h : History) → StandsAfter replay.now edition owner h →
+        (result ≡ true)
+        ↔ AreSaidIfDone owner h command.now entry.now.reply entry.now.acts }
+{
+    match entry.ending() {
+        Ok(_) => all_said(owner, replay, command, entry.acts()),
+        Err(_) => true,
+    }
+}
+
 /// Whether a user, if he is known, asks first for x on his command.
 fn asks_if_known(replay: &Replay, user: UserId, command: &Command, verdicts: &[Verdict]) -> bool
     ensures { (edition : Edition) (owner : UserId) (h : History) →
@@ -58,7 +71,8 @@ fn asks_if_known(replay: &Replay, user: UserId, command: &Command, verdicts: &[V
     }
 }
 
-/// Whether an entry of this user's command asks first for x on it, and has its acts.
+/// Whether an entry of this user's command asks first for x on it, and has its acts and no others
+/// on users and rights.
 fn fits_command(
     owner: UserId,
     replay: &Replay,
@@ -72,11 +86,24 @@ fn fits_command(
     if !asks_if_known(replay, user, command, entry.verdicts()) {
         return false;
     }
-    have_acts_if_done(owner, replay, command, entry)
+    if !have_acts_if_done(owner, replay, command, entry) {
+        return false;
+    }
+    are_said_if_done(owner, replay, command, entry)
 }
 
-/// Whether an entry of this user's line asks first for x on its command, if it is one, and has its
-/// acts.
+/// Whether the entry was refused.
+fn is_refused(entry: &Filed) -> bool
+    ensures { result ≡ is_err entry.now.reply }
+{
+    match entry.ending() {
+        Ok(_) => false,
+        Err(_) => true,
+    }
+}
+
+/// Whether an entry of this user's line fits its command; a line that is no command must have been
+/// refused.
 fn fits_text(
     alloc: Global,
     owner: UserId,
@@ -91,11 +118,11 @@ fn fits_text(
 {
     match command_of(alloc, line)? {
         Some(command) => Ok(fits_command(owner, replay, user, &command, entry)),
-        None => Ok(true),
+        None => Ok(is_refused(entry)),
     }
 }
 
-/// Whether an entry of this event asks first for x on its command, if it has one, and has its acts.
+/// Whether an entry of this event fits its command, if it has one, and has its acts.
 pub fn fits_line(
     alloc: Global,
     owner: UserId,

@@ -13,6 +13,7 @@ ghost use Rattle.hub_check.specs.Judges.{HasJudged, Judges};
 
 use crate::acts::are_let;
 use crate::commands::fits_line;
+use crate::fits::{fits, is_of_known};
 use crate::replay::Replay;
 use crate::replies::{carries_failed, is_denied};
 use crate::verdicts::{are_of, are_of_client, are_true, failed};
@@ -86,6 +87,12 @@ fn is_legal(
         return Ok(false);
     }
     if !is_answered(event, entry) {
+        return Ok(false);
+    }
+    if !fits(replay, event, entry) {
+        return Ok(false);
+    }
+    if !is_of_known(replay, event, &entry.ending()) {
         return Ok(false);
     }
     fits_line(alloc, owner, replay, event, entry)

@@ -7,6 +7,7 @@ mod check;
 mod clients;
 mod commands;
 mod fault;
+mod fits;
 pub mod judge;
 mod laws;
 mod lists;
@@ -14,6 +15,7 @@ mod moves;
 mod names;
 mod replay;
 mod replies;
+mod says;
 mod verdicts;
 
 pub use check::check_entries;

@@ -13,10 +13,10 @@ ghost use Rattle.hub_check.specs.Following.{StandsAfter};
 ghost use Rattle.command_lang.specs.command.Command.TheVariants as command;
 ghost use Rattle.hub_check.specs.Parts.{HaveActs};
 
-use crate::acts::has_act_of;
 use crate::replay::Replay;
 use acl::{Act, UserId};
 use command_lang::{Command, Text, Users};
+use hub_acts::has_act_of;
 
 /// Whether the user whom the word names has an act.
 fn has_named(acts: &[Act], word: &Text) -> bool

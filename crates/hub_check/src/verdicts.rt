@@ -5,13 +5,14 @@ ghost use Rattle.std.specs.List.{list_all};
 ghost use Rattle.acl.specs.declared.edition.Edition.{Edition};
 ghost use Rattle.acl.specs.declared.user_id.UserId.{UserId};
 ghost use Rattle.acl.specs.History.{History};
-ghost use Rattle.hub_trail.specs.Legal.{passes, failed, user_of, asks_for_command, AsksFirst};
-ghost use Rattle.hub_trail.specs.Legal.{from_command, is_client_of, is_granted, is_of_user};
+ghost use Rattle.hub_trail.specs.Legal.{passes, failed, user_of, AsksFirst};
+ghost use Rattle.hub_trail.specs.Legal.{is_client_of, is_granted, is_of_user};
 ghost use Rattle.hub_check.specs.Following.{StandsAfter};
 ghost use Rattle.hub_check.specs.Parts.{AreTrue, AsksFor};
 
 use crate::replay::Replay;
 use acl::{Bit, CommandName, Object, UserId};
+use hub_acts::asks_for_command;
 use session_model::Verdict;
 
 /// Whether the verdict lets its user go on.
@@ -87,20 +88,6 @@ pub fn are_of_client(replay: &Replay, client: u32, verdicts: &[Verdict]) -> bool
     true
 }
 
-/// Whether the verdict asks for x on a command.
-fn asks_for_command(verdict: Verdict) -> bool
-    ensures { result ≡ asks_for_command verdict }
-{
-    matches!(
-        verdict,
-        Verdict::Right {
-            bit: Bit::Execute,
-            object: Object::Command(_),
-            ..
-        }
-    )
-}
-
 /// Whether the verdict asks whether the user has x on this command.
 fn asks_for(verdict: Verdict, user: UserId, name: CommandName) -> bool
     ensures { (result ≡ true) ↔ AsksFor user name verdict }
@@ -134,16 +121,4 @@ pub fn is_granted(verdicts: &[Verdict]) -> bool
         [first, ..] => asks_for_command(*first) && all_pass(verdicts),
         [] => false,
     }
-}
-
-/// The same of the verdicts from the first on that asks for a command.
-pub fn is_granted_behind(verdicts: &[Verdict]) -> bool
-    ensures { result ≡ is_granted (from_command verdicts.now) }
-{
-    for i in 0..verdicts.len() {
-        if asks_for_command(verdicts[i]) {
-            return is_granted(&verdicts[i..]);
-        }
-    }
-    false
 }

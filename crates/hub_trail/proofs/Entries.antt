@@ -1,9 +1,12 @@
--- What a step files is legal, and what writes no entry does no act.
-use Rattle.std.proofs.Common.{◌≡◌, ◌∙◌, ℕ, Bool, true, false, List, [], ◌∷◌, ◌++◌, Option, Some, None, Result, Ok, Err, refl, ap, subst, sym, inl, inr, ◌⊎◌, ⊎_elim, take}
+-- What a step files was asked for and answered as is legal, and what writes no entry does no act.
+use Rattle.std.proofs.Common.{◌≡◌, ◌∙◌, ℕ, Bool, true, false, List, [], ◌∷◌, ◌++◌, Option, Some, None, Result, Ok, Err}
+use Rattle.std.proofs.Common.{refl, ap, subst, sym, inl, inr, ◌⊎◌, ⊎_elim, take}
 use Rattle.std.specs.Prelude.{◌==◌, if◌then◌else◌}
 use Rattle.std.specs.List.{AllByRecursion}
 use Rattle.std.proofs.lemmas.Bool.{and_from, or_left, eq-eqb, both_ways}
+use Rattle.acl.specs.declared.edition.Edition.{Edition}
 use Rattle.acl.specs.declared.user_id.UserId.{UserId}
+use Rattle.acl.specs.History.{History}
 use Rattle.acl.specs.declared.act.Object.TheVariants as object
 use Rattle.acl.specs.declared.bits.Bit.TheVariants.{Write, Execute}
 use Rattle.acl.specs.Same.{same_user}
@@ -26,7 +29,8 @@ use Rattle.session_model.specs.declared.verdict.Verdict.{Verdict}
 use Rattle.session_model.specs.declared.verdict.Verdict.TheVariants as verdict
 use Rattle.session_model.specs.Trace.{EventValue, Attach, Detach, Keys, Command, Open, Closed}
 use Rattle.session_model.specs.Sound.{ActsAgree}
-use Rattle.session_model.specs.Tables.{Window, Client, Tables, window_at, client_at, with_client, focused_window, is_known}
+use Rattle.session_model.specs.Tables.{Window, Client, Tables, window_at, client_at, with_client, focused_window}
+use Rattle.session_model.specs.Tables.{is_known}
 use Rattle.session_model.specs.Rights.{may_in, holder_in}
 use Rattle.session_model.specs.Texts.{text_of}
 use Rattle.session_model.specs.Lines.{Caller, caller_of, line_caller}
@@ -37,7 +41,8 @@ use Rattle.session_model.specs.Keying.{items_behind, typed_bytes, command_item, 
 use Rattle.session_model.specs.Outcomes.{Outcome, finished, refused, where_passed, left_acts, reply_of, done}
 use Rattle.session_model.specs.Events.{outcome}
 use Rattle.session_model.specs.Comings.{attaches, opens, attach_checks, open_checks, new_client, new_window}
-use Rattle.session_model.specs.Answering.{line_ruling, answered, commanded, told, typing_verdicts, message_of, keyed, by_line, ordered, Ordered, reading, types, keys_outcome}
+use Rattle.session_model.specs.Answering.{line_ruling, answered, commanded, told, typing_verdicts, message_of, keyed}
+use Rattle.session_model.specs.Answering.{by_line, ordered, Ordered, reading, types, keys_outcome}
 use Rattle.session_model.specs.Promises.{OnlyRead}
 use Rattle.session_laws.proofs.Doing.{Either}
 use Rattle.session_laws.proofs.Granting.{told_read}
@@ -48,9 +53,14 @@ use Rattle.session_laws.proofs.Outcomes as outcomes
 use Rattle.hub_trail.specs.declared.kept.Kept.{Kept}
 use Rattle.hub_trail.specs.declared.kept.Kept.TheVariants as kept
 use Rattle.hub_trail.specs.Trails.{Entry}
-use Rattle.hub_trail.specs.Legal.{IsLegalEntry, AreOfUser, AsksForCommand, AsksFirst, HasItsActs, is_let, is_granted, from_command, failed, first_names, is_client_of, is_of_user, user_of}
+use Rattle.hub_trail.specs.Legal.{IsTrue, AreOfUser, AsksForCommand, AsksFirst, AreLet, CarriesFailed, IsDenied}
+use Rattle.hub_trail.specs.Legal.{HasItsActs}
+use Rattle.hub_trail.specs.Legal.{is_let, is_granted, from_command, failed, first_names, is_client_of, is_of_user}
+use Rattle.hub_trail.specs.Legal.{user_of}
 use Rattle.hub_trail.specs.Filing.{kept_of, ending_of}
-use Rattle.hub_trail.proofs.Verdicts.{AreTrue, true_verdicts, AreOf, own_verdicts, all_pass, Tells, IsPlain, IsCheckOf, tells, plain_refusal, plain_tells, denial_carries, refusal_denies, none_denied, plain_checks, own_checks, own_typing}
+use Rattle.hub_trail.proofs.Verdicts.{AreTrue, true_verdicts, AreOf, own_verdicts, all_pass, Tells, IsPlain, IsCheckOf}
+use Rattle.hub_trail.proofs.Verdicts.{tells, plain_refusal, plain_tells, denial_carries, refusal_denies, none_denied}
+use Rattle.hub_trail.proofs.Verdicts.{plain_checks, own_checks, own_typing}
 use Rattle.hub_trail.proofs.Sights.{stays_alike, left_none, with_stays, parted_found, closed_found, attached}
 use Rattle.hub_trail.proofs.Names.{HasFirst, HasEach, has_first, each_then}
 use Rattle.hub_trail.proofs.Rules.{rules, Still, stills, listed_rules, read_rules}
@@ -58,12 +68,23 @@ use Rattle.hub_trail.proofs.Rules.{rules, Still, stills, listed_rules, read_rule
 abbrev pub entry : Kept → Outcome → Entry
 entry k o = record { event = k; verdicts = o.verdicts; acts = o.acts; reply = ending_of o.reply }
 
+-- the verdicts and the reply of an entry are legal, and it has its acts; `Fitting`, `Saying` and `Knowing` have the rest
+pub record IsAnswered (edition : Edition) (owner : UserId) (h : History) (e : Entry) : Type 0 where
+  pub verdicts : AllByRecursion (IsTrue edition owner h) e.verdicts
+  pub user : AreOfUser h e.event e.verdicts
+  pub first : AsksForCommand owner h e.event e.verdicts
+  pub acts : AreLet e.event e.verdicts e.acts
+  pub denial : CarriesFailed (failed e.verdicts) e.reply
+  pub denied : IsDenied e.event (failed e.verdicts) e.reply
+  pub done : HasItsActs owner h e.event e.reply e.acts
+
 abbrev pub Legal : Tables → Kept → Outcome → Type 0
-Legal t k o = IsLegalEntry t.edition t.owner t.acts (entry k o)
+Legal t k o = IsAnswered t.edition t.owner t.acts (entry k o)
 
 -- ---- refused, and done
 
-refused_legal : (t : Tables) (k : Kept) (cs : List Check) (r : Refusal) → AreOfUser t.acts k (verdicts t cs) → AsksForCommand t.owner t.acts k (verdicts t cs)
+refused_legal : (t : Tables) (k : Kept) (cs : List Check) (r : Refusal) → AreOfUser t.acts k (verdicts t cs)
+    → AsksForCommand t.owner t.acts k (verdicts t cs)
     → Tells (Some r) (failed (verdicts t cs)) → Legal t k (refused t (verdicts t cs) r)
 refused_legal t k cs r user first told = record {
   verdicts = true_verdicts t cs;
@@ -75,7 +96,8 @@ refused_legal t k cs r user first told = record {
   done = tt;
 }
 
-finished_legal : (t : Tables) (k : Kept) (cs : List Check) (y : Done) (d : Deed) → AreOfUser t.acts k (verdicts t cs) → AsksForCommand t.owner t.acts k (verdicts t cs)
+finished_legal : (t : Tables) (k : Kept) (cs : List Check) (y : Done) (d : Deed) → AreOfUser t.acts k (verdicts t cs)
+    → AsksForCommand t.owner t.acts k (verdicts t cs)
     → is_let k (verdicts t cs) ≡ true → Tells None (failed (verdicts t cs))
     → HasItsActs t.owner t.acts k (ending_of (Ok y)) (finished t (verdicts t cs) (Ok y) d).acts
     → Legal t k (finished t (verdicts t cs) (Ok y) d)
@@ -91,18 +113,22 @@ finished_legal t k cs y d user first passing told has = record {
 
 -- what is done where its checks pass, and is no command
 passed_legal : (t : Tables) (k : Kept) (cs : List Check) (y : Done) (d : Deed) → AllByRecursion IsPlain cs
-    → AreOfUser t.acts k (verdicts t cs) → AsksForCommand t.owner t.acts k (verdicts t cs) → (first_fault t cs ≡ None → is_let k (verdicts t cs) ≡ true)
+    → AreOfUser t.acts k (verdicts t cs) → AsksForCommand t.owner t.acts k (verdicts t cs)
+    → (first_fault t cs ≡ None → is_let k (verdicts t cs) ≡ true)
     → HasItsActs t.owner t.acts k (ending_of (Ok y)) (finished t (verdicts t cs) (Ok y) d).acts
     → Legal t k (where_passed t cs (Ok y) d)
 passed_legal t k cs y d plain user first passing has =
     outcomes.passed (Legal t k) t (verdicts t cs) (first_fault t cs) (Ok y) d
     (λ r is. refused_legal t k cs r user first (subst (λ f. Tells f (failed (verdicts t cs))) is (tells t cs plain)))
-    (λ is. finished_legal t k cs y d user first (passing is) (subst (λ f. Tells f (failed (verdicts t cs))) is (tells t cs plain)) has)
+    (λ is. finished_legal t k cs y d user first (passing is)
+    (subst (λ f. Tells f (failed (verdicts t cs))) is (tells t cs plain)) has)
 
 -- checks of one user give verdicts of his
-own_user : (t : Tables) (user : UserId) (cs : List Check) → AllByRecursion (IsCheckOf user) cs → AllByRecursion (λ v. is_of_user user v ≡ true) (verdicts t cs)
+own_user : (t : Tables) (user : UserId) (cs : List Check) → AllByRecursion (IsCheckOf user) cs
+    → AllByRecursion (λ v. is_of_user user v ≡ true) (verdicts t cs)
 own_user t user cs own =
-    all_weaken (λ v. user_of v ≡ user) (λ v. is_of_user user v ≡ true) (verdicts t cs) (λ v same. ap (λ u. same_user u user) same ∙ same_user-refl user) (own_verdicts t user cs own)
+    all_weaken (λ v. user_of v ≡ user) (λ v. is_of_user user v ≡ true) (verdicts t cs)
+        (λ v same. ap (λ u. same_user u user) same ∙ same_user-refl user) (own_verdicts t user cs own)
 
 -- ---- a line that says a command
 
@@ -117,11 +143,13 @@ one_order c d r a b = ap (order_in c) (sym a ∙ b)
 fault_or_order : {P : Type 0} (f : ParseFault) (c : Order) (r : Result Order ParseFault) → r ≡ Err f → r ≡ Ok c → P
 fault_or_order f c r a b = let e : Err f ≡ Ok c = sym a ∙ b in absurd (cc (e))
 
-granted_first : (t : Tables) (k : Caller) (c : Order) → first_fault t (checks t k c) ≡ None → is_granted (verdicts t (checks t k c)) ≡ true
+granted_first : (t : Tables) (k : Caller) (c : Order) → first_fault t (checks t k c) ≡ None
+    → is_granted (verdicts t (checks t k c)) ≡ true
 granted_first t k c none = all_pass t (checks t k c) none
 
 asks_own : (t : Tables) (k : Caller) (c d : Order) → c ≡ d → AsksFirst k.user (name_of d) (verdicts t (checks t k c))
-asks_own t k c d e = subst (λ (d : Order). AsksFirst k.user (name_of d) (verdicts t (checks t k c))) e (may_in t k.user Execute (object.Command (name_of c)), refl)
+asks_own t k c d e = subst (λ (d : Order). AsksFirst k.user (name_of d) (verdicts t (checks t k c))) e
+    (may_in t k.user Execute (object.Command (name_of c)), refl)
 
 module _ (t : Tables) (user : UserId) (number : Option ℕ) (bytes : List ℕ) where
   abbrev k : Caller
@@ -138,49 +166,69 @@ module _ (t : Tables) (user : UserId) (number : Option ℕ) (bytes : List ℕ) w
     first : AsksForCommand t.owner t.acts event (verdicts t (checks t k c))
     first known d said = asks_own t k c d (one_order c d (read_line bytes) read (relates-reads bytes d said))
 
-    named : (d : Deed) → HasFirst t c d → HasItsActs t.owner t.acts event (ending_of (reply_of 0 0 0 d.lists)) (d.acts ++ left_acts t.clients d.tables.clients)
+    named : (d : Deed) → HasFirst t c d
+        → HasItsActs t.owner t.acts event (ending_of (reply_of 0 0 0 d.lists))
+        (d.acts ++ left_acts t.clients d.tables.clients)
     named d has o said =
-        subst (λ (o : Order). HasEach (d.acts ++ left_acts t.clients d.tables.clients) (first_names t.owner t.acts o)) (one_order c o (read_line bytes) read (relates-reads bytes o said))
+        subst (λ (o : Order). HasEach (d.acts ++ left_acts t.clients d.tables.clients) (first_names t.owner t.acts o))
+            (one_order c o (read_line bytes) read (relates-reads bytes o said))
         (each_then d.acts (left_acts t.clients d.tables.clients) (first_names t.owner t.acts c) has)
 
-    does_legal : (a : Answer) → first_fault t (checks t k c) ≡ None → Tells None (failed (verdicts t (checks t k c))) → Either (Still t) a → Of (HasFirst t c) a
+    does_legal : (a : Answer) → first_fault t (checks t k c) ≡ None → Tells None (failed (verdicts t (checks t k c)))
+        → Either (Still t) a → Of (HasFirst t c) a
         → Legal t event (answered t (verdicts t (checks t k c)) a)
-    does_legal (Err r) none told plain has = refused_legal t event (checks t k c) r own first (plain_tells r (failed (verdicts t (checks t k c))) (plain_refusal r plain) told)
+    does_legal (Err r) none told plain has = refused_legal t event (checks t k c) r own first
+        (plain_tells r (failed (verdicts t (checks t k c))) (plain_refusal r plain) told)
     does_legal (Ok d) none told still has =
-        finished_legal t event (checks t k c) (record { taken = 0; made = 0; number = 0; text = d.lists }) d own first (granted_first t k c none) told (named d has)
+        finished_legal t event (checks t k c) (record { taken = 0; made = 0; number = 0; text = d.lists }) d own first
+            (granted_first t k c none) told (named d has)
 
-    ruled_legal : (f : Option Refusal) → first_fault t (checks t k c) ≡ f → Tells f (failed (verdicts t (checks t k c)))
-        → Legal t event (answered t (verdicts t (checks t k c)) (elim f as (λ _. Answer) [ Some r ↦ Err r | None ↦ does t k c ]))
+    ruled_legal : (f : Option Refusal) → first_fault t (checks t k c) ≡ f
+        → Tells f (failed (verdicts t (checks t k c)))
+        → Legal t event (answered t (verdicts t (checks t k c))
+        (elim f as (λ _. Answer) [ Some r ↦ Err r | None ↦ does t k c ]))
     ruled_legal (Some r) is told = refused_legal t event (checks t k c) r own first told
     ruled_legal None is told = does_legal (does t k c) is told (stills t k c) (has_first t k c)
 
   line_legal : (r : Result Order ParseFault) → read_line bytes ≡ r → Legal t event (commanded t (line_ruling t k r))
-  line_legal (Ok c) read = ruled_legal c read (first_fault t (checks t k c)) refl (tells t (checks t k c) (plain_checks t k c))
+  line_legal (Ok c) read = ruled_legal c read (first_fault t (checks t k c)) refl
+      (tells t (checks t k c) (plain_checks t k c))
   line_legal (Err f) read =
-      refused_legal t event [] (Line f) tt (λ known d said. fault_or_order f d (read_line bytes) read (relates-reads bytes d said)) refl
+      refused_legal t event [] (Line f) tt
+          (λ known d said. fault_or_order f d (read_line bytes) read (relates-reads bytes d said)) refl
 
-  known_legal : (b : Bool) → is_known t user ≡ b → Legal t event (if b then commanded t (line_ruling t k (read_line bytes)) else refused t [] UnknownUser)
+  known_legal : (b : Bool) → is_known t user ≡ b
+      → Legal t event (if b then commanded t (line_ruling t k (read_line bytes)) else refused t [] UnknownUser)
   known_legal true is = line_legal (read_line bytes) refl
-  known_legal false is = refused_legal t event [] UnknownUser tt (λ known d said. absurd (both_ways (is_known t user) is known)) refl
+  known_legal false is = refused_legal t event [] UnknownUser tt
+      (λ known d said. absurd (both_ways (is_known t user) is known)) refl
 
   command_legal : Legal t event (outcome t (Command user number bytes))
   command_legal = known_legal (is_known t user) refl
 
 -- ---- Attach, Open, Detach, Closed
 
-attach_legal : (t : Tables) (user : UserId) (rows columns : ℕ) → Legal t (kept.Attach user rows columns) (outcome t (Attach user rows columns))
+attach_legal : (t : Tables) (user : UserId) (rows columns : ℕ)
+    → Legal t (kept.Attach user rows columns) (outcome t (Attach user rows columns))
 attach_legal t user rows columns =
     let cs : List Check = attach_checks t user rows columns in
-    passed_legal t (kept.Attach user rows columns) cs (record { taken = 0; made = t.next_client; number = 0; text = None }) (attaches t (new_client t user rows columns)) (refl, (refl, (refl, (refl, tt)))) tt tt
-    (λ none. all_pass t cs none) (or_left _ _ (and_from _ _ (eq-eqb t.next_client t.next_client refl) (same_user-refl user)))
+    passed_legal t (kept.Attach user rows columns) cs
+        (record { taken = 0; made = t.next_client; number = 0; text = None })
+        (attaches t (new_client t user rows columns)) (refl, (refl, (refl, (refl, tt)))) tt tt
+    (λ none. all_pass t cs none) (or_left _ _ (and_from _ _ (eq-eqb t.next_client t.next_client refl)
+    (same_user-refl user)))
 
-open_legal : (t : Tables) (user : UserId) (rows columns keep : ℕ) (title : List ℕ) → Legal t (kept.Open user rows columns keep title) (outcome t (Open user rows columns keep title))
+open_legal : (t : Tables) (user : UserId) (rows columns keep : ℕ) (title : List ℕ)
+    → Legal t (kept.Open user rows columns keep title) (outcome t (Open user rows columns keep title))
 open_legal t user rows columns keep title =
     let cs : List Check = open_checks t user rows columns keep title in
     let w : Window = new_window t rows columns keep title in
-    passed_legal t (kept.Open user rows columns keep title) cs (record { taken = 0; made = w.serial; number = w.number; text = None }) (opens t user w) (refl, (tt, (refl, (refl, (refl, (refl, tt))))))
+    passed_legal t (kept.Open user rows columns keep title) cs
+        (record { taken = 0; made = w.serial; number = w.number; text = None }) (opens t user w)
+        (refl, (tt, (refl, (refl, (refl, (refl, tt))))))
     (own_user t user cs (tt, (refl, (tt, (tt, (tt, (tt, tt))))))) tt
-    (λ none. all_pass t cs none) (or_left _ _ (and_from _ _ (eq-eqb t.next_window t.next_window refl) (same_user-refl user)))
+    (λ none. all_pass t cs none) (or_left _ _ (and_from _ _ (eq-eqb t.next_window t.next_window refl)
+    (same_user-refl user)))
 
 abbrev nothing : Done
 nothing = record { taken = 0; made = 0; number = 0; text = None }
@@ -188,14 +236,18 @@ nothing = record { taken = 0; made = 0; number = 0; text = None }
 detach_legal : (t : Tables) (client : ℕ) → Legal t (kept.Detach client) (outcome t (Detach client))
 detach_legal t client =
     let d : Deed = parts (λ (d : Client). d.serial == client) reason.Detached t in
-    outcomes.found (Legal t (kept.Detach client)) t (λ (c : Client). finished t [] done d) (client_at t client) (refused_legal t (kept.Detach client) [] NoWindow tt tt refl)
-    (λ c is. finished_legal t (kept.Detach client) [] nothing d tt tt refl tt (parted_found t.clients client c (left_acts t.clients d.tables.clients) is))
+    outcomes.found (Legal t (kept.Detach client)) t (λ (c : Client). finished t [] done d) (client_at t client)
+        (refused_legal t (kept.Detach client) [] NoWindow tt tt refl)
+    (λ c is. finished_legal t (kept.Detach client) [] nothing d tt tt refl tt
+    (parted_found t.clients client c (left_acts t.clients d.tables.clients) is))
 
 closed_legal : (t : Tables) (window : ℕ) → Legal t (kept.Closed window) (outcome t (Closed window))
 closed_legal t window =
     let d : Deed = closes (λ (v : Window). v.serial == window) reason.Detached t in
-    outcomes.found (Legal t (kept.Closed window)) t (λ (w : Window). finished t [] done d) (window_at t window) (refused_legal t (kept.Closed window) [] NoWindow tt tt refl)
-    (λ w is. finished_legal t (kept.Closed window) [] nothing d tt tt refl tt (closed_found t.windows window w (left_acts t.clients d.tables.clients) is))
+    outcomes.found (Legal t (kept.Closed window)) t (λ (w : Window). finished t [] done d) (window_at t window)
+        (refused_legal t (kept.Closed window) [] NoWindow tt tt refl)
+    (λ w is. finished_legal t (kept.Closed window) [] nothing d tt tt refl tt
+    (closed_found t.windows window w (left_acts t.clients d.tables.clients) is))
 
 -- ---- Keys
 
@@ -203,7 +255,8 @@ closed_legal t window =
 pub record IsOrdered (t : Tables) (user : UserId) (o : Ordered) : Type 0 where
   pub truth : AreTrue t o.verdicts
   pub own : AreOf user o.verdicts
-  pub stand : (o.deed.acts ++ left_acts t.clients o.deed.tables.clients ≡ []) ⊎ (is_granted (from_command o.verdicts) ≡ true)
+  pub stand : (o.deed.acts ++ left_acts t.clients o.deed.tables.clients ≡ []) ⊎ (is_granted
+      (from_command o.verdicts) ≡ true)
   pub still : rules o.deed.tables ≡ rules t
 
 module _ (t : Tables) (cs : List Client) (same : SameClients t cs) (d : Client) where
@@ -211,15 +264,18 @@ module _ (t : Tables) (cs : List Client) (same : SameClients t cs) (d : Client) 
   v = record t { clients = cs }
 
   only : OnlyRead t v
-  only = record { owner = refl; edition = refl; next_window = refl; next_client = refl; acts = refl; multiuser = refl; windows = refl; clients = same }
+  only = record { owner = refl; edition = refl; next_window = refl; next_client = refl; acts = refl; multiuser = refl;
+      windows = refl; clients = same }
 
   abbrev Is : Ordered → Type 0
   Is o = IsOrdered t d.user o
 
   -- a refusal is told
-  why_said : (r : Refusal) (m : List ℕ → Message) (asked : List Check) → AllByRecursion (IsCheckOf d.user) asked → Is (record { verdicts = verdicts v asked; deed = keyed v d.serial m (Err r) })
+  why_said : (r : Refusal) (m : List ℕ → Message) (asked : List Check) → AllByRecursion (IsCheckOf d.user) asked
+      → Is (record { verdicts = verdicts v asked; deed = keyed v d.serial m (Err r) })
   why_said r m asked own =
-      let all : OnlyRead t (told v d.serial (message.Text (text_of r))) = told_read t v d.serial (message.Text (text_of r)) only in
+      let all : OnlyRead t (told v d.serial (message.Text (text_of r))) =
+          told_read t v d.serial (message.Text (text_of r)) only in
       record {
         truth = true_verdicts v asked;
         own = own_verdicts v d.user asked own;
@@ -240,7 +296,8 @@ module _ (t : Tables) (cs : List Client) (same : SameClients t cs) (d : Client) 
     }
 
     on : (f : Option Refusal) → first_fault v (checks v (caller_of v d) c) ≡ f
-        → Is (record { verdicts = verdicts v (checks v (caller_of v d) c); deed = keyed v d.serial (message_of c) (elim f as (λ _. Answer) [ Some r ↦ Err r | None ↦ does v (caller_of v d) c ]) })
+        → Is (record { verdicts = verdicts v (checks v (caller_of v d) c); deed = keyed v d.serial (message_of c)
+        (elim f as (λ _. Answer) [ Some r ↦ Err r | None ↦ does v (caller_of v d) c ]) })
     on (Some r) is = why_said r (message_of c) (checks v (caller_of v d) c) (own_checks v (caller_of v d) c)
     on None is = answer (does v (caller_of v d) c) is (stills v (caller_of v d) c)
 
@@ -260,16 +317,19 @@ module _ (t : Tables) (cs : List Client) (same : SameClients t cs) (d : Client) 
 
 -- the tables once a step's bytes were typed
 abbrev pub typed_into : Tables → Client → List ℕ → Tables
-typed_into t c bytes = let d : Client = reading bytes c in (types (with_client t d) d (typed_bytes (items_behind c.keys bytes))).tables
+typed_into t c bytes = let d : Client =
+    reading bytes c in (types (with_client t d) d (typed_bytes (items_behind c.keys bytes))).tables
 
 abbrev pub order_of : Tables → Client → List ℕ → Ordered
 order_of t c bytes = ordered (typed_into t c bytes) (reading bytes c) (command_item (items_behind c.keys bytes))
 
-pub keys_ordered : (t : Tables) (s : ℕ) (c : Client) (bytes : List ℕ) → client_at t s ≡ Some c → IsOrdered t c.user (order_of t c bytes)
+pub keys_ordered : (t : Tables) (s : ℕ) (c : Client) (bytes : List ℕ) → client_at t s ≡ Some c
+    → IsOrdered t c.user (order_of t c bytes)
 keys_ordered t s c bytes found =
     let d : Client = reading bytes c in
     let item : Option Item = command_item (items_behind c.keys bytes) in
-    typing_clients (λ v. IsOrdered t c.user (ordered v d item)) t s c d (typed_bytes (items_behind c.keys bytes)) found refl refl
+    typing_clients (λ v. IsOrdered t c.user (ordered v d item)) t s c d
+        (typed_bytes (items_behind c.keys bytes)) found refl refl
     (λ cs same. is_ordered t cs same d item)
 
 -- the verdicts of typed bytes
@@ -279,25 +339,31 @@ true_typing t c (b ∷ bytes) = true_verdicts t (typing_checks c.user (focused_w
 
 typing_own : (t : Tables) (c : Client) (bytes : List ℕ) → AreOf c.user (typing_verdicts t c bytes)
 typing_own t c [] = tt
-typing_own t c (b ∷ bytes) = own_verdicts t c.user (typing_checks c.user (focused_window t c)) (own_typing c.user (focused_window t c))
+typing_own t c (b ∷ bytes) = own_verdicts t c.user (typing_checks c.user (focused_window t c))
+    (own_typing c.user (focused_window t c))
 
 -- they don't ask for x on a command
-asks_none : (t : Tables) (c : Client) (bytes : List ℕ) (vs : List Verdict) → from_command (typing_verdicts t c bytes ++ vs) ≡ from_command vs
+pub asks_none : (t : Tables) (c : Client) (bytes : List ℕ) (vs : List Verdict)
+    → from_command (typing_verdicts t c bytes ++ vs) ≡ from_command vs
 asks_none t c [] vs = refl
 asks_none t c (b ∷ bytes) vs = on (focused_window t c) where
   locked : (b : Bool) → from_command ((if b then [] else []) ++ vs) ≡ from_command vs
   locked true = refl
   locked false = refl
 
-  written : (w : ℕ) (m s : Bool) → from_command ((if m then verdict.Lock c.user w (holder_in t w) ∷ (if s then [] else []) else []) ++ vs) ≡ from_command vs
+  written : (w : ℕ) (m s : Bool)
+      → from_command ((if m then verdict.Lock c.user w
+      (holder_in t w) ∷ (if s then [] else []) else []) ++ vs) ≡ from_command vs
   written w true s = locked s
   written w false s = refl
 
   on : (o : Option Window) → from_command (verdicts t (typing_checks c.user o) ++ vs) ≡ from_command vs
   on None = refl
-  on (Some w) = written w.serial (may_in t c.user Write (object.Window w.serial)) (stops_nobody_but c.user (holder_in t w.serial))
+  on (Some w) = written w.serial (may_in t c.user Write (object.Window w.serial))
+      (stops_nobody_but c.user (holder_in t w.serial))
 
-keys_legal : (t : Tables) (s : ℕ) (c : Client) (bytes : List ℕ) → ActsAgree t → client_at t s ≡ Some c → Legal t (kept.Keys s) (keys_outcome t c bytes)
+keys_legal : (t : Tables) (s : ℕ) (c : Client) (bytes : List ℕ) → ActsAgree t → client_at t s ≡ Some c
+    → Legal t (kept.Keys s) (keys_outcome t c bytes)
 keys_legal t s c bytes agree found =
     let typing : List Verdict = typing_verdicts t c (typed_bytes (items_behind c.keys bytes)) in
     let o : Ordered = order_of t c bytes in
@@ -305,11 +371,14 @@ keys_legal t s c bytes agree found =
     let Own : Verdict → Type 0 = λ v. is_client_of t.acts s (user_of v) ≡ true in
     record {
       verdicts = all_append _ typing o.verdicts (true_typing t c (typed_bytes (items_behind c.keys bytes))) is.truth;
-      user = all_weaken (λ v. user_of v ≡ c.user) Own (typing ++ o.verdicts) (λ v same. ap (is_client_of t.acts s) same ∙ attached t s c agree found)
-          (all_append (λ v. user_of v ≡ c.user) typing o.verdicts (typing_own t c (typed_bytes (items_behind c.keys bytes))) is.own);
+      user = all_weaken (λ v. user_of v ≡ c.user) Own (typing ++ o.verdicts)
+          (λ v same. ap (is_client_of t.acts s) same ∙ attached t s c agree found)
+          (all_append (λ v. user_of v ≡ c.user) typing o.verdicts
+          (typing_own t c (typed_bytes (items_behind c.keys bytes))) is.own);
       first = tt;
       acts = ⊎_elim (λ (none : o.deed.acts ++ left_acts t.clients o.deed.tables.clients ≡ []). inl none)
-          (λ (granted : is_granted (from_command o.verdicts) ≡ true). inr (ap is_granted (asks_none t c (typed_bytes (items_behind c.keys bytes)) o.verdicts) ∙ granted)) is.stand;
+          (λ (granted : is_granted (from_command o.verdicts) ≡ true). inr
+          (ap is_granted (asks_none t c (typed_bytes (items_behind c.keys bytes)) o.verdicts) ∙ granted)) is.stand;
       denial = tt;
       denied = tt;
       done = tt;
@@ -322,10 +391,12 @@ abbrev pub IsLegalStep : Tables → Option Kept → Outcome → Type 0
 IsLegalStep t None o = o.acts ≡ []
 IsLegalStep t (Some k) o = Legal t k o
 
-unkept : (t : Tables) (event : EventValue) (o : Outcome) → outcomes.Happens t event o → kept_of event ≡ None → o.acts ≡ []
+unkept : (t : Tables) (event : EventValue) (o : Outcome) → outcomes.Happens t event o → kept_of event ≡ None
+    → o.acts ≡ []
 unkept t _ _ (outcomes.failed event vs r why) none = refl
 unkept t _ _ (outcomes.changed event x c is f at) none =
-    left_none t.clients _ (stays_alike t.clients _ (with_stays t.clients x.client c (x.row c) at (f.serial c) (λ i. (f.user c i, f.focus c i))))
+    left_none t.clients _ (stays_alike t.clients _
+        (with_stays t.clients x.client c (x.row c) at (f.serial c) (λ i. (f.user c i, f.focus c i))))
 unkept t _ _ (outcomes.wrote window bytes w at) none = nobody_left t.clients t.clients refl
 unkept t _ _ (outcomes.drew client c at) none = nobody_left t.clients t.clients refl
 unkept t _ _ h none = absurd (cc (none))
@@ -334,7 +405,8 @@ pub legal_step : (t : Tables) (event : EventValue) → ActsAgree t → IsLegalSt
 legal_step t (Attach user rows columns) agree = attach_legal t user rows columns
 legal_step t (Detach client) agree = detach_legal t client
 legal_step t (Keys client bytes) agree =
-    outcomes.found (Legal t (kept.Keys client)) t (λ c. keys_outcome t c (take (taken c.keys bytes) bytes)) (client_at t client) (refused_legal t (kept.Keys client) [] NoWindow tt tt refl)
+    outcomes.found (Legal t (kept.Keys client)) t (λ c. keys_outcome t c (take (taken c.keys bytes) bytes))
+        (client_at t client) (refused_legal t (kept.Keys client) [] NoWindow tt tt refl)
     (λ c is. keys_legal t client c (take (taken c.keys bytes) bytes) agree is)
 legal_step t (Command user number bytes) agree = command_legal t user number bytes
 legal_step t (Open user rows columns keep title) agree = open_legal t user rows columns keep title

@@ -4,5 +4,11 @@ pub mod Names
 pub mod Rules
 pub mod Entries
 pub mod Serials
+pub mod Listed
+pub mod Making
+pub mod Below
+pub mod Fitting
+pub mod Saying
+pub mod Knowing
 pub mod Runs
 pub mod Coming

@@ -5,7 +5,7 @@ use Rattle.acl.specs.declared.user_id.UserId.{UserId}
 use Rattle.acl.specs.History.{History, followed_by}
 use Rattle.session_model.specs.declared.verdict.Verdict.{Verdict}
 use Rattle.session_model.specs.declared.verdict.Verdict.TheVariants.{Right as right, Lock as lock}
-use Rattle.session_model.specs.Sound.{ActsAgree}
+use Rattle.session_model.specs.Sound.{AreFit}
 use Rattle.session_model.specs.Tables.{Tables}
 use Rattle.session_model.specs.Trace.{Trace}
 use Rattle.session_model.specs.Trace as trace
@@ -18,7 +18,7 @@ use Rattle.hub_trail.specs.Judging.{AreJudgeable}
 -- what a step files is legal after the acts of its tables, and has all its acts
 abbrev pub EntriesAreLegal : Type 0
 EntriesAreLegal =
-    (t : Tables) (step : trace.Entry) → ActsAgree t → IsStep t step
+    (t : Tables) (step : trace.Entry) → AreFit t → IsStep t step
     → AreLegal t.edition t.owner t.acts (filed step)
     × (acts_after t.acts (filed step) ≡ followed_by t.acts step.acts)
 

@@ -32,6 +32,8 @@ use Rattle.hub_trail.specs.declared.kept.Kept.{Kept}
 use Rattle.hub_trail.specs.declared.kept.Kept.TheVariants as kept
 use Rattle.hub_trail.specs.declared.kept.Finished.{Finished}
 use Rattle.hub_trail.specs.Trails.{Ending, Entry, Trail}
+use Rattle.hub_trail.specs.Fitting.{made_by, attaches_one, opens_one, detaches, shuts}
+use Rattle.hub_trail.specs.Saying.{says}
 
 -- ---- verdicts
 
@@ -204,6 +206,40 @@ abbrev pub HasItsActs : UserId → History → Kept → Ending → List Act → 
 HasItsActs owner h event (Ok finished) acts = HasActs owner h event finished acts
 HasItsActs owner h event (Err r) acts = Unit {0}
 
+-- ---- what is done has no other acts
+
+-- whether an event that was done can have these acts
+abbrev pub can_have : History → Kept → Finished → List Verdict → List Act → Bool
+can_have h (kept.Attach user rows columns) finished vs acts =
+    attaches_one finished.made user acts
+can_have h (kept.Detach client) finished vs acts =
+    list_all (detaches (is_client_of h client) client) acts
+can_have h (kept.Keys client) finished vs acts = made_by (Some client) (from_command vs) acts
+can_have h (kept.Command user window line) finished vs acts =
+    made_by None (from_command vs) acts
+can_have h (kept.Open user rows columns keep title) finished vs acts =
+    opens_one finished.made user acts
+can_have h (kept.Closed window) finished vs acts = list_all (shuts window) acts
+
+-- and what was refused has no act
+abbrev pub Fits : History → Kept → Ending → List Verdict → List Act → Type 0
+Fits h event (Ok finished) vs acts = can_have h event finished vs acts ≡ true
+Fits h event (Err r) vs acts = acts ≡ []
+
+-- the line of a Command that was done says a command, and all that is done to users and rights
+abbrev pub IsSaid : UserId → History → Kept → Ending → List Act → Type 0
+IsSaid owner h (kept.Command user window line) (Ok finished) acts =
+    (c : Command) × Relates line c × AllByRecursion (λ a. says owner h c a ≡ true) acts
+IsSaid owner h event reply acts = Unit {0}
+
+-- an Attach, a Command or an Open that was done is a known user's
+abbrev pub IsOfKnown : UserId → History → Kept → Ending → Type 0
+IsOfKnown owner h (kept.Attach user rows columns) (Ok finished) = is_known owner h user ≡ true
+IsOfKnown owner h (kept.Command user window line) (Ok finished) = is_known owner h user ≡ true
+IsOfKnown owner h (kept.Open user rows columns keep title) (Ok finished) =
+    is_known owner h user ≡ true
+IsOfKnown owner h event reply = Unit {0}
+
 -- ---- legal
 
 -- an entry is legal after these acts
@@ -216,6 +252,9 @@ pub record IsLegalEntry (edition : Edition) (owner : UserId) (h : History) (e : 
   pub denial : CarriesFailed (failed e.verdicts) e.reply
   pub denied : IsDenied e.event (failed e.verdicts) e.reply
   pub done : HasItsActs owner h e.event e.reply e.acts
+  pub fits : Fits h e.event e.reply e.verdicts e.acts
+  pub says : IsSaid owner h e.event e.reply e.acts
+  pub known : IsOfKnown owner h e.event e.reply
 
 -- and so is each entry after the acts of those before it
 abbrev pub AreLegal : Edition → UserId → History → List Entry → Type 0

@@ -1,4 +1,6 @@
 pub mod Trails
+pub mod Fitting
+pub mod Saying
 pub mod Legal
 pub mod Filing
 pub mod Judging

@@ -1,5 +1,7 @@
-use Rattle.std.proofs.Common.{refl, subst}
-use Rattle.hub_check.specs.Parts.{IsReading}
+use Rattle.std.proofs.Common.{◌≡◌, Bool, true, subst, sym}
+use Rattle.std.specs.Prelude.{◌↔◌}
+use Rattle.hub_trail.specs.declared.kept.Kept.TheVariants as kept
+use Rattle.hub_check.specs.Parts.{IsReading, FitsLine}
 use Rattle.hub_check.proofs.Judged.{no_command, one_fits}
 use Rattle.hub_check.proofs.commands.fits_text.Goals as goal
 
@@ -13,4 +15,7 @@ returns-in-Some c = λ edition h window s.
 pub returns-in-None : goal.returns-in-None
 returns-in-None c = λ edition h window s.
     let reading = subst (IsReading c.args.line.now) c.in-None.is c.in_ok-command.ensures in
-    (λ is. no_command c.args.owner h c.args.user window c.args.line.now c.args.entry.now reading, λ all. refl)
+    let owner = c.args.owner in
+    let event = kept.Command c.args.user window c.args.line.now in
+    subst (λ (b : Bool). (b ≡ true) ↔ FitsLine owner h event c.args.entry.now) (sym c.is_refused.ensures)
+    (no_command owner h c.args.user window c.args.line.now c.args.entry.now reading)

@@ -1,0 +1,13 @@
+use Rattle.std.proofs.Common.{drop}
+use Rattle.std.specs.Prelude.{◌↔◌}
+use Rattle.acl.specs.declared.edition.Edition.{Edition}
+use Rattle.acl.specs.History.{History}
+use Rattle.hub_check.specs.Following.{StandsAfter}
+use Rattle.hub_check.specs.Parts.{AreSaid}
+use Rattle.hub_check.proofs.says.all_said.Given as goal
+
+-- what is left decides
+abbrev pub invariant-loop-act : goal.invariant-loop-act
+invariant-loop-act l =
+    (edition : Edition) (h : History) → StandsAfter l.replay edition l.owner h
+    → AreSaid l.owner h l.given l.acts ↔ AreSaid l.owner h l.given (drop l.act-index l.acts)

@@ -1,0 +1,94 @@
+//! Whether an entry has only acts that its event can have, and is of a user who may have it.
+
+ghost use Rattle.std.specs.Prelude.{◌≡◌, ◌↔◌, true};
+ghost use Rattle.std.specs.List.{list_all};
+ghost use Rattle.acl.specs.declared.edition.Edition.{Edition};
+ghost use Rattle.acl.specs.declared.user_id.UserId.{UserId};
+ghost use Rattle.acl.specs.History.{History};
+ghost use Rattle.hub_trail.specs.Fitting.{detaches};
+ghost use Rattle.hub_trail.specs.Legal.{can_have, is_client_of, Fits, IsOfKnown};
+ghost use Rattle.hub_record.specs.Stored.{kept_lent};
+ghost use Rattle.hub_check.specs.Following.{StandsAfter};
+
+use crate::replay::Replay;
+use acl::{Act, UserId};
+use hub_acts::{all_shut, attaches_one, from_command, made_by, opens_one};
+use hub_record::{Filed, KeptRef};
+use hub_trail::{Ending, Finished};
+use session_model::Verdict;
+
+/// Whether this client goes by the act, or its user leaves a window.
+fn detaches(replay: &Replay, client: u32, act: Act) -> bool
+    ensures { (edition : Edition) (owner : UserId) (h : History) →
+        StandsAfter replay.now edition owner h →
+        result ≡ detaches (is_client_of h client) client act }
+{
+    match act {
+        Act::Parted { client: parted } => parted == client,
+        Act::Left { user, .. } => replay.is_client_of(client, user),
+        _ => false,
+    }
+}
+
+/// Whether this client goes by each act, or its user leaves a window.
+fn all_detach(replay: &Replay, client: u32, acts: &[Act]) -> bool
+    ensures { (edition : Edition) (owner : UserId) (h : History) →
+        StandsAfter replay.now edition owner h →
+        result ≡ list_all (detaches (is_client_of h client) client) acts.now }
+{
+    for act in acts {
+        if !detaches(replay, client, *act) {
+            return false;
+        }
+    }
+    true
+}
+
+/// Whether an event that was done can have these acts.
+fn can_have(
+    replay: &Replay,
+    event: KeptRef<'_>,
+    finished: Finished,
+    verdicts: &[Verdict],
+    acts: &[Act],
+) -> bool
+    ensures { (edition : Edition) (owner : UserId) (h : History) →
+        StandsAfter replay.now edition owner h →
+        result ≡ can_have h (kept_lent event.entry) finished verdicts.now acts.now }
+{
+    match event {
+        KeptRef::Attach { user, .. } => attaches_one(finished.made, user, acts),
+        KeptRef::Detach { client } => all_detach(replay, client, acts),
+        KeptRef::Keys { client } => made_by(Some(client), from_command(verdicts), acts),
+        KeptRef::Command { .. } => made_by(None, from_command(verdicts), acts),
+        KeptRef::Open { user, .. } => opens_one(finished.made, user, acts),
+        KeptRef::Closed { window } => all_shut(window, acts),
+    }
+}
+
+/// Whether an entry of this event has only acts that the event can have, and none where it was
+/// refused.
+pub fn fits(replay: &Replay, event: KeptRef<'_>, entry: &Filed) -> bool
+    ensures { (edition : Edition) (owner : UserId) (h : History) →
+        StandsAfter replay.now edition owner h → (result ≡ true)
+        ↔ Fits h (kept_lent event.entry) entry.now.reply entry.now.verdicts entry.now.acts }
+{
+    match entry.ending() {
+        Ok(finished) => can_have(replay, event, finished, entry.verdicts(), entry.acts()),
+        Err(_) => entry.acts().is_empty(),
+    }
+}
+
+/// Whether an Attach, a Command or an Open is a known user's, if it was done.
+pub fn is_of_known(replay: &Replay, event: KeptRef<'_>, ending: &Ending) -> bool
+    ensures { (edition : Edition) (owner : UserId) (h : History) →
+        StandsAfter replay.now edition owner h → (result ≡ true)
+        ↔ IsOfKnown owner h (kept_lent event.entry) ending.now }
+{
+    match event {
+        KeptRef::Attach { user, .. } => ending.is_err() || replay.knows(user),
+        KeptRef::Command { user, .. } => ending.is_err() || replay.knows(user),
+        KeptRef::Open { user, .. } => ending.is_err() || replay.knows(user),
+        KeptRef::Detach { .. } | KeptRef::Keys { .. } | KeptRef::Closed { .. } => true,
+    }
+}

@@ -1,0 +1,80 @@
+//! Whether a Command does what its line says of users and rights.
+
+ghost use Rattle.std.specs.Prelude.{◌≡◌, ◌↔◌, ◌&&◌, not, true};
+ghost use Rattle.acl.specs.declared.edition.Edition.{Edition};
+ghost use Rattle.acl.specs.History.{History, among, users_of};
+ghost use Rattle.acl.specs.Same.{same_user};
+ghost use Rattle.hub_trail.specs.Saying.{is_named, concerns, says};
+ghost use Rattle.hub_check.specs.Following.{StandsAfter};
+ghost use Rattle.hub_check.specs.Parts.{AreSaid};
+
+use crate::replay::Replay;
+use acl::{Act, UserId};
+use command_lang::{Command, Users};
+use hub_acts::{gives, is_listed, leads, removes};
+
+/// Whether the user is known, and not the owner.
+fn is_other(owner: UserId, replay: &Replay, user: UserId) -> bool
+    ensures { (edition : Edition) (h : History) → StandsAfter replay.now edition owner h →
+        result ≡ (not (same_user owner user) && among (users_of owner h) user) }
+{
+    if owner == user {
+        return false;
+    }
+    replay.knows(user)
+}
+
+/// Whether the user is named; `*` names all known users but the owner.
+fn is_named(owner: UserId, replay: &Replay, users: &Users, user: UserId) -> bool
+    ensures { (edition : Edition) (h : History) → StandsAfter replay.now edition owner h →
+        result ≡ is_named owner h users.now user }
+{
+    match users {
+        Users::All => is_other(owner, replay, user),
+        Users::Listed(words) => is_listed(user, words.as_slice()),
+    }
+}
+
+/// Whether an acladd or an aclchg names the user.
+fn concerns(owner: UserId, replay: &Replay, given: &Command, user: UserId) -> bool
+    ensures { (edition : Edition) (h : History) → StandsAfter replay.now edition owner h →
+        result ≡ concerns owner h given.now user }
+{
+    match given {
+        Command::Acladd(users) => is_named(owner, replay, users, user),
+        Command::Aclchg { users, .. } => is_named(owner, replay, users, user),
+        _ => false,
+    }
+}
+
+/// Whether the command says the act, if it is one on users and rights.
+fn says(owner: UserId, replay: &Replay, given: &Command, act: Act) -> bool
+    ensures { (edition : Edition) (h : History) → StandsAfter replay.now edition owner h →
+        result ≡ says owner h given.now act }
+{
+    match act {
+        Act::Known { user } => concerns(owner, replay, given, user),
+        Act::Set {
+            user,
+            bit,
+            object,
+            value,
+        } => concerns(owner, replay, given, user) && gives(given, bit, object, value),
+        Act::Gone { user } => removes(given, user),
+        Act::Grouped { user, leader } => leads(given, user, leader),
+        _ => true,
+    }
+}
+
+/// Whether the command says each act on users and rights.
+pub fn all_said(owner: UserId, replay: &Replay, given: &Command, acts: &[Act]) -> bool
+    ensures { (edition : Edition) (h : History) → StandsAfter replay.now edition owner h →
+        (result ≡ true) ↔ AreSaid owner h given.now acts.now }
+{
+    for act in acts {
+        if !says(owner, replay, given, *act) {
+            return false;
+        }
+    }
+    true
+}

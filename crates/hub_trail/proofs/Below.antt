@@ -1,0 +1,13 @@
+-- The laws of steps, as values.
+use Rattle.session_laws.proofs.Keyed.{rows_keyed}
+use Rattle.session_laws.proofs.Promising.{step_keeps}
+use Rattle.session_laws.proofs.Rowing.{rows_done, refused_so}
+use Rattle.session_guests.proofs.Gating.{Below}
+
+pub below : Below
+below = record {
+  keep = step_keeps;
+  done = λ t e step. rows_done t e.event e.reply e.acts e.verdicts e.effects step;
+  refused = λ t e step. refused_so t e.event e.reply e.acts e.verdicts e.effects step;
+  keyed = λ t e step. rows_keyed t e.event e.reply e.acts e.verdicts e.effects step;
+}
