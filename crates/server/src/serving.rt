@@ -32,6 +32,12 @@ pub struct Host<G> {
     pub gate: G,
 }
 
+impl<G> Host<G> {
+    pub fn new(runtime: HostRuntime, gate: G) -> Host<G> {
+        Host { runtime, gate }
+    }
+}
+
 /// What the words of `muxd` ask for.
 #[derive(Clone, Copy)]
 struct Asked<'a> {
@@ -152,11 +158,7 @@ fn shared<R: Clock + AllocGlobal + Threads + Wait + Copy + Send + 'static>(
     loop_handles: Vec<LoopHandle>,
 ) -> Result<Shared, ServeFault> {
     let alloc = rt.alloc();
-    let file = UsersFile {
-        files,
-        alloc,
-        path: asked.users,
-    };
+    let file = UsersFile::new(files, alloc, asked.users);
     let watched = Arc::new(alloc, Watched::new(file, owner)?)?;
     let loop_handles = Arc::new(alloc, loop_handles)?;
     let shared = Shared::new(alloc, loop_handles, watched, asked.tells);
@@ -228,12 +230,7 @@ where
     E: Write,
 {
     let alloc = rt.alloc();
-    let users = UsersFile {
-        files: host.runtime,
-        alloc,
-        path: asked.users,
-    };
-    let (users, seen) = users.read()?;
+    let (users, seen) = UsersFile::new(host.runtime, alloc, asked.users).read()?;
     if seen.is_open() {
         let path = asked.users;
         let _ = writeln!(
@@ -266,9 +263,8 @@ where
         + 'static,
     O: Write,
 {
-    let gate = Open;
     let mut errors = runtime.stderr();
-    serve_through(rt, Host { runtime, gate }, words, output, &mut errors)
+    serve_through(rt, Host::new(runtime, Open), words, output, &mut errors)
 }
 
 /// The same, where a gate is told of each call that a loop submits.
