@@ -66,8 +66,13 @@ where
         calls,
         digit: 9,
     };
-    let host = Host { runtime, gate };
-    serve_through(rt, host, words, &mut output, &mut errors)
+    serve_through(
+        rt,
+        Host::new(runtime, gate),
+        words,
+        &mut output,
+        &mut errors,
+    )
 }
 
 // Whether these are the lines of a trail of 17 entries: those of ten commands, a window, two

@@ -6,18 +6,18 @@ use clap::ArgMatches;
 use mio::net::UnixListener;
 use program_words::{of_server, tell};
 use server_loop::{End, Gate, Open};
-use server_session::{Accounts, Limits, LoopsFault, Start, keep};
+use server_session::{LoopsFault, Start, keep};
 use server_sockets::{Common, LoopHandle, LoopStart, Places, Shared, start_watching};
 use server_system::{Place, Seen, ServeFault, Setup, Stamp, UsersFile, Watched};
 use server_trail::Journal;
-use server_users::Users;
+use server_users::{Accounts, Limits, Users};
 use std::alloc::Global;
 use std::fs::{File, Files};
 use std::io;
 use std::io::Write;
 use std::net::Net;
 use std::rt::HostRuntime;
-use std::sync::{Arc, Wait};
+use std::sync::{Arc, Mutex, Wait};
 use std::thread::Threads;
 use std::time::Clock;
 
@@ -30,6 +30,12 @@ pub struct Host<G> {
     pub runtime: HostRuntime,
     /// Is told of each call that a loop submits.
     pub gate: G,
+}
+
+impl<G> Host<G> {
+    pub fn new(runtime: HostRuntime, gate: G) -> Host<G> {
+        Host { runtime, gate }
+    }
 }
 
 /// What the words of `muxd` ask for.
@@ -152,11 +158,7 @@ fn shared<R: Clock + AllocGlobal + Threads + Wait + Copy + Send + 'static>(
     loop_handles: Vec<LoopHandle>,
 ) -> Result<Shared, ServeFault> {
     let alloc = rt.alloc();
-    let file = UsersFile {
-        files,
-        alloc,
-        path: asked.users,
-    };
+    let file = UsersFile::new(files, alloc, asked.users);
     let watched = Arc::new(alloc, Watched::new(file, owner)?)?;
     let loop_handles = Arc::new(alloc, loop_handles)?;
     let shared = Shared::new(alloc, loop_handles, watched, asked.tells);
@@ -192,7 +194,7 @@ where
         },
         files,
         place,
-        accounts: Accounts::new(alloc, users.owner(), asked.limits),
+        accounts: Mutex::new(Accounts::new(alloc, users.owner(), asked.limits)),
         setup,
         log: files.stderr(),
         journal,
@@ -228,12 +230,7 @@ where
     E: Write,
 {
     let alloc = rt.alloc();
-    let users = UsersFile {
-        files: host.runtime,
-        alloc,
-        path: asked.users,
-    };
-    let (users, seen) = users.read()?;
+    let (users, seen) = UsersFile::new(host.runtime, alloc, asked.users).read()?;
     if seen.is_open() {
         let path = asked.users;
         let _ = writeln!(
@@ -266,9 +263,8 @@ where
         + 'static,
     O: Write,
 {
-    let gate = Open;
     let mut errors = runtime.stderr();
-    serve_through(rt, Host { runtime, gate }, words, output, &mut errors)
+    serve_through(rt, Host::new(runtime, Open), words, output, &mut errors)
 }
 
 /// The same, where a gate is told of each call that a loop submits.

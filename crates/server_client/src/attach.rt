@@ -2,9 +2,8 @@
 
 use crate::ending::{Ending, tell_end, tell_fault, tell_unseen, wait_for_answer, wait_for_end};
 use crate::leaving::wait_or_leave;
-use crate::opening::{Connects, Door, prepare, warn_of_token};
 use crate::showing::show;
-use crate::standing::Shared;
+use client_peer::{Connects, Door, Shared, prepare, warn_of_token};
 use client_words::{Fault, Way, Words, words_of};
 use std::alloc::{AllocError, Global};
 use std::fs::{File, Files};

@@ -1,7 +1,7 @@
 //! How a peer ends, and what is said of it.
 
-use crate::standing::{Shared, Standing};
 use attach_proto::Why;
+use client_peer::{Shared, Standing};
 use client_words::{Fault, Told, Words, explain, gone, put_visible};
 use std::alloc::Global;
 use std::io::Write;
@@ -23,21 +23,19 @@ pub struct Ending {
     pub was_welcome: bool,
 }
 
-impl Standing {
-    // Whether something is still to be read by a window's program.
-    fn is_awaited(&self) -> bool {
-        self.way.is_window() && (self.is_writing || !self.bytes.is_empty())
-    }
+// Whether something is still to be read by a window's program.
+fn is_awaited(standing: &Standing) -> bool {
+    standing.way.is_window() && (standing.is_writing || !standing.bytes.is_empty())
+}
 
-    /// The end, which is told once.
-    pub fn take_ending(&mut self) -> Ending {
-        Ending {
-            end: self.ending(),
-            said: self.said.take(),
-            has_dropped: self.has_dropped,
-            has_left: false,
-            was_welcome: self.is_welcome,
-        }
+/// The end, which is told once.
+pub fn take_ending(standing: &mut Standing) -> Ending {
+    Ending {
+        end: standing.ending(),
+        said: standing.said.take(),
+        has_dropped: standing.has_dropped,
+        has_left: false,
+        was_welcome: standing.is_welcome,
     }
 }
 
@@ -46,8 +44,8 @@ pub fn wait_for_end<R: Wait + Clock, I, O>(rt: &R, shared: &Shared<I, O>) -> End
     let news = &shared.news;
     let standing = news.wait_while(rt, shared.standing.lock(rt), |s| s.end.is_none());
     let most = Duration::from_millis(LAST_WRITING);
-    let (mut standing, _) = news.wait_timeout_while(rt, standing, most, |s| s.is_awaited());
-    standing.take_ending()
+    let (mut standing, _) = news.wait_timeout_while(rt, standing, most, |s| is_awaited(s));
+    take_ending(&mut standing)
 }
 
 /// Waits so many seconds for an answer, and for the end that comes with it.

@@ -1,9 +1,7 @@
 //! A client that has a byte to leave by ends soon after that, whatever the server does.
 
-use crate::ending::Ending;
-use crate::outgoing::send_detach;
-use crate::sending::start_sources;
-use crate::standing::Shared;
+use crate::ending::{Ending, take_ending};
+use client_peer::{Shared, send_detach, start_sources};
 use client_words::Stage;
 use std::alloc::Global;
 use std::io::{Read, Write};
@@ -98,7 +96,8 @@ pub fn wait_or_leave<
             Turn::End => break,
         }
     }
-    shared.standing.lock(rt).take_ending()
+    let mut standing = shared.standing.lock(rt);
+    take_ending(&mut standing)
 }
 
 // Says that the client goes, and gives the server a moment.
@@ -113,7 +112,7 @@ fn leave<
     let (mut standing, _) = shared
         .news
         .wait_timeout_while(rt, standing, most, |s| s.end.is_none());
-    let mut ending = standing.take_ending();
+    let mut ending = take_ending(&mut standing);
     ending.has_left = true;
     ending
 }

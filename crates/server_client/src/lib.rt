@@ -4,13 +4,8 @@
 mod attach;
 mod ending;
 mod leaving;
-mod opening;
-mod outgoing;
-mod sending;
 mod showing;
-mod standing;
-mod taking;
 mod watching;
 
 pub use attach::client;
-pub use opening::Connects;
+pub use client_peer::Connects;

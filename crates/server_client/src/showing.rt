@@ -1,11 +1,8 @@
 //! What comes from the server: read, and written where it belongs.
 
-use crate::opening::{Connects, Door};
-use crate::outgoing::let_out;
-use crate::sending::start_sources;
-use crate::standing::{Intake, Outlet, Shared, Standing};
 use crate::watching::Turns;
 use attach_proto::{LONGEST, Why};
+use client_peer::{Connects, Door, Intake, Outlet, Shared, Standing, let_out, start_sources};
 use client_words::{Fault, Part};
 use std::alloc::{AllocError, Global};
 use std::io::{Read, Write};
@@ -22,20 +19,18 @@ struct Writing {
     is_watched: bool,
 }
 
-impl Standing {
-    // Takes what waits, for a writing that begins. None where nothing does: then no thread writes.
-    fn begin_writing(&mut self, alloc: Global) -> Option<Writing> {
-        self.is_writing = !self.bytes.is_empty() || !self.sizes.is_empty();
-        if !self.is_writing {
-            return None;
-        }
-        self.writings = self.writings.wrapping_add(1);
-        Some(Writing {
-            bytes: mem::replace(&mut self.bytes, Vec::new(alloc)),
-            sizes: mem::replace(&mut self.sizes, Vec::new(alloc)),
-            is_watched: mem::replace(&mut self.is_watched, true),
-        })
+// Takes what waits, for a writing that begins. None where nothing does: then no thread writes.
+fn begin_writing(standing: &mut Standing, alloc: Global) -> Option<Writing> {
+    standing.is_writing = !standing.bytes.is_empty() || !standing.sizes.is_empty();
+    if !standing.is_writing {
+        return None;
     }
+    standing.writings = standing.writings.wrapping_add(1);
+    Some(Writing {
+        bytes: mem::replace(&mut standing.bytes, Vec::new(alloc)),
+        sizes: mem::replace(&mut standing.sizes, Vec::new(alloc)),
+        is_watched: mem::replace(&mut standing.is_watched, true),
+    })
 }
 
 // What a read of the socket came to.
@@ -119,7 +114,7 @@ fn waiting<R: Wait, I, O>(rt: &R, shared: &Shared<I, O>, mine: bool) -> Option<W
     if standing.is_writing != mine {
         return None;
     }
-    let waiting = standing.begin_writing(shared.alloc);
+    let waiting = begin_writing(&mut standing, shared.alloc);
     let has_ended = standing.end.is_some();
     drop(standing);
     match &waiting {
@@ -130,22 +125,22 @@ fn waiting<R: Wait, I, O>(rt: &R, shared: &Shared<I, O>, mine: bool) -> Option<W
     waiting
 }
 
-impl<O: Write> Outlet<O> {
-    fn write(&mut self, writing: &Writing) -> io::Result<()> {
-        // A size that nobody takes ends nothing.
-        if let Some(file) = &mut self.sizes {
-            let _ = file.write_all(&writing.sizes);
-        }
-        self.output.write_all(&writing.bytes)?;
-        self.output.flush()
+// Writes what a writing took.
+fn write<O: Write>(outlet: &mut Outlet<O>, writing: &Writing) -> io::Result<()> {
+    // A size that nobody takes ends nothing.
+    if let Some(file) = &mut outlet.sizes {
+        let _ = file.write_all(&writing.sizes);
     }
+    outlet.output.write_all(&writing.bytes)?;
+    outlet.output.flush()
 }
 
 // Writes what waits, unless another thread does. The answer is whether it did.
 fn write_next<R: Wait, I, O: Write>(rt: &R, shared: &Shared<I, O>, mine: bool) -> io::Result<bool> {
     match waiting(rt, shared, mine) {
         Some(writing) => {
-            shared.outlet.lock(rt).write(&writing)?;
+            let mut outlet = shared.outlet.lock(rt);
+            write(&mut outlet, &writing)?;
             Ok(true)
         }
         None => Ok(false),

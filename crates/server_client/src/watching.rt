@@ -1,6 +1,6 @@
 //! When a window's second thread reads the socket: while the writing of the first takes long.
 
-use crate::standing::{Shared, Standing};
+use client_peer::{Shared, Standing};
 use std::sync::Wait;
 use std::time::{Clock, Duration};
 
@@ -10,22 +10,20 @@ const PERIOD: u64 = 100;
 // After so many periods without a writing, nothing is looked at until the next one.
 const IDLE: u32 = 20;
 
-impl Standing {
-    // Whether the writing that a period began with goes on at its end. So many periods before it
-    // had no writing.
-    fn goes_on(&mut self, number: u64, idle: &mut u32) -> bool {
-        if self.writings != number {
-            *idle = 0;
-        } else if self.is_writing {
-            return true;
-        } else if *idle < IDLE {
-            *idle += 1;
-        } else {
-            *idle = 0;
-            self.is_watched = false;
-        }
-        false
+// Whether the writing that a period began with goes on at its end. So many periods before it had no
+// writing.
+fn goes_on(standing: &mut Standing, number: u64, idle: &mut u32) -> bool {
+    if standing.writings != number {
+        *idle = 0;
+    } else if standing.is_writing {
+        return true;
+    } else if *idle < IDLE {
+        *idle += 1;
+    } else {
+        *idle = 0;
+        standing.is_watched = false;
     }
+    false
 }
 
 // What a period came to.
@@ -49,7 +47,7 @@ fn look<R: Wait + Clock, I, O>(rt: &R, shared: &Shared<I, O>, idle: &mut u32) ->
     let (mut standing, _) = begun.wait_timeout_while(rt, standing, period, |s| s.end.is_none());
     if standing.end.is_some() {
         Seen::End
-    } else if standing.goes_on(seen, idle) {
+    } else if goes_on(&mut standing, seen, idle) {
         Seen::Stuck(seen)
     } else {
         Seen::Nothing

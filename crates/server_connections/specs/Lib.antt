@@ -1,1 +1,4 @@
+pub mod Connected
 pub mod Frames
+pub mod Lending
+pub mod Marked

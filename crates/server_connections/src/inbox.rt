@@ -1,5 +1,8 @@
 //! What a connection asked for that isn't done yet.
 
+ghost use Rattle.std.specs.Prelude.{◌≡◌};
+ghost use Rattle.server_connections.specs.Connected.{is_empty};
+
 use attach_proto::{Message, Reader};
 use std::alloc::{AllocError, Global};
 
@@ -53,7 +56,9 @@ impl Inbox {
         }
     }
 
-    pub fn is_empty(&self) -> bool {
+    pub fn is_empty(&self) -> bool
+        ensures { result ≡ is_empty self.now }
+    {
         self.messages.is_empty() && self.begun.is_none()
     }
 
@@ -103,7 +108,9 @@ impl Inbox {
     }
 
     /// What came behind all that was taken out is no frame, or there was no memory for it.
-    pub fn is_broken(&self) -> bool {
+    pub fn is_broken(&self) -> bool
+        ensures { result ≡ self.now.is_broken }
+    {
         self.is_broken
     }
 

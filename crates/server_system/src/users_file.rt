@@ -43,12 +43,17 @@ impl Stamp {
 /// A file of users.
 #[derive(Clone, Copy)]
 pub struct UsersFile<'p> {
-    pub files: HostRuntime,
-    pub alloc: Global,
-    pub path: &'p str,
+    pub(crate) files: HostRuntime,
+    pub(crate) alloc: Global,
+    pub(crate) path: &'p str,
 }
 
-impl UsersFile<'_> {
+impl<'p> UsersFile<'p> {
+    /// The users' file of this path.
+    pub fn new(files: HostRuntime, alloc: Global, path: &'p str) -> UsersFile<'p> {
+        UsersFile { files, alloc, path }
+    }
+
     /// Reads the users of a file, which others mustn't write.
     pub fn read(&self) -> Result<(Users, Stamp), ServeFault> {
         let found = fs::metadata(&self.files, self.path).map_err(ServeFault::NoFile)?;

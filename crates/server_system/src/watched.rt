@@ -143,11 +143,7 @@ impl Watched {
 
     // Looks at the file, again and again where memory is refused.
     fn found<R: Clock + Wait>(&self, rt: &R, seen: &mut Seen) -> Option<Result<Users, ServeFault>> {
-        let file = UsersFile {
-            files: self.files,
-            alloc: self.alloc,
-            path: self.path.as_str(),
-        };
+        let file = UsersFile::new(self.files, self.alloc, self.path.as_str());
         for _ in rt.forever() {
             let found = file.look(seen);
             if !matches!(&found, Some(Err(ServeFault::NoMemory))) {

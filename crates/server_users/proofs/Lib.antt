@@ -1,3 +1,4 @@
+mod Kept
 pub mod Lines
 pub mod Seen
 pub mod Spelled
