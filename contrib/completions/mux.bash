@@ -31,7 +31,7 @@ _mux() {
         mapfile -t COMPREPLY < <(compgen -u -- "$current")
         return
         ;;
-    --user | --rows | --cols | --title | --keep | --window | --read | --session | --for | --wait | --owner | --at) return ;;
+    --user | --rows | --cols | --title | --keep | --window | --read | --session | --for | --wait | --owner | --at | --since) return ;;
     --presets) return ;;
     *)
         # mux and mux-trail have subcommands, each with options of its own

@@ -1,4 +1,4 @@
-//! `mux-trail check|show|who|why FILE`: reads the trail of a session.
+//! `mux-trail check|log|show|who|why FILE`: reads the trail of a session.
 #![tactic(auto)]
 
 use program_words::{given, not_given};

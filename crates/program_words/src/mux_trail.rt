@@ -41,6 +41,43 @@ const FILE: Word = Word {
     help: "A file with the trail of a session",
 };
 
+/// Waits at the file's end.
+const FOLLOW: Word = Word {
+    name: "follow",
+    kind: Kind::Flag,
+    help: "Waits for more until the trail ends",
+};
+
+/// A user whose entries are told.
+const USER: Word = Word {
+    name: "user",
+    kind: Kind::Text {
+        value: "NAME",
+        need: Need::Free,
+    },
+    help: "What this user did",
+};
+
+/// A window of which entries are told.
+const WINDOW: Word = Word {
+    name: "window",
+    kind: Kind::Text {
+        value: "TITLE|SERIAL",
+        need: Need::Free,
+    },
+    help: "What was done to this window",
+};
+
+/// The time from which on entries are told.
+const SINCE: Word = Word {
+    name: "since",
+    kind: Kind::Text {
+        value: "TIME",
+        need: Need::Free,
+    },
+    help: "What was done from this time on, as 2025-11-24T16:00:02Z",
+};
+
 static MUX_TRAIL: Program = Program {
     name: "mux-trail",
     version: Some(VERSION),
@@ -54,6 +91,11 @@ static MUX_TRAIL: Program = Program {
             words: &[OWNER, FILE],
         },
         Way {
+            name: "log",
+            about: "Prints who did what, a line an entry",
+            words: &[OWNER, USER, WINDOW, SINCE, FOLLOW, FILE],
+        },
+        Way {
             name: "show",
             about: "Prints the trail's lines, with times that are read",
             words: &[
@@ -62,11 +104,7 @@ static MUX_TRAIL: Program = Program {
                     kind: Kind::Flag,
                     help: "Prints each entry as an object of JSON",
                 },
-                Word {
-                    name: "follow",
-                    kind: Kind::Flag,
-                    help: "Waits for more until the trail ends",
-                },
+                FOLLOW,
                 FILE,
             ],
         },
@@ -95,7 +133,7 @@ static MUX_TRAIL: Program = Program {
                 Word {
                     name: "object",
                     kind: Kind::Bare { value: "OBJECT" },
-                    help: "A window's serial, or the name of a command",
+                    help: "A window's serial or title, or the name of a command",
                 },
             ],
         },

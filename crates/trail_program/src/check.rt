@@ -33,7 +33,7 @@ impl Finish {
 }
 
 /// What a line says that begins as a last one does, if it is one behind so many entries.
-fn end_in(alloc: Global, count: u64, line: &[u8]) -> Result<Option<Ended>, AllocError> {
+pub fn end_in(alloc: Global, count: u64, line: &[u8]) -> Result<Option<Ended>, AllocError> {
     match read_end(alloc, line) {
         Ok(ended) if ended.entries == count => Ok(Some(ended)),
         Ok(_) | Err(Unread::Malformed) => Ok(None),

@@ -1,16 +1,15 @@
-//! What `mux-trail` does with a trail's file: judges it, shows it, and tells rights and reasons.
+//! What `mux-trail` does with a trail's file: judges it, shows and logs it, and tells rights and reasons.
 #![tactic(auto)]
 
 mod check;
+mod diary;
 mod fault;
 mod following;
 mod heading;
-mod json;
 mod pass;
 mod program;
-mod show;
+mod search;
 mod tell;
-mod texts;
 mod twice;
 mod words;
 

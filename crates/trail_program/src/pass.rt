@@ -7,9 +7,8 @@ use acl::{Edition, Leaders, UserId};
 use std::alloc::Global;
 use std::io::{self, BufRead, BufReader, Read};
 use trail_audit::Audit;
-use trail_rights::{
-    Decider, Led, Question, Settler, Sight, Watch, powers_of, settings_of, watch_entries,
-};
+use trail_confined::powers_of;
+use trail_rights::{Decider, Led, Question, Settler, Sight, Watch, settings_of, watch_entries};
 
 /// What a pass looks for beside rights, locks and leaders.
 #[derive(Clone, Copy)]

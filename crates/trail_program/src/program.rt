@@ -1,10 +1,10 @@
 //! What the program does with its words.
 
 use crate::check::check_lines;
+use crate::diary::tell_log;
 use crate::fault::Fault;
 use crate::following::Following;
 use crate::heading::{Heading, heading_of};
-use crate::show::{Form, show_lines};
 use crate::tell::{ILLEGAL, LEGAL, TROUBLE, tell_back, tell_finish, tell_heading};
 use crate::twice::ask;
 use crate::words::{Asked, Given, Way, asked_of, given_in};
@@ -16,6 +16,7 @@ use std::io::{self, BufRead, BufReader, Read, Write};
 use std::rt::Files;
 use std::time::Clock;
 use trail_audit::Audit;
+use trail_show::{Form, show_lines};
 
 /// Judges the entries of a reader.
 fn judge<R: BufRead, W: Write>(
@@ -80,7 +81,7 @@ fn show<R: BufRead, W: Write>(
     }
 }
 
-/// Judges a file, or shows it.
+/// Judges a file, or shows or logs it.
 fn read_file<F: Read + Drop, W: Write>(
     alloc: Global,
     asked: Asked<'_>,
@@ -88,10 +89,10 @@ fn read_file<F: Read + Drop, W: Write>(
     output: &mut W,
 ) -> Result<u8, Fault> {
     let mut reader = BufReader::new(alloc, file)?;
-    if let Way::Check = asked.way {
-        check(alloc, asked.owner, &mut reader, output)
-    } else {
-        show(alloc, asked.form, &mut reader, output)
+    match asked.way {
+        Way::Check => check(alloc, asked.owner, &mut reader, output),
+        Way::Log => tell_log(alloc, asked, &mut reader, output),
+        Way::Show | Way::Ask => show(alloc, asked.form, &mut reader, output),
     }
 }
 
@@ -103,9 +104,9 @@ fn run<R: Clock + Files + AllocGlobal, W: Write>(
 ) -> Result<u8, Fault> {
     let file = fs::open(rt, asked.path)?;
     match asked.way {
-        Way::Check | Way::Show => read_file(rt.alloc(), asked, file, output),
-        Way::Follow => read_file(rt.alloc(), asked, Following { rt, file }, output),
         Way::Ask => ask(rt, asked, file, output),
+        _ if asked.follows => read_file(rt.alloc(), asked, Following { rt, file }, output),
+        Way::Check | Way::Log | Way::Show => read_file(rt.alloc(), asked, file, output),
     }
 }
 
@@ -155,7 +156,7 @@ fn tell_fault<E: Write>(fault: Fault, path: &str, errors: &mut E) -> u8 {
     }
 }
 
-/// `mux-trail check|show|who|why FILE`: the status is 0 for a legal file that is whole, and for what
+/// `mux-trail check|log|show|who|why FILE`: the status is 0 for a legal file that is whole, and for what
 /// was shown; 1 for a file that isn't legal, 2 for words or a file that can't be read, 3 for legal
 /// entries without a last line, and 4 for users who aren't confined.
 pub fn trail<R: Clock + Files + AllocGlobal, W: Write, E: Write>(

@@ -3,6 +3,7 @@
 
 use crate::fault::Fault;
 use crate::pass::{Looks, Pass, Search, read_pass};
+use crate::search::{question_in, write_window};
 use crate::tell::{ILLEGAL, LEGAL, UNCONFINED, tell_finish};
 use crate::words::{Asked, users_named};
 use acl::{Leaders, UserId};
@@ -10,9 +11,8 @@ use std::alloc::Global;
 use std::io::{self, Read, Write};
 use std::rt::Files;
 use std::{fs, slice};
-use trail_rights::{
-    Question, failing_of, users_of, write_confinement, write_reasons, write_rights,
-};
+use trail_confined::{failing_of, write_confinement};
+use trail_rights::{Question, users_of, write_reasons, write_rights};
 
 /// What a first pass has found.
 #[derive(Drop)]
@@ -202,9 +202,8 @@ fn answer<F: Read + Drop, W: Write>(
     write_answer(alloc, found, &second, output)
 }
 
-/// Writes who may do what, whether users are confined, or which acts decide the bit that is asked
-/// about.
-pub fn ask<R: Files + AllocGlobal, W: Write>(
+/// Answers by two passes, of which the second reads the file anew.
+fn ask_twice<R: Files + AllocGlobal, W: Write>(
     rt: &R,
     asked: Asked<'_>,
     file: R::File,
@@ -213,6 +212,25 @@ pub fn ask<R: Files + AllocGlobal, W: Write>(
     let Some(found) = look(rt.alloc(), asked, file, output)? else {
         return Ok(ILLEGAL);
     };
+    if asked.titled.is_some() && !write_window(asked.question, output)? {
+        return Ok(LEGAL);
+    }
     let again = fs::open(rt, asked.path)?;
     answer(rt.alloc(), asked, &found, again, output)
+}
+
+/// Writes who may do what, whether users are confined, or which acts decide the bit that is asked
+/// about. Which window a title means is looked for first.
+pub fn ask<R: Files + AllocGlobal, W: Write>(
+    rt: &R,
+    asked: Asked<'_>,
+    file: R::File,
+    output: &mut W,
+) -> Result<u8, Fault> {
+    let Some(titled) = asked.titled else {
+        return ask_twice(rt, asked, file, output);
+    };
+    let question = question_in(rt.alloc(), asked, titled, file)?;
+    let file = fs::open(rt, asked.path)?;
+    ask_twice(rt, Asked { question, ..asked }, file, output)
 }

@@ -1,12 +1,13 @@
 //! What the words of `mux-trail` ask for.
 
-use crate::show::Form;
-use acl::UserId;
+use acl::{Bit, UserId};
 use clap::{ArgMatches, Error};
-use line_fields::{cut, read_u64};
+use jiff::Timestamp;
+use line_fields::{cut, read_u32, read_u64};
 use program_words::of_trail;
 use std::alloc::{AllocError, Global};
-use trail_rights::Question;
+use trail_rights::{Question, bit_of};
+use trail_show::Form;
 
 /// What is done with a file.
 #[derive(Clone, Copy)]
@@ -14,10 +15,25 @@ pub enum Way {
     /// It is judged.
     Check,
     Show,
-    /// It is shown, and what comes later, until the trail ends.
-    Follow,
+    /// It is told, a line an entry.
+    Log,
     /// Rights are told, or what decides one.
     Ask,
+}
+
+/// A window as it is named.
+#[derive(Clone, Copy)]
+pub enum Window<'a> {
+    Serial(u32),
+    Title(&'a str),
+}
+
+/// A bit of a user on the window of a title.
+#[derive(Clone, Copy)]
+pub struct Titled<'a> {
+    pub user: UserId,
+    pub bit: Bit,
+    pub title: &'a str,
 }
 
 /// What the words ask of a file.
@@ -30,9 +46,19 @@ pub struct Asked<'a> {
     pub place: Option<u64>,
     /// The question of `why`.
     pub question: Option<Question>,
+    /// The same about the window of a title, before it is known which one that is.
+    pub titled: Option<Titled<'a>>,
     /// The names of the users of `who --confined`.
     pub confined: Option<&'a str>,
     pub form: Form,
+    /// Whether more is waited for at the file's end, until the trail ends.
+    pub follows: bool,
+    /// Whose entries are told.
+    pub user: Option<UserId>,
+    /// Of which window entries are told.
+    pub window: Option<Window<'a>>,
+    /// From when on entries are told, in milliseconds since 1970.
+    pub since: u64,
 }
 
 /// The words of a way as they were given.
@@ -43,7 +69,9 @@ pub struct Given<'a> {
     owner: Option<&'a str>,
     place: Option<&'a str>,
     confined: Option<&'a str>,
-    user: &'a str,
+    window: Option<&'a str>,
+    since: Option<&'a str>,
+    user: Option<&'a str>,
     bit: &'a str,
     object: &'a str,
     is_json: bool,
@@ -58,7 +86,9 @@ impl<'a> Given<'a> {
             owner: matches.get_str("owner"),
             place: matches.get_str("at"),
             confined: matches.get_str("confined"),
-            user: matches.get_str("user").unwrap_or(""),
+            window: matches.get_str("window"),
+            since: matches.get_str("since"),
+            user: matches.get_str("user"),
             bit: matches.get_str("bit").unwrap_or(""),
             object: matches.get_str("object").unwrap_or(""),
             is_json: matches.get_flag("json"),
@@ -123,48 +153,107 @@ pub fn users_named(alloc: Global, names: &str) -> Result<Option<Vec<UserId>>, Al
     Ok(Some(users))
 }
 
-/// The question of `why`: other ways have none.
-fn question_of(given: Given<'_>) -> Result<Option<Question>, &'static str> {
+/// The question of `why`, if it names a window's serial or a command.
+fn question_of(given: Given<'_>) -> Option<Question> {
     if given.way != "why" {
+        return None;
+    }
+    let user = given.user?;
+    Question::read(
+        user.as_bytes(),
+        given.bit.as_bytes(),
+        given.object.as_bytes(),
+    )
+}
+
+/// The question about the window of a title.
+fn titled_by<'a>(given: Given<'a>) -> Option<Titled<'a>> {
+    Some(Titled {
+        user: UserId::of(given.user?.as_bytes())?,
+        bit: bit_of(given.bit.as_bytes())?,
+        title: given.object,
+    })
+}
+
+/// The question of `why`, if it names a window's title: other ways have none.
+fn titled_of<'a>(given: Given<'a>) -> Result<Option<Titled<'a>>, &'static str> {
+    if given.way != "why" || question_of(given).is_some() {
         return Ok(None);
     }
-    let Given {
-        user,
-        bit,
-        object,
-        ..
-    } = given;
-    match Question::read(user.as_bytes(), bit.as_bytes(), object.as_bytes()) {
-        Some(question) => Ok(Some(question)),
-        None => Err("this names no user, bit and object"),
+    match titled_by(given) {
+        Some(titled) => Ok(Some(titled)),
+        None => Err("this names no user and bit"),
     }
 }
 
-fn way_of(name: &str, follows: bool) -> Way {
+/// The user of `log`: other ways have none.
+fn user_of(given: Given<'_>) -> Result<Option<UserId>, &'static str> {
+    match given.user {
+        Some(user) if given.way == "log" => match UserId::of(user.as_bytes()) {
+            Some(user) => Ok(Some(user)),
+            None => Err("the user is no name"),
+        },
+        _ => Ok(None),
+    }
+}
+
+/// A window's serial or title.
+fn window_of(word: Option<&str>) -> Option<Window<'_>> {
+    let word = word?;
+    match read_u32(word.as_bytes()) {
+        Some(serial) => Some(Window::Serial(serial)),
+        None => Some(Window::Title(word)),
+    }
+}
+
+/// A time in the form of RFC 3339, in milliseconds since 1970.
+fn ms_of(time: &str) -> Option<u64> {
+    let time = time.parse::<Timestamp>().ok()?;
+    u64::try_from(time.as_millisecond()).ok()
+}
+
+fn since_of(time: Option<&str>) -> Result<u64, &'static str> {
+    match time {
+        Some(time) => match ms_of(time) {
+            Some(ms) => Ok(ms),
+            None => Err("the time has no form as 2025-11-24T16:00:02Z"),
+        },
+        None => Ok(0),
+    }
+}
+
+fn way_of(name: &str) -> Way {
     match name {
         "check" => Way::Check,
         "who" | "why" => Way::Ask,
-        _ if follows => Way::Follow,
+        "log" => Way::Log,
         _ => Way::Show,
     }
+}
+
+fn form_of(is_json: bool) -> Form {
+    if is_json { Form::Json } else { Form::Plain }
 }
 
 /// What the words of a way ask: an error says which word isn't understood.
 pub fn asked_of(given: Given<'_>) -> Result<Asked<'_>, &'static str> {
     let owner = owner_of(given.owner)?;
     let place = place_of(given.place)?;
-    let question = question_of(given)?;
+    let titled = titled_of(given)?;
+    let user = user_of(given)?;
+    let since = since_of(given.since)?;
     Ok(Asked {
-        way: way_of(given.way, given.follows),
+        way: way_of(given.way),
         path: given.path,
         owner,
         place,
-        question,
+        question: question_of(given),
+        titled,
         confined: given.confined,
-        form: if given.is_json {
-            Form::Json
-        } else {
-            Form::Plain
-        },
+        form: form_of(given.is_json),
+        follows: given.follows,
+        user,
+        window: window_of(given.window),
+        since,
     })
 }

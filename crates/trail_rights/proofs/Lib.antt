@@ -2,6 +2,4 @@ pub mod Decided
 pub mod Opened
 pub mod Seen
 pub mod Stepping
-pub mod Circles
 pub mod Settled
-pub mod ShutOut

@@ -3,6 +3,6 @@ pub mod Deciding
 pub mod Leading
 pub mod Windows
 pub mod Settling
-pub mod Confining
+pub mod Masking
 pub mod Seeing
 pub mod Watching

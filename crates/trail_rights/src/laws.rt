@@ -1,6 +1,5 @@
 //! Laws of the definitions. Each function here does nothing; its contract says what holds.
 
-ghost use Rattle.trail_rights.specs.Confining.{ConfinementIsDecided};
 ghost use Rattle.trail_rights.specs.Deciding.{DecidingIsLatest};
 ghost use Rattle.trail_rights.specs.Settling.{SettlingIsLatest};
 ghost use Rattle.trail_rights.specs.Windows.{OpenAreListed};
@@ -16,14 +15,6 @@ pub fn latest_decides()
 pub fn latest_settles()
     ensures { SettlingIsLatest }
 {}
-
-/// Users are confined on windows to come, for a bit, exactly where none of the premises that fail
-/// concerns it.
-pub fn confinement_is_decided()
-    ensures { ConfinementIsDecided }
-{
-    acl::users_listed();
-}
 
 /// The windows that are listed are those that are open.
 pub fn open_are_listed()

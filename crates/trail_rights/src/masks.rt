@@ -1,10 +1,14 @@
 //! Masks, and what a name gets that becomes known.
 
+ghost use Rattle.std.specs.Prelude.{◌≡◌, ◌++◌, OnOk};
+ghost use Rattle.std.specs.List.{flat_map};
+ghost use Rattle.session_model.specs.Texts.{letter};
+ghost use Rattle.trail_rights.specs.Masking.{given_text, mask_letter, mask_text, masks_text};
+ghost use Rattle.trail_rights.specs.Masking.{newcomer_text, other_text, preset_text, setting_text};
+
 use crate::settler::{Setting, Settler, settler_in};
-use crate::texts::{letter_of, text_of};
 use acl::{Bit, PresetKind, UserId};
 use std::alloc::{AllocError, Global};
-use std::io::{self, Write};
 
 /// The bits, in the order in which they are told.
 pub const BITS: [Bit; 3] = [Bit::Read, Bit::Write, Bit::Execute];
@@ -55,68 +59,159 @@ pub fn settings_of(alloc: Global, users: &[UserId]) -> Result<Vec<Settler>, Allo
     Ok(settlers)
 }
 
-/// The letter of a bit that a setting gives, or a hyphen; a question mark where that wasn't looked
-/// for.
-fn letter(settlers: &[Settler], setting: Setting, bit: Bit) -> char {
-    match settler_in(settlers, setting) {
-        Some(settler) if settler.value() => letter_of(bit),
-        Some(_) => '-',
-        None => '?',
+/// The letter of a bit.
+fn letter(bit: Bit) -> &'static [u8]
+    ensures { result.now ≡ letter bit }
+{
+    match bit {
+        Bit::Read => b"r",
+        Bit::Write => b"w",
+        Bit::Execute => b"x",
     }
 }
 
-/// Writes which bits a user gets on windows that an opener opens later.
-fn write_mask<W: Write>(
+/// The letter of a bit that a setting gives, or a hyphen; a question mark where that wasn't looked
+/// for.
+fn given_text(settler: Option<Settler>, bit: Bit) -> &'static [u8]
+    ensures { result.now ≡ given_text settler bit }
+{
+    match settler {
+        Some(settler) if settler.value() => letter(bit),
+        Some(_) => b"-",
+        None => b"?",
+    }
+}
+
+/// Appends the letter of a bit that a setting gives.
+fn push_setting(
+    settlers: &[Settler],
+    setting: Setting,
+    bit: Bit,
+    out: &mut Vec<u8>,
+) -> Result<(), AllocError>
+    ensures { OnOk result (out.new.items ≡ out.old.items ++ setting_text settlers.now setting bit) }
+{
+    out.extend_from_slice(given_text(settler_in(settlers, setting), bit))
+}
+
+/// Appends the letter of a bit that a user gets by a mask.
+fn push_mask_bit(
     settlers: &[Settler],
     by: UserId,
     user: UserId,
-    output: &mut W,
-) -> io::Result<()> {
-    write!(output, " {}:", text_of(&user))?;
-    for bit in &BITS {
-        let bit = *bit;
-        let letter = letter(settlers, Setting::Mask { by, user, bit }, bit);
-        write!(output, "{letter}")?;
-    }
-    Ok(())
+    bit: Bit,
+    out: &mut Vec<u8>,
+) -> Result<(), AllocError>
+    ensures { OnOk result
+        (out.new.items ≡ out.old.items ++ mask_letter settlers.now by user bit) }
+{
+    push_setting(settlers, Setting::Mask { by, user, bit }, bit, out)
 }
 
-/// Writes which bits the other users get on windows that an opener opens later.
-pub fn write_masks<W: Write>(
+/// Appends which bits a user gets on windows that an opener opens later.
+fn push_mask(
+    settlers: &[Settler],
+    by: UserId,
+    user: UserId,
+    out: &mut Vec<u8>,
+) -> Result<(), AllocError>
+    ensures { OnOk result (out.new.items ≡ out.old.items ++ mask_text settlers.now by user) }
+{
+    out.extend_from_slice(b" ")?;
+    out.extend_from_slice(user.as_bytes())?;
+    out.extend_from_slice(b":")?;
+    push_mask_bit(settlers, by, user, Bit::Read, out)?;
+    push_mask_bit(settlers, by, user, Bit::Write, out)?;
+    push_mask_bit(settlers, by, user, Bit::Execute, out)
+}
+
+/// Appends the same of a user who isn't the opener.
+fn push_other(
+    settlers: &[Settler],
+    by: UserId,
+    user: UserId,
+    out: &mut Vec<u8>,
+) -> Result<(), AllocError>
+    ensures { OnOk result (out.new.items ≡ out.old.items ++ other_text settlers.now by user) }
+{
+    if user == by {
+        return Ok(());
+    }
+    push_mask(settlers, by, user, out)
+}
+
+/// Appends the same of all other users.
+fn push_others(
     settlers: &[Settler],
     users: &[UserId],
-    opener: UserId,
-    output: &mut W,
-) -> io::Result<()> {
-    write!(output, "masks {}", text_of(&opener))?;
+    by: UserId,
+    out: &mut Vec<u8>,
+) -> Result<(), AllocError>
+    ensures { OnOk result (out.new.items
+        ≡ out.old.items ++ flat_map (other_text settlers.now by) users.now) }
+{
     for user in users {
-        if *user != opener {
-            write_mask(settlers, opener, *user, output)?;
-        }
-    }
-    writeln!(output)
-}
-
-/// Writes the bits of a preset.
-fn write_preset<W: Write>(
-    settlers: &[Settler],
-    kind: PresetKind,
-    output: &mut W,
-) -> io::Result<()> {
-    for bit in &BITS {
-        let bit = *bit;
-        let letter = letter(settlers, Setting::Preset { kind, bit }, bit);
-        write!(output, "{letter}")?;
+        push_other(settlers, by, *user, out)?;
     }
     Ok(())
 }
 
-/// Writes what a name gets that becomes known now: on open windows, on commands, and on windows that
+/// Appends which bits the other users get on windows that an opener opens later.
+pub fn push_mask_line(
+    settlers: &[Settler],
+    users: &[UserId],
+    by: UserId,
+    out: &mut Vec<u8>,
+) -> Result<(), AllocError>
+    ensures { OnOk result (out.new.items ≡ out.old.items ++ masks_text settlers.now users.now by) }
+{
+    out.extend_from_slice(b"masks ")?;
+    out.extend_from_slice(by.as_bytes())?;
+    push_others(settlers, users, by, out)?;
+    out.extend_from_slice(b"\n")
+}
+
+/// Appends the bits of a preset.
+fn push_preset(settlers: &[Settler], kind: PresetKind, out: &mut Vec<u8>) -> Result<(), AllocError>
+    ensures { OnOk result (out.new.items ≡ out.old.items ++ preset_text settlers.now kind) }
+{
+    push_setting(
+        settlers,
+        Setting::Preset {
+            kind,
+            bit: Bit::Read,
+        },
+        Bit::Read,
+        out,
+    )?;
+    push_setting(
+        settlers,
+        Setting::Preset {
+            kind,
+            bit: Bit::Write,
+        },
+        Bit::Write,
+        out,
+    )?;
+    push_setting(
+        settlers,
+        Setting::Preset {
+            kind,
+            bit: Bit::Execute,
+        },
+        Bit::Execute,
+        out,
+    )
+}
+
+/// Appends what a name gets that becomes known now: on open windows, on commands, and on windows that
 /// are opened later, where nobody's mask takes a bit from it yet.
-pub fn write_newcomer<W: Write>(settlers: &[Settler], output: &mut W) -> io::Result<()> {
-    output.write_all(b"newcomer windows:")?;
-    write_preset(settlers, PresetKind::Windows, output)?;
-    output.write_all(b" commands:")?;
-    write_preset(settlers, PresetKind::Commands, output)?;
-    output.write_all(b" later:rwx\n")
+pub fn push_newcomer(settlers: &[Settler], out: &mut Vec<u8>) -> Result<(), AllocError>
+    ensures { OnOk result (out.new.items ≡ out.old.items ++ newcomer_text settlers.now) }
+{
+    out.extend_from_slice(b"newcomer windows:")?;
+    push_preset(settlers, PresetKind::Windows, out)?;
+    out.extend_from_slice(b" commands:")?;
+    push_preset(settlers, PresetKind::Commands, out)?;
+    out.extend_from_slice(b" later:rwx\n")
 }

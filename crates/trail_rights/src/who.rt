@@ -1,14 +1,19 @@
 //! Who may do what after a file's entries.
 
+ghost use Rattle.std.specs.Prelude.{◌≡◌, ◌++◌, OnOk};
+ghost use Rattle.std.specs.List.{flat_map};
+ghost use Rattle.trail_rights.specs.Masking.{masks_text, newcomer_text};
+
 use crate::led::Led;
-use crate::masks::{write_masks, write_newcomer};
+use crate::masks::{push_mask_line, push_newcomer};
 use crate::rights::{holder, may, users_of};
+use crate::settler::Settler;
 use crate::texts::{letter_of, text_of};
 use crate::watch::Watch;
 use acl::{Bit, CommandName, Leaders, Object, UserId};
 use command_lang::name_text;
 use hub_check::Replay;
-use std::alloc::Global;
+use std::alloc::{AllocError, Global};
 use std::io::{self, Write};
 
 /// Writes a user's leaders.
@@ -110,8 +115,24 @@ fn write_commands<W: Write>(replay: &Replay, user: UserId, output: &mut W) -> io
     writeln!(output)
 }
 
+/// Appends the users' masks, and what a name gets that becomes known now.
+fn push_all_masks(
+    settlers: &[Settler],
+    users: &[UserId],
+    out: &mut Vec<u8>,
+) -> Result<(), AllocError>
+    ensures { OnOk result (out.new.items ≡ out.old.items ++ (flat_map
+        (masks_text settlers.now users.now) users.now ++ newcomer_text settlers.now)) }
+{
+    for user in users {
+        push_mask_line(settlers, users, *user, out)?;
+    }
+    push_newcomer(settlers, out)
+}
+
 /// Writes windows with their holders and the users' rights, and the users' commands and masks.
 fn write_objects<W: Write>(
+    alloc: Global,
     owner: UserId,
     watch: &Watch,
     users: &[UserId],
@@ -124,10 +145,9 @@ fn write_objects<W: Write>(
     for user in users {
         write_commands(replay, *user, output)?;
     }
-    for user in users {
-        write_masks(watch.sight().settlers(), users, *user, output)?;
-    }
-    write_newcomer(watch.sight().settlers(), output)
+    let mut masks = Vec::new(alloc);
+    push_all_masks(watch.sight().settlers(), users, &mut masks)?;
+    output.write_all(masks.as_slice())
 }
 
 /// Writes how many entries there are, users with their leaders, windows with their holders and
@@ -142,5 +162,5 @@ pub fn write_rights<W: Write>(
     writeln!(output, "entries {}", watch.audit().count())?;
     write_users(watch.sight().leds(), output)?;
     let users = users_of(alloc, watch.audit().replay())?;
-    write_objects(owner, watch, users.as_slice(), output)
+    write_objects(alloc, owner, watch, users.as_slice(), output)
 }

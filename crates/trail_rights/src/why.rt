@@ -31,7 +31,8 @@ impl Question {
     }
 }
 
-fn bit_of(word: &[u8]) -> Option<Bit> {
+/// The bit of a letter.
+pub fn bit_of(word: &[u8]) -> Option<Bit> {
     match word {
         [b'r'] => Some(Bit::Read),
         [b'w'] => Some(Bit::Write),

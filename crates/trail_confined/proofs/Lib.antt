@@ -1,0 +1,2 @@
+pub mod Circles
+pub mod ShutOut

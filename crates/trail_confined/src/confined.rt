@@ -1,0 +1,110 @@
+//! Whether users are confined on windows to come.
+
+ghost use Rattle.std.specs.Prelude.{◌≡◌, List, [], IfOk, IfSome, filter, is_some, not, true};
+ghost use Rattle.std.specs.List.{AllByRecursion, list_all, list_any};
+ghost use Rattle.acl.specs.declared.edition.Edition.{Edition};
+ghost use Rattle.acl.specs.declared.user_id.UserId.{UserId};
+ghost use Rattle.acl.specs.History.{History};
+ghost use Rattle.hub_check.specs.Following.{StandsAfter};
+ghost use Rattle.trail_lines.specs.Entries.{Said};
+ghost use Rattle.trail_confined.specs.Confining.{concerns, failing_of, holds, is_asked, is_led};
+ghost use Rattle.trail_confined.specs.Confining.{premises_of, IsTold};
+ghost use Rattle.trail_rights.specs.Marks.{Marked, acts_in, marked_after};
+ghost use Rattle.trail_rights.specs.Settling.{HasSettled};
+ghost use Rattle.trail_rights.specs.Watching.{HasWatched};
+
+use crate::premises::{Premise, may_open, premises_of};
+use acl::{Bit, Object, UserId};
+use hub_check::Replay;
+use std::alloc::{AllocError, Global};
+use trail_rights::{Setting, Settler, Watch, may, settler_in};
+
+/// Whether a premise holds; None where its mask wasn't looked for.
+fn holds(replay: &Replay, settlers: &[Settler], premise: Premise) -> Option<bool>
+    ensures holds { (edition : Edition) (owner : UserId) (marked : Marked) →
+        StandsAfter replay.now edition owner (acts_in marked) →
+        AllByRecursion (HasSettled marked) settlers.now →
+        IfSome result (λ b. b ≡ holds edition owner (acts_in marked) premise) }
+    ensures asked { is_some result ≡ is_asked settlers.now premise }
+{
+    match premise {
+        Premise::NoPower { user, command } => {
+            Some(!may(replay, user, Bit::Execute, Object::Command(command)))
+        }
+        Premise::IsKnown { user } => Some(replay.knows(user)),
+        Premise::OpensNone { user } => Some(!may_open(replay, user)),
+        Premise::Masks { opener, user, bit } => {
+            let setting = Setting::Mask {
+                by: opener,
+                user,
+                bit,
+            };
+            match settler_in(settlers, setting) {
+                Some(settler) => Some(!settler.value()),
+                None => None,
+            }
+        }
+    }
+}
+
+/// Those of the premises that don't hold; None where a mask wasn't looked for.
+fn failing_among(
+    alloc: Global,
+    replay: &Replay,
+    settlers: &[Settler],
+    premises: &[Premise],
+) -> Result<Option<Vec<Premise>>, AllocError>
+    ensures failing { (edition : Edition) (owner : UserId) (marked : Marked) →
+        StandsAfter replay.now edition owner (acts_in marked) →
+        AllByRecursion (HasSettled marked) settlers.now →
+        IfOk result (λ o. IfSome o (λ failing. failing.items
+        ≡ filter (λ p. not (holds edition owner (acts_in marked) p)) premises.now)) }
+    ensures asked { IfOk result (λ o. is_some o ≡ list_all (is_asked settlers.now) premises.now) }
+{
+    let mut failing = Vec::new(alloc);
+    for premise in premises {
+        match holds(replay, settlers, *premise) {
+            Some(true) => {}
+            Some(false) => failing.push(*premise)?,
+            None => return Ok(None),
+        }
+    }
+    Ok(Some(failing))
+}
+
+/// What the law on windows to come rests on and doesn't hold for these users, after what was read;
+/// None where the watch didn't look for all of it.
+pub fn failing_of(
+    alloc: Global,
+    watch: &Watch,
+    users: &[UserId],
+) -> Result<Option<Vec<Premise>>, AllocError>
+    ensures failing { (edition : Edition) (owner : UserId) (said : List Said) →
+        HasWatched watch.now edition owner said →
+        IfOk result (λ o. IfSome o (λ failing. failing.items
+        ≡ failing_of edition owner (acts_in (marked_after [] said)) users.now)) }
+    ensures told { (edition : Edition) (owner : UserId) (said : List Said) →
+        HasWatched watch.now edition owner said →
+        IsTold watch.now.sight.leds.items watch.now.sight.settlers.items users.now
+        (premises_of edition owner (acts_in (marked_after [] said)) users.now) →
+        IfOk result (λ o. is_some o ≡ true) }
+{
+    let sight = watch.sight();
+    let replay = watch.audit().replay();
+    match premises_of(alloc, replay, sight.leds(), users)? {
+        Some(premises) => failing_among(alloc, replay, sight.settlers(), premises.as_slice()),
+        None => Ok(None),
+    }
+}
+
+/// Whether the law applies for a bit, where these premises don't hold.
+pub fn is_confined(failing: &[Premise], bit: Bit) -> bool
+    ensures { result ≡ not (list_any (concerns bit) failing.now) }
+{
+    for premise in failing {
+        if premise.concerns(bit) {
+            return false;
+        }
+    }
+    true
+}

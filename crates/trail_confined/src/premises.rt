@@ -1,0 +1,253 @@
+//! What the law on windows to come rests on, for some users.
+
+ghost use Rattle.std.specs.Prelude.{◌≡◌, ◌++◌, OnOk, IfOk, IfSome, is_some};
+ghost use Rattle.std.specs.List.{AllByRecursion, flat_map, list_all};
+ghost use Rattle.acl.specs.declared.edition.Edition.{Edition};
+ghost use Rattle.acl.specs.declared.user_id.UserId.{UserId};
+ghost use Rattle.acl.specs.History.{History};
+ghost use Rattle.hub_check.specs.Following.{StandsAfter};
+ghost use Rattle.trail_rights.specs.Leading.{HasLed};
+ghost use Rattle.trail_confined.specs.Confining.{circles_of, concerns, is_led, masks_by, masks_of};
+ghost use Rattle.trail_confined.specs.Confining.{may_open, openers_of, powers_of, premises_of};
+ghost use Rattle.trail_confined.specs.Confining.{standing_of};
+
+use acl::{Bit, CommandName, Object, UserId};
+use hub_check::Replay;
+use std::alloc::{AllocError, Global};
+use trail_rights::{Led, leaders_in, may, users_of};
+
+/// The commands that change users, rights, leaders, masks and presets.
+pub const CHANGERS: [CommandName; 5] = [
+    CommandName::Acladd,
+    CommandName::Aclchg,
+    CommandName::Acldel,
+    CommandName::Aclgrp,
+    CommandName::Aclumask,
+];
+
+/// What the law on windows to come rests on.
+#[derive(Clone, Copy)]
+pub enum Premise {
+    /// The user has no x on the command, which changes rights.
+    NoPower {
+        user: UserId,
+        command: CommandName,
+    },
+    /// The user is known.
+    IsKnown {
+        user: UserId,
+    },
+    /// The user may open no windows.
+    OpensNone {
+        user: UserId,
+    },
+    /// The opener's mask keeps the bit from the user.
+    Masks {
+        opener: UserId,
+        user: UserId,
+        bit: Bit,
+    },
+}
+
+impl Premise {
+    /// Whether the law rests on it for this bit.
+    pub fn concerns(&self, bit: Bit) -> bool
+        ensures { result ≡ concerns bit self.now }
+    {
+        match *self {
+            Premise::Masks { bit: masked, .. } => masked == bit,
+            _ => true,
+        }
+    }
+}
+
+/// That a user has x on none of the commands that change rights.
+fn push_powers(user: UserId, out: &mut Vec<Premise>) -> Result<(), AllocError>
+    ensures { OnOk result (out.new.items ≡ out.old.items ++ powers_of user) }
+{
+    out.extend_from_slice(&[
+        Premise::NoPower {
+            user,
+            command: CommandName::Acladd,
+        },
+        Premise::NoPower {
+            user,
+            command: CommandName::Aclchg,
+        },
+        Premise::NoPower {
+            user,
+            command: CommandName::Acldel,
+        },
+        Premise::NoPower {
+            user,
+            command: CommandName::Aclgrp,
+        },
+        Premise::NoPower {
+            user,
+            command: CommandName::Aclumask,
+        },
+    ])
+}
+
+/// That none of the users has x on a command that changes rights.
+fn push_all_powers(users: &[UserId], out: &mut Vec<Premise>) -> Result<(), AllocError>
+    ensures { OnOk result (out.new.items ≡ out.old.items ++ flat_map powers_of users.now) }
+{
+    for user in users {
+        push_powers(*user, out)?;
+    }
+    Ok(())
+}
+
+/// That a user is known and opens no windows.
+fn push_standing(user: UserId, out: &mut Vec<Premise>) -> Result<(), AllocError>
+    ensures { OnOk result (out.new.items ≡ out.old.items ++ standing_of user) }
+{
+    out.extend_from_slice(&[Premise::IsKnown { user }, Premise::OpensNone { user }])
+}
+
+/// That each user is known and opens no windows.
+fn push_standings(users: &[UserId], out: &mut Vec<Premise>) -> Result<(), AllocError>
+    ensures { OnOk result (out.new.items ≡ out.old.items ++ flat_map standing_of users.now) }
+{
+    for user in users {
+        push_standing(*user, out)?;
+    }
+    Ok(())
+}
+
+/// That an opener masks each bit for a user.
+fn push_masks_by(user: UserId, opener: UserId, out: &mut Vec<Premise>) -> Result<(), AllocError>
+    ensures { OnOk result (out.new.items ≡ out.old.items ++ masks_by user opener) }
+{
+    out.extend_from_slice(&[
+        Premise::Masks {
+            opener,
+            user,
+            bit: Bit::Read,
+        },
+        Premise::Masks {
+            opener,
+            user,
+            bit: Bit::Write,
+        },
+        Premise::Masks {
+            opener,
+            user,
+            bit: Bit::Execute,
+        },
+    ])
+}
+
+/// That each opener masks each bit for a user.
+fn push_masks(openers: &[UserId], user: UserId, out: &mut Vec<Premise>) -> Result<(), AllocError>
+    ensures { OnOk result (out.new.items ≡ out.old.items ++ masks_of openers.now user) }
+{
+    for opener in openers {
+        push_masks_by(user, *opener, out)?;
+    }
+    Ok(())
+}
+
+/// That each opener masks each bit for each user.
+fn push_all_masks(
+    openers: &[UserId],
+    users: &[UserId],
+    out: &mut Vec<Premise>,
+) -> Result<(), AllocError>
+    ensures { OnOk result
+        (out.new.items ≡ out.old.items ++ flat_map (masks_of openers.now) users.now) }
+{
+    for user in users {
+        push_masks(openers, *user, out)?;
+    }
+    Ok(())
+}
+
+/// Whether a user opens windows.
+pub fn may_open(replay: &Replay, user: UserId) -> bool
+    ensures { (edition : Edition) (owner : UserId) (h : History) →
+        StandsAfter replay.now edition owner h → result ≡ may_open edition owner h user }
+{
+    replay.knows(user)
+        && may(
+            replay,
+            user,
+            Bit::Execute,
+            Object::Command(CommandName::Screen),
+        )
+}
+
+/// The known users who open windows, in the order in which they became known.
+pub fn openers_of(alloc: Global, replay: &Replay) -> Result<Vec<UserId>, AllocError>
+    ensures { (edition : Edition) (owner : UserId) (h : History) →
+        StandsAfter replay.now edition owner h →
+        IfOk result (λ openers. openers.items ≡ openers_of edition owner h) }
+{
+    let users = users_of(alloc, replay)?;
+    let mut openers = Vec::new(alloc);
+    for user in users.as_slice() {
+        if may_open(replay, *user) {
+            openers.push(*user)?;
+        }
+    }
+    Ok(openers)
+}
+
+/// These users, each with his leaders behind him; None where a user's leaders weren't looked for.
+fn circles_of(
+    alloc: Global,
+    leds: &[Led],
+    users: &[UserId],
+) -> Result<Option<Vec<UserId>>, AllocError>
+    ensures circles { (edition : Edition) (h : History) → AllByRecursion (HasLed edition h) leds.now →
+        IfOk result (λ o. IfSome o (λ circles. circles.items ≡ circles_of edition h users.now)) }
+    ensures led { IfOk result (λ o. is_some o ≡ list_all (is_led leds.now) users.now) }
+{
+    let mut circles = Vec::new(alloc);
+    for user in users {
+        let Some(leaders) = leaders_in(leds, *user) else {
+            return Ok(None);
+        };
+        circles.push(*user)?;
+        circles.extend_from_slice(leaders.as_slice())?;
+    }
+    Ok(Some(circles))
+}
+
+/// What the law rests on for users of whom each one's leaders stand behind him.
+fn push_premises(
+    openers: &[UserId],
+    users: &[UserId],
+    circles: &[UserId],
+    out: &mut Vec<Premise>,
+) -> Result<(), AllocError>
+    ensures { OnOk result (out.new.items ≡ out.old.items ++ (flat_map powers_of users.now
+        ++ (flat_map standing_of circles.now ++ flat_map (masks_of openers.now) circles.now))) }
+{
+    push_all_powers(users, out)?;
+    push_standings(circles, out)?;
+    push_all_masks(openers, circles, out)
+}
+
+/// What the law rests on for users; None where a user's leaders weren't looked for.
+pub fn premises_of(
+    alloc: Global,
+    replay: &Replay,
+    leds: &[Led],
+    users: &[UserId],
+) -> Result<Option<Vec<Premise>>, AllocError>
+    ensures premises { (edition : Edition) (owner : UserId) (h : History) →
+        StandsAfter replay.now edition owner h → AllByRecursion (HasLed edition h) leds.now →
+        IfOk result (λ o. IfSome o (λ premises.
+        premises.items ≡ premises_of edition owner h users.now)) }
+    ensures led { IfOk result (λ o. is_some o ≡ list_all (is_led leds.now) users.now) }
+{
+    let Some(circles) = circles_of(alloc, leds, users)? else {
+        return Ok(None);
+    };
+    let openers = openers_of(alloc, replay)?;
+    let mut premises = Vec::new(alloc);
+    push_premises(openers.as_slice(), users, circles.as_slice(), &mut premises)?;
+    Ok(Some(premises))
+}

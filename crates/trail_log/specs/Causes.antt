@@ -1,0 +1,38 @@
+-- Why something was refused, as a log tells it.
+use Rattle.std.specs.Prelude.{ℕ, if◌then◌else◌, List, [], ◌∷◌, ◌++◌, Option, Some, None, codes}
+use Rattle.std.specs.List.{flat_map}
+use Rattle.acl.specs.Names.{name_of}
+use Rattle.acl.specs.declared.user_id.UserId.{UserId}
+use Rattle.session_model.specs.declared.refusal.Refusal.{Refusal}
+use Rattle.session_model.specs.declared.refusal.Refusal.TheVariants as refusal
+use Rattle.session_model.specs.declared.refusal.EntryDenied.{EntryDenied as EntryDenial}
+use Rattle.session_model.specs.declared.verdict.Verdict.{Verdict}
+use Rattle.session_model.specs.declared.verdict.Verdict.TheVariants.{Right as right, Lock as lock}
+use Rattle.session_model.specs.Texts.{missing_text, leader_text, text_of}
+
+-- `entry bob -w; leader ann -w`
+abbrev pub entry_cause : EntryDenial → List ℕ
+entry_cause d =
+    codes "entry " ++ (missing_text d.user d.bit ++ flat_map (leader_text d.bit) d.leaders)
+
+-- `locked by eve`
+abbrev pub lock_cause : UserId → List ℕ
+lock_cause holder = codes "locked by " ++ name_of holder
+
+-- of a reply
+abbrev pub cause_text : Refusal → List ℕ
+cause_text (refusal.EntryDenied d) = entry_cause d
+cause_text (refusal.LockDenied d) = lock_cause d.holder
+cause_text r = text_of r
+
+-- of a check that fails; it names no leaders
+abbrev pub check_cause : Verdict → List ℕ
+check_cause (right user bit object answer) = codes "entry " ++ missing_text user bit
+check_cause (lock user window None) = codes "locked"
+check_cause (lock user window (Some holder)) = lock_cause holder
+
+-- what stands before a refused command
+abbrev pub refused_verb : Refusal → List ℕ
+refused_verb (refusal.EntryDenied d) = codes " was denied "
+refused_verb (refusal.LockDenied d) = codes " was denied "
+refused_verb r = codes " couldn't run "

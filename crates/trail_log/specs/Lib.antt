@@ -1,0 +1,6 @@
+pub mod Naming
+pub mod Causes
+pub mod Checks
+pub mod Lines
+pub mod Choosing
+pub mod Logging

@@ -1,0 +1,139 @@
+-- The line of an entry in a log: the time of day (UTC), who, and what; a row an event.
+use Rattle.std.specs.Prelude.{ℕ, ◌+◌, ◌/◌, ◌%◌, ◌==◌, if◌then◌else◌, List, [], ◌∷◌, ◌++◌}
+use Rattle.std.specs.Prelude.{Option, Some, None, Ok, Err, codes, decimal, find, not}
+use Rattle.acl.specs.Names.{name_of}
+use Rattle.acl.specs.declared.user_id.UserId.{UserId}
+use Rattle.client_words.specs.Visible.{visible}
+use Rattle.session_model.specs.declared.verdict.Verdict.{Verdict}
+use Rattle.hub_check.specs.Clients.{user_in}
+use Rattle.hub_trail.specs.declared.kept.Kept.{Kept}
+use Rattle.hub_trail.specs.declared.kept.Kept.TheVariants as kept
+use Rattle.hub_trail.specs.Legal.{failed, from_command}
+use Rattle.hub_trail.specs.Trails.{Ending, Entry}
+use Rattle.trail_audit.specs.declared.ending.Ended.{Ended}
+use Rattle.trail_audit.specs.Heading as heading
+use Rattle.trail_lines.specs.Entries.{Said}
+use Rattle.trail_log.specs.declared.titles.Titled.{Titled}
+use Rattle.trail_log.specs.Naming.{Names, title_in}
+use Rattle.trail_log.specs.Causes.{cause_text, check_cause, refused_verb}
+use Rattle.trail_log.specs.Checks.{before_command, command_text, window_in}
+
+-- ---- parts
+
+-- `web2 (window 3)`, or `window 3` where the trail hasn't its title
+abbrev pub titled_text : Option (List ℕ) → ℕ → List ℕ
+titled_text None w = codes "window " ++ decimal w
+titled_text (Some title) w = title ++ (codes " (window " ++ (decimal w ++ codes ")"))
+
+abbrev pub window_text : List Titled → ℕ → List ℕ
+window_text titles w = titled_text (title_in titles w) w
+
+abbrev pub on_text : List Titled → Option ℕ → List ℕ
+on_text titles None = []
+on_text titles (Some w) = codes " on " ++ window_text titles w
+
+abbrev pub into_text : List Titled → Option ℕ → List ℕ
+into_text titles None = codes " into no window"
+into_text titles (Some w) = codes " into " ++ window_text titles w
+
+abbrev pub count_text : ℕ → List ℕ
+count_text n = if n == 1 then codes "1 byte" else decimal n ++ codes " bytes"
+
+-- the user of a client that is attached
+abbrev pub client_text : Option UserId → ℕ → List ℕ
+client_text None client = codes "client " ++ decimal client
+client_text (Some user) client = name_of user
+
+-- ---- keys: bytes that were typed, and then a command
+
+abbrev pub typed_by : List Titled → ℕ → Option ℕ → Option Verdict → List ℕ
+typed_by titles taken window None = codes " typed " ++ (count_text taken ++ into_text titles window)
+typed_by titles taken window (Some v) =
+    codes " was denied " ++ (count_text taken ++ (into_text titles window
+    ++ (codes ": " ++ check_cause v)))
+
+abbrev pub typed_text : List Titled → ℕ → List Verdict → List ℕ
+typed_text titles taken typed = typed_by titles taken (window_in typed) (failed typed)
+
+abbrev pub asked_by : List Titled → List ℕ → Option ℕ → Option Verdict → List ℕ
+asked_by titles name window None = codes " ran " ++ (name ++ on_text titles window)
+asked_by titles name window (Some v) =
+    codes " was denied " ++ (name ++ (on_text titles window ++ (codes ": " ++ check_cause v)))
+
+abbrev pub asked_text : List Titled → List Verdict → List ℕ
+asked_text titles asked = asked_by titles (command_text asked) (window_in asked) (failed asked)
+
+-- where no check was made of typed bytes and a command is asked for, none was typed
+abbrev pub pressed_text : List Titled → ℕ → List Verdict → List Verdict → List ℕ
+pressed_text titles taken typed [] = typed_text titles taken typed
+pressed_text titles taken [] (v ∷ asked) = asked_text titles (v ∷ asked)
+pressed_text titles taken (u ∷ typed) (v ∷ asked) =
+    typed_text titles taken (u ∷ typed) ++ (codes " and" ++ asked_text titles (v ∷ asked))
+
+abbrev pub keys_text : List Titled → List Verdict → Ending → List ℕ
+keys_text titles verdicts (Ok f) =
+    pressed_text titles f.taken (before_command verdicts) (from_command verdicts)
+keys_text titles verdicts (Err r) = codes " couldn't type: " ++ cause_text r
+
+-- ---- other events
+
+abbrev pub attach_text : Ending → List ℕ
+attach_text (Ok f) = codes " attached (client " ++ (decimal f.made ++ codes ")")
+attach_text (Err r) = codes " couldn't attach: " ++ cause_text r
+
+abbrev pub detach_text : ℕ → Ending → List ℕ
+detach_text client (Ok f) = codes " detached (client " ++ (decimal client ++ codes ")")
+detach_text client (Err r) = codes " couldn't detach: " ++ cause_text r
+
+abbrev pub command_line : List Titled → List ℕ → Option ℕ → Ending → List ℕ
+command_line titles line window (Ok f) = codes " ran " ++ (line ++ on_text titles window)
+command_line titles line window (Err r) =
+    refused_verb r ++ (line ++ (on_text titles window ++ (codes ": " ++ cause_text r)))
+
+abbrev pub open_text : List ℕ → Ending → List ℕ
+open_text title (Ok f) =
+    codes " opened " ++ (title ++ (codes " (window " ++ (decimal f.made ++ codes ")")))
+open_text title (Err r) = codes " couldn't open " ++ (title ++ (codes ": " ++ cause_text r))
+
+abbrev pub closed_text : List Titled → ℕ → Ending → List ℕ
+closed_text titles w (Ok f) = codes "the program of " ++ (window_text titles w ++ codes " ended")
+closed_text titles w (Err r) =
+    codes "the program of " ++ (window_text titles w ++ (codes " ended: " ++ cause_text r))
+
+-- ---- a row an event
+
+abbrev pub deed_text : Names → Kept → List Verdict → Ending → List ℕ
+deed_text n (kept.Attach user rows columns) verdicts reply = name_of user ++ attach_text reply
+deed_text n (kept.Detach client) verdicts reply =
+    client_text (user_in n.0 client) client ++ detach_text client reply
+deed_text n (kept.Keys client) verdicts reply =
+    client_text (user_in n.0 client) client ++ keys_text n.1 verdicts reply
+deed_text n (kept.Command user window line) verdicts reply =
+    name_of user ++ command_line n.1 line (window_in verdicts) reply
+deed_text n (kept.Open user rows columns keep title) verdicts reply =
+    name_of user ++ open_text title reply
+deed_text n (kept.Closed window) verdicts reply = closed_text n.1 window reply
+
+-- ---- the line
+
+abbrev pub two : ℕ → List ℕ
+two n = (0x30 + n / 10) ∷ (0x30 + n % 10) ∷ []
+
+-- the time of day of milliseconds since 1970: `04:23:49`
+abbrev pub clock_text : ℕ → List ℕ
+clock_text ms =
+    two (ms / 3600000 % 24) ++ (codes ":" ++ (two (ms / 60000 % 60)
+    ++ (codes ":" ++ two (ms / 1000 % 60))))
+
+abbrev pub plain_text : Names → Said → List ℕ
+plain_text n x =
+    clock_text x.1 ++ (codes " " ++ deed_text n x.2.event x.2.verdicts x.2.reply)
+
+-- no control character stands in it but the line feed at its end
+abbrev pub line_text : Names → Said → List ℕ
+line_text n x = visible (plain_text n x) ++ 0x0A ∷ []
+
+-- the line of a trail's end
+abbrev pub end_line : Ended → List ℕ
+end_line e =
+    clock_text e.ms ++ (codes " the session ended: " ++ (heading.cause_text e.cause ++ 0x0A ∷ []))

@@ -1,0 +1,163 @@
+//! What a log tells of an event: who, and what.
+
+ghost use Rattle.std.specs.Prelude.{◌≡◌, ◌++◌, OnOk, codes, decimal};
+ghost use Rattle.hub_check.specs.Clients.{user_in};
+ghost use Rattle.hub_record.specs.Stored.{kept_lent};
+ghost use Rattle.trail_log.specs.Causes.{cause_text};
+ghost use Rattle.trail_log.specs.Lines.{attach_text, client_text, closed_text, command_line};
+ghost use Rattle.trail_log.specs.Lines.{deed_text, detach_text, open_text};
+
+use crate::causes::{push_cause, refused_verb};
+use crate::checks::window_in;
+use crate::names::Names;
+use crate::pressed::push_keys;
+use crate::titles::{Titled, push_on, push_titled, push_window};
+use acl::UserId;
+use hub_record::KeptRef;
+use hub_trail::Ending;
+use session_model::{Refusal, Verdict, push_decimal};
+use std::alloc::AllocError;
+
+/// Appends the user of a client, or its serial where it isn't attached.
+fn push_client(user: Option<UserId>, client: u32, out: &mut Vec<u8>) -> Result<(), AllocError>
+    ensures { OnOk result (out.new.items ≡ out.old.items ++ client_text user client) }
+{
+    match user {
+        Some(user) => out.extend_from_slice(user.as_bytes()),
+        None => {
+            out.extend_from_slice(b"client ")?;
+            push_decimal(u64::from(client), out)
+        }
+    }
+}
+
+/// Appends a client's serial behind words.
+fn push_serial(words: &[u8], client: u32, out: &mut Vec<u8>) -> Result<(), AllocError>
+    ensures { OnOk result
+        (out.new.items ≡ out.old.items ++ (words.now ++ (decimal client ++ codes ")"))) }
+{
+    out.extend_from_slice(words)?;
+    push_decimal(u64::from(client), out)?;
+    out.extend_from_slice(b")")
+}
+
+/// Appends why something was refused, behind words.
+fn push_refused(words: &[u8], refusal: &Refusal, out: &mut Vec<u8>) -> Result<(), AllocError>
+    ensures { OnOk result
+        (out.new.items ≡ out.old.items ++ (words.now ++ cause_text refusal.now)) }
+{
+    out.extend_from_slice(words)?;
+    push_cause(refusal, out)
+}
+
+/// Appends what became of an attachment.
+fn push_attach(ending: Ending, out: &mut Vec<u8>) -> Result<(), AllocError>
+    ensures { OnOk result (out.new.items ≡ out.old.items ++ attach_text ending) }
+{
+    match ending {
+        Ok(finished) => push_serial(b" attached (client ", finished.made, out),
+        Err(refusal) => push_refused(b" couldn't attach: ", &refusal, out),
+    }
+}
+
+/// Appends what became of a client that goes.
+fn push_detach(client: u32, ending: Ending, out: &mut Vec<u8>) -> Result<(), AllocError>
+    ensures { OnOk result (out.new.items ≡ out.old.items ++ detach_text client ending) }
+{
+    match ending {
+        Ok(_) => push_serial(b" detached (client ", client, out),
+        Err(refusal) => push_refused(b" couldn't detach: ", &refusal, out),
+    }
+}
+
+/// Appends what became of a command's line, which acts on a window, if it does.
+fn push_command(
+    titles: &[Titled],
+    line: &[u8],
+    window: Option<u32>,
+    ending: Ending,
+    out: &mut Vec<u8>,
+) -> Result<(), AllocError>
+    ensures { OnOk result
+        (out.new.items ≡ out.old.items ++ command_line titles.now line.now window ending) }
+{
+    let Err(refusal) = ending else {
+        out.extend_from_slice(b" ran ")?;
+        out.extend_from_slice(line)?;
+        return push_on(titles, window, out);
+    };
+    out.extend_from_slice(refused_verb(&refusal))?;
+    out.extend_from_slice(line)?;
+    push_on(titles, window, out)?;
+    push_refused(b": ", &refusal, out)
+}
+
+/// Appends what became of a window that is to be opened.
+fn push_open(title: &[u8], ending: Ending, out: &mut Vec<u8>) -> Result<(), AllocError>
+    ensures { OnOk result (out.new.items ≡ out.old.items ++ open_text title.now ending) }
+{
+    match ending {
+        Ok(finished) => {
+            out.extend_from_slice(b" opened ")?;
+            push_titled(title, finished.made, out)
+        }
+        Err(refusal) => {
+            out.extend_from_slice(b" couldn't open ")?;
+            out.extend_from_slice(title)?;
+            push_refused(b": ", &refusal, out)
+        }
+    }
+}
+
+/// Appends that a window's program ended.
+fn push_closed(
+    titles: &[Titled],
+    window: u32,
+    ending: Ending,
+    out: &mut Vec<u8>,
+) -> Result<(), AllocError>
+    ensures { OnOk result (out.new.items ≡ out.old.items ++ closed_text titles.now window ending) }
+{
+    out.extend_from_slice(b"the program of ")?;
+    push_window(titles, window, out)?;
+    match ending {
+        Ok(_) => out.extend_from_slice(b" ended"),
+        Err(refusal) => push_refused(b" ended: ", &refusal, out),
+    }
+}
+
+/// Appends who gave an event, and what became of it.
+pub fn push_deed(
+    names: &Names,
+    event: KeptRef<'_>,
+    verdicts: &[Verdict],
+    ending: Ending,
+    out: &mut Vec<u8>,
+) -> Result<(), AllocError>
+    ensures { OnOk result (out.new.items ≡ out.old.items
+        ++ deed_text names.now (kept_lent event.entry) verdicts.now ending) }
+{
+    match event {
+        KeptRef::Attach { user, .. } => {
+            out.extend_from_slice(user.as_bytes())?;
+            push_attach(ending, out)
+        }
+        KeptRef::Detach { client } => {
+            push_client(names.user_of(client), client, out)?;
+            push_detach(client, ending, out)
+        }
+        KeptRef::Keys { client } => {
+            push_client(names.user_of(client), client, out)?;
+            push_keys(names.titles(), verdicts, ending, out)
+        }
+        KeptRef::Command { user, line, .. } => {
+            out.extend_from_slice(user.as_bytes())?;
+            push_command(names.titles(), line, window_in(verdicts), ending, out)
+        }
+        KeptRef::Open { user, title, .. } => {
+            out.extend_from_slice(user.as_bytes())?;
+            push_open(title, ending, out)
+        }
+        KeptRef::Closed { window } => push_closed(names.titles(), window, ending, out),
+    }
+}

@@ -1,0 +1,254 @@
+//! What a log calls clients and windows.
+
+ghost use Rattle.std.specs.Prelude.{◌≡◌, ◌==◌, IfOk, OnOk, Some, filter, not};
+ghost use Rattle.writelock.specs.Holding.{clients_after};
+ghost use Rattle.hub_check.specs.Clients.{user_in};
+ghost use Rattle.hub_record.specs.Stored.{kept_lent};
+ghost use Rattle.trail_lines.specs.Entries.{said};
+ghost use Rattle.trail_log.specs.Naming.{change_by, follow, follow_all, line_by, names_with};
+ghost use Rattle.trail_log.specs.Naming.{nobody, retitled, some_title, title_said, typed_change};
+ghost use Rattle.trail_log.specs.Naming.{with_change};
+
+use crate::checks::{all_pass, asks_title, from_command, window_in};
+use crate::titles::{Titled, follow_titles, forget, set_title};
+use acl::{Act, UserId};
+use command_lang::{Command, FaultKind, ParseFault, parse};
+use hub_record::KeptRef;
+use hub_trail::Ending;
+use session_model::{Bytes, Verdict};
+use std::alloc::{AllocError, Global};
+use std::marker::Model;
+use trail_lines::Line;
+
+/// The users of clients, and the titles of open windows.
+pub struct Names {
+    clients: Vec<(u32, UserId)>,
+    titles: Vec<Titled>,
+}
+
+impl Drop for Names {
+    fn drop(self) {
+        let Names {
+            clients: _,
+            titles: _,
+        } = self;
+    }
+}
+
+impl Model for Names {
+    ghost use Rattle.trail_log.specs.Naming.{Names as Named};
+
+    ghost Value = { Named };
+
+    ghost view = { λ n. (n.clients.items, n.titles.items) };
+}
+
+/// The title that an entry gives a window; none where the trail hasn't what was typed.
+#[derive(Drop)]
+struct Change {
+    window: u32,
+    title: Option<Bytes>,
+}
+
+/// The title that a command's line sets, if it sets one.
+fn title_said(alloc: Global, line: &[u8]) -> Result<Option<Bytes>, AllocError>
+    ensures { IfOk result (λ title. title ≡ title_said line.now) }
+{
+    command_lang::each_line_is_a_command_or_faulty();
+    match parse(alloc, line) {
+        Ok(Command::Title(text)) => {
+            let title = Bytes::of(alloc, text.as_str().as_bytes())?;
+            Ok(Some(title))
+        }
+        Ok(_) => Ok(None),
+        Err(
+            ParseFault {
+                kind: FaultKind::NoMemory,
+                ..
+            },
+        ) => Err(AllocError),
+        Err(_) => Ok(None),
+    }
+}
+
+/// What a command's line, that acts on a window, changes.
+fn line_by(alloc: Global, line: &[u8], window: Option<u32>) -> Result<Option<Change>, AllocError>
+    ensures { IfOk result (λ change. change ≡ line_by line.now window) }
+{
+    let Some(window) = window else {
+        return Ok(None);
+    };
+    match title_said(alloc, line)? {
+        Some(title) => Ok(Some(Change {
+            window,
+            title: Some(title),
+        })),
+        None => Ok(None),
+    }
+}
+
+/// What a typed command changes, by its checks.
+fn typed_change(asked: &[Verdict]) -> Option<Change>
+    ensures { result ≡ typed_change asked.now }
+{
+    if !(asks_title(asked) && all_pass(asked)) {
+        return None;
+    }
+    match window_in(asked) {
+        Some(window) => Some(Change {
+            window,
+            title: None,
+        }),
+        None => None,
+    }
+}
+
+/// What the opening of a window changes.
+fn opened_change(alloc: Global, window: u32, title: &[u8]) -> Result<Option<Change>, AllocError>
+    ensures { IfOk result (λ change. change ≡ Some (some_title window title.now)) }
+{
+    let title = Bytes::of(alloc, title)?;
+    Ok(Some(Change {
+        window,
+        title: Some(title),
+    }))
+}
+
+/// What an entry changes.
+fn change_by(
+    alloc: Global,
+    event: KeptRef<'_>,
+    verdicts: &[Verdict],
+    ending: Ending,
+) -> Result<Option<Change>, AllocError>
+    ensures { IfOk result (λ change.
+        change ≡ change_by (kept_lent event.entry) verdicts.now ending) }
+{
+    let Ok(finished) = ending else {
+        return Ok(None);
+    };
+    match event {
+        KeptRef::Open { title, .. } => opened_change(alloc, finished.made, title),
+        KeptRef::Command { line, .. } => line_by(alloc, line, window_in(verdicts)),
+        KeptRef::Keys { .. } => Ok(typed_change(from_command(verdicts))),
+        KeptRef::Attach { .. } | KeptRef::Detach { .. } | KeptRef::Closed { .. } => Ok(None),
+    }
+}
+
+/// The titles after a change.
+fn retitle(titles: &mut Vec<Titled>, change: Option<Change>) -> Result<(), AllocError>
+    ensures { OnOk result (titles.new.items ≡ retitled change titles.old.items) }
+{
+    match change {
+        Some(
+            Change {
+                window,
+                title: Some(title),
+            },
+        ) => set_title(titles, window, title),
+        Some(
+            Change {
+                window,
+                title: None,
+            },
+        ) => {
+            forget(titles, window);
+            Ok(())
+        }
+        None => Ok(()),
+    }
+}
+
+/// Without this client.
+fn drop_client(clients: &mut Vec<(u32, UserId)>, client: u32)
+    ensures { clients.new.items ≡ filter (λ row. not (row.0 == client)) clients.old.items }
+{
+    clients.retain(|row| row.0 != client);
+}
+
+/// The clients after an act.
+fn follow_clients(clients: &mut Vec<(u32, UserId)>, act: &Act) -> Result<(), AllocError>
+    ensures { OnOk result (clients.new.items ≡ clients_after act.now clients.old.items) }
+{
+    match *act {
+        Act::Attached { client, user } => clients.insert(0, (client, user))?,
+        Act::Parted { client } => drop_client(clients, client),
+        _ => {}
+    }
+    Ok(())
+}
+
+/// The user of a client.
+fn user_in(clients: &[(u32, UserId)], client: u32) -> Option<UserId>
+    ensures { result ≡ user_in clients.now client }
+{
+    for row in clients {
+        if row.0 == client {
+            return Some(row.1);
+        }
+    }
+    None
+}
+
+impl Names {
+    /// Of no client and no window.
+    pub fn new(alloc: Global) -> Names
+        ensures { result ≡ nobody }
+    {
+        Names {
+            clients: Vec::new(alloc),
+            titles: Vec::new(alloc),
+        }
+    }
+
+    /// The user of a client, if it is attached.
+    pub fn user_of(&self, client: u32) -> Option<UserId>
+        ensures { result ≡ user_in self.now.0 client }
+    {
+        user_in(self.clients.as_slice(), client)
+    }
+
+    /// The titles of open windows, the one that was set last at the end.
+    pub fn titles(&self) -> &[Titled]
+        ensures { result.now ≡ self.now.1 }
+    {
+        self.titles.as_slice()
+    }
+
+    /// One act more.
+    fn follow(&mut self, act: &Act) -> Result<(), AllocError>
+        ensures { OnOk result (self.new ≡ follow act.now self.old) }
+    {
+        follow_clients(&mut self.clients, act)?;
+        follow_titles(&mut self.titles, act);
+        Ok(())
+    }
+
+    /// These acts more.
+    fn follow_all(&mut self, acts: &[Act]) -> Result<(), AllocError>
+        ensures { OnOk result (self.new ≡ follow_all acts.now self.old) }
+    {
+        for act in acts {
+            self.follow(act)?;
+        }
+        Ok(())
+    }
+
+    /// One change of a title more.
+    fn retitle(&mut self, change: Option<Change>) -> Result<(), AllocError>
+        ensures { OnOk result (self.new ≡ with_change change self.old) }
+    {
+        retitle(&mut self.titles, change)
+    }
+
+    /// One entry more.
+    pub fn take(&mut self, line: &Line) -> Result<(), AllocError>
+        ensures { OnOk result (self.new ≡ names_with self.old (said line.now)) }
+    {
+        let entry = &line.entry;
+        let alloc = *self.titles.allocator();
+        let change = change_by(alloc, entry.event().get(), entry.verdicts(), entry.ending())?;
+        self.follow_all(entry.acts())?;
+        self.retitle(change)
+    }
+}

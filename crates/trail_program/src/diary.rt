@@ -1,0 +1,203 @@
+//! The log of a trail, for people: a line an entry, and a line where a day begins.
+
+use crate::check::{Finish, end_in, finish_of};
+use crate::fault::Fault;
+use crate::heading::heading_of;
+use crate::tell::{LEGAL, tell_finish};
+use crate::words::{Asked, Window};
+use acl::{Edition, UserId};
+use line_fields::cut;
+use session_model::Bytes;
+use std::alloc::{AllocError, Global};
+use std::io::{self, BufRead, Write};
+use trail_audit::{Halt, Wrong, next_entry};
+use trail_log::{Choice, Log, Wanted, push_end};
+use trail_rights::time_of;
+
+/// So many milliseconds has a day.
+const DAY: u64 = 86_400_000;
+
+/// A log on its way to people: what is asked for, and the day of the last line.
+#[derive(Drop)]
+struct Diary {
+    alloc: Global,
+    log: Log,
+    choice: Choice,
+    day: Option<u64>,
+}
+
+/// A time in the form of RFC 3339, as bytes.
+fn time_text(alloc: Global, ms: u64) -> io::Result<Vec<u8>> {
+    let mut text = Vec::new(alloc);
+    match time_of(ms) {
+        Some(time) => write!(text, "{time}")?,
+        None => write!(text, "{ms}")?,
+    }
+    Ok(text)
+}
+
+/// Writes the day of a time.
+fn write_day<W: Write>(alloc: Global, ms: u64, output: &mut W) -> io::Result<()> {
+    let time = time_text(alloc, ms)?;
+    let day = match cut(time.as_slice(), b'T') {
+        Some((day, _)) => day,
+        None => time.as_slice(),
+    };
+    output.write_all(day)?;
+    output.write_all(b" (UTC)\n")
+}
+
+/// The entries that words ask for.
+fn choice_of(alloc: Global, asked: Asked<'_>) -> Result<Choice, AllocError> {
+    let window = match asked.window {
+        Some(Window::Serial(serial)) => Some(Wanted::Serial(serial)),
+        Some(Window::Title(title)) => Some(Wanted::Title(Bytes::of(alloc, title.as_bytes())?)),
+        None => None,
+    };
+    Ok(Choice {
+        since: asked.since,
+        user: asked.user,
+        window,
+    })
+}
+
+impl Diary {
+    /// Writes a line of this time at once, and before it the day where that is another one; nothing
+    /// where the line is empty.
+    fn write<W: Write>(&mut self, ms: u64, text: &[u8], output: &mut W) -> io::Result<()> {
+        if text.is_empty() {
+            return Ok(());
+        }
+        let day = Some(ms / DAY);
+        if self.day != day {
+            write_day(self.alloc, ms, output)?;
+            self.day = day;
+        }
+        output.write_all(text)?;
+        output.flush()
+    }
+
+    /// Takes the line of the next entry, and writes what is told of it. The answer is what is wrong
+    /// with it, if something is.
+    fn take<W: Write>(
+        &mut self,
+        line: &[u8],
+        text: &mut Vec<u8>,
+        output: &mut W,
+    ) -> io::Result<Option<Wrong>> {
+        text.clear();
+        match self.log.take(line, &self.choice, text) {
+            Ok(ms) => {
+                self.write(ms, text.as_slice(), output)?;
+                Ok(None)
+            }
+            Err(wrong) => Ok(Some(wrong)),
+        }
+    }
+
+    /// Writes the lines of entries that are asked for, as far as what halts the reading, which stands
+    /// in `line`.
+    fn write_entries<R: BufRead, W: Write>(
+        &mut self,
+        reader: &mut R,
+        line: &mut Vec<u8>,
+        output: &mut W,
+    ) -> io::Result<Halt> {
+        let mut text = Vec::new(self.alloc);
+        for number in 2..u64::MAX {
+            if let Some(halt) = next_entry(reader, line, number)? {
+                return Ok(halt);
+            }
+            if let Some(wrong) = self.take(line.as_slice(), &mut text, output)? {
+                return Ok(Halt::Stopped {
+                    line: number,
+                    wrong,
+                });
+            }
+        }
+        Ok(Halt::Nothing)
+    }
+
+    /// Writes how a file ends: when and why the session did, or what is wrong; nothing of a file that
+    /// is written still. The answer is the status to exit with.
+    fn write_finish<W: Write>(
+        &mut self,
+        finish: Finish,
+        owner: UserId,
+        output: &mut W,
+    ) -> io::Result<u8> {
+        match finish {
+            Finish::Ended { ended } => {
+                let mut text = Vec::new(self.alloc);
+                push_end(&ended, &mut text)?;
+                self.write(ended.ms, text.as_slice(), output)?;
+                Ok(LEGAL)
+            }
+            Finish::Open | Finish::Torn => Ok(LEGAL),
+            bad => tell_finish(bad, self.log.count(), owner, output),
+        }
+    }
+}
+
+/// How a file ends that is followed: nothing is waited for behind its last line.
+fn finish_at<R: BufRead>(
+    alloc: Global,
+    count: u64,
+    halt: Halt,
+    reader: &mut R,
+    line: &mut Vec<u8>,
+) -> io::Result<Finish> {
+    match halt {
+        Halt::Last { line: number } => match end_in(alloc, count, line.as_slice())? {
+            Some(ended) => Ok(Finish::Ended { ended }),
+            None => Ok(Finish::Miscounted { line: number }),
+        },
+        halt => finish_of(alloc, count, halt, reader, line),
+    }
+}
+
+/// Writes the log of a trail of this owner, behind its first line.
+fn write_diary<R: BufRead, W: Write>(
+    mut diary: Diary,
+    owner: UserId,
+    follows: bool,
+    reader: &mut R,
+    output: &mut W,
+) -> io::Result<u8> {
+    let alloc = diary.alloc;
+    let mut line = Vec::new(alloc);
+    let halt = diary.write_entries(reader, &mut line, output)?;
+    let count = diary.log.count();
+    let finish = if follows {
+        finish_at(alloc, count, halt, reader, &mut line)?
+    } else {
+        finish_of(alloc, count, halt, reader, &mut line)?
+    };
+    diary.write_finish(finish, owner, output)
+}
+
+/// A log that has told nothing.
+fn diary_of(alloc: Global, asked: Asked<'_>, edition: Edition, owner: UserId) -> io::Result<Diary> {
+    Ok(Diary {
+        alloc,
+        log: Log::new(alloc, edition, owner)?,
+        choice: choice_of(alloc, asked)?,
+        day: None,
+    })
+}
+
+/// Writes the log of what a reader has.
+pub fn tell_log<R: BufRead, W: Write>(
+    alloc: Global,
+    asked: Asked<'_>,
+    reader: &mut R,
+    output: &mut W,
+) -> Result<u8, Fault> {
+    let heading = heading_of(alloc, reader)?;
+    let owner = asked.owner.unwrap_or(heading.owner);
+    let diary = diary_of(alloc, asked, heading.edition, owner)?;
+    match write_diary(diary, owner, asked.follows, reader, output) {
+        Ok(status) => Ok(status),
+        Err(error) => Err(Fault::Io(error)),
+    }
+}

@@ -1,7 +1,0 @@
-use Rattle.std.proofs.Common.{◌≡◌, drop}
-use Rattle.std.specs.List.{list_any}
-use Rattle.trail_rights.specs.Confining.{concerns}
-use Rattle.trail_rights.proofs.confined.is_confined.Given as goal
-
-abbrev pub invariant-loop-premise : goal.invariant-loop-premise
-invariant-loop-premise l = list_any (concerns l.bit) (drop l.premise-index l.failing) ≡ list_any (concerns l.bit) l.failing

@@ -1,7 +1,0 @@
-use Rattle.std.proofs.Common.{◌≡◌, ◌++◌, take}
-use Rattle.std.specs.List.{flat_map}
-use Rattle.trail_rights.specs.Confining.{masks_of}
-use Rattle.trail_rights.proofs.premises.push_all_masks.Given as goal
-
-abbrev pub invariant-loop-user : goal.invariant-loop-user
-invariant-loop-user l = l.out.items ≡ l.fn.out.items ++ flat_map (masks_of l.openers) (take l.user-index l.users)

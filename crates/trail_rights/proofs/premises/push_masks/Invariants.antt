@@ -1,7 +1,0 @@
-use Rattle.std.proofs.Common.{◌≡◌, ◌++◌, take}
-use Rattle.std.specs.List.{flat_map}
-use Rattle.trail_rights.specs.Confining.{masks_by}
-use Rattle.trail_rights.proofs.premises.push_masks.Given as goal
-
-abbrev pub invariant-loop-opener : goal.invariant-loop-opener
-invariant-loop-opener l = l.out.items ≡ l.fn.out.items ++ flat_map (masks_by l.user) (take l.opener-index l.openers)

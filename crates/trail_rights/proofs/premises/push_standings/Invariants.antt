@@ -1,7 +1,0 @@
-use Rattle.std.proofs.Common.{◌≡◌, ◌++◌, take}
-use Rattle.std.specs.List.{flat_map}
-use Rattle.trail_rights.specs.Confining.{standing_of}
-use Rattle.trail_rights.proofs.premises.push_standings.Given as goal
-
-abbrev pub invariant-loop-user : goal.invariant-loop-user
-invariant-loop-user l = l.out.items ≡ l.fn.out.items ++ flat_map standing_of (take l.user-index l.users)

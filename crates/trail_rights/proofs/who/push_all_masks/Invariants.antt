@@ -1,0 +1,8 @@
+use Rattle.std.proofs.Common.{◌≡◌, ◌++◌, take}
+use Rattle.std.specs.List.{flat_map}
+use Rattle.trail_rights.specs.Masking.{masks_text}
+use Rattle.trail_rights.proofs.who.push_all_masks.Given as goal
+
+abbrev pub invariant-loop-user : goal.invariant-loop-user
+invariant-loop-user l =
+    l.out.items ≡ l.fn.out.items ++ flat_map (masks_text l.settlers l.users) (take l.user-index l.users)

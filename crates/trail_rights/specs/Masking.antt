@@ -1,0 +1,54 @@
+-- What is printed of masks, and of what a name gets that becomes known.
+use Rattle.std.specs.Prelude.{ℕ, if◌then◌else◌, List, [], ◌∷◌, ◌++◌, Option, Some, None, codes}
+use Rattle.std.specs.List.{flat_map}
+use Rattle.acl.specs.Names.{name_of}
+use Rattle.acl.specs.Same.{same_user}
+use Rattle.acl.specs.declared.act.PresetKind.{PresetKind}
+use Rattle.acl.specs.declared.act.PresetKind.TheVariants as kind
+use Rattle.acl.specs.declared.bits.Bit.{Bit}
+use Rattle.acl.specs.declared.bits.Bit.TheVariants.{Read, Write, Execute}
+use Rattle.acl.specs.declared.user_id.UserId.{UserId}
+use Rattle.session_model.specs.Texts.{letter}
+use Rattle.trail_rights.specs.declared.settler.Setting.{Setting}
+use Rattle.trail_rights.specs.declared.settler.Setting.TheVariants as setting
+use Rattle.trail_rights.specs.declared.settler.Settler.{Settler}
+use Rattle.trail_rights.specs.Settling.{settler_in}
+
+-- the letter of a bit that a setting gives, or a hyphen; a question mark where that wasn't looked for
+abbrev pub given_text : Option Settler → Bit → List ℕ
+given_text None bit = codes "?"
+given_text (Some s) bit = if s.value then letter bit else codes "-"
+
+abbrev pub setting_text : List Settler → Setting → Bit → List ℕ
+setting_text settlers s bit = given_text (settler_in settlers s) bit
+
+abbrev pub mask_letter : List Settler → UserId → UserId → Bit → List ℕ
+mask_letter settlers by user bit = setting_text settlers (setting.Mask by user bit) bit
+
+-- ` ann:r--`: which bits a user gets on windows that an opener opens later
+abbrev pub mask_text : List Settler → UserId → UserId → List ℕ
+mask_text settlers by user =
+    codes " " ++ (name_of user ++ (codes ":" ++ (mask_letter settlers by user Read
+    ++ (mask_letter settlers by user Write ++ mask_letter settlers by user Execute))))
+
+abbrev pub other_text : List Settler → UserId → UserId → List ℕ
+other_text settlers by user =
+    if same_user user by then [] else mask_text settlers by user
+
+-- which bits the other users get: `masks own ann:r-- bob:---`
+abbrev pub masks_text : List Settler → List UserId → UserId → List ℕ
+masks_text settlers users by =
+    codes "masks " ++ (name_of by ++ (flat_map (other_text settlers by) users ++ 0x0A ∷ []))
+
+abbrev pub preset_letter : List Settler → PresetKind → Bit → List ℕ
+preset_letter settlers k bit = setting_text settlers (setting.Preset k bit) bit
+
+abbrev pub preset_text : List Settler → PresetKind → List ℕ
+preset_text settlers k =
+    preset_letter settlers k Read
+    ++ (preset_letter settlers k Write ++ preset_letter settlers k Execute)
+
+abbrev pub newcomer_text : List Settler → List ℕ
+newcomer_text settlers =
+    codes "newcomer windows:" ++ (preset_text settlers kind.Windows
+    ++ (codes " commands:" ++ (preset_text settlers kind.Commands ++ codes " later:rwx\n")))
