@@ -1,5 +1,6 @@
 -- Acts of list commands that aren't refused follow one another.
-use Rattle.std.proofs.Common.{◌≡◌, ◌∙◌, Bool, true, false, not, ◌||◌, List, [], ◌∷◌, ◌++◌, Option, Some, None, refl, ap, sym, subst}
+use Rattle.std.proofs.Common.{◌≡◌, ◌∙◌, Bool, true, false, not, ◌||◌, List, [], ◌∷◌, ◌++◌, Option, Some, None, refl, ap}
+use Rattle.std.proofs.Common.{sym, subst}
 use Rattle.std.specs.Prelude.{if◌then◌else◌, is_none, nat_lt, length}
 use Rattle.std.specs.List.{AllByRecursion, list_any}
 use Rattle.std.specs.Option.{option_or}
@@ -20,8 +21,10 @@ use Rattle.acl.specs.declared.faults.AclFault.TheVariants.{OwnerKept, TooManyUse
 use Rattle.acl.specs.declared.user_id.UserId.{UserId}
 use Rattle.acl.specs.Same.{same_user}
 use Rattle.acl.specs.History.{History, followed_by, users_of, among, leaders_of, there}
-use Rattle.acl.specs.Commands.{new_name_fault, known_name_fault, change_fault, mask_fault, scope_fault, group_fault, leader_fault, with_name, with_names, names_user}
-use Rattle.acl.specs.Commands.{sets_on, sets, user_acts, name_acts, change_acts, new_acts, known_acts, added, name_sets, names_sets, add_acts, scope_acts, mask_acts, group_acts, removal_acts}
+use Rattle.acl.specs.Commands.{new_name_fault, known_name_fault, change_fault, mask_fault, scope_fault, group_fault}
+use Rattle.acl.specs.Commands.{leader_fault, with_name, with_names, names_user}
+use Rattle.acl.specs.Commands.{sets_on, sets, user_acts, name_acts, change_acts, new_acts, known_acts, added, name_sets}
+use Rattle.acl.specs.Commands.{names_sets, add_acts, scope_acts, mask_acts, group_acts, removal_acts}
 use Rattle.acl.proofs.NameLemmas.{among-with_name, among-with_names}
 use Rattle.acl.proofs.StandsForLemmas.{same_user-refl}
 use Rattle.session_laws.proofs.Agreeing.{followed_append}
@@ -31,10 +34,12 @@ use Rattle.hub_trail.specs.Judging.{can_follow, CanFollow}
 
 -- ---- acts behind acts
 
-pub follow_append : (edition : Edition) (owner : UserId) (h : History) (xs ys : List Act) → CanFollow edition owner h xs → CanFollow edition owner (followed_by h xs) ys
+pub follow_append : (edition : Edition) (owner : UserId) (h : History) (xs ys : List Act) → CanFollow edition owner h xs
+    → CanFollow edition owner (followed_by h xs) ys
     → CanFollow edition owner h (xs ++ ys)
 follow_append edition owner h [] ys these those = those
-follow_append edition owner h (x ∷ xs) ys these those = (these.0, follow_append edition owner (x ∷ h) xs ys these.1 those)
+follow_append edition owner h (x ∷ xs) ys these those =
+    (these.0, follow_append edition owner (x ∷ h) xs ys these.1 those)
 
 -- acts that come after any others
 abbrev pub is_free : Act → Bool
@@ -52,7 +57,8 @@ is_free a = true
 abbrev pub AllFree : List Act → Type 0
 AllFree acts = AllByRecursion (λ a. is_free a ≡ true) acts
 
-free_one : (edition : Edition) (owner : UserId) (h : History) (a : Act) → is_free a ≡ true → can_follow edition owner h a ≡ true
+free_one : (edition : Edition) (owner : UserId) (h : History) (a : Act) → is_free a ≡ true
+    → can_follow edition owner h a ≡ true
 free_one edition owner h (act.Known u) is = absurd (cc (is))
 free_one edition owner h (act.Gone u) is = absurd (cc (is))
 free_one edition owner h (act.Set u bit object value) is = absurd (cc (is))
@@ -64,9 +70,11 @@ free_one edition owner h (act.Entered u w) is = absurd (cc (is))
 free_one edition owner h (act.Mode by w mode) is = absurd (cc (is))
 free_one edition owner h a is = refl
 
-pub free_follow : (edition : Edition) (owner : UserId) (h : History) (acts : List Act) → AllFree acts → CanFollow edition owner h acts
+pub free_follow : (edition : Edition) (owner : UserId) (h : History) (acts : List Act) → AllFree acts
+    → CanFollow edition owner h acts
 free_follow edition owner h [] free = tt
-free_follow edition owner h (a ∷ acts) free = (free_one edition owner h a free.0, free_follow edition owner (a ∷ h) acts free.1)
+free_follow edition owner h (a ∷ acts) free =
+    (free_one edition owner h a free.0, free_follow edition owner (a ∷ h) acts free.1)
 
 -- they leave the known users
 users_free : (owner : UserId) (h : History) (a : Act) → is_free a ≡ true → users_of owner (a ∷ h) ≡ users_of owner h
@@ -74,7 +82,8 @@ users_free owner h (act.Known u) is = absurd (cc (is))
 users_free owner h (act.Gone u) is = absurd (cc (is))
 users_free owner h a is = refl
 
-pub users_stay : (owner : UserId) (h : History) (acts : List Act) → AllFree acts → users_of owner (followed_by h acts) ≡ users_of owner h
+pub users_stay : (owner : UserId) (h : History) (acts : List Act) → AllFree acts
+    → users_of owner (followed_by h acts) ≡ users_of owner h
 users_stay owner h [] free = refl
 users_stay owner h (a ∷ acts) free = users_stay owner (a ∷ h) acts free.1 ∙ users_free owner h a free.0
 
@@ -89,29 +98,38 @@ second_none None b e = e
 second_none (Some x) b e = absurd (cc (e))
 
 -- a name that may become known isn't the owner's
-not_owner : (owner : UserId) (users : List UserId) (u : UserId) → new_name_fault owner users (Some u) ≡ None → same_user owner u ≡ false
+not_owner : (owner : UserId) (users : List UserId) (u : UserId) → new_name_fault owner users (Some u) ≡ None
+    → same_user owner u ≡ false
 not_owner owner users u none = on (same_user owner u) (among users u || nat_lt (length users) 64) none where
   on : (b c : Bool) → (if b then Some OwnerKept else (if c then None else Some TooManyUsers)) ≡ None → b ≡ false
   on true c e = absurd (cc (e))
   on false c e = refl
 
 -- and once it is known, it can be named
-known_name : (owner : UserId) (users : List UserId) (u : UserId) → same_user owner u ≡ false → among users u ≡ true → known_name_fault owner users (Some u) ≡ None
-known_name owner users u other known = ap (λ (b : Bool). if b then Some OwnerKept else (if among users u then None else Some UnknownUser)) other ∙ ap (λ (b : Bool). if b then None else Some UnknownUser) known
+known_name : (owner : UserId) (users : List UserId) (u : UserId) → same_user owner u ≡ false → among users u ≡ true
+    → known_name_fault owner users (Some u) ≡ None
+known_name owner users u other known = ap
+    (λ (b : Bool). if b then Some OwnerKept else (if among users u then None else Some UnknownUser)) other
+    ∙ ap (λ (b : Bool). if b then None else Some UnknownUser) known
 
 -- names that are known, and not the owner's
 abbrev AreNamed : UserId → List UserId → List (Option UserId) → Type 0
 AreNamed owner users names = AllByRecursion (λ name. known_name_fault owner users name ≡ None) names
 
 -- so are those of a change, once it made them known
-named : (owner : UserId) (users : List UserId) (names : List (Option UserId)) → change_fault owner users names ≡ None → AreNamed owner (with_names users names) names
+named : (owner : UserId) (users : List UserId) (names : List (Option UserId)) → change_fault owner users names ≡ None
+    → AreNamed owner (with_names users names) names
 named owner users [] none = tt
 named owner users (None ∷ names) none = absurd (cc (none))
 named owner users (Some u ∷ names) none = (
   known_name owner (with_names users (Some u ∷ names)) u
-      (not_owner owner users u (first_none (new_name_fault owner users (Some u)) (change_fault owner (with_name users (Some u)) names) none))
-      (among-with_names (with_name users (Some u)) names u ∙ or_left _ (list_any (names_user u) names) (among-with_name users (Some u) u ∙ or_right (among users u) _ (same_user-refl u))),
-  named owner (with_name users (Some u)) names (second_none (new_name_fault owner users (Some u)) (change_fault owner (with_name users (Some u)) names) none),
+      (not_owner owner users u
+      (first_none (new_name_fault owner users (Some u)) (change_fault owner (with_name users (Some u)) names) none))
+      (among-with_names (with_name users (Some u)) names u
+      ∙ or_left _ (list_any (names_user u) names)
+      (among-with_name users (Some u) u ∙ or_right (among users u) _ (same_user-refl u))),
+  named owner (with_name users (Some u)) names
+      (second_none (new_name_fault owner users (Some u)) (change_fault owner (with_name users (Some u)) names) none),
 )
 
 -- ---- what acts lead to
@@ -139,7 +157,8 @@ module _ (edition : Edition) (owner : UserId) (g : History) where
   nothing_leads : (users : List UserId) → Leads users [] users
   nothing_leads users h here = record { follow = tt; leads = here }
 
-  then_leads : (users between more : List UserId) (xs ys : List Act) → Leads users xs between → Leads between ys more → Leads users (xs ++ ys) more
+  then_leads : (users between more : List UserId) (xs ys : List Act) → Leads users xs between → Leads between ys more
+      → Leads users (xs ++ ys) more
   then_leads users between more xs ys first second h here =
       let one : Goes h xs between = first h here in
       let two : Goes (followed_by h xs) ys more = second (followed_by h xs) one.leads in
@@ -149,7 +168,8 @@ module _ (edition : Edition) (owner : UserId) (g : History) where
       }
 
   -- an act that leaves the users
-  one_leads : (users : List UserId) (a : Act) → is_aside a ≡ true → ((h : History) → users_of owner (a ∷ h) ≡ users_of owner h)
+  one_leads : (users : List UserId) (a : Act) → is_aside a ≡ true
+      → ((h : History) → users_of owner (a ∷ h) ≡ users_of owner h)
       → ((h : History) → IsAt h users → can_follow edition owner h a ≡ true) → Leads users (a ∷ []) users
   one_leads users a aside same can h here = record {
     follow = (can h here, tt);
@@ -161,113 +181,156 @@ module _ (edition : Edition) (owner : UserId) (g : History) where
   abbrev AreThere : List Object → Type 0
   AreThere objects = AllByRecursion (λ o. there g o ≡ true) objects
 
-  set_leads : (users : List UserId) (u : UserId) (bit : Bit) (o : Object) (value : Bool) → known_name_fault owner users (Some u) ≡ None → there g o ≡ true
+  set_leads : (users : List UserId) (u : UserId) (bit : Bit) (o : Object) (value : Bool)
+      → known_name_fault owner users (Some u) ≡ None → there g o ≡ true
       → Leads users (act.Set u bit o value ∷ []) users
   set_leads users u bit o value none is = one_leads users (act.Set u bit o value) refl (λ h. refl) (λ h here.
-      and_from _ _ (ap (λ us. is_none (known_name_fault owner us (Some u))) here.users_are ∙ ap is_none none) (here.stays o ∙ is))
+      and_from _ _ (ap (λ us. is_none (known_name_fault owner us (Some u))) here.users_are ∙ ap is_none none)
+      (here.stays o ∙ is))
 
-  sets_on_lead : (users : List UserId) (u : UserId) (bits : List BitChange) (o : Object) → known_name_fault owner users (Some u) ≡ None → there g o ≡ true
+  sets_on_lead : (users : List UserId) (u : UserId) (bits : List BitChange) (o : Object)
+      → known_name_fault owner users (Some u) ≡ None → there g o ≡ true
       → Leads users (sets_on u bits o) users
   sets_on_lead users u [] o none is = nothing_leads users
   sets_on_lead users u (b ∷ bits) o none is =
-      then_leads users users users (act.Set u b.bit o b.value ∷ []) (sets_on u bits o) (set_leads users u b.bit o b.value none is) (sets_on_lead users u bits o none is)
+      then_leads users users users (act.Set u b.bit o b.value ∷ []) (sets_on u bits o)
+      (set_leads users u b.bit o b.value none is) (sets_on_lead users u bits o none is)
 
-  sets_lead : (users : List UserId) (u : UserId) (bits : List BitChange) (objects : List Object) → known_name_fault owner users (Some u) ≡ None → AreThere objects
+  sets_lead : (users : List UserId) (u : UserId) (bits : List BitChange) (objects : List Object)
+      → known_name_fault owner users (Some u) ≡ None → AreThere objects
       → Leads users (sets u bits objects) users
   sets_lead users u bits [] none all = nothing_leads users
   sets_lead users u bits (o ∷ objects) none all =
-      then_leads users users users (sets_on u bits o) (sets u bits objects) (sets_on_lead users u bits o none all.0) (sets_lead users u bits objects none all.1)
+      then_leads users users users (sets_on u bits o) (sets u bits objects) (sets_on_lead users u bits o none all.0)
+      (sets_lead users u bits objects none all.1)
 
   -- ---- names that become known
 
-  known_leads : (users : List UserId) (u : UserId) → new_name_fault owner users (Some u) ≡ None → among users u ≡ false → Leads users (act.Known u ∷ []) (users ++ u ∷ [])
+  known_leads : (users : List UserId) (u : UserId) → new_name_fault owner users (Some u) ≡ None → among users u ≡ false
+      → Leads users (act.Known u ∷ []) (users ++ u ∷ [])
   known_leads users u none new h here = record {
     follow = (
       and_from _ _ (ap (λ us. not (among us u)) here.users_are ∙ ap not new)
           (ap (λ us. is_none (new_name_fault owner us (Some u))) here.users_are ∙ ap is_none none),
       tt,
     );
-    leads = record { users_are = ap (λ us. us ++ u ∷ []) here.users_are; stays = λ o. still (act.Known u) h o refl ∙ here.stays o };
+    leads = record {
+      users_are = ap (λ us. us ++ u ∷ []) here.users_are;
+      stays = λ o. still (act.Known u) h o refl
+          ∙ here.stays o;
+    };
   }
 
   among_last : (users : List UserId) (u : UserId) → among (users ++ u ∷ []) u ≡ true
   among_last users u = any_behind (same_user u) users (u ∷ []) (or_left (same_user u u) false (same_user-refl u))
 
-  name_leads : (users : List UserId) (name : Option UserId) (bits : List BitChange) (objects : List Object) → new_name_fault owner users name ≡ None → AreThere objects
+  name_leads : (users : List UserId) (name : Option UserId) (bits : List BitChange) (objects : List Object)
+      → new_name_fault owner users name ≡ None → AreThere objects
       → Leads users (name_acts users name bits objects) (with_name users name)
   name_leads users None bits objects none all = absurd (cc (none))
   name_leads users (Some u) bits objects none all = on (among users u) refl where
-    on : (b : Bool) → among users u ≡ b → Leads users (user_acts b u bits objects) (if b then users else users ++ u ∷ [])
+    on : (b : Bool) → among users u ≡ b
+        → Leads users (user_acts b u bits objects) (if b then users else users ++ u ∷ [])
     on true is = sets_lead users u bits objects (known_name owner users u (not_owner owner users u none) is) all
     on false is =
-        then_leads users (users ++ u ∷ []) (users ++ u ∷ []) (act.Known u ∷ []) (sets u bits objects) (known_leads users u none is)
-        (sets_lead (users ++ u ∷ []) u bits objects (known_name owner (users ++ u ∷ []) u (not_owner owner users u none) (among_last users u)) all)
+        then_leads users (users ++ u ∷ []) (users ++ u ∷ []) (act.Known u ∷ []) (sets u bits objects)
+        (known_leads users u none is)
+        (sets_lead (users ++ u ∷ []) u bits objects
+        (known_name owner (users ++ u ∷ []) u (not_owner owner users u none) (among_last users u)) all)
 
-  pub change_leads : (users : List UserId) (names : List (Option UserId)) (bits : List BitChange) (objects : List Object) → change_fault owner users names ≡ None → AreThere objects
+  pub change_leads : (users : List UserId) (names : List (Option UserId)) (bits : List BitChange)
+      (objects : List Object) → change_fault owner users names ≡ None → AreThere objects
       → Leads users (change_acts users names bits objects) (with_names users names)
   change_leads users [] bits objects none all = nothing_leads users
   change_leads users (name ∷ names) bits objects none all =
-      then_leads users (with_name users name) (with_names users (name ∷ names)) (name_acts users name bits objects) (change_acts (with_name users name) names bits objects)
-      (name_leads users name bits objects (first_none (new_name_fault owner users name) (change_fault owner (with_name users name) names) none) all)
-      (change_leads (with_name users name) names bits objects (second_none (new_name_fault owner users name) (change_fault owner (with_name users name) names) none) all)
+      then_leads users (with_name users name) (with_names users (name ∷ names)) (name_acts users name bits objects)
+      (change_acts (with_name users name) names bits objects)
+      (name_leads users name bits objects
+      (first_none (new_name_fault owner users name) (change_fault owner (with_name users name) names) none) all)
+      (change_leads (with_name users name) names bits objects
+      (second_none (new_name_fault owner users name) (change_fault owner (with_name users name) names) none) all)
 
   -- ---- acladd
 
-  new_leads : (users : List UserId) (name : Option UserId) → new_name_fault owner users name ≡ None → Leads users (new_acts users name) (with_name users name)
+  new_leads : (users : List UserId) (name : Option UserId) → new_name_fault owner users name ≡ None
+      → Leads users (new_acts users name) (with_name users name)
   new_leads users None none = nothing_leads users
   new_leads users (Some u) none = on (among users u) refl where
-    on : (b : Bool) → among users u ≡ b → Leads users (if b then [] else act.Known u ∷ []) (if b then users else users ++ u ∷ [])
+    on : (b : Bool) → among users u ≡ b
+        → Leads users (if b then [] else act.Known u ∷ []) (if b then users else users ++ u ∷ [])
     on true is = nothing_leads users
     on false is = known_leads users u none is
 
-  all_known_lead : (users : List UserId) (names : List (Option UserId)) → change_fault owner users names ≡ None → Leads users (known_acts users names) (with_names users names)
+  all_known_lead : (users : List UserId) (names : List (Option UserId)) → change_fault owner users names ≡ None
+      → Leads users (known_acts users names) (with_names users names)
   all_known_lead users [] none = nothing_leads users
   all_known_lead users (name ∷ names) none =
-      then_leads users (with_name users name) (with_names users (name ∷ names)) (new_acts users name) (known_acts (with_name users name) names)
-      (new_leads users name (first_none (new_name_fault owner users name) (change_fault owner (with_name users name) names) none))
-      (all_known_lead (with_name users name) names (second_none (new_name_fault owner users name) (change_fault owner (with_name users name) names) none))
+      then_leads users (with_name users name) (with_names users (name ∷ names)) (new_acts users name)
+      (known_acts (with_name users name) names)
+      (new_leads users name
+      (first_none (new_name_fault owner users name) (change_fault owner (with_name users name) names) none))
+      (all_known_lead (with_name users name) names
+      (second_none (new_name_fault owner users name) (change_fault owner (with_name users name) names) none))
 
-  names_lead : (users : List UserId) (objects : List Object) (names : List (Option UserId)) → AreNamed owner users names → AreThere objects → Leads users (names_sets objects names) users
+  names_lead : (users : List UserId) (objects : List Object) (names : List (Option UserId)) → AreNamed owner users names
+      → AreThere objects → Leads users (names_sets objects names) users
   names_lead users objects [] known all = nothing_leads users
   names_lead users objects (None ∷ names) known all = absurd (cc (known.0))
   names_lead users objects (Some u ∷ names) known all =
-      then_leads users users users (name_sets added objects (Some u)) (names_sets objects names) (sets_lead users u added objects known.0 all) (names_lead users objects names known.1 all)
+      then_leads users users users (name_sets added objects (Some u)) (names_sets objects names)
+      (sets_lead users u added objects known.0 all) (names_lead users objects names known.1 all)
 
-  pub add_leads : (users : List UserId) (names : List (Option UserId)) (objects : List Object) → change_fault owner users names ≡ None → AreThere objects
+  pub add_leads : (users : List UserId) (names : List (Option UserId)) (objects : List Object)
+      → change_fault owner users names ≡ None → AreThere objects
       → Leads users (add_acts users names objects) (with_names users names)
   add_leads users names objects none all =
-      then_leads users (with_names users names) (with_names users names) (known_acts users names) (names_sets objects names)
-      (all_known_lead users names none) (names_lead (with_names users names) objects names (named owner users names none) all)
+      then_leads users (with_names users names) (with_names users names) (known_acts users names)
+      (names_sets objects names)
+      (all_known_lead users names none)
+      (names_lead (with_names users names) objects names (named owner users names none) all)
 
   -- ---- aclumask
 
-  scope_leads : (users : List UserId) (by : UserId) (s : MaskScope) (bit : Bit) (value : Bool) → scope_fault owner users s ≡ None → Leads users (scope_acts by s bit value) users
-  scope_leads users by (scope.Preset kind) bit value none = one_leads users (act.Preset kind bit value) refl (λ h. refl) (λ h here. refl)
+  scope_leads : (users : List UserId) (by : UserId) (s : MaskScope) (bit : Bit) (value : Bool)
+      → scope_fault owner users s ≡ None → Leads users (scope_acts by s bit value) users
+  scope_leads users by (scope.Preset kind) bit value none = one_leads users (act.Preset kind bit value) refl (λ h. refl)
+      (λ h here. refl)
   scope_leads users by (scope.User None) bit value none = absurd (cc (none))
-  scope_leads users by (scope.User (Some u)) bit value none = one_leads users (act.Masked by u bit value) refl (λ h. refl) (λ h here.
+  scope_leads users by (scope.User (Some u)) bit value none = one_leads users (act.Masked by u bit value) refl
+      (λ h. refl) (λ h here.
       ap (λ us. is_none (known_name_fault owner us (Some u))) here.users_are ∙ ap is_none none)
 
-  pub mask_leads : (users : List UserId) (by : UserId) (entries : List MaskEntry) → mask_fault owner users entries ≡ None → Leads users (mask_acts by entries) users
+  pub mask_leads : (users : List UserId) (by : UserId) (entries : List MaskEntry)
+      → mask_fault owner users entries ≡ None → Leads users (mask_acts by entries) users
   mask_leads users by [] none = nothing_leads users
   mask_leads users by (e ∷ entries) none =
       then_leads users users users (scope_acts by e.scope e.bit e.value) (mask_acts by entries)
-      (scope_leads users by e.scope e.bit e.value (first_none (scope_fault owner users e.scope) (mask_fault owner users entries) none))
-      (mask_leads users by entries (second_none (scope_fault owner users e.scope) (mask_fault owner users entries) none))
+      (scope_leads users by e.scope e.bit e.value
+      (first_none (scope_fault owner users e.scope) (mask_fault owner users entries) none))
+      (mask_leads users by entries
+      (second_none (scope_fault owner users e.scope) (mask_fault owner users entries) none))
 
   -- from the acts before
-  pub here_follow : (acts : List Act) (more : List UserId) → Leads (users_of owner g) acts more → CanFollow edition owner g acts
-  here_follow acts more leads = let all : Goes g acts more = leads g (record { users_are = refl; stays = λ o. refl }) in all.follow
+  pub here_follow : (acts : List Act) (more : List UserId) → Leads (users_of owner g) acts more
+      → CanFollow edition owner g acts
+  here_follow acts more leads = let all : Goes g acts more = leads g (record { users_are = refl; stays = λ o. refl }) in
+      all.follow
 
   -- ---- acldel and aclgrp
 
-  pub removal_follows : (name : Option UserId) → known_name_fault owner (users_of owner g) name ≡ None → CanFollow edition owner g (removal_acts name)
+  pub removal_follows : (name : Option UserId) → known_name_fault owner (users_of owner g) name ≡ None
+      → CanFollow edition owner g (removal_acts name)
   removal_follows None none = tt
   removal_follows (Some u) none = (ap is_none none, tt)
 
-  pub group_follows : (name : Option UserId) (leader : NewLeader) → group_fault edition owner (users_of owner g) (leaders_of edition g) name leader ≡ None
+  pub group_follows : (name : Option UserId) (leader : NewLeader)
+      → group_fault edition owner (users_of owner g) (leaders_of edition g) name leader ≡ None
       → CanFollow edition owner g (group_acts name leader)
   group_follows None leader none = tt
   group_follows (Some u) Nobody none = (ap is_none none, tt)
   group_follows (Some u) (Named (Some l)) none = (ap is_none none, tt)
   group_follows (Some u) (Named None) none =
-      absurd (cc (second_none (known_name_fault owner (users_of owner g) (Some u)) (leader_fault edition owner (users_of owner g) (leaders_of edition g) (Some u) (Named None)) none))
+      absurd
+      (cc
+      (second_none (known_name_fault owner (users_of owner g) (Some u))
+      (leader_fault edition owner (users_of owner g) (leaders_of edition g) (Some u) (Named None)) none))

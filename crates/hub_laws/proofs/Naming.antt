@@ -1,5 +1,6 @@
 -- What is named is there: windows, the objects of lists, and what clients show.
-use Rattle.std.proofs.Common.{◌≡◌, ◌∙◌, ℕ, Bool, true, false, List, [], ◌∷◌, ◌++◌, Option, Some, None, map, filter, refl, sym, subst, inl, inr, ⊎_elim}
+use Rattle.std.proofs.Common.{◌≡◌, ◌∙◌, ℕ, Bool, true, false, List, [], ◌∷◌, ◌++◌, Option, Some, None, map, filter}
+use Rattle.std.proofs.Common.{refl, sym, subst, inl, inr, ⊎_elim}
 use Rattle.std.specs.Prelude.{if◌then◌else◌, IfSome, MatchOption, is_some, slice_get, unwrap_or, nat_eq}
 use Rattle.std.specs.List.{AllByRecursion, list_any}
 use Rattle.std.specs.Option.{option_map, option_or, option_and_then}
@@ -14,7 +15,8 @@ use Rattle.regions.specs.declared.shown.Shown.{Shown}
 use Rattle.regions.specs.Layouts.{empty}
 use Rattle.session_model.specs.Sound.{IsOpen, ShowsOpen, AreFit}
 use Rattle.session_model.specs.Tables.{Tables, Window, Client, window_at, focused}
-use Rattle.session_model.specs.Naming.{with_number, lowest, window_named, is_wide, wide_objects, item_objects, objects_of, every_window, every_command}
+use Rattle.session_model.specs.Naming.{with_number, lowest, window_named, is_wide, wide_objects, item_objects}
+use Rattle.session_model.specs.Naming.{objects_of, every_window, every_command}
 use Rattle.session_model.specs.Promises.{unread}
 use Rattle.session_laws.proofs.Agreeing.{has, has_row}
 use Rattle.session_laws.proofs.Showing.{IsThere, lowest_there, number_there, get_all}
@@ -28,17 +30,20 @@ use Rattle.session_laws.proofs.Unread.{SameClients}
 filter_there : (p : Window → Bool) (ws : List Window) (w : Window) → IsThere (filter p ws) w → IsThere ws w
 filter_there p [] w some = some
 filter_there p (v ∷ ws) w some = on (p v) some (filter_there p ws w) where
-  on : (b : Bool) → IsThere (if b then v ∷ filter p ws else filter p ws) w → (IsThere (filter p ws) w → IsThere ws w) → IsThere (v ∷ ws) w
+  on : (b : Bool) → IsThere (if b then v ∷ filter p ws else filter p ws) w → (IsThere (filter p ws) w → IsThere ws w)
+      → IsThere (v ∷ ws) w
   on true some more = ⊎_elim (λ (here : v ≡ w). inl here) (λ later. inr (more later)) some
   on false some more = inr (more some)
 
-either_there : (ws : List Window) (a b : Option Window) (w : Window) → (a ≡ Some w → IsThere ws w) → (b ≡ Some w → IsThere ws w) → option_or a b ≡ Some w → IsThere ws w
+either_there : (ws : List Window) (a b : Option Window) (w : Window) → (a ≡ Some w → IsThere ws w)
+    → (b ≡ Some w → IsThere ws w) → option_or a b ≡ Some w → IsThere ws w
 either_there ws None b w one two is = two is
 either_there ws (Some v) b w one two is = one is
 
 named_there : (ws : List Window) (word : List ℕ) (w : Window) → window_named ws word ≡ Some w → IsThere ws w
 named_there ws word w is =
-    either_there ws (option_and_then (with_number ws) (spelled word)) (lowest (filter (λ (v : Window). bytes_eq v.title word) ws)) w
+    either_there ws (option_and_then (with_number ws) (spelled word))
+    (lowest (filter (λ (v : Window). bytes_eq v.title word) ws)) w
     (λ at. number_there ws (spelled word) w at) (λ at. filter_there _ ws w (lowest_there _ w at)) is
 
 -- the acts say of each window of the tables that it is open
@@ -60,10 +65,12 @@ module _ (t : Tables) (agree : OpenIs t) where
   windows_there : AreThere t (every_window t)
   windows_there =
       all_map (λ o. there t.acts o ≡ true) (λ (w : Window). object.Window w.serial) t.windows
-      (all_weaken (λ w. IsThere t.windows w) (λ w. is_open t.acts w.serial ≡ true) t.windows there_open (members t.windows))
+      (all_weaken (λ w. IsThere t.windows w) (λ w. is_open t.acts w.serial ≡ true) t.windows there_open
+      (members t.windows))
 
   commands_there : AreThere t every_command
-  commands_there = all_map (λ o. there t.acts o ≡ true) object.Command all_names (all_of (λ c. there t.acts (object.Command c) ≡ true) all_names (λ c. refl))
+  commands_there = all_map (λ o. there t.acts o ≡ true) object.Command all_names
+      (all_of (λ c. there t.acts (object.Command c) ≡ true) all_names (λ c. refl))
 
   pub every_there : AreThere t (every_window t ++ every_command)
   every_there = all_append (λ o. there t.acts o ≡ true) (every_window t) every_command windows_there commands_there
@@ -75,43 +82,54 @@ module _ (t : Tables) (agree : OpenIs t) where
   wide_there false false = tt
 
   one_there : (c : Option CommandName) (o : Option Window) → ((w : Window) → o ≡ Some w → IsThere t.windows w)
-      → IfSome (option_or (option_map (λ x. object.Command x ∷ []) c) (option_map (λ (w : Window). object.Window w.serial ∷ []) o)) (AreThere t)
+      → IfSome
+      (option_or (option_map (λ x. object.Command x ∷ []) c)
+      (option_map (λ (w : Window). object.Window w.serial ∷ []) o)) (AreThere t)
   one_there (Some c) o is = (refl, tt)
   one_there None (Some w) is = (there_open w (is w refl), tt)
   one_there None None is = tt
 
-  if_wide : (b : Bool) (objects : List Object) (o : Option (List Object)) → AreThere t objects → IfSome o (AreThere t) → IfSome (if b then Some objects else o) (AreThere t)
+  if_wide : (b : Bool) (objects : List Object) (o : Option (List Object)) → AreThere t objects → IfSome o (AreThere t)
+      → IfSome (if b then Some objects else o) (AreThere t)
   if_wide true objects o these those = these
   if_wide false objects o these those = those
 
   item_there : (item : List ℕ) → IfSome (item_objects t item) (AreThere t)
   item_there item =
-      if_wide (is_wide item) (wide_objects t item) _ (wide_there (list_any (nat_eq 0x23) item) (list_any (nat_eq 0x3F) item))
+      if_wide (is_wide item) (wide_objects t item) _
+      (wide_there (list_any (nat_eq 0x23) item) (list_any (nat_eq 0x3F) item))
       (one_there (command_named item) (window_named t.windows item) (named_there t.windows item))
 
-  more_there : (a b : Option (List Object)) → IfSome a (AreThere t) → IfSome b (AreThere t) → IfSome (option_and_then (λ objects. option_map (λ more. objects ++ more) b) a) (AreThere t)
+  more_there : (a b : Option (List Object)) → IfSome a (AreThere t) → IfSome b (AreThere t)
+      → IfSome (option_and_then (λ objects. option_map (λ more. objects ++ more) b) a) (AreThere t)
   more_there None b these those = tt
   more_there (Some xs) None these those = tt
   more_there (Some xs) (Some ys) these those = all_append (λ o. there t.acts o ≡ true) xs ys these those
 
   items_there : (items : List (List ℕ)) → IfSome (objects_of t items) (AreThere t)
   items_there [] = tt
-  items_there (item ∷ items) = more_there (item_objects t item) (objects_of t items) (item_there item) (items_there items)
+  items_there (item ∷ items) = more_there (item_objects t item) (objects_of t items) (item_there item)
+      (items_there items)
 
   -- ---- what clients show
 
-  pub focus_open : (c : Client) → PageIn (serials t) c → MatchOption (focused c) (Unit {0}) (λ n. is_open t.acts n ≡ true)
-  focus_open c page = on (slice_get c.layout.shown c.layout.focus) (get_all (ShowsIn (serials t)) c.layout.shown c.layout.focus empty tt page) where
-    shown : (o : Option ℕ) → MatchOption o (Unit {0}) (λ n. has (serials t) n ≡ true) → MatchOption o (Unit {0}) (λ n. is_open t.acts n ≡ true)
-    shown None is = tt
-    shown (Some n) is = listed_open n is
+  pub focus_open : (c : Client) → PageIn (serials t) c
+      → MatchOption (focused c) (Unit {0}) (λ n. is_open t.acts n ≡ true)
+  focus_open c page = on (slice_get c.layout.shown c.layout.focus)
+      (get_all (ShowsIn (serials t)) c.layout.shown c.layout.focus empty tt page) where
+        shown : (o : Option ℕ) → MatchOption o (Unit {0}) (λ n. has (serials t) n ≡ true)
+            → MatchOption o (Unit {0}) (λ n. is_open t.acts n ≡ true)
+        shown None is = tt
+        shown (Some n) is = listed_open n is
 
-    on : (o : Option Shown) → ShowsIn (serials t) (unwrap_or o empty) → MatchOption (option_and_then (λ (s : Shown). s.window) o) (Unit {0}) (λ n. is_open t.acts n ≡ true)
-    on None is = tt
-    on (Some s) is = shown s.window is
+        on : (o : Option Shown) → ShowsIn (serials t) (unwrap_or o empty)
+            → MatchOption (option_and_then (λ (s : Shown). s.window) o) (Unit {0}) (λ n. is_open t.acts n ≡ true)
+        on None is = tt
+        on (Some s) is = shown s.window is
 
 -- the objects of a list
-pub list_there : (t : Tables) (agree : OpenIs t) (items : List (List ℕ)) (objects : List Object) → objects_of t items ≡ Some objects → AreThere t objects
+pub list_there : (t : Tables) (agree : OpenIs t) (items : List (List ℕ)) (objects : List Object)
+    → objects_of t items ≡ Some objects → AreThere t objects
 list_there t agree items objects is = subst (λ o. IfSome o (AreThere t)) is (items_there t agree items)
 
 -- ---- fit tables
@@ -124,10 +142,12 @@ pub fit_holds : (t : Tables) → AreFit t → Holds t
 fit_holds t f = record {
   numbers = f.numbered;
   pages = all_weaken (ShowsOpen t) (PageIn (serials t)) t.clients
-      (λ c page. all_weaken (λ (s : Shown). IsOpen t s.window) (ShowsIn (serials t)) c.layout.shown (λ s is. shown_in t s.window is) page) f.shown;
+      (λ c page. all_weaken (λ (s : Shown). IsOpen t s.window) (ShowsIn (serials t)) c.layout.shown
+      (λ s is. shown_in t s.window is) page) f.shown;
 }
 
-read_pages : (ns : List ℕ) (cs : List Client) → AllByRecursion (PageIn ns) (map unread cs) → AllByRecursion (PageIn ns) cs
+read_pages : (ns : List ℕ) (cs : List Client) → AllByRecursion (PageIn ns) (map unread cs)
+    → AllByRecursion (PageIn ns) cs
 read_pages ns [] all = tt
 read_pages ns (c ∷ cs) all = (all.0, read_pages ns cs all.1)
 
@@ -135,5 +155,6 @@ read_pages ns (c ∷ cs) all = (all.0, read_pages ns cs all.1)
 pub same_holds : (t : Tables) (cs : List Client) → SameClients t cs → Holds t → Holds (record t { clients = cs })
 same_holds t cs same h = record {
   numbers = h.numbers;
-  pages = read_pages (serials t) cs (subst (AllByRecursion (PageIn (serials t))) (sym same) (all_map (PageIn (serials t)) unread t.clients h.pages));
+  pages = read_pages (serials t) cs
+      (subst (AllByRecursion (PageIn (serials t))) (sym same) (all_map (PageIn (serials t)) unread t.clients h.pages));
 }

@@ -1,5 +1,6 @@
 -- The acts of commands follow those of the tables.
-use Rattle.std.proofs.Common.{◌≡◌, ◌∙◌, ℕ, Bool, true, false, ◌||◌, List, [], ◌∷◌, Option, Some, None, map, refl, ap, subst}
+use Rattle.std.proofs.Common.{◌≡◌, ◌∙◌, ℕ, Bool, true, false, ◌||◌, List, [], ◌∷◌, Option, Some, None, map, refl, ap}
+use Rattle.std.proofs.Common.{subst}
 use Rattle.std.specs.Prelude.{if◌then◌else◌, MatchOption}
 use Rattle.std.specs.List.{AllByRecursion}
 use Rattle.std.specs.Option.{option_map, option_and_then}
@@ -41,7 +42,8 @@ use Rattle.session_laws.proofs.Fitting.{Holds, page_of, has_there}
 use Rattle.session_laws.proofs.Lists.{all_append}
 use Rattle.session_laws.proofs.Unread.{row_at}
 use Rattle.hub_trail.specs.Judging.{CanFollow}
-use Rattle.hub_laws.proofs.Following.{is_free, AllFree, free_follow, users_stay, follow_append, change_leads, add_leads, mask_leads, here_follow, removal_follows, group_follows}
+use Rattle.hub_laws.proofs.Following.{is_free, AllFree, free_follow, users_stay, follow_append, change_leads, add_leads}
+use Rattle.hub_laws.proofs.Following.{mask_leads, here_follow, removal_follows, group_follows}
 use Rattle.hub_laws.proofs.Naming.{OpenIs, AreThere, there_open, every_there, list_there, focus_open}
 
 abbrev pub Follows : Tables → List Act → Type 0
@@ -53,7 +55,8 @@ Follows t acts = CanFollow t.edition t.owner t.acts acts
 pub each_passes : (t : Tables) (cs : List Check) → first_fault t cs ≡ None → AllByRecursion (λ c. passes t c ≡ true) cs
 each_passes t [] none = tt
 each_passes t (c ∷ cs) none = on (passes t c) none (each_passes t cs) where
-  on : (b : Bool) → (if b then first_fault t cs else Some (refusal_of t c)) ≡ None → (first_fault t cs ≡ None → AllByRecursion (λ d. passes t d ≡ true) cs)
+  on : (b : Bool) → (if b then first_fault t cs else Some (refusal_of t c)) ≡ None
+      → (first_fault t cs ≡ None → AllByRecursion (λ d. passes t d ≡ true) cs)
       → (b ≡ true) × AllByRecursion (λ d. passes t d ≡ true) cs
   on true e rest = (refl, rest e)
   on false e rest = absurd (cc (e))
@@ -79,37 +82,49 @@ closed_follow t ws = free_follows t _ (free_closed ws)
 
 -- ---- entering
 
-pub entering_follows : (edition : Edition) (owner : UserId) (h : History) (user : UserId) (o : Option ℕ) → MatchOption o (Unit {0}) (λ n. is_open h n ≡ true)
+pub entering_follows : (edition : Edition) (owner : UserId) (h : History) (user : UserId) (o : Option ℕ)
+    → MatchOption o (Unit {0}) (λ n. is_open h n ≡ true)
     → CanFollow edition owner h (entering user o)
 entering_follows edition owner h user None is = tt
 entering_follows edition owner h user (Some n) is = (is, tt)
 
-own_row : (t : Tables) (o : Option ℕ) (c : Client) → option_and_then (client_at t) o ≡ Some c → client_at t c.serial ≡ Some c
+own_row : (t : Tables) (o : Option ℕ) (c : Client) → option_and_then (client_at t) o ≡ Some c
+    → client_at t c.serial ≡ Some c
 own_row t None c is = absurd (cc (is))
 own_row t (Some n) c is = row_at t n c is
 
 -- ---- list commands
 
-removed_follow : (t : Tables) (o : Option UserId) → known_name_fault t.owner (known_users t) o ≡ None → Follows t (removes o t).acts
+removed_follow : (t : Tables) (o : Option UserId) → known_name_fault t.owner (known_users t) o ≡ None
+    → Follows t (removes o t).acts
 removed_follow t None none = tt
 removed_follow t (Some u) none =
     let parted : List Act = (parts (is_of u) Removed t).acts in
     let free : AllFree parted = free_parted _ in
     follow_append t.edition t.owner t.acts parted (act.Gone u ∷ []) (free_follows t parted free)
-    (removal_follows t.edition t.owner (followed_by t.acts parted) (Some u) (ap (λ us. known_name_fault t.owner us (Some u)) (users_stay t.owner t.acts parted free) ∙ none))
+    (removal_follows t.edition t.owner (followed_by t.acts parted) (Some u)
+    (ap (λ us. known_name_fault t.owner us (Some u)) (users_stay t.owner t.acts parted free) ∙ none))
 
 -- ---- write locks
 
 may_write : (t : Tables) (k : Caller) (c : Command) (w : Window) → k.window ≡ Some w
-    → first_fault t (right k.user Execute (object.Command (name_of c)) ∷ window_checks k.user typing (option_map (λ (v : Window). v.serial) k.window)) ≡ None
+    → first_fault t
+    (right k.user Execute (object.Command (name_of c)) ∷ window_checks k.user typing
+    (option_map (λ (v : Window). v.serial) k.window)) ≡ None
     → may_in t k.user Write (object.Window w.serial) ≡ true
 may_write t k c w is none =
-    let cs : List Check = right k.user Execute (object.Command (name_of c)) ∷ window_checks k.user typing (Some w.serial) in
+    let cs : List Check = right k.user Execute (object.Command (name_of c)) ∷ window_checks k.user typing
+    (Some w.serial) in
     let each : AllByRecursion (λ d. passes t d ≡ true) cs =
-    each_passes t cs (subst (λ (o : Option Window). first_fault t (right k.user Execute (object.Command (name_of c)) ∷ window_checks k.user typing (option_map (λ (v : Window). v.serial) o)) ≡ None) is none) in
+    each_passes t cs
+    (subst
+    (λ (o : Option Window). first_fault t
+    (right k.user Execute (object.Command (name_of c)) ∷ window_checks k.user typing
+    (option_map (λ (v : Window). v.serial) o)) ≡ None) is none) in
     each.1.1.0
 
-off_or_may : (t : Tables) (k : Caller) (mode : LockMode) (w : Window) → k.window ≡ Some w → first_fault t (checks t k (command.Writelock mode)) ≡ None
+off_or_may : (t : Tables) (k : Caller) (mode : LockMode) (w : Window) → k.window ≡ Some w
+    → first_fault t (checks t k (command.Writelock mode)) ≡ None
     → (is_off mode || may_in t k.user Write (object.Window w.serial)) ≡ true
 off_or_may t k Off w is none = refl
 off_or_may t k Auto w is none = may_write t k (command.Writelock Auto) w is none
@@ -117,7 +132,8 @@ off_or_may t k On w is none = may_write t k (command.Writelock On) w is none
 
 -- ---- the kinds
 
-module _ (t : Tables) (agree : OpenIs t) (k : Caller) (h : Holds t) (row : (w : Window) → k.window ≡ Some w → IsThere t.windows w) where
+module _ (t : Tables) (agree : OpenIs t) (k : Caller) (h : Holds t)
+    (row : (w : Window) → k.window ≡ Some w → IsThere t.windows w) where
   abbrev pub Is : Deed → Type 0
   Is d = Follows t d.acts
 
@@ -126,18 +142,29 @@ module _ (t : Tables) (agree : OpenIs t) (k : Caller) (h : Holds t) (row : (w : 
   page_follows c l at shows =
       let d : Client = with_layout l c in
       entering_follows t.edition t.owner t.acts d.user (focused d)
-      (focus_open t agree d (shows (has (serials t)) (has_there t.windows) (page_of t c.serial c (own_row t k.client c at) h)))
+      (focus_open t agree d
+      (shows (has (serials t)) (has_there t.windows) (page_of t c.serial c (own_row t k.client c at) h)))
 
-  acted_follow : (c : Command) (acts : List Act) → first_fault t (checks t k c) ≡ None → Acted t k c acts → Follows t acts
+  acted_follow : (c : Command) (acts : List Act) → first_fault t (checks t k c) ≡ None → Acted t k c acts
+      → Follows t acts
   acted_follow c acts none (shapes.added names all is clear every) =
-      here_follow t.edition t.owner t.acts _ _ (add_leads t.edition t.owner t.acts (known_users t) (names_of t names) all clear (subst (AreThere t) every (every_there t agree)))
+      here_follow t.edition t.owner t.acts _ _
+      (add_leads t.edition t.owner t.acts (known_users t) (names_of t names) all clear
+      (subst (AreThere t) every (every_there t agree)))
   acted_follow c acts none (shapes.changed names bits list all is clear objects) =
-      here_follow t.edition t.owner t.acts _ _ (change_leads t.edition t.owner t.acts (known_users t) (names_of t names) bits all clear (list_there t agree list all objects))
-  acted_follow c acts none (shapes.grouped word leader is clear) = group_follows t.edition t.owner t.acts (named_by word) (new_leader_of leader) clear
+      here_follow t.edition t.owner t.acts _ _
+      (change_leads t.edition t.owner t.acts (known_users t) (names_of t names) bits all clear
+      (list_there t agree list all objects))
+  acted_follow c acts none (shapes.grouped word leader is clear) = group_follows t.edition t.owner t.acts
+      (named_by word) (new_leader_of leader) clear
   acted_follow c acts none (shapes.masked masks is clear) =
-      here_follow t.edition t.owner t.acts _ _ (mask_leads t.edition t.owner t.acts (known_users t) k.user (mask_entries t masks) clear)
-  acted_follow c acts none (shapes.locked w mode is at) =
-      (and_from _ _ (there_open t agree w (row w at)) (off_or_may t k mode w at (subst (λ (x : Command). first_fault t (checks t k x) ≡ None) is none)), tt)
+      here_follow t.edition t.owner t.acts _ _
+      (mask_leads t.edition t.owner t.acts (known_users t) k.user (mask_entries t masks) clear)
+  acted_follow c acts none (shapes.locked w mode is at) = (
+    and_from _ _ (there_open t agree w (row w at))
+        (off_or_may t k mode w at (subst (λ (x : Command). first_fault t (checks t k x) ≡ None) is none)),
+    tt,
+  )
   acted_follow c acts none (shapes.preset mode is) = (refl, tt)
 
   deed_follows : (c : Command) (d : Deed) → first_fault t (checks t k c) ≡ None → Shape t k c d → Is d
@@ -156,7 +183,8 @@ module _ (t : Tables) (agree : OpenIs t) (k : Caller) (h : Holds t) (row : (w : 
   deed_follows c d none (shapes.typed w bytes is at) = tt
   deed_follows c d none (shapes.detached x is at) = parted_follow t _
   deed_follows c d none (shapes.killed w is at) = closed_follow t _
-  deed_follows c d none (shapes.quits is) = free_follows t _ (all_append (λ a. is_free a ≡ true) (closes (λ w. true) Quit t).acts _ (free_closed _) (free_parted _))
+  deed_follows c d none (shapes.quits is) = free_follows t _
+      (all_append (λ a. is_free a ≡ true) (closes (λ w. true) Quit t).acts _ (free_closed _) (free_parted _))
 
   pub follows : (c : Command) → first_fault t (checks t k c) ≡ None → Either Is (does t k c)
   follows c none = by_shape Is t k c (λ d is. deed_follows c d none is)

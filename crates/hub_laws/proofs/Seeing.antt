@@ -23,7 +23,8 @@ use Rattle.hub_laws.proofs.Naming.{OpenIs, there_open}
 
 -- ---- the verdicts of checks
 
-all_if : {A : Type 0} (P : A → Type 0) (b : Bool) (xs : List A) → AllByRecursion P xs → AllByRecursion P (if b then xs else [])
+all_if : {A : Type 0} (P : A → Type 0) (b : Bool) (xs : List A) → AllByRecursion P xs
+    → AllByRecursion P (if b then xs else [])
 all_if P true xs all = all
 all_if P false xs all = tt
 
@@ -37,7 +38,8 @@ pub verdicts_see : (t : Tables) (cs : List Check) → ChecksSee t cs → SeeTher
 verdicts_see t [] all = tt
 verdicts_see t (c ∷ cs) all =
     let See : Verdict → Type 0 = λ v. is_on_there t.acts v ≡ true in
-    all_append See (verdict t c) (if passes t c then verdicts t cs else []) all.0 (all_if See (passes t c) (verdicts t cs) (verdicts_see t cs all.1))
+    all_append See (verdict t c) (if passes t c then verdicts t cs else []) all.0
+    (all_if See (passes t c) (verdicts t cs) (verdicts_see t cs all.1))
 
 -- ---- commands and typed bytes
 
@@ -51,24 +53,30 @@ module _ (t : Tables) (agree : OpenIs t) where
   window_sees user n (Some w) row =
       let here = there_open t agree w (row w refl) in (
         (here, tt),
-        all_append Sees (where_needed n.write (right user Write (object.Window w.serial) ∷ [])) (where_needed n.lock (unlocked user w.serial ∷ []))
+        all_append Sees (where_needed n.write (right user Write (object.Window w.serial) ∷ []))
+            (where_needed n.lock (unlocked user w.serial ∷ []))
             (all_if Sees n.write (right user Write (object.Window w.serial) ∷ []) ((here, tt), tt))
             (all_if Sees n.lock (unlocked user w.serial ∷ []) ((refl, tt), tt)),
       )
 
-  pub checks_see : (k : Caller) (c : Command) → ((w : Window) → k.window ≡ Some w → IsThere t.windows w) → ChecksSee t (checks t k c)
+  pub checks_see : (k : Caller) (c : Command) → ((w : Window) → k.window ≡ Some w → IsThere t.windows w)
+      → ChecksSee t (checks t k c)
   checks_see k c row =
       let n : Needs = needs c in
-      let last : List Check = where_needed n.window (window_checks k.user n (option_map (λ (w : Window). w.serial) k.window)) in (
+      let last : List Check = where_needed n.window
+      (window_checks k.user n (option_map (λ (w : Window). w.serial) k.window)) in (
         (refl, tt),
         all_append Sees (where_needed n.multiuser _) _ (all_if Sees n.multiuser _ (tt, tt))
-            (all_append Sees (where_needed n.client _) last (all_if Sees n.client _ (tt, tt)) (all_if Sees n.window _ (window_sees k.user n k.window row))),
+            (all_append Sees (where_needed n.client _) last (all_if Sees n.client _ (tt, tt))
+            (all_if Sees n.window _ (window_sees k.user n k.window row))),
       )
 
-  typing_sees : (user : UserId) (o : Option Window) → ((w : Window) → o ≡ Some w → IsThere t.windows w) → ChecksSee t (typing_checks user o)
+  typing_sees : (user : UserId) (o : Option Window) → ((w : Window) → o ≡ Some w → IsThere t.windows w)
+      → ChecksSee t (typing_checks user o)
   typing_sees user None row = (tt, tt)
   typing_sees user (Some w) row = ((there_open t agree w (row w refl), tt), ((refl, tt), tt))
 
   pub typed_see : (c : Client) (bytes : List ℕ) → SeeThere t (typing_verdicts t c bytes)
   typed_see c [] = tt
-  typed_see c (b ∷ bytes) = verdicts_see t (typing_checks c.user (focused_window t c)) (typing_sees c.user (focused_window t c) (at_there t (focused c)))
+  typed_see c (b ∷ bytes) = verdicts_see t (typing_checks c.user (focused_window t c))
+      (typing_sees c.user (focused_window t c) (at_there t (focused c)))

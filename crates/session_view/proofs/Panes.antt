@@ -129,7 +129,8 @@ IsWell p = view.HasPairedLines p × view.HasDrawableLines p
 window_well : (m : model.Window) (w : Window) (back : ℕ) → WindowStands m w
     → IsWell (view.read (window_read m back (terminal_of m).screen))
 window_well m w back st = (
-  lines_moved IsPaired back (terminal_of m).screen st.stands.terminal.sound.sized.paired st.stands.terminal.sound.kept.paired,
+  lines_moved IsPaired back (terminal_of m).screen st.stands.terminal.sound.sized.paired
+      st.stands.terminal.sound.kept.paired,
   lines_moved IsDrawableLine back (terminal_of m).screen st.drawable.page st.drawable.kept,
 )
 
