@@ -588,15 +588,16 @@ def turns(play, accounts):
     if os.getuid() == 0:
         on.shows("ann", "Permission denied")
         on.shows("ann", "^I am " + who)
+    # A prompt may come between what is typed and what is printed.
     on.type("lesson", "echo tess types\n")
-    on.shows("ann", "^tess types")
+    on.shows("ann", r"^(\$ )?tess types")
     denied("bob")
     text.take("mux-turn --keep tess --for 5m --window lesson bob")
     before = on.prompts("tess")
     on.type("tess", "mux-turn --keep tess --for 5m --window lesson bob\n")
     on.shows("bob", "^own: bob may type for 5m")
     on.type("bob", "echo bob types\n")
-    on.shows("ann", "^bob types")
+    on.shows("ann", r"^(\$ )?bob types")
     denied("ann")
     on.keys("tess", "C-c")
     on.wait("tess", "end of mux-turn", lambda: on.prompts("tess") > before)
@@ -605,7 +606,7 @@ def turns(play, accounts):
     on.run("tess", "mux-turn --keep tess none; clear")
     denied("ann")
     on.type("lesson", "echo still tess\n")
-    on.shows("ann", "^still tess")
+    on.shows("ann", r"^(\$ )?still tess")
 
 
 def again(play, opened):
@@ -622,7 +623,7 @@ def again(play, opened):
     on.type("ann", "x")
     on.shows("ann", "^denied: w on window 0: entry ann -w")
     on.type("lesson", "echo hers again\n")
-    on.shows("ann", "^hers again")
+    on.shows("ann", r"^(\$ )?hers again")
 
 
 def policies(play):
