@@ -130,8 +130,11 @@ def under_attack(name, make, trail):
         what = f"{name}, {'with' if trail else 'without'} --trail"
         with Server(loops=8, words=("--trail", path) if trail else ()) as server:
             admit(server)
-            shell, client = server.connect(window()), server.connect(attach())
-            assert welcome(shell) and welcome(client)
+            # (a client that comes before the window shows none)
+            shell = server.connect(window())
+            assert welcome(shell)
+            client = server.connect(attach())
+            assert welcome(client)
             length = lambda: os.stat(path).st_size if trail else 0
             size, begin = length(), time.monotonic()
             running = make(server.path)
