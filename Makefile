@@ -78,6 +78,7 @@ lint:
 	cat contrib/mux.ti contrib/vt220.ti | tic -c /dev/stdin
 	cd man && mandoc -T lint *.1 *.5 *.8
 	tests/outside/empty_edits
+	tools/edits --look
 	tools/crates-table > /dev/null
 	tools/proved --check docs/PROVED.md
 	tools/surface
