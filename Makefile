@@ -5,7 +5,7 @@ PROGRAMS = muxd mux muxsim mux_trail vtcat
 TESTS = $(notdir $(patsubst %/,%,$(dir $(wildcard crates/*_tests/src))))
 SCRIPTS = $(shell grep -s -l -m 1 '^.!/bin/sh' contrib/*)
 
-.PHONY: demo try-server shell build try check test edits examples outside lint install uninstall dist
+.PHONY: demo try-server shell build try check test edits examples outside lint proved install uninstall dist
 
 # Plays a script of examples/, without any proof: about a minute.
 SCRIPT ?= first-run
@@ -85,11 +85,16 @@ lint:
 	cat contrib/mux.ti contrib/vt220.ti | tic -c /dev/stdin
 	cd man && mandoc -T lint *.1 *.5 *.8
 	tests/outside/empty_edits
-	tools/crates-table docs/CRATES.md
-	tools/proved-table
+	tools/edits --look
+	tools/crates-table > /dev/null
+	tools/proved --check docs/PROVED.md
 	tools/surface
-	tools/walk docs/READING.md
+	tools/pages
 	tools/prose README.md docs/*.md examples/README.md
+
+# Prints each public call with its clauses, and what they say: make proved CRATE=acl for one crate.
+proved:
+	@tools/proved $(CRATE)
 
 # Installs what make build proved, with its man pages, scripts, completions, units, terminal descriptions and documents.
 # As root it may not find the toolchain: sudo make install RT=$$(command -v rt).

@@ -1,4 +1,4 @@
-"""Makes the inputs of the benchmark: each of 10 MB, the same on every machine."""
+"""Makes the inputs of the benchmark, each of 10 MB, from a seed."""
 
 import random
 import sys
@@ -59,6 +59,16 @@ def latin(rng):
     return " ".join(words).encode() + b"\r\n"
 
 
+def marks(rng):
+    """Lines of decomposed text: one letter in ten has a combining mark."""
+    line = []
+    for _ in range(70):
+        line.append(rng.choice("abcdefghijklmnopqrstuvwxyz "))
+        if line[-1] != " " and rng.random() < 0.1:
+            line.append(rng.choice("\u0300\u0301\u0302\u0303\u0308\u0323"))
+    return "".join(line).encode() + b"\r\n"
+
+
 def wide(rng):
     """Lines of wide characters, in UTF-8."""
     return "".join(rng.choice(WIDE) for _ in range(39)).encode() + b"\r\n"
@@ -75,19 +85,18 @@ INPUTS = {
     "dense": dense,
     "edits": edits,
     "latin": latin,
+    "marks": marks,
     "wide": wide,
     "scroll": scroll,
 }
 
 
-def make(folder):
-    """Writes each input that isn't there, and gives the files by their names."""
+def make(folder, seed):
+    """Writes each input, and gives the files by their names."""
     files = {}
     for name, piece in INPUTS.items():
         files[name] = folder / (name.replace(" ", "_") + ".bin")
-        if files[name].exists() and files[name].stat().st_size >= SIZE:
-            continue
-        rng = random.Random(name)
+        rng = random.Random(f"{seed} {name}")
         pieces = []
         size = 0
         while size < SIZE:
@@ -98,4 +107,4 @@ def make(folder):
 
 
 if __name__ == "__main__":
-    make(Path(sys.argv[1]))
+    make(Path(sys.argv[1]), sys.argv[2] if len(sys.argv) > 2 else 0)

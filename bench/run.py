@@ -1,10 +1,15 @@
-"""Prints how fast vtcat is beside libvterm and Rust's vt100, all in one run: MB/s of processor time, and ratios.
+"""Prints how fast vtcat is beside libvterm, vt100 and alacritty_terminal, all in one run: MB/s of processor time, and
+ratios to the best of the three.
+
+Made-up inputs come from a seed that is drawn anew in each run and printed, and recordings of real programs are made
+anew, so that nothing can be tuned to one input. --seed N repeats a run's made-up inputs.
 
 With --instructions it prints how many instructions vtcat takes a byte, counted by valgrind, so that a busy machine
 doesn't matter.
 """
 
 import argparse
+import random
 import re
 import resource
 import shutil
@@ -16,6 +21,7 @@ from pathlib import Path
 sys.dont_write_bytecode = True
 
 import inputs  # noqa: E402
+import recorded  # noqa: E402
 
 HERE = Path(__file__).resolve().parent
 VTCAT = HERE.parent / "crates" / "vtcat"
@@ -37,7 +43,7 @@ def build_vtcat():
 
 
 def build_libvterm(folder):
-    """None where Debian's libvterm-dev isn't there."""
+    """None if Debian's libvterm-dev isn't there."""
     program = folder / "vterm"
     try:
         run(["cc", "-O2", "-o", program, HERE / "vterm.c", "-lvterm"])
@@ -46,10 +52,10 @@ def build_libvterm(folder):
     return program
 
 
-def build_vt100(folder):
-    """None where cargo or Debian's librust-vt100-dev isn't there."""
-    crate = folder / "vt100"
-    shutil.copytree(HERE / "vt100", crate, dirs_exist_ok=True)
+def build_crate(folder, name):
+    """Builds the driver of a crate of Rust; None if cargo or Debian's librust-NAME-dev isn't there."""
+    crate = folder / name
+    shutil.copytree(HERE / name, crate, dirs_exist_ok=True)
     (crate / ".cargo").mkdir(exist_ok=True)
     (crate / ".cargo" / "config.toml").write_text(
         '[source.crates-io]\nreplace-with = "debian"\n'
@@ -58,7 +64,7 @@ def build_vt100(folder):
         run(["cargo", "build", "--release", "--offline", "--quiet"], cwd=crate)
     except (OSError, subprocess.CalledProcessError):
         return None
-    return crate / "target" / "release" / "vt100-driver"
+    return crate / "target" / "release" / f"{name}-driver"
 
 
 def seconds(words, file):
@@ -95,15 +101,18 @@ def line(name, cells):
 
 def main():
     reader = argparse.ArgumentParser(description=__doc__)
-    reader.add_argument("--times", type=int, default=5, help="the best of so many runs counts")
+    reader.add_argument("--times", type=int, default=5, help="the best of N runs counts")
     reader.add_argument("--folder", type=Path, help="for inputs and drivers; else a new one, deleted at the end")
     reader.add_argument("--vtcat", type=Path, help="a vtcat that is built already")
+    reader.add_argument("--seed", type=int, help="of the made-up inputs; else one by chance")
     reader.add_argument("--instructions", action="store_true", help="count vtcat's instructions a byte instead")
     words = reader.parse_args()
     with tempfile.TemporaryDirectory() as temporary:
         folder = words.folder or Path(temporary)
         folder.mkdir(parents=True, exist_ok=True)
-        files = inputs.make(folder)
+        seed = random.randrange(1_000_000) if words.seed is None else words.seed
+        print(f"seed {seed}")
+        files = {**inputs.make(folder, seed), **recorded.make(folder, seed, inputs.SIZE)}
         vtcat = words.vtcat or build_vtcat()
         programs = {"vtcat": [vtcat, "--rows", SIZE[0], "--cols", SIZE[1]]}
         if words.instructions:
@@ -111,7 +120,8 @@ def main():
             words_of_vtcat = [*programs["vtcat"], "--keep", "0"]
             line("vtcat", [f"{instructions_a_byte(words_of_vtcat, file):.1f}" for file in files.values()])
             return
-        others = {"libvterm": build_libvterm(folder), "vt100": build_vt100(folder)}
+        others = {"libvterm": build_libvterm(folder), "vt100": build_crate(folder, "vt100"),
+                  "alacritty": build_crate(folder, "alacritty")}
         for name, program in others.items():
             if program is None:
                 print(f"{name}: its driver could not be built (see README.md)", file=sys.stderr)
