@@ -1,11 +1,16 @@
 -- The view that is composed for a client.
-use Rattle.std.proofs.Common.{◌≡◌, ℕ, ◌+◌, ◌<◌, List, Option, Some, None, refl, ap, sym, ◌∙◌, subst}
+use Rattle.std.proofs.Common.{◌≡◌, ℕ, ◌+◌, ◌-◌, ◌<◌, ◌≤◌, Bool, true, List, Option, Some, None}
+use Rattle.std.proofs.Common.{arith, refl, ap, sym, ◌∙◌, subst}
 use Rattle.std.proofs.Common.{map, length, Result, Ok, Err, IfOk}
+use Rattle.std.specs.Prelude.{◌&&◌, nat_le}
+use Rattle.std.proofs.lemmas.Bool.{leb-true}
 use Rattle.std.proofs.lemmas.List.{length-map}
+use Rattle.cells.specs.Page.{IsGridSize}
 use Rattle.regions.specs.declared.rect.Rect.{Rect}
 use Rattle.regions.specs.declared.rects.Rects.{Rects}
 use Rattle.regions.specs.Layouts.{Arrangement}
-use Rattle.regions.specs.Pages.{IsRects}
+use Rattle.regions.specs.Pages.{IsRects, status_of}
+use Rattle.regions.proofs.Room.{both_true}
 use Rattle.regions.specs.Shapes.{Shape}
 use Rattle.terminal_model.specs.Shows.{View}
 use Rattle.acl.specs.declared.user_id.UserId.{UserId}
@@ -15,6 +20,7 @@ use Rattle.view.specs.Drawable.{IsDrawable}
 use Rattle.view.specs.Granted as view
 use Rattle.session_model.specs.Tables as model
 use Rattle.session_model.specs.Tables.{Tables}
+use Rattle.session_model.specs.Comings.{is_client_size}
 use Rattle.session_model.specs.Granted.{part_shown, status_text, layout_of}
 use Rattle.session_clients.specs.declared.client.Client.{Client}
 use Rattle.session_clients.specs.Stands.{ClientStands}
@@ -76,7 +82,8 @@ module _ (t : Tables) (s : State) (m : model.Client) (c : Client) (st : Stands t
         drawable = drawable are
             (subst view.AreDrawable (sym same)
             (λ n. (parts_well t s.windows st.windows m.user m.layout.shown n).1));
-        size = subst (λ n. HasSize n m.columns v) is.rows_are (subst (λ n. HasSize c.shadow.rows n v) is.columns_are size);
+        size = subst (λ n. HasSize n m.columns v) is.rows_are
+            (subst (λ n. HasSize c.shadow.rows n v) is.columns_are size);
       }
 
 -- the view is made of parts and a status text
@@ -106,3 +113,21 @@ pub view_there : (t : Tables) (c : Client) (o : Option model.Client) (v : View)
     → ViewOf t o (Ok v)
 view_there t c None v both is = absurd both
 view_there t c (Some m) v both is = is m both
+
+-- a page of a client's size is one of a grid
+pub page_sized : (rows columns : ℕ) (r : Rect) → is_client_size rows columns ≡ true
+    → r ≡ status_of rows columns → IsGridSize (r.line + 1) r.columns
+page_sized rows columns r sized is =
+    let a = both_true (nat_le 4 rows && nat_le rows 200 && nat_le 20 columns) (nat_le columns 300) sized in
+    let b = both_true (nat_le 4 rows && nat_le rows 200) (nat_le 20 columns) a.0 in
+    let d = both_true (nat_le 4 rows) (nat_le rows 200) b.0 in
+    let high : 4 ≤ rows = leb-true 4 rows d.0 in
+    let low : rows ≤ 200 = leb-true rows 200 d.1 in
+    let wide : 20 ≤ columns = leb-true 20 columns b.1 in
+    let narrow : columns ≤ 300 = leb-true columns 300 a.1 in
+    subst (λ (it : Rect). IsGridSize (it.line + 1) it.columns) (sym is) (record {
+      least_rows = omega (arith, high);
+      most_rows = omega (arith, high, low);
+      least_columns = omega (arith, wide);
+      most_columns = narrow;
+    })

@@ -8,12 +8,13 @@ use crate::parts::{panes, parts};
 use crate::status::status_text;
 use session_clients::Client;
 use session_model::Refusal;
-use session_state::State;
+use session_state::{State, is_client_size};
 use std::alloc::AllocError;
 use view::{View, compose_over};
 
-/// What a client is granted to see, in the memory of a spare view where that has room for it. Each
-/// region of its page has room, so no memory is the only reason not to have its rectangles.
+/// What a client is granted to see, in the memory of a spare view where that has room for it. A
+/// client's terminal has one of the sizes that it may have, and each region of its page has room, so
+/// no memory is the only reason not to have the view.
 pub(crate) fn view_for(
     state: &State,
     client: &Client,
@@ -24,6 +25,9 @@ pub(crate) fn view_for(
 {
     let rows = client.shadow.rows();
     let columns = client.shadow.columns();
+    if !is_client_size(rows, columns) {
+        return Err(AllocError);
+    }
     let Ok(rects) = client.layout.rects(state.alloc, rows, columns) else {
         return Err(AllocError);
     };

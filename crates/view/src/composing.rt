@@ -3,7 +3,7 @@
 ghost use Rattle.std.specs.Prelude.{◌≡◌, ◌<◌, ◌+◌, true, IsTrue, IfOk, OnOk, chars, length};
 ghost use Rattle.std.specs.Str.{all_scalars};
 ghost use Rattle.std.specs.Str.Lossy.{utf8_lossy};
-ghost use Rattle.cells.specs.Page.{IsGrid};
+ghost use Rattle.cells.specs.Page.{IsGrid, IsGridSize};
 ghost use Rattle.view.specs.View.{KeepsSize};
 ghost use Rattle.view.specs.Granted.{read, window_of, part_of, parts_of, key_modes_of};
 ghost use Rattle.view.specs.Composing.{HasPageSize, ShowsParts, ShowsDrawable, HasFreePieces};
@@ -18,16 +18,17 @@ use cells::{Cell, Rendition};
 use regions::{Rect, Rects};
 use std::alloc::{AllocError, Global};
 
-/// The view of panes in their boxes, one for each, with a status text. Nothing of a window that
-/// isn't readable stands in it but its number. Half a wide character at an edge is a blank; a text
-/// is cut there, and what isn't UTF-8 in the status text shows as U+FFFD, one for each maximal
-/// subpart (Unicode core specification, 3.9).
+/// The view of panes in their boxes, one for each, with a status text, on a page of 2 to 200 lines by
+/// 2 to 300 columns. Nothing of a window that isn't readable stands in it but its number. Half a wide
+/// character at an edge is a blank; a text is cut there, and what isn't UTF-8 in the status text shows
+/// as U+FFFD, one for each maximal subpart (Unicode core specification, 3.9).
 pub fn compose(
     alloc: Global,
     rects: &Rects,
     panes: &[Pane],
     status: &[u8],
 ) -> Result<View, AllocError>
+    requires sized { IsGridSize (rects.now.status.line + 1) rects.now.status.columns }
     requires each { length panes.now ≡ length rects.now.boxes.items }
     requires focus { rects.now.focus < length rects.now.boxes.items }
     ensures size { IfOk result (HasPageSize rects.now) }
@@ -50,6 +51,7 @@ pub fn compose_over(
     panes: &[Pane],
     status: &[u8],
 ) -> Result<View, AllocError>
+    requires sized { IsGridSize (rects.now.status.line + 1) rects.now.status.columns }
     requires each { length panes.now ≡ length rects.now.boxes.items }
     requires focus { rects.now.focus < length rects.now.boxes.items }
     ensures size { IfOk result (HasPageSize rects.now) }

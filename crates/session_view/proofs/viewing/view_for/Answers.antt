@@ -6,8 +6,13 @@ use Rattle.serial_rows.specs.Matched.{Matched}
 use Rattle.session_view.specs.declared.parts.Part.{Part}
 use Rattle.session_view.specs.Parts.{ShowsPart}
 use Rattle.session_view.specs.Status.{SaysStatus}
-use Rattle.session_view.proofs.Granting.{view_is}
+use Rattle.session_view.proofs.Granting.{page_sized, view_is}
 use Rattle.session_view.proofs.viewing.view_for.Goals as goal
+
+pub compose_over-requires-clause-sized : goal.compose_over-requires-clause-sized
+compose_over-requires-clause-sized c =
+    page_sized c.rows-rows.result c.columns-columns.result c.in-Ok.rects.status
+    (sym c.is_client_size.ensures ∙ c.if-not-is_client_size.false) c.in-Ok.ensures.ok.status_is
 
 pub returns-clause-granted : goal.returns-clause-granted
 returns-clause-granted c =
