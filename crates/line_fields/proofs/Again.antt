@@ -1,6 +1,7 @@
 -- Parts, acts and verdicts that were printed are read again.
 use Rattle.std.proofs.Common.{◌≡◌, ℕ, ◌<◌, ◌≤◌, ◌^◌, List, [], ◌∷◌, ◌++◌, length, ap, refl, sym, ◌∙◌, arith, append-nil}
-use Rattle.std.specs.Prelude.{Bool, true, false, cond, not, ◌&&◌, ◌||◌, ◌==◌, Option, Some, None, option_map, codes, decimal, map}
+use Rattle.std.specs.Prelude.{Bool, true, false, cond, not, ◌&&◌, ◌||◌, ◌==◌, Option, Some, None, option_map, codes}
+use Rattle.std.specs.Prelude.{decimal, map}
 use Rattle.std.specs.List.{list_all}
 use Rattle.std.specs.Char.{is_ascii_digit}
 use Rattle.std.specs.Str.{bytes_eq}
@@ -29,9 +30,12 @@ use Rattle.line_fields.proofs.Words.{IsFree, passing, first_field}
 use Rattle.line_fields.proofs.Digits.{digits, number_again, not_number}
 use Rattle.line_fields.specs.declared.acts.ActKind.{ActKind}
 use Rattle.line_fields.specs.declared.acts.ActKind.TheVariants as kind
-use Rattle.line_fields.specs.Parts.{colon, blank, comma, field, user_at, nobody, user_text, user_in, change_text, change_in, object_text, command_in, window_or, object_in, mode_text, mode_in, preset_text, preset_in}
+use Rattle.line_fields.specs.Parts.{colon, blank, comma, field, user_at, nobody, user_text, user_in, change_text}
+use Rattle.line_fields.specs.Parts.{change_in, object_text, command_in, window_or, object_in, mode_text, mode_in}
+use Rattle.line_fields.specs.Parts.{preset_text, preset_in}
 use Rattle.line_fields.specs.Numbers.{number_at}
-use Rattle.line_fields.specs.Acts.{kind_text, kind_in, kind_of, act_rest, act_text, rest_in, act_in, lock, verdict_text, verdict_in}
+use Rattle.line_fields.specs.Acts.{kind_text, kind_in, kind_of, act_rest, act_text, rest_in, act_in, lock, verdict_text}
+use Rattle.line_fields.specs.Acts.{verdict_in}
 use Rattle.line_fields.specs.Sayable.{IsNamed, IsNamedIfAny, IsSerial, IsObject, IsAct, IsVerdict}
 
 -- ---- bytes of parts
@@ -68,7 +72,8 @@ apart_comma = record { apart = λ c is. by c is }
 pub free : (separator : ℕ) (word : List ℕ) → IsApart separator → IsPart word → IsFree separator word
 free separator word a is = passing separator part_byte a.apart word is.bytes
 
-of_bytes : (p : ℕ → Bool) → ((c : ℕ) → p c ≡ true → part_byte c ≡ true) → (word : List ℕ) → list_all p word ≡ true → list_all part_byte word ≡ true
+of_bytes : (p : ℕ → Bool) → ((c : ℕ) → p c ≡ true → part_byte c ≡ true) → (word : List ℕ) → list_all p word ≡ true
+    → list_all part_byte word ≡ true
 of_bytes p more [] all = refl
 of_bytes p more (c ∷ word) all =
     let both = and_parts (p c) (list_all p word) all in
@@ -85,9 +90,13 @@ number_part n small = record { bytes = of_bytes is_ascii_digit digit_is (decimal
 pub wide : (limit n : ℕ) → n < limit → limit ≤ 2 ^ 64 → n < 2 ^ 64
 wide limit n small most = omega (arith, small, most)
 
-pub number_at_again : (separator limit n : ℕ) (rest : List ℕ) → IsApart separator → n < limit → limit ≤ 2 ^ 64 → number_at limit separator (field separator (decimal n) rest) ≡ Some (n, rest)
+pub number_at_again : (separator limit n : ℕ) (rest : List ℕ) → IsApart separator → n < limit → limit ≤ 2 ^ 64
+    → number_at limit separator (field separator (decimal n) rest) ≡ Some (n, rest)
 number_at_again separator limit n rest a small most =
-    rw (first_field separator (decimal n) rest (free separator (decimal n) a (number_part n (wide limit n small most))), number_again limit n small most) refl
+    rw (
+      first_field separator (decimal n) rest (free separator (decimal n) a (number_part n (wide limit n small most))),
+      number_again limit n small most,
+    ) refl
 
 pub most64 : 2 ^ 64 ≤ 2 ^ 64
 most64 = omega arith
@@ -120,9 +129,11 @@ pub is_name_of : (user : UserId) → IsNamed user → is_name (name_of user) ≡
 is_name_of user named = is_there _ _ _ named
 
 pub name_part : (user : UserId) → IsNamed user → IsPart (name_of user)
-name_part user named = record { bytes = of_bytes is_name_byte name_is (name_of user) (bytes_of_name (name_of user) (is_name_of user named)) }
+name_part user named = record
+    { bytes = of_bytes is_name_byte name_is (name_of user) (bytes_of_name (name_of user) (is_name_of user named)) }
 
-pub user_at_again : (separator : ℕ) (user : UserId) (rest : List ℕ) → IsApart separator → IsNamed user → user_at separator (field separator (name_of user) rest) ≡ Some (user, rest)
+pub user_at_again : (separator : ℕ) (user : UserId) (rest : List ℕ) → IsApart separator → IsNamed user
+    → user_at separator (field separator (name_of user) rest) ≡ Some (user, rest)
 user_at_again separator user rest a named =
     rw (first_field separator (name_of user) rest (free separator (name_of user) a (name_part user named)), named) refl
 
@@ -164,13 +175,11 @@ change_part bit.Execute false = record { bytes = refl }
 
 pub mode_again : (m : LockMode) → mode_in (mode_text m) ≡ Some m
 mode_again mode.Off = refl
-mode_again mode.Auto = refl
-mode_again mode.On = refl
+mode_again _ = refl
 
 pub mode_part : (m : LockMode) → IsPart (mode_text m)
 mode_part mode.Off = record { bytes = refl }
-mode_part mode.Auto = record { bytes = refl }
-mode_part mode.On = record { bytes = refl }
+mode_part _ = record { bytes = refl }
 
 pub preset_again : (p : PresetKind) → preset_in (preset_text p) ≡ Some p
 preset_again preset.Windows = refl
@@ -185,103 +194,16 @@ preset_part preset.Commands = record { bytes = refl }
 pub command_again : (c : CommandName) → command_in (name_text c) ≡ Some c
 unfolding command_in
 command_again name.Acladd = refl
-command_again name.Aclchg = refl
-command_again name.Acldel = refl
-command_again name.Aclgrp = refl
-command_again name.Aclumask = refl
-command_again name.Writelock = refl
-command_again name.Defwritelock = refl
-command_again name.Multiuser = refl
-command_again name.Wall = refl
-command_again name.Detach = refl
-command_again name.Select = refl
-command_again name.Next = refl
-command_again name.Prev = refl
-command_again name.Other = refl
-command_again name.Title = refl
-command_again name.Number = refl
-command_again name.Kill = refl
-command_again name.Screen = refl
-command_again name.Split = refl
-command_again name.Focus = refl
-command_again name.Remove = refl
-command_again name.Only = refl
-command_again name.Fit = refl
-command_again name.Scrollview = refl
-command_again name.Clear = refl
-command_again name.Reset = refl
-command_again name.Encoding = refl
-command_again name.Stuff = refl
-command_again name.Windows = refl
-command_again name.Displays = refl
-command_again name.Quit = refl
+command_again _ = refl
 
 pub command_part : (c : CommandName) → IsPart (name_text c)
 command_part name.Acladd = record { bytes = refl }
-command_part name.Aclchg = record { bytes = refl }
-command_part name.Acldel = record { bytes = refl }
-command_part name.Aclgrp = record { bytes = refl }
-command_part name.Aclumask = record { bytes = refl }
-command_part name.Writelock = record { bytes = refl }
-command_part name.Defwritelock = record { bytes = refl }
-command_part name.Multiuser = record { bytes = refl }
-command_part name.Wall = record { bytes = refl }
-command_part name.Detach = record { bytes = refl }
-command_part name.Select = record { bytes = refl }
-command_part name.Next = record { bytes = refl }
-command_part name.Prev = record { bytes = refl }
-command_part name.Other = record { bytes = refl }
-command_part name.Title = record { bytes = refl }
-command_part name.Number = record { bytes = refl }
-command_part name.Kill = record { bytes = refl }
-command_part name.Screen = record { bytes = refl }
-command_part name.Split = record { bytes = refl }
-command_part name.Focus = record { bytes = refl }
-command_part name.Remove = record { bytes = refl }
-command_part name.Only = record { bytes = refl }
-command_part name.Fit = record { bytes = refl }
-command_part name.Scrollview = record { bytes = refl }
-command_part name.Clear = record { bytes = refl }
-command_part name.Reset = record { bytes = refl }
-command_part name.Encoding = record { bytes = refl }
-command_part name.Stuff = record { bytes = refl }
-command_part name.Windows = record { bytes = refl }
-command_part name.Displays = record { bytes = refl }
-command_part name.Quit = record { bytes = refl }
+command_part _ = record { bytes = refl }
 
 no_number : (c : CommandName) → is_number (name_text c) ≡ false
 unfolding is_number
 no_number name.Acladd = refl
-no_number name.Aclchg = refl
-no_number name.Acldel = refl
-no_number name.Aclgrp = refl
-no_number name.Aclumask = refl
-no_number name.Writelock = refl
-no_number name.Defwritelock = refl
-no_number name.Multiuser = refl
-no_number name.Wall = refl
-no_number name.Detach = refl
-no_number name.Select = refl
-no_number name.Next = refl
-no_number name.Prev = refl
-no_number name.Other = refl
-no_number name.Title = refl
-no_number name.Number = refl
-no_number name.Kill = refl
-no_number name.Screen = refl
-no_number name.Split = refl
-no_number name.Focus = refl
-no_number name.Remove = refl
-no_number name.Only = refl
-no_number name.Fit = refl
-no_number name.Scrollview = refl
-no_number name.Clear = refl
-no_number name.Reset = refl
-no_number name.Encoding = refl
-no_number name.Stuff = refl
-no_number name.Windows = refl
-no_number name.Displays = refl
-no_number name.Quit = refl
+no_number _ = refl
 
 pub object_again : (o : Object) → IsObject o → object_in (object_text o) ≡ Some o
 object_again (object.Window w) is = ap (window_or (command_in (decimal w))) (number_again (2 ^ 32) w is most32)
@@ -298,40 +220,18 @@ object_part (object.Command c) is = command_part c
 kind_again : (k : ActKind) → kind_in (kind_text k) ≡ Some k
 unfolding kind_in
 kind_again kind.Known = refl
-kind_again kind.Gone = refl
-kind_again kind.Set = refl
-kind_again kind.Grouped = refl
-kind_again kind.Masked = refl
-kind_again kind.Preset = refl
-kind_again kind.Opened = refl
-kind_again kind.Closed = refl
-kind_again kind.Attached = refl
-kind_again kind.Parted = refl
-kind_again kind.Entered = refl
-kind_again kind.Left = refl
-kind_again kind.Mode = refl
-kind_again kind.Default = refl
+kind_again _ = refl
 
 pub kind_part : (k : ActKind) → IsPart (kind_text k)
 kind_part kind.Known = record { bytes = refl }
-kind_part kind.Gone = record { bytes = refl }
-kind_part kind.Set = record { bytes = refl }
-kind_part kind.Grouped = record { bytes = refl }
-kind_part kind.Masked = record { bytes = refl }
-kind_part kind.Preset = record { bytes = refl }
-kind_part kind.Opened = record { bytes = refl }
-kind_part kind.Closed = record { bytes = refl }
-kind_part kind.Attached = record { bytes = refl }
-kind_part kind.Parted = record { bytes = refl }
-kind_part kind.Entered = record { bytes = refl }
-kind_part kind.Left = record { bytes = refl }
-kind_part kind.Mode = record { bytes = refl }
-kind_part kind.Default = record { bytes = refl }
+kind_part _ = record { bytes = refl }
 
-user_colon : (user : UserId) (rest : List ℕ) → IsNamed user → user_at colon (field colon (name_of user) rest) ≡ Some (user, rest)
+user_colon : (user : UserId) (rest : List ℕ) → IsNamed user
+    → user_at colon (field colon (name_of user) rest) ≡ Some (user, rest)
 user_colon user rest named = user_at_again colon user rest apart_colon named
 
-serial_colon : (n : ℕ) (rest : List ℕ) → IsSerial n → number_at (2 ^ 32) colon (field colon (decimal n) rest) ≡ Some (n, rest)
+serial_colon : (n : ℕ) (rest : List ℕ) → IsSerial n
+    → number_at (2 ^ 32) colon (field colon (decimal n) rest) ≡ Some (n, rest)
 serial_colon n rest small = number_at_again colon (2 ^ 32) n rest apart_colon small most32
 
 serial_again : (n : ℕ) → IsSerial n → number_below (2 ^ 32) (decimal n) ≡ Some n
@@ -344,11 +244,22 @@ rest_again : (a : Act) → IsAct a → rest_in (kind_of a) (act_rest a) ≡ Some
 rest_again (act.Known u) is = ap (option_map act.Known) is
 rest_again (act.Gone u) is = ap (option_map act.Gone) is
 rest_again (act.Set u b o value) is =
-    rw (user_colon u (field colon (change_text b value) (object_text o)) is.0, cut_part (change_text b value) (object_text o) (change_part b value), change_again b value, object_again o is.1) refl
+    rw (
+      user_colon u (field colon (change_text b value) (object_text o)) is.0,
+      cut_part (change_text b value)
+          (object_text o) (change_part b value),
+      change_again b value,
+      object_again o is.1,
+    ) refl
 rest_again (act.Grouped u leader) is = rw (user_colon u (user_text leader) is.0, user_again leader is.1) refl
 rest_again (act.Masked by u b value) is =
-    rw (user_colon by (field colon (name_of u) (change_text b value)) is.0, user_colon u (change_text b value) is.1, change_again b value) refl
-rest_again (act.Preset p b value) is = rw (cut_part (preset_text p) (change_text b value) (preset_part p), preset_again p, change_again b value) refl
+    rw (
+      user_colon by (field colon (name_of u) (change_text b value)) is.0,
+      user_colon u (change_text b value) is.1,
+      change_again b value,
+    ) refl
+rest_again (act.Preset p b value) is = rw
+    (cut_part (preset_text p) (change_text b value) (preset_part p), preset_again p, change_again b value) refl
 rest_again (act.Opened by w) is = rw (user_colon by (decimal w) is.0, serial_again w is.1) refl
 rest_again (act.Closed w) is = ap (option_map act.Closed) (serial_again w is)
 rest_again (act.Attached c u) is = rw (serial_colon c (name_of u) is.0, is.1) refl
@@ -356,7 +267,8 @@ rest_again (act.Parted c) is = ap (option_map act.Parted) (serial_again c is)
 rest_again (act.Entered u w) is = rw (user_colon u (decimal w) is.0, serial_again w is.1) refl
 rest_again (act.Left u w) is = rw (user_colon u (decimal w) is.0, serial_again w is.1) refl
 rest_again (act.Mode by w m) is =
-    rw (user_colon by (field colon (decimal w) (mode_text m)) is.0, serial_colon w (mode_text m) is.1, mode_again m) refl
+    rw (user_colon by (field colon (decimal w) (mode_text m)) is.0, serial_colon w (mode_text m) is.1, mode_again m)
+    refl
 rest_again (act.Default m) is = ap (option_map act.Default) (mode_again m)
 
 pub act_again : (a : Act) → IsAct a → act_in (act_text a) ≡ Some a
@@ -377,6 +289,19 @@ no_lock bit.Execute false = refl
 pub verdict_again : (v : Verdict) → IsVerdict v → verdict_in (verdict_text v) ≡ Some v
 unfolding verdict_in
 verdict_again (verdict.Right u b o answer) is =
-    rw (user_colon u (field colon (change_text b answer) (object_text o)) is.0, cut_part (change_text b answer) (object_text o) (change_part b answer), no_lock b answer, change_again b answer, object_again o is.1) refl
+    rw (
+      user_colon u (field colon (change_text b answer) (object_text o)) is.0,
+      cut_part (change_text b answer)
+          (object_text o) (change_part b answer),
+      no_lock b answer,
+      change_again b answer,
+      object_again o is.1,
+    ) refl
 verdict_again (verdict.Lock u w held) is =
-    rw (user_colon u (field colon lock (field colon (decimal w) (user_text held))) is.0, cut_part lock (field colon (decimal w) (user_text held)) (record { bytes = refl }), serial_colon w (user_text held) is.1, user_again held is.2) refl
+    rw (
+      user_colon u (field colon lock (field colon (decimal w) (user_text held))) is.0,
+      cut_part lock
+          (field colon (decimal w) (user_text held)) (record { bytes = refl }),
+      serial_colon w (user_text held) is.1,
+      user_again held is.2,
+    ) refl

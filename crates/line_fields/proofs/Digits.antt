@@ -1,5 +1,6 @@
 -- Numbers in decimal digits.
-use Rattle.std.proofs.Common.{◌≡◌, ℕ, ◌<◌, ◌≤◌, ◌^◌, Bool, true, false, cond, List, [], ◌∷◌, length, Option, Some, None, Result, Ok, Err, arith, rules, ap, refl, sym, ◌∙◌}
+use Rattle.std.proofs.Common.{◌≡◌, ℕ, ◌<◌, ◌≤◌, ◌^◌, Bool, true, false, cond, List, [], ◌∷◌, length, Option, Some, None}
+use Rattle.std.proofs.Common.{Result, Ok, Err, arith, rules, ap, refl, sym, ◌∙◌}
 use Rattle.std.specs.Prelude.{◌&&◌, nat_lt, MatchResult, MatchOption}
 use Rattle.std.specs.Borrow.{Bor}
 use Rattle.std.specs.Result.{result_ok}
@@ -31,7 +32,8 @@ own = numerals_by_value AreDigits (search rules)
 
 digits_ascii : (word : List ℕ) → AreDigits word → IsAscii word
 digits_ascii [] h = IsAscii-nil
-digits_ascii (c ∷ word) h = IsAscii-cons c word (grind (arith, nat_tests)) (digits_ascii word (grind (arith, nat_tests)))
+digits_ascii (c ∷ word) h = IsAscii-cons c word (grind (arith, nat_tests))
+    (digits_ascii word (grind (arith, nat_tests)))
 
 pub number_utf8 : (word : List ℕ) → is_number word ≡ true → IsUtf8 word
 number_utf8 word is = IsUtf8-from_ascii word (digits_ascii word (parts word is).digits)
@@ -53,7 +55,8 @@ unfolding number_below
 number_again limit n small most =
     let fits : n < 2 ^ 64 = omega (arith, small, most) in
     let below : nat_lt n limit ≡ true = grind (arith, nat_tests) in
-    (λ i. cond (is_again n fits i && nat_lt (digits_value-decimal own n fits i) limit) (Some (digits_value-decimal own n fits i)) None)
+    (λ i. cond (is_again n fits i && nat_lt (digits_value-decimal own n fits i) limit)
+    (Some (digits_value-decimal own n fits i)) None)
     ∙ ap (λ b. cond b (Some n) None) below
 
 -- ---- parsing
@@ -70,7 +73,8 @@ beyond limit n over = ltb-false_from limit n over
 abbrev below_by : Bool → Bool → ℕ → Option ℕ
 below_by is small value = cond (is && small) (Some value) None
 
-pub number_parsed : {E : Type 0} (k : ℕ) (word : List ℕ) (r : Result ℕ E) → ParsesUnsigned k 10 word r → is_number word ≡ true → result_ok r ≡ number_below (2 ^ k) word
+pub number_parsed : {E : Type 0} (k : ℕ) (word : List ℕ) (r : Result ℕ E) → ParsesUnsigned k 10 word r
+    → is_number word ≡ true → result_ok r ≡ number_below (2 ^ k) word
 unfolding number_below
 number_parsed {E} k word (Ok n) h is =
     let n-parts = parts word is in
@@ -79,7 +83,8 @@ number_parsed {E} k word (Ok n) h is =
 number_parsed {E} k word (Err e) h is =
     let n-parts = parts word is in
     let p = parse_digits own {E = E} k word (Err e) h n-parts.digits in
-    sym (λ i. below_by (is i) (beyond (2 ^ k) (digits_value 10 word) (λ small. p (n-parts.some, small)) i) (digits_value 10 word))
+    sym (λ i. below_by (is i) (beyond (2 ^ k) (digits_value 10 word) (λ small. p (n-parts.some, small)) i)
+    (digits_value 10 word))
 
 pub not_number : (limit : ℕ) (word : List ℕ) → is_number word ≡ false → number_below limit word ≡ None
 unfolding number_below

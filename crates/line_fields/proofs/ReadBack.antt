@@ -1,5 +1,6 @@
 -- A text that was spelled is read as the same bytes.
-use Rattle.std.proofs.Common.{◌≡◌, ◌≢◌, ℕ, ◌<◌, ◌≤◌, ◌+◌, ◌*◌, ◌/◌, ◌%◌, length, List, [], ◌∷◌, ◌++◌, ap, refl, ◌∙◌, arith}
+use Rattle.std.proofs.Common.{◌≡◌, ◌≢◌, ℕ, ◌<◌, ◌≤◌, ◌+◌, ◌*◌, ◌/◌, ◌%◌, length, List, [], ◌∷◌, ◌++◌, ap, refl, ◌∙◌}
+use Rattle.std.proofs.Common.{arith}
 use Rattle.std.specs.Prelude.{Bool, true, false, cond, ◌&&◌, nat_le, nat_lt, Option, Some, None}
 use Rattle.std.specs.List.{AllByRecursion, list_all}
 use Rattle.std.specs.Char.{digit_value}
@@ -19,7 +20,8 @@ below d small = grind (arith, nat_tests)
 abbrev byte_by : ℕ → ℕ → Option ℕ
 byte_by high low = cond (nat_lt high 16 && nat_lt low 16) (Some (high * 16 + low)) None
 
-byte_back : (byte : ℕ) → byte < 256 → byte_of (digit_glyph false (byte / 16)) (digit_glyph false (byte % 16)) ≡ Some byte
+byte_back : (byte : ℕ) → byte < 256
+    → byte_of (digit_glyph false (byte / 16)) (digit_glyph false (byte % 16)) ≡ Some byte
 byte_back byte small =
     let high : byte / 16 < 16 = omega arith in
     let low : byte % 16 < 16 = omega arith in
@@ -36,6 +38,8 @@ front first byte rest true small plain = spelled-plain _ byte rest refl (not_bac
 front first byte rest false small plain =
     spelled-escape _ _ _ _ _ _ rest refl refl refl refl ∙ ap (λ b. put_before b (spelled rest)) (byte_back byte small)
 
-pub read_back : (first : ℕ) (bytes : List ℕ) → AllByRecursion (λ byte. byte < 256) bytes → spelled (escaped first bytes) ≡ Some bytes
+pub read_back : (first : ℕ) (bytes : List ℕ) → AllByRecursion (λ byte. byte < 256) bytes
+    → spelled (escaped first bytes) ≡ Some bytes
 read_back first [] all = spelled-nil
-read_back first (byte ∷ bytes) all = front first byte (escaped first bytes) (is_plain first byte) all.0 refl ∙ ap (λ more. put_before (Some byte) more) (read_back first bytes all.1)
+read_back first (byte ∷ bytes) all = front first byte (escaped first bytes) (is_plain first byte) all.0 refl
+    ∙ ap (λ more. put_before (Some byte) more) (read_back first bytes all.1)

@@ -1,5 +1,6 @@
 -- What an escaped text spells, from its first byte on.
-use Rattle.std.proofs.Common.{◌≡◌, ◌≢◌, ℕ, List, [], ◌∷◌, ◌++◌, length, ap, sym, ◌∙◌, refl, rules, arith, append_assoc, append-nil}
+use Rattle.std.proofs.Common.{◌≡◌, ◌≢◌, ℕ, List, [], ◌∷◌, ◌++◌, length, ap, sym, ◌∙◌, refl, rules, arith, append_assoc}
+use Rattle.std.proofs.Common.{append-nil}
 use Rattle.std.specs.Prelude.{Bool, true, false, cond, Option, Some, None, option_map}
 use Rattle.line_fields.specs.Texts.{byte_of, put_before, spelled}
 
@@ -7,21 +8,26 @@ pub spelled-nil : spelled [] ≡ Some []
 unfolding spelled
 spelled-nil = refl
 
-pub spelled-plain : (text : List ℕ) (byte : ℕ) (rest : List ℕ) → text ≡ byte ∷ rest → byte ≢ 0x5C → spelled text ≡ put_before (Some byte) (spelled rest)
+pub spelled-plain : (text : List ℕ) (byte : ℕ) (rest : List ℕ) → text ≡ byte ∷ rest → byte ≢ 0x5C
+    → spelled text ≡ put_before (Some byte) (spelled rest)
 unfolding spelled
 spelled-plain text byte rest e h = rw e (search rules)
 
-pub spelled-no_high : (text : List ℕ) (byte : ℕ) (rest : List ℕ) → text ≡ byte ∷ rest → byte ≡ 0x5C → length rest ≡ 0 → spelled text ≡ None
+pub spelled-no_high : (text : List ℕ) (byte : ℕ) (rest : List ℕ) → text ≡ byte ∷ rest → byte ≡ 0x5C → length rest ≡ 0
+    → spelled text ≡ None
 unfolding spelled
 spelled-no_high text byte [] e h none = rw (e, h) refl
 spelled-no_high text byte (high ∷ rest) e h none = absurd (omega arith)
 
-pub spelled-no_low : (text : List ℕ) (byte : ℕ) (rest : List ℕ) (high : ℕ) (behind : List ℕ) → text ≡ byte ∷ rest → byte ≡ 0x5C → rest ≡ high ∷ behind → length behind ≡ 0 → spelled text ≡ None
+pub spelled-no_low : (text : List ℕ) (byte : ℕ) (rest : List ℕ) (high : ℕ) (behind : List ℕ) → text ≡ byte ∷ rest
+    → byte ≡ 0x5C → rest ≡ high ∷ behind → length behind ≡ 0 → spelled text ≡ None
 unfolding spelled
 spelled-no_low text byte rest high [] e h f none = rw (e, h, f) refl
 spelled-no_low text byte rest high (low ∷ behind) e h f none = absurd (omega arith)
 
-pub spelled-escape : (text : List ℕ) (byte : ℕ) (rest : List ℕ) (high : ℕ) (behind : List ℕ) (low : ℕ) (last : List ℕ) → text ≡ byte ∷ rest → byte ≡ 0x5C → rest ≡ high ∷ behind → behind ≡ low ∷ last → spelled text ≡ put_before (byte_of high low) (spelled last)
+pub spelled-escape : (text : List ℕ) (byte : ℕ) (rest : List ℕ) (high : ℕ) (behind : List ℕ) (low : ℕ) (last : List ℕ)
+    → text ≡ byte ∷ rest → byte ≡ 0x5C → rest ≡ high ∷ behind → behind ≡ low ∷ last
+    → spelled text ≡ put_before (byte_of high low) (spelled last)
 unfolding spelled
 spelled-escape text byte rest high behind low last e h f g = rw (e, h, f, g) refl
 
@@ -33,7 +39,8 @@ pub behind-nil : (bytes : Option (List ℕ)) → bytes ≡ behind [] bytes
 behind-nil None = refl
 behind-nil (Some bytes) = refl
 
-pub behind-push : (out : List ℕ) (byte : ℕ) (bytes : Option (List ℕ)) → behind out (put_before (Some byte) bytes) ≡ behind (out ++ byte ∷ []) bytes
+pub behind-push : (out : List ℕ) (byte : ℕ) (bytes : Option (List ℕ))
+    → behind out (put_before (Some byte) bytes) ≡ behind (out ++ byte ∷ []) bytes
 behind-push out byte None = refl
 behind-push out byte (Some bytes) = ap Some (sym (append_assoc out (byte ∷ []) bytes))
 

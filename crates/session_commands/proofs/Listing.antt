@@ -1,6 +1,6 @@
 -- What the list of clients says.
 use Rattle.std.proofs.Common.{◌≡◌, ℕ, List, Option, Some, None}
-use Rattle.std.proofs.Common.{ap, ◌∙◌, map}
+use Rattle.std.proofs.Common.{refl, ap, ◌∙◌, map}
 use Rattle.std.specs.Prelude.{codes, slice_get}
 use Rattle.std.specs.Option.{option_map, option_and_then}
 use Rattle.regions.specs.Layouts.{Arrangement}

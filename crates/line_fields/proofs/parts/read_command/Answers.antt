@@ -10,5 +10,6 @@ use Rattle.line_fields.proofs.parts.read_command.Goals as goal
 pub returns : goal.returns
 unfolding command_in
 returns c =
-    let e = find_from_yields_List (λ k. bytes_eq (name_text k) c.args.word.now) _ _ c.find.result c.find.ensures.ran (YieldsList-from_slice ALL c.iter.ensures.rest) (λ x b q k. search (rules, tests)) in
+    let e = find_from_yields_List (λ k. bytes_eq (name_text k) c.args.word.now) _ _ c.find.result c.find.ensures.ran
+    (YieldsList-from_slice ALL c.iter.ensures.rest) (λ x b q k. search (rules, tests)) in
     c.copied.ensures ∙ e

@@ -8,5 +8,6 @@ use Rattle.line_fields.proofs.acts.ActKind.named.Goals as goal
 pub returns : goal.returns
 unfolding kind_in
 returns c =
-    let e = find_from_yields_List (λ k. bytes_eq (kind_text k) c.args.word.now) _ _ c.find.result c.find.ensures.ran (YieldsList-from_slice all_kinds c.iter.ensures.rest) (λ x b q k. search (rules, tests)) in
+    let e = find_from_yields_List (λ k. bytes_eq (kind_text k) c.args.word.now) _ _ c.find.result c.find.ensures.ran
+    (YieldsList-from_slice all_kinds c.iter.ensures.rest) (λ x b q k. search (rules, tests)) in
     c.copied.ensures ∙ e
