@@ -5,8 +5,10 @@ use crate::turn::{Loop, PIECE, Went};
 use acl::UserId;
 use attach_proto::{Message, Text, Token, Why};
 use command_lang::{Command, FaultKind, parse};
-use server_peers::{Answer, Asked, Gate, Guest, News, Role, Sending, SessionSeat, Unanswered};
-use server_users::{GuestFault, GuestKind, Outcome, UNIT, authenticate, price};
+use server_peers::{
+    Answer, Asked, Gate, Guest, GuestKind, News, Role, Sending, SessionSeat, Unanswered,
+};
+use server_users::{Outcome, UNIT, authenticate, price};
 use session_model::{Done, Event, Refusal};
 use std::alloc::{AllocError, Global};
 use std::io::{Read, Write};
@@ -245,11 +247,8 @@ impl<S: Read + Write + Drop, G: Gate + Drop, J: SessionSeat + Drop> Loop<S, G, J
     // A connection becomes a client or a window, unless its user has as many as a user may have.
     fn join(&mut self, rt: &impl Wait, newcomer: Newcomer, kind: GuestKind, event: Event) -> Went {
         let Newcomer { key, user } = newcomer;
-        if let Err(fault) = self.peers.add(rt, user, kind) {
-            match fault {
-                GuestFault::TooMany(most) => self.say_too_many(rt, newcomer, kind, most),
-                GuestFault::NoMemory => self.peers.dismiss(key, Why::Fault),
-            }
+        if let Some(most) = self.peers.add(rt, user, kind) {
+            self.say_too_many(rt, newcomer, kind, most);
             return Went::Done;
         }
         let answer = match self.try_for(rt, user, event) {

@@ -12,5 +12,5 @@ pub use end::End;
 pub use gate::{Gate, Open};
 pub use peers::{Peers, Pending, Submitted, Unanswered};
 pub use server_connections::{
-    Answer, Asked, Came, Guest, News, Role, SeatFault, Sending, SessionSeat,
+    Answer, Asked, Came, Guest, GuestKind, News, Role, SeatFault, Sending, SessionSeat,
 };

@@ -4,9 +4,10 @@ use crate::end::End;
 use crate::gate::Gate;
 use acl::UserId;
 use server_connections::{
-    Answer, Asked, Awaits, Came, Connections, Guest, News, Role, SeatFault, SessionSeat, Stage,
+    Answer, Asked, Awaits, Came, Connections, Guest, GuestKind, News, Role, SeatFault, SessionSeat,
+    Stage,
 };
-use server_users::{GuestFault, GuestKind, Outcome, Users};
+use server_users::{Outcome, Users};
 use session_model::Event;
 use std::alloc::{AllocError, Global};
 use std::io::{Read, Write};
@@ -223,7 +224,8 @@ impl<S: Read + Write + Drop, G: Gate + Drop, J: SessionSeat + Drop> Peers<S, G, 
     }
 
     /// Counts one more client or window of a user, unless they have as many as a user may have.
-    pub fn add(&self, rt: &impl Wait, user: UserId, kind: GuestKind) -> Result<(), GuestFault> {
+    /// Then the answer is how many that is.
+    pub fn add(&self, rt: &impl Wait, user: UserId, kind: GuestKind) -> Option<u8> {
         self.seat.add(rt, user, kind)
     }
 

@@ -2,11 +2,13 @@
 //! that what is above proves nothing of what a session holds.
 #![tactic(auto)]
 
+mod accounts;
 mod loop_body;
 mod seated;
 mod setting_up;
 mod shared_session;
 
+pub use accounts::{Accounts, Limits};
 pub use hub::{Begun, Seat, Trail};
 pub use loop_body::{LoopBody, LoopsFault, Start, keep};
 pub use seated::Seated;

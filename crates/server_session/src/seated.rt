@@ -1,12 +1,13 @@
 //! A loop's seat in the session that it shares.
 
+use crate::accounts::Accounts;
 use crate::shared_session::SharedSession;
 use acl::UserId;
 use hub::{Begun as Roll, FULL, HubFault, Seat};
-use server_connections::{Answer, SeatFault, SessionSeat};
-use server_users::{Accounts, GuestFault, GuestKind, Outcome, Users};
+use server_connections::{Answer, GuestKind, SeatFault, SessionSeat};
+use server_users::{Outcome, Users};
 use session_model::{Effect, Event, Refusal, Reply, Verdict};
-use std::sync::{Mutex, Wait};
+use std::sync::Wait;
 use std::time::{Clock, Duration};
 
 // At so many hundredths of the trail's most entries there is news.
@@ -45,14 +46,14 @@ fn outcome_of(reply: &Reply, verdicts: &[Verdict]) -> Outcome {
 #[derive(Drop)]
 pub struct Seated<'a, L: Roll> {
     shared: &'a SharedSession<L>,
-    accounts: &'a Mutex<Accounts>,
+    accounts: &'a Accounts,
     seat: Seat<L>,
 }
 
 impl<'a, L: Roll> Seated<'a, L> {
     pub fn new(
         shared: &'a SharedSession<L>,
-        accounts: &'a Mutex<Accounts>,
+        accounts: &'a Accounts,
         seat: Seat<L>,
     ) -> Seated<'a, L> {
         Seated {
@@ -98,20 +99,19 @@ impl<L: Roll> SessionSeat for Seated<'_, L> {
     }
 
     fn pay<R: Wait>(&self, rt: &R, user: UserId, now: Duration, cost: u32) -> bool {
-        let now = u64::try_from(now.as_millis()).unwrap_or(u64::MAX);
-        self.accounts.lock(rt).pay(user, now, cost)
+        self.accounts.pay(rt, user, now, cost)
     }
 
     fn settle<R: Wait>(&self, rt: &R, user: UserId, cost: u32, outcome: Outcome) {
-        self.accounts.lock(rt).settle(user, cost, outcome);
+        self.accounts.settle(rt, user, cost, outcome);
     }
 
-    fn add<R: Wait>(&self, rt: &R, user: UserId, kind: GuestKind) -> Result<(), GuestFault> {
-        self.accounts.lock(rt).add(user, kind)
+    fn add<R: Wait>(&self, rt: &R, user: UserId, kind: GuestKind) -> Option<u8> {
+        self.accounts.add(rt, user, kind)
     }
 
     fn remove<R: Wait>(&self, rt: &R, user: UserId, kind: GuestKind) {
-        self.accounts.lock(rt).remove(user, kind);
+        self.accounts.remove(rt, user, kind);
     }
 
     fn set_time<R: Clock>(&self, rt: &R) {

@@ -9,9 +9,10 @@ use crate::streams::{Habit, Near};
 use hub_record::{Filed, KeptRef};
 use server_loop::{Gate, Loop, SessionSeat};
 use server_session::{
-    Begun as Roll, LoopBody, LoopsFault, Seat, Seated, SharedSession, Start, Trail, keep,
+    Accounts, Begun as Roll, Limits, LoopBody, LoopsFault, Seat, Seated, SharedSession, Start,
+    Trail, keep,
 };
-use server_users::{Accounts, Limits, Users, UsersFault};
+use server_users::{Users, UsersFault};
 use std::alloc::Global;
 use std::sync::{Mutex, Wait};
 use std::thread::Threads;
@@ -181,7 +182,7 @@ struct Playing<'a> {
     acts: &'a [Act<'a>],
     loops: usize,
     calls: Calls,
-    accounts: Mutex<Accounts>,
+    accounts: Accounts,
     left: Mutex<Left>,
 }
 
@@ -259,7 +260,7 @@ pub fn perform(rt: &impl System, loops: usize, acts: &[Act]) -> Result<Seen, Sto
         places.push(place)?;
     }
     let users = users(alloc)?;
-    let accounts = Mutex::new(Accounts::new(alloc, users.owner(), Limits::none()));
+    let accounts = Accounts::new(alloc, users.owner(), Limits::none());
     let start = Start {
         alloc,
         users,

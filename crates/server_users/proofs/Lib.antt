@@ -1,4 +1,3 @@
-mod Kept
 pub mod Lines
 pub mod Seen
 pub mod Spelled

@@ -1,4 +1,3 @@
-pub mod Accounts
 pub mod Allowances
 pub mod Entries
 pub mod Stands

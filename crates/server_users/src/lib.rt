@@ -1,15 +1,12 @@
-//! Who may connect: the users' file, who shows which token, what a user may try in vain, and how
-//! many clients and windows they may have.
+//! Who may connect: the users' file, who shows which token, and what a user may try in vain.
 #![tactic(auto)]
 
-mod accounts;
 mod allowance;
 mod authenticating;
 mod fault;
 mod user;
 mod users;
 
-pub use accounts::{Accounts, GuestFault, GuestKind, Limits};
 pub use allowance::{Allowance, Outcome, UNIT, price};
 pub use authenticating::authenticate;
 pub use fault::{AuthFault, UsersFault};
