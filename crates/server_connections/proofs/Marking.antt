@@ -1,15 +1,14 @@
 -- Bits of a word, and the marks of keys.
 use Rattle.std.proofs.Common.{◌≡◌, ◌≢◌, ℕ, zero, suc, ◌+◌, ◌-◌, ◌*◌, ◌/◌, ◌%◌, ◌^◌, ◌<◌, ◌≤◌, List, [], ◌∷◌, ◌++◌}
-use Rattle.std.proofs.Common.{length, get_or, set, min, ◌∙◌, ap, sym, refl, arith, inl, inr, subst, w64}
+use Rattle.std.proofs.Common.{length, get_or, set, min, ◌∙◌, ap, sym, refl, arith, inl, inr, w64}
 use Rattle.std.specs.Prelude.{bit_and, bit_or, ◌↔◌}
-use Rattle.std.specs.Int.{bit_at, bit_not, trailing_zeros}
+use Rattle.std.specs.Int.{bit_at, trailing_zeros}
 use Rattle.std.proofs.lemmas.Nat.Bits.{bit_at_and, bit_at-lt, bit_at-zero, bit_at_mask_inside, bit_at_mask_below}
 use Rattle.std.proofs.lemmas.Nat.Bits.{ones_shl, bit_at-trailing_zeros, bit_at_set_same, bit_at_set_other}
 use Rattle.std.proofs.lemmas.Nat.Bits.{bit_at_clear_same, bit_at_clear_other}
 use Rattle.std.proofs.lemmas.Bool.{cases_lt, cases_eq}
 use Rattle.std.proofs.lemmas.List.{get_or-set_same, get_or-set_other, length-set}
-use Rattle.server_connections.specs.Marked.{IsMarked, HasRoom, IsSameBut, IsNext, NoneFrom, IsFirstBit, HasNoBit}
-use Rattle.server_connections.specs.Marked.{HaveSameMarks}
+use Rattle.server_connections.specs.Marked.{IsMarked, IsSameBut, IsNext, NoneFrom, IsFirstBit, HasNoBit, HaveSameMarks}
 
 -- the bits of a word from one on
 abbrev pub above : ℕ → ℕ → ℕ
@@ -60,7 +59,7 @@ lowest word from small some within =
 pub nothing : (word from : ℕ) → from < 64 → above word from ≡ 0 → HasNoBit word from
 nothing word from small none i low high is =
     let e = sym (kept word from i small low high) ∙ ap (λ m. bit_at m i) none
-        ∙ bit_at-zero i in absurd (omega (arith, e, is))
+    ∙ bit_at-zero i in absurd (omega (arith, e, is))
 
 -- ---- marks of keys
 
@@ -73,7 +72,7 @@ past (x ∷ xs) (suc i) le = past xs i (omega arith)
 pub unmarked_past : (words : List ℕ) (key : ℕ) → length words ≤ key / 64 → IsMarked words key → ⊥
 unmarked_past words key le is =
     let e = ap (λ w. bit_at w (key % 64)) (past words (key / 64) le)
-        ∙ bit_at-zero (key % 64) in absurd (omega (arith, e, is))
+    ∙ bit_at-zero (key % 64) in absurd (omega (arith, e, is))
 
 with_nothing : (words : List ℕ) (i : ℕ) → get_or (words ++ 0 ∷ []) i 0 ≡ get_or words i 0
 with_nothing [] zero = refl
@@ -132,26 +131,26 @@ module _ (words : List ℕ) (key v : ℕ) (within : key / 64 < length words) (is
   pub marked : IsMarked (set words (key / 64) (bit_or v (1 * 2 ^ (key % 64) % 2 ^ 64))) key
   marked =
       ap (λ w. bit_at w (key % 64))
-          (get_or-set_same words (key / 64) (bit_or v (1 * 2 ^ (key % 64) % 2 ^ 64)) 0 within)
+      (get_or-set_same words (key / 64) (bit_or v (1 * 2 ^ (key % 64) % 2 ^ 64)) 0 within)
       ∙ bit_at_set_same w64 v (key % 64) (omega arith)
 
   pub marked_alone : IsSameBut key words (set words (key / 64) (bit_or v (1 * 2 ^ (key % 64) % 2 ^ 64)))
   marked_alone =
       same_but words key (bit_or v (1 * 2 ^ (key % 64) % 2 ^ 64)) within
-          (λ i small other. bit_at_set_other w64 v (key % 64) (omega arith) i other ∙ ap (λ w. bit_at w i) at_zero)
+      (λ i small other. bit_at_set_other w64 v (key % 64) (omega arith) i other ∙ ap (λ w. bit_at w i) at_zero)
 
   pub unmarked : IsMarked (set words (key / 64) (bit_and v (2 ^ 64 - 1 - 1 * 2 ^ (key % 64) % 2 ^ 64))) key → ⊥
   unmarked marks =
       let e = ap (λ w. bit_at w (key % 64))
-          (get_or-set_same words (key / 64) (bit_and v (2 ^ 64 - 1 - 1 * 2 ^ (key % 64) % 2 ^ 64)) 0 within)
-          ∙ bit_at_clear_same w64 v (key % 64) (omega arith) in
+      (get_or-set_same words (key / 64) (bit_and v (2 ^ 64 - 1 - 1 * 2 ^ (key % 64) % 2 ^ 64)) 0 within)
+      ∙ bit_at_clear_same w64 v (key % 64) (omega arith) in
       absurd (omega (arith, e, marks))
 
   pub unmarked_alone : IsSameBut key words (set words (key / 64) (bit_and v (2 ^ 64 - 1 - 1 * 2 ^ (key % 64) % 2 ^ 64)))
   unmarked_alone =
       same_but words key (bit_and v (2 ^ 64 - 1 - 1 * 2 ^ (key % 64) % 2 ^ 64)) within
-          (λ i small other. bit_at_clear_other w64 v (key % 64) (omega arith) i small other
-              ∙ ap (λ w. bit_at w i) at_zero)
+      (λ i small other. bit_at_clear_other w64 v (key % 64) (omega arith) i small other
+      ∙ ap (λ w. bit_at w i) at_zero)
 
 pub not_changed : (words : List ℕ) (key : ℕ) → IsSameBut key words words
 not_changed words key = record { others = λ k other. same_marks words k; room = refl }
@@ -184,7 +183,7 @@ module _ (words : List ℕ) (from place low : ℕ) (small : low < 64) (begun : f
           let b = first.within.1 in
           let at : k / 64 ≡ place = omega (arith, le, below, b) in
           absurd (first.first (k % 64) (omega (arith, le, at, below, b)) (omega (arith, le, at, below, b))
-              (of_key words place k at is))
+          (of_key words place k at is))
     ];
   }
 

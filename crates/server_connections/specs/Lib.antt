@@ -1,4 +1,2 @@
-pub mod Connected
 pub mod Frames
-pub mod Lending
 pub mod Marked

@@ -1,8 +1,5 @@
 //! What a connection asked for that isn't done yet.
 
-ghost use Rattle.std.specs.Prelude.{◌≡◌};
-ghost use Rattle.server_connections.specs.Connected.{is_empty};
-
 use attach_proto::{Message, Reader};
 use std::alloc::{AllocError, Global};
 
@@ -56,9 +53,7 @@ impl Inbox {
         }
     }
 
-    pub fn is_empty(&self) -> bool
-        ensures { result ≡ is_empty self.now }
-    {
+    pub fn is_empty(&self) -> bool {
         self.messages.is_empty() && self.begun.is_none()
     }
 
@@ -108,9 +103,7 @@ impl Inbox {
     }
 
     /// What came behind all that was taken out is no frame, or there was no memory for it.
-    pub fn is_broken(&self) -> bool
-        ensures { result ≡ self.now.is_broken }
-    {
+    pub fn is_broken(&self) -> bool {
         self.is_broken
     }
 

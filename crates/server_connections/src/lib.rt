@@ -16,5 +16,5 @@ pub use frames::{Sending, put, why_of};
 pub use inbox::Asked;
 pub use news::{Guest, News};
 pub use peer::{Awaits, Peer, Role, Stage};
-pub use seat::{Answer, SeatFault, SessionSeat};
+pub use seat::{Answer, GuestKind, SeatFault, SessionSeat};
 pub use stream::Came;

@@ -1,8 +1,8 @@
 //! What a loop tells of who comes and goes.
 
+use crate::seat::GuestKind;
 use acl::UserId;
 use attach_proto::Why;
-use server_users::GuestKind;
 
 /// Who stays a while, with the user of it.
 #[derive(Clone, Copy, Debug, PartialEq, Eq)]

@@ -1,10 +1,5 @@
 //! One connection.
 
-ghost use Rattle.std.specs.Prelude.{◌≡◌, ◌↔◌, Some, IsTrue, IfOk};
-ghost use Rattle.server_connections.specs.Connected.{IsFor, awaits, has_more, is_at_rest, is_done};
-ghost use Rattle.server_connections.specs.Connected.{is_awaited_at, is_closed, is_due, is_new};
-ghost use Rattle.server_connections.specs.Connected.{is_open, is_stranger, listens, same_role};
-
 use crate::frames::gone_frame;
 use crate::inbox::Inbox;
 use crate::news::Guest;
@@ -28,23 +23,6 @@ pub enum Role {
 }
 
 impl Role {
-    fn is_stranger(self) -> bool
-        ensures { result ≡ is_stranger self }
-    {
-        matches!(self, Role::Stranger)
-    }
-
-    fn is(self, other: Role) -> bool
-        ensures { result ≡ same_role self other }
-    {
-        match (self, other) {
-            (Role::Stranger, Role::Stranger) => true,
-            (Role::Client(own), Role::Client(other)) => own == other,
-            (Role::Window(own), Role::Window(other)) => own == other,
-            _ => false,
-        }
-    }
-
     /// The event by which it leaves the session.
     pub fn parting<'a>(self) -> Option<Event<'a>> {
         match self {
@@ -67,20 +45,6 @@ pub enum Stage {
     Cut,
     /// Nothing is read or written any more.
     Closed,
-}
-
-impl Stage {
-    fn is_open(self) -> bool
-        ensures { result ≡ is_open self }
-    {
-        matches!(self, Stage::Open)
-    }
-
-    fn is_closed(self) -> bool
-        ensures { result ≡ is_closed self }
-    {
-        matches!(self, Stage::Closed)
-    }
 }
 
 /// What a connection may await.
@@ -133,9 +97,12 @@ pub struct Peer<S> {
 impl<S: Drop> Peer<S> {
     /// The connection of this number, which may have sent something. The bytes of its GONE are
     /// reserved.
-    pub fn new(alloc: Global, stream: S, number: u64, is_extra: bool) -> Result<Peer<S>, AllocError>
-        ensures { IfOk result (λ peer. peer.stream ≡ Some stream) }
-    {
+    pub fn new(
+        alloc: Global,
+        stream: S,
+        number: u64,
+        is_extra: bool,
+    ) -> Result<Peer<S>, AllocError> {
         Ok(Peer {
             stream: Some(stream),
             reader: Reader::new(alloc, Side::Server),
@@ -181,24 +148,13 @@ impl<S: Drop> Peer<S> {
     }
 
     /// Whether there may be something to read. Behind what is no frame nothing is.
-    pub fn has_more(&self) -> bool
-        ensures { result ≡ has_more self.now }
-    {
+    pub fn has_more(&self) -> bool {
         self.has_more && !self.inbox.is_broken()
     }
 
     /// Whether it is still sent what the session says.
-    pub fn listens(&self) -> bool
-        ensures { result ≡ listens self.now.stage }
-    {
-        matches!(self.stage, Stage::Open | Stage::Leaving)
-    }
-
-    /// Whether it is this to the session, and is still sent what that says.
-    pub fn is_for(&self, role: Role) -> bool
-        ensures { IsTrue result ↔ IsFor role self.now }
-    {
-        self.role.is(role) && self.listens()
+    pub fn listens(&self) -> bool {
+        self.stage == Stage::Open || self.stage == Stage::Leaving
     }
 
     /// Whom it brought, and why it was told to go, once it goes.
@@ -211,24 +167,18 @@ impl<S: Drop> Peer<S> {
     }
 
     /// Whether its first message didn't come, or wasn't done yet.
-    pub fn is_new(&self) -> bool
-        ensures { result ≡ is_new self.now }
-    {
-        self.role.is_stranger() && self.stage.is_open()
+    pub fn is_new(&self) -> bool {
+        self.role == Role::Stranger && self.stage == Stage::Open
     }
 
     /// Whether something is to be done with it, though no event will tell of it.
-    pub fn is_due(&self) -> bool
-        ensures { result ≡ is_due self.now }
-    {
+    pub fn is_due(&self) -> bool {
         let has_work = self.has_more() || !self.inbox.is_empty();
-        has_work && self.stage.is_open() && !self.is_held
+        has_work && self.stage == Stage::Open && !self.is_held
     }
 
     /// Whether it awaits this.
-    pub fn awaits(&self, what: Awaits) -> bool
-        ensures { result ≡ awaits what self.now }
-    {
+    pub fn awaits(&self, what: Awaits) -> bool {
         match what {
             Awaits::Work => self.is_due(),
             Awaits::Ration => self.is_held,
@@ -238,11 +188,9 @@ impl<S: Drop> Peer<S> {
     }
 
     /// Whether it is waited for: for its first message, or until it has read its last.
-    pub fn is_awaited(&self) -> bool
-        ensures { result ≡ is_awaited_at self.now.stage self.now }
-    {
+    pub fn is_awaited(&self) -> bool {
         match self.stage {
-            Stage::Open => self.role.is_stranger() && self.inbox.is_empty(),
+            Stage::Open => self.role == Role::Stranger && self.inbox.is_empty(),
             Stage::Ending => true,
             Stage::Leaving | Stage::Cut | Stage::Closed => false,
         }
@@ -263,18 +211,14 @@ impl<S: Drop> Peer<S> {
     }
 
     /// Whether nothing is to be done with it until something comes from it or is put into it.
-    pub fn is_at_rest(&self) -> bool
-        ensures { result ≡ is_at_rest self.now }
-    {
+    pub fn is_at_rest(&self) -> bool {
         let has_work = self.has_more() || self.is_held || !self.inbox.is_empty();
-        let is_guest = !self.role.is_stranger() && self.leaves.is_stranger();
-        is_guest && self.stage.is_open() && !has_work && self.turn.unsent() == 0
+        let is_guest = self.role != Role::Stranger && self.leaves == Role::Stranger;
+        is_guest && self.stage == Stage::Open && !has_work && self.turn.unsent() == 0
     }
 
     /// Whether nothing is left to do with it.
-    pub fn is_done(&self) -> bool
-        ensures { result ≡ is_done self.now }
-    {
-        self.stage.is_closed() && self.leaves.is_stranger()
+    pub fn is_done(&self) -> bool {
+        self.stage == Stage::Closed && self.leaves == Role::Stranger
     }
 }

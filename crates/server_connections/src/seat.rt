@@ -1,7 +1,7 @@
 //! The seat that a loop has in the session which the loops share.
 
 use acl::UserId;
-use server_users::{GuestFault, GuestKind, Outcome, Users};
+use server_users::{Outcome, Users};
 use session_model::{Effect, Event, Reply};
 use std::sync::Wait;
 use std::time::{Clock, Duration};
@@ -14,6 +14,13 @@ pub struct Answer {
     pub filled: Option<u8>,
     /// What came of the event for the user who tried it.
     pub outcome: Outcome,
+}
+
+/// What a user may have only so many of.
+#[derive(Clone, Copy, Debug, PartialEq, Eq)]
+pub enum GuestKind {
+    Client,
+    Window,
 }
 
 /// Why a submitted event has no answer.
@@ -34,18 +41,17 @@ pub trait SessionSeat {
     /// Submits an event to the session.
     fn submit<R: Wait>(&mut self, rt: &R, event: Event<'_>) -> Result<Answer, SeatFault>;
 
-    /// Pays for a step that a user is about to try, unless the user has to wait, as
-    /// `Accounts::pay` does. Whether it did.
+    /// Pays for a step that a user is about to try, unless the user has to wait. Whether it did.
     fn pay<R: Wait>(&self, rt: &R, user: UserId, now: Duration, cost: u32) -> bool;
 
-    /// A step that was paid for so came to this: `Accounts::settle`.
+    /// A step that was paid for so came to this.
     fn settle<R: Wait>(&self, rt: &R, user: UserId, cost: u32, outcome: Outcome);
 
-    /// Counts one more client or window of a user, unless they have as many as a user may have:
-    /// `Accounts::add`.
-    fn add<R: Wait>(&self, rt: &R, user: UserId, kind: GuestKind) -> Result<(), GuestFault>;
+    /// Counts one more client or window of a user, unless they have as many as a user may have.
+    /// Then the answer is how many that is.
+    fn add<R: Wait>(&self, rt: &R, user: UserId, kind: GuestKind) -> Option<u8>;
 
-    /// Counts one client or window less of a user: `Accounts::remove`.
+    /// Counts one client or window less of a user.
     fn remove<R: Wait>(&self, rt: &R, user: UserId, kind: GuestKind);
 
     /// It is this time, for the entries in the trail's file.

@@ -1,4 +1,4 @@
-use Rattle.std.proofs.Common.{◌≡◌, ◌≤◌, max, length}
+use Rattle.std.proofs.Common.{◌≡◌, ◌≤◌, max}
 use Rattle.std.specs.Prelude.{vec_len}
 use Rattle.server_connections.specs.Marked.{HaveSameMarks}
 use Rattle.server_connections.proofs.marks.grow.Given as goal

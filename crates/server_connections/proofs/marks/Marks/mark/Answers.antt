@@ -8,11 +8,11 @@ use Rattle.server_connections.proofs.marks.Marks.mark.Goals as goal
 pub returns-clause-marked : goal.returns-clause-marked
 returns-clause-marked c room =
     marked c.self.inside.words.items c.args.key c.index_mut.result.now
-        (omega (arith, c.if-place-len.false, c.len.ensures)) c.index_mut.ensures.value
+    (omega (arith, c.if-place-len.false, c.len.ensures)) c.index_mut.ensures.value
 
 pub returns-clause-others : goal.returns-clause-others
 returns-clause-others c =
     subst (λ (ws : List ℕ). IsSameBut c.args.key ws (slice_set c.self.inside.words.items (c.args.key / 64)
-        (bit_or c.index_mut.result.now (1 * 2 ^ (c.args.key % 64) % 2 ^ 64)))) c.self.view_is
-        (marked_alone c.self.inside.words.items c.args.key c.index_mut.result.now
-            (omega (arith, c.if-place-len.false, c.len.ensures)) c.index_mut.ensures.value)
+    (bit_or c.index_mut.result.now (1 * 2 ^ (c.args.key % 64) % 2 ^ 64)))) c.self.view_is
+    (marked_alone c.self.inside.words.items c.args.key c.index_mut.result.now
+    (omega (arith, c.if-place-len.false, c.len.ensures)) c.index_mut.ensures.value)

@@ -1,4 +1,4 @@
-use Rattle.std.proofs.Common.{◌≡◌, ◌≤◌, ◌<◌, ◌*◌, ◌+◌, ℕ}
+use Rattle.std.proofs.Common.{◌≤◌, ◌<◌, ◌*◌, ◌+◌}
 use Rattle.server_connections.proofs.Marking.{NoneBetween}
 use Rattle.server_connections.proofs.marks.Marks.next.Given as goal
 
