@@ -10,7 +10,8 @@ use Rattle.server_connections.specs.Frames.{IsPiece, PutsFrames}
 
 joined : (pieces : List (List ℕ)) (piece : List ℕ) → concat (pieces ++ piece ∷ []) ≡ concat pieces ++ piece
 joined [] piece = append-nil piece
-joined (first ∷ pieces) piece = ap (λ xs. first ++ xs) (joined pieces piece) ∙ sym (append_assoc first (concat pieces) piece)
+joined (first ∷ pieces) piece = ap (λ xs. first ++ xs) (joined pieces piece)
+    ∙ sym (append_assoc first (concat pieces) piece)
 
 pub none_put : (kind : Kind) (turn : Waiting) → PutsFrames kind [] turn turn
 none_put kind turn = record {
@@ -20,7 +21,8 @@ none_put kind turn = record {
   put = ap (λ (xs : List ℕ). record turn { unsent = xs }) (sym (append-nil turn.unsent));
 }
 
-pub one_more : (kind : Kind) (done piece made : List ℕ) (old before after : Waiting) → PutsFrames kind done old before → IsPiece piece → made ≡ frame kind piece
+pub one_more : (kind : Kind) (done piece made : List ℕ) (old before after : Waiting)
+    → PutsFrames kind done old before → IsPiece piece → made ≡ frame kind piece
     → after ≡ record before { unsent = before.unsent ++ made } → PutsFrames kind (done ++ piece) old after
 one_more kind done piece made old before after put fits spelled is =
     let frames = flat_map (frame kind) put.pieces in

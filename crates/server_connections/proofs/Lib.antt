@@ -1,1 +1,2 @@
 pub mod Framing
+mod Marking

@@ -1,5 +1,8 @@
 //! The connections of one loop, by their keys.
 
+ghost use Rattle.std.specs.Prelude.{◌≡◌, None, IfSome};
+ghost use Rattle.server_connections.specs.Marked.{IsNext, NoneFrom};
+
 use crate::marks::Marks;
 use crate::peer::{Awaits, Peer, Role};
 use slab::Slab;
@@ -39,8 +42,8 @@ impl<S: Drop> Connections<S> {
         let next = self.vacant_key();
         self.awake.reserve(next)?;
         let peer = Peer::new(alloc, stream, self.number, is_extra)?;
-        let key = self.peers.insert(peer)?;
-        self.awake.set(key, true);
+        self.peers.insert(peer)?;
+        self.awake.mark(next);
         self.number = self.number.saturating_add(1);
         Ok(())
     }
@@ -58,14 +61,17 @@ impl<S: Drop> Connections<S> {
         self.peers.get(key)
     }
 
-    /// The first one from this key on that doesn't rest.
-    pub fn next_awake(&self, from: usize) -> Option<usize> {
+    /// The first key from this one on that doesn't rest.
+    pub fn next_awake(&self, from: usize) -> Option<usize>
+        ensures some { IfSome result (IsNext self.now.awake from) }
+        ensures none { result ≡ None → NoneFrom self.now.awake from }
+    {
         self.awake.next(from)
     }
 
     /// The one of this key, which doesn't rest from now on.
     pub fn touch(&mut self, key: usize) -> Option<&mut Peer<S>> {
-        self.awake.set(key, true);
+        self.awake.mark(key);
         self.peers.get_mut(key)
     }
 
@@ -119,14 +125,14 @@ impl<S: Drop> Connections<S> {
     /// One with which all is done goes, and one with which nothing is to be done rests.
     pub fn settle(&mut self, key: usize) {
         let Some(peer) = self.peers.get(key) else {
-            self.awake.set(key, false);
+            self.awake.unmark(key);
             return;
         };
         if peer.is_done() {
-            self.awake.set(key, false);
+            self.awake.unmark(key);
             let _ = self.peers.try_remove(key);
         } else if peer.is_at_rest() {
-            self.awake.set(key, false);
+            self.awake.unmark(key);
         }
     }
 }

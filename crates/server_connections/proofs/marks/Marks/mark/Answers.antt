@@ -1,0 +1,18 @@
+use Rattle.std.proofs.Common.{arith, subst, List, ℕ}
+use Rattle.std.specs.Prelude.{slice_set, bit_or, ◌*◌, ◌/◌, ◌%◌}
+use Rattle.std.proofs.Common.{◌^◌}
+use Rattle.server_connections.specs.Marked.{IsSameBut}
+use Rattle.server_connections.proofs.Marking.{marked, marked_alone}
+use Rattle.server_connections.proofs.marks.Marks.mark.Goals as goal
+
+pub returns-clause-marked : goal.returns-clause-marked
+returns-clause-marked c room =
+    marked c.self.inside.words.items c.args.key c.index_mut.result.now
+    (omega (arith, c.if-place-len.false, c.len.ensures)) c.index_mut.ensures.value
+
+pub returns-clause-others : goal.returns-clause-others
+returns-clause-others c =
+    subst (λ (ws : List ℕ). IsSameBut c.args.key ws (slice_set c.self.inside.words.items (c.args.key / 64)
+    (bit_or c.index_mut.result.now (1 * 2 ^ (c.args.key % 64) % 2 ^ 64)))) c.self.view_is
+    (marked_alone c.self.inside.words.items c.args.key c.index_mut.result.now
+    (omega (arith, c.if-place-len.false, c.len.ensures)) c.index_mut.ensures.value)

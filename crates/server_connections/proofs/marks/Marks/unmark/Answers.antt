@@ -1,0 +1,18 @@
+use Rattle.std.proofs.Common.{arith, subst, List, ℕ}
+use Rattle.std.specs.Prelude.{slice_set, bit_and, ◌*◌, ◌/◌, ◌%◌, ◌-◌}
+use Rattle.std.proofs.Common.{◌^◌}
+use Rattle.server_connections.specs.Marked.{IsSameBut}
+use Rattle.server_connections.proofs.Marking.{unmarked, unmarked_alone}
+use Rattle.server_connections.proofs.marks.Marks.unmark.Goals as goal
+
+pub returns-clause-unmarked : goal.returns-clause-unmarked
+returns-clause-unmarked c =
+    unmarked c.self.inside.words.items c.args.key c.index_mut.result.now
+    (omega (arith, c.if-place-len.false, c.len.ensures)) c.index_mut.ensures.value
+
+pub returns-clause-others : goal.returns-clause-others
+returns-clause-others c =
+    subst (λ (ws : List ℕ). IsSameBut c.args.key ws (slice_set c.self.inside.words.items (c.args.key / 64)
+    (bit_and c.index_mut.result.now (2 ^ 64 - 1 - 1 * 2 ^ (c.args.key % 64) % 2 ^ 64)))) c.self.view_is
+    (unmarked_alone c.self.inside.words.items c.args.key c.index_mut.result.now
+    (omega (arith, c.if-place-len.false, c.len.ensures)) c.index_mut.ensures.value)
