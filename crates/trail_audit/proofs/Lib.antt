@@ -1,3 +1,5 @@
 pub mod Headed
 pub mod Unbroken
+pub mod Coming
+pub mod Halted
 pub mod Cut

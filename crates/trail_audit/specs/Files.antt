@@ -1,12 +1,12 @@
 -- The entries of a file, whole or cut.
-use Rattle.std.specs.Prelude.{◌≡◌, ◌<◌, ◌≤◌, ℕ, suc, if◌then◌else◌, ◌==◌, List, [], ◌∷◌, ◌++◌, Option, Some, take, length}
+use Rattle.std.specs.Prelude.{◌≡◌, ◌<◌, ◌≤◌, ℕ, suc, if◌then◌else◌, ◌==◌, true, List, [], ◌∷◌, ◌++◌}
+use Rattle.std.specs.Prelude.{Option, Some, take, length}
 use Rattle.std.specs.List.{AllByRecursion, flat_map}
 use Rattle.line_fields.specs.Cutting.{◌>>=◌}
 use Rattle.trail_lines.specs.Entries.{Said, line_of, read_line}
 use Rattle.trail_lines.specs.Sayable.{IsSayable}
-
-abbrev pub feed : ℕ
-feed = 0x0A
+use Rattle.trail_audit.specs.Lines.{feed, is_unbroken}
+use Rattle.trail_audit.specs.Halting.{AreRead}
 
 -- each line is ended by a line feed
 abbrev pub ended_line : Said → List ℕ
@@ -46,3 +46,10 @@ CutFilesAreRead =
     (said : List Said) → AllByRecursion IsSayable said → (n : ℕ)
     → (count : ℕ) × AreWhole said n count
     × (read_file (take n (text_of said)) ≡ Some (take count said))
+
+-- and where the lines of entries were read, one after another, up to bytes that no line feed ends,
+-- they are those of the whole file
+abbrev pub ReadIsTheFile : Type 0
+ReadIsTheFile =
+    (said : List Said) (bytes rest : List ℕ) → AreRead said bytes rest → is_unbroken rest ≡ true
+    → read_file bytes ≡ Some said

@@ -1,24 +1,68 @@
--- What the reading of a file's entries tells.
-use Rattle.std.specs.Prelude.{ℕ, List}
+-- What the reading of a file's entries tells, and of which bytes.
+use Rattle.std.specs.Prelude.{ℕ, ◌≡◌, ◌+◌, Bool, true, false, List, [], ◌∷◌, Option, Some, None}
+use Rattle.std.specs.Prelude.{length, codes, nat_eq}
+use Rattle.std.specs.List.{starts_with}
 use Rattle.acl.specs.declared.edition.Edition.{Edition}
 use Rattle.acl.specs.declared.user_id.UserId.{UserId}
 use Rattle.hub_trail.specs.Trails.{Entry}
+use Rattle.trail_lines.specs.Entries.{Said, read_line}
 use Rattle.trail_audit.specs.declared.audit.Audit.{Audit}
 use Rattle.trail_audit.specs.declared.halt.Halt.{Halt}
 use Rattle.trail_audit.specs.declared.halt.Halt.TheVariants as halt
-use Rattle.trail_audit.specs.Reading.{HasRead, IsWrong}
+use Rattle.trail_audit.specs.declared.lines.Came.TheVariants as came
+use Rattle.trail_audit.specs.declared.times.Times.{Times}
+use Rattle.trail_audit.specs.Lines.{ComesAs, OfKnown}
+use Rattle.trail_audit.specs.Times.{times_after}
+use Rattle.trail_audit.specs.Reading.{HasRead, IsWrong, entries_in}
 
 -- no line is wrong
 abbrev pub IsEnd : Halt → Type 0
 IsEnd (halt.Stopped number w) = ⊥
 IsEnd h = Unit {0}
 
--- entries were read that are legal
-abbrev pub IsRead : Audit → Edition → UserId → Type 0
-IsRead audit edition owner = (entries : List Entry) × HasRead audit edition owner entries
+-- the line begins as a last one does
+abbrev pub is_last : List ℕ → Bool
+is_last line = starts_with nat_eq line (codes "end ")
 
--- or the line of the next one is wrong
-abbrev pub TellsOf : Halt → Audit → Edition → UserId → Type 0
-TellsOf (halt.Stopped number w) audit edition owner =
-    (entries : List Entry) × (line : List ℕ) × IsWrong w line edition owner entries
-TellsOf h audit edition owner = IsRead audit edition owner
+-- the lines of these entries were read, one after another, and the rest is left
+abbrev pub AreRead : List Said → List ℕ → List ℕ → Type 0
+AreRead [] bytes rest = bytes ≡ rest
+AreRead (x ∷ said) bytes rest =
+    (line : List ℕ) × (more : List ℕ) × ComesAs came.Whole line bytes more
+    × (is_last line ≡ false) × (read_line line ≡ Some x) × AreRead said more rest
+
+-- what halts the reading of these bytes: their end, a last line without its line feed, or the line
+-- of this number
+abbrev pub Halts : Halt → ℕ → List ℕ → List ℕ → List ℕ → Type 0
+Halts halt.Nothing number line bytes rest = ComesAs came.Nothing line bytes rest
+Halts halt.Torn number line bytes rest = ComesAs came.Torn line bytes rest
+Halts (halt.Last n) number line bytes rest =
+    (n ≡ number) × ComesAs came.Whole line bytes rest × (is_last line ≡ true)
+Halts (halt.Stopped n w) number line bytes rest =
+    (n ≡ number) × ComesAs came.Whole line bytes rest × (is_last line ≡ false)
+
+-- nothing halts it before a line
+abbrev pub NextIs : Option Halt → ℕ → List ℕ → List ℕ → List ℕ → Type 0
+NextIs None number line bytes rest = ComesAs came.Whole line bytes rest × (is_last line ≡ false)
+NextIs (Some h) number line bytes rest = Halts h number line bytes rest
+
+-- the lines of these entries were read, the first of which is the file's second, and then it was
+-- halted
+abbrev pub IsReadTo : Halt → List Said → List ℕ → List ℕ → List ℕ → Type 0
+IsReadTo h said line bytes rest =
+    (behind : List ℕ) × AreRead said bytes behind × Halts h (length said + 2) line behind rest
+
+-- the entries are good; where it stopped, the line behind theirs is wrong, and why
+abbrev pub TellsOf : Halt → Audit → List ℕ → Edition → UserId → List Entry → Type 0
+TellsOf (halt.Stopped n w) audit line edition owner entries =
+    (n ≡ length entries + 2) × IsWrong w line edition owner entries
+TellsOf h audit line edition owner entries = HasRead audit edition owner entries
+
+-- the entries of the lines that were read, up to what halted it, and their times; the reader's bytes
+-- are those that it had before and those that it has left, where they are known
+pub record IsRead (h : Halt) (before : Times) (audit : Audit) (line : List ℕ) (edition : Edition)
+    (owner : UserId) (old new : Option (List ℕ)) : Type 0 where
+  pub said : List Said
+  pub tells : TellsOf h audit line edition owner (entries_in said)
+  pub times : IsEnd h → audit.times ≡ times_after before said
+  pub from : OfKnown old new (IsReadTo h said line)

@@ -1,6 +1,6 @@
 -- What a reader of a trail's entries stands for, and what it tells of the next line.
-use Rattle.std.specs.Prelude.{ℕ, ◌≡◌, ◌≢◌, List, [], ◌∷◌, ◌++◌, length, Option, Some, None}
-use Rattle.std.specs.Prelude.{Result, Ok, Err}
+use Rattle.std.specs.Prelude.{ℕ, ◌≡◌, ◌≢◌, List, [], ◌∷◌, ◌++◌, length, Some, None}
+use Rattle.std.specs.Prelude.{Result, Ok, Err, map}
 use Rattle.acl.specs.declared.edition.Edition.{Edition}
 use Rattle.acl.specs.declared.user_id.UserId.{UserId}
 use Rattle.session_model.specs.Trace.{Trace}
@@ -11,7 +11,7 @@ use Rattle.hub_trail.specs.Legal.{AreLegal}
 use Rattle.hub_trail.specs.Judging.{IsBadAt}
 use Rattle.hub_check.specs.Judges.{HasJudged}
 use Rattle.trail_lines.specs.declared.entries.Line.{Line}
-use Rattle.trail_lines.specs.Entries.{read_line, said}
+use Rattle.trail_lines.specs.Entries.{Said, read_line, said}
 use Rattle.trail_audit.specs.declared.audit.Audit.{Audit}
 use Rattle.trail_audit.specs.declared.fault.Wrong.{Wrong}
 use Rattle.trail_audit.specs.declared.fault.Wrong.TheVariants as wrong
@@ -59,6 +59,12 @@ IsWrong wrong.NoMemory line edition owner entries = Unit {0}
 abbrev pub Tells : Result Line Wrong → Audit → List ℕ → Edition → UserId → List Entry → Type 0
 Tells (Ok l) new line edition owner entries = Takes l new line edition owner entries
 Tells (Err w) new line edition owner entries = IsWrong w line edition owner entries
+
+abbrev pub entry_in : Said → Entry
+entry_in x = x.2
+
+abbrev pub entries_in : List Said → List Entry
+entries_in said = map entry_in said
 
 -- ---- laws
 

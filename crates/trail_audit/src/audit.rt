@@ -7,8 +7,10 @@ ghost use Rattle.hub_trail.specs.Trails.{Entry};
 ghost use Rattle.hub_trail.specs.Legal.{acts_after};
 ghost use Rattle.hub_check.specs.Following.{StandsAfter};
 ghost use Rattle.trail_audit.specs.Reading.{HasRead, Tells};
+ghost use Rattle.trail_audit.specs.Times.{no_times, time_after};
 
 use crate::fault::Wrong;
+use crate::times::Times;
 use acl::{Edition, UserId};
 use hub_check::{Judge, Replay};
 use std::alloc::{AllocError, Global};
@@ -21,6 +23,7 @@ pub struct Audit {
     judge: Judge,
     /// How many entries were read.
     next: u64,
+    times: Times,
 }
 
 impl Drop for Audit {
@@ -29,6 +32,7 @@ impl Drop for Audit {
             alloc: _,
             judge: _,
             next: _,
+            times: _,
         } = self;
     }
 }
@@ -36,13 +40,15 @@ impl Drop for Audit {
 impl Audit {
     /// No line so far.
     pub fn new(alloc: Global, edition: Edition, owner: UserId) -> Result<Audit, AllocError>
-        ensures { IfOk result (λ audit. HasRead audit edition owner []) }
+        ensures begun { IfOk result (λ audit. HasRead audit edition owner []) }
+        ensures times { IfOk result (λ audit. audit.times ≡ no_times) }
     {
         let judge = Judge::new(alloc, edition, owner)?;
         Ok(Audit {
             alloc,
             judge,
             next: 0,
+            times: Times::new(),
         })
     }
 
@@ -53,12 +59,21 @@ impl Audit {
         self.next
     }
 
+    /// What the times of the entries tell.
+    pub fn times(&self) -> Times
+        ensures { result ≡ self.now.times }
+    {
+        self.times
+    }
+
     /// Takes the line of the next entry, without its line feed, and answers what it says. Behind an
     /// `Err` the audit stands for nothing more.
     pub fn take(&mut self, line: &[u8]) -> Result<Line, Wrong>
-        ensures { (edition : Edition) (owner : UserId) (entries : List Entry) →
+        ensures tells { (edition : Edition) (owner : UserId) (entries : List Entry) →
             HasRead self.old edition owner entries →
             Tells result self.new line.now edition owner entries }
+        ensures times { IfOk result
+            (λ l. self.new.times ≡ time_after self.old.times l.place l.ms) }
     {
         let said = match read_line(self.alloc, line) {
             Ok(said) => said,
@@ -75,6 +90,7 @@ impl Audit {
             return Err(Wrong::Illegal);
         }
         self.next = next;
+        self.times = self.times.after(said.place, said.ms);
         Ok(said)
     }
 

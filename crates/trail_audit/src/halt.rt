@@ -4,14 +4,16 @@ ghost use Rattle.std.specs.Prelude.{[], IfOk, IfSome};
 ghost use Rattle.acl.specs.declared.edition.Edition.{Edition};
 ghost use Rattle.acl.specs.declared.user_id.UserId.{UserId};
 ghost use Rattle.trail_audit.specs.Reading.{HasRead};
-ghost use Rattle.trail_audit.specs.Halting.{IsEnd, TellsOf};
+ghost use Rattle.trail_audit.specs.Halting.{IsEnd, IsRead, NextIs};
+ghost use Rattle.trail_audit.specs.Lines.{OfKnown};
 
 use crate::audit::Audit;
 use crate::fault::Wrong;
 use crate::lines::{Came, next_line};
+use std::alloc::AllocError;
 use std::io::{self, BufRead};
 
-/// Where the entries of a file end.
+/// What halts the reading of a file's entries.
 #[derive(Clone, Copy)]
 pub enum Halt {
     /// The file ends behind a whole line.
@@ -31,7 +33,9 @@ pub fn next_entry<R: BufRead>(
     line: &mut Vec<u8>,
     number: u64,
 ) -> io::Result<Option<Halt>>
-    ensures { IfOk result (λ halt. IfSome halt (λ h. IsEnd h)) }
+    ensures end { IfOk result (λ halt. IfSome halt (λ h. IsEnd h)) }
+    ensures next { IfOk result (λ halt. OfKnown (R.remaining reader.old) (R.remaining reader.new)
+        (NextIs halt number line.new.items)) }
 {
     let halt = match next_line(reader, line)? {
         Came::Nothing => Halt::Nothing,
@@ -50,7 +54,8 @@ pub fn read_entries<R: BufRead>(
     line: &mut Vec<u8>,
 ) -> io::Result<Halt>
     ensures { (edition : Edition) (owner : UserId) → HasRead audit.old edition owner [] →
-        IfOk result (λ halt. TellsOf halt audit.new edition owner) }
+        IfOk result (λ halt. IsRead halt audit.old.times audit.new line.new.items edition owner
+        (R.remaining reader.old) (R.remaining reader.new)) }
 {
     for number in 2..u64::MAX {
         if let Some(halt) = next_entry(reader, line, number)? {
@@ -63,5 +68,6 @@ pub fn read_entries<R: BufRead>(
             });
         }
     }
-    Ok(Halt::Nothing)
+    // No file has so many lines.
+    Err(io::Error::from(AllocError))
 }

@@ -1,6 +1,6 @@
 //! Laws of the definitions. Each function here does nothing; its contract says what holds.
 
-ghost use Rattle.trail_audit.specs.Files.{CutFilesAreRead};
+ghost use Rattle.trail_audit.specs.Files.{CutFilesAreRead, ReadIsTheFile};
 ghost use Rattle.trail_audit.specs.Heading.{ReadsEnds, ReadsHeaders};
 ghost use Rattle.trail_audit.specs.Reading.{NoRunIsBad, ReadIsLegal};
 
@@ -17,7 +17,9 @@ pub fn read_is_legal()
 {}
 
 /// A file of entries' lines, cut behind any of its bytes, reads as the entries whose line is whole,
-/// and as no other.
+/// and as no other. So `read_entries` reads it: what it has read of a file up to its end, or up to
+/// a line that is torn, is all that the file reads as.
 pub fn cut_files_are_read()
-    ensures { CutFilesAreRead }
+    ensures cut { CutFilesAreRead }
+    ensures read { ReadIsTheFile }
 {}

@@ -9,6 +9,7 @@ pub mod halt;
 pub mod header;
 mod laws;
 mod lines;
+mod times;
 
 pub use audit::Audit;
 pub use ending::{Cause, Ended, print_end, read_end};
@@ -17,3 +18,4 @@ pub use halt::{Halt, next_entry, read_entries};
 pub use header::{Header, print_header, read_header};
 pub use laws::{cut_files_are_read, headings_are_read, read_is_legal};
 pub use lines::{Came, next_line};
+pub use times::Times;

@@ -5,7 +5,7 @@ use crate::fault::Fault;
 use crate::following::Following;
 use crate::heading::{Heading, heading_of};
 use crate::show::{Form, show_lines};
-use crate::tell::{ILLEGAL, LEGAL, TROUBLE, tell_finish, tell_heading};
+use crate::tell::{ILLEGAL, LEGAL, TROUBLE, tell_back, tell_finish, tell_heading};
 use crate::twice::ask;
 use crate::words::{Asked, Given, Way, asked_of, given_in};
 use acl::{Edition, UserId};
@@ -27,7 +27,11 @@ fn judge<R: BufRead, W: Write>(
 ) -> io::Result<u8> {
     let mut audit = Audit::new(alloc, edition, owner)?;
     let finish = check_lines(alloc, &mut audit, reader)?;
-    tell_finish(finish, audit.count(), owner, output)
+    let status = tell_finish(finish, audit.count(), owner, output)?;
+    if !finish.is_bad() {
+        tell_back(audit.times().back(), output)?;
+    }
+    Ok(status)
 }
 
 /// Judges what a reader has.

@@ -104,6 +104,19 @@ pub fn tell_finish<W: Write>(
     Ok(status)
 }
 
+/// Writes that a time runs backwards, if that of an entry does: the clock may have been set back, so
+/// this is nothing wrong.
+pub fn tell_back<W: Write>(back: Option<u64>, output: &mut W) -> io::Result<()> {
+    match back {
+        Some(place) => writeln!(
+            output,
+            "note: line {}, entry {place}: its time is more than a second before the entry above",
+            place.saturating_add(2)
+        ),
+        None => Ok(()),
+    }
+}
+
 /// Writes what a first line says.
 pub fn tell_heading<W: Write>(heading: Heading, output: &mut W) -> io::Result<()> {
     let owner = text_of(&heading.owner);

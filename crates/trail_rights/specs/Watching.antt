@@ -1,12 +1,15 @@
 -- What a reader of a file's entries stands for that sees their acts.
-use Rattle.std.specs.Prelude.{ℕ, ◌≡◌, List, [], ◌∷◌, ◌++◌, length, Result, Ok, Err, Some}
+use Rattle.std.specs.Prelude.{ℕ, ◌≡◌, ◌+◌, ◌≤◌, ◌⊎◌, List, [], ◌∷◌, ◌++◌, length}
+use Rattle.std.specs.Prelude.{Result, Ok, Err, Option, Some}
 use Rattle.acl.specs.declared.edition.Edition.{Edition}
 use Rattle.acl.specs.declared.user_id.UserId.{UserId}
 use Rattle.trail_lines.specs.Entries.{Said, read_line}
 use Rattle.trail_audit.specs.declared.fault.Wrong.{Wrong}
 use Rattle.trail_audit.specs.declared.halt.Halt.{Halt}
 use Rattle.trail_audit.specs.declared.halt.Halt.TheVariants as halt
+use Rattle.trail_audit.specs.Lines.{OfKnown}
 use Rattle.trail_audit.specs.Reading.{HasRead, IsWrong}
+use Rattle.trail_audit.specs.Halting.{AreRead, IsReadTo}
 use Rattle.trail_rights.specs.declared.watch.Watch.{Watch}
 use Rattle.trail_rights.specs.Marks.{marked_after, entries_in}
 use Rattle.trail_rights.specs.Seeing.{HasSeen}
@@ -30,11 +33,24 @@ abbrev pub TellsNext : Result (Unit {0}) Wrong → Watch → List ℕ → Editio
 TellsNext (Ok x) new line edition owner said = TakesNext new line edition owner said
 TellsNext (Err w) new line edition owner said = IsWrong w line edition owner (entries_in said)
 
--- entries were read
-abbrev pub IsWatched : Watch → Edition → UserId → Type 0
-IsWatched w edition owner = (said : List Said) × HasWatched w edition owner said
+-- the entries before what halts are those that were read; a wrong line is the one behind theirs
+abbrev pub TellsAll : Halt → Watch → List ℕ → Edition → UserId → List Said → Type 0
+TellsAll (halt.Stopped n w) watch line edition owner said =
+    (n ≡ length said + 2) × IsWrong w line edition owner (entries_in said)
+TellsAll h watch line edition owner said = HasWatched watch edition owner said
 
--- the entries before what halts were read, unless a line was wrong
-abbrev pub StandsAtEnd : Halt → Watch → Edition → UserId → Type 0
-StandsAtEnd (halt.Stopped number w) watch edition owner = Unit {0}
-StandsAtEnd h watch edition owner = IsWatched watch edition owner
+-- the lines of all entries up to the place `last` were read, and nothing behind them; or fewer, and
+-- then it was halted
+abbrev pub IsWatchedTo : Halt → ℕ → List Said → List ℕ → List ℕ → List ℕ → Type 0
+IsWatchedTo h last said line bytes rest =
+    ((length said ≡ last + 1) × (h ≡ halt.Nothing) × AreRead said bytes rest)
+    ⊎ ((length said ≤ last) × IsReadTo h said line bytes rest)
+
+-- so the entries of the lines that were read, as far as the place `last`, of the bytes that the
+-- reader had and has, where they are known
+pub record IsWatched (h : Halt) (watch : Watch) (line : List ℕ) (last : ℕ) (edition : Edition)
+    (owner : UserId) (old new : Option (List ℕ)) : Type 0 where
+  pub said : List Said
+  pub tells : TellsAll h watch line edition owner said
+  pub few : length said ≤ last + 1
+  pub from : OfKnown old new (IsWatchedTo h last said line)

@@ -6,9 +6,10 @@ ghost use Rattle.acl.specs.declared.user_id.UserId.{UserId};
 ghost use Rattle.trail_lines.specs.Entries.{Said};
 ghost use Rattle.trail_audit.specs.Reading.{HasRead};
 ghost use Rattle.trail_rights.specs.Seeing.{HasSeen};
-ghost use Rattle.trail_rights.specs.Watching.{HasWatched, StandsAtEnd, TellsNext};
+ghost use Rattle.trail_rights.specs.Watching.{HasWatched, IsWatched, TellsNext};
 
 use crate::sight::Sight;
+use std::alloc::AllocError;
 use std::io::{self, BufRead};
 use trail_audit::{Audit, Halt, Wrong, next_entry};
 
@@ -64,7 +65,8 @@ pub fn watch_entries<R: BufRead>(
     last: u64,
 ) -> io::Result<Halt>
     ensures { (edition : Edition) (owner : UserId) → HasWatched watch.old edition owner [] →
-        IfOk result (λ halt. StandsAtEnd halt watch.new edition owner) }
+        IfOk result (λ halt. IsWatched halt watch.new line.new.items last edition owner
+        (R.remaining reader.old) (R.remaining reader.new)) }
 {
     for number in 2..u64::MAX {
         if watch.audit.count() > last {
@@ -80,5 +82,6 @@ pub fn watch_entries<R: BufRead>(
             });
         }
     }
-    Ok(Halt::Nothing)
+    // No file has so many lines.
+    Err(io::Error::from(AllocError))
 }

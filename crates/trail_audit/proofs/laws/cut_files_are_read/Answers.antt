@@ -1,5 +1,5 @@
-use Rattle.trail_audit.proofs.Cut.{cut_read}
+use Rattle.trail_audit.proofs.Cut.{cut_read, file_read}
 use Rattle.trail_audit.proofs.laws.cut_files_are_read.Goals as goal
 
 pub returns : goal.returns
-returns c = cut_read
+returns c = record { cut = cut_read; read = file_read }

@@ -1,9 +1,15 @@
-use Rattle.std.proofs.Common.{[]}
+use Rattle.std.proofs.Common.{◌≡◌, ◌+◌, ◌≤◌, [], List, length}
 use Rattle.acl.specs.declared.edition.Edition.{Edition}
 use Rattle.acl.specs.declared.user_id.UserId.{UserId}
-use Rattle.trail_rights.specs.Watching.{HasWatched, IsWatched}
+use Rattle.trail_lines.specs.Entries.{Said}
+use Rattle.trail_audit.specs.Lines.{OfKnown}
+use Rattle.trail_audit.specs.Halting.{AreRead}
+use Rattle.trail_rights.specs.Watching.{HasWatched}
 use Rattle.trail_rights.proofs.watch.watch_entries.Given as goal
 
--- the entries so far were read
+-- the entries so far were read, up to the line of this number
 abbrev pub invariant-loop-number : goal.invariant-loop-number
-invariant-loop-number g l = (edition : Edition) (owner : UserId) → HasWatched l.fn.watch edition owner [] → IsWatched l.watch edition owner
+invariant-loop-number g l = (edition : Edition) (owner : UserId) → HasWatched l.fn.watch edition owner []
+    → (said : List Said) × HasWatched l.watch edition owner said × (l.number ≡ length said + 2)
+    × (length said ≤ l.last + 1)
+    × OfKnown (g.R.Read.remaining l.fn.reader) (g.R.Read.remaining l.reader) (AreRead said)

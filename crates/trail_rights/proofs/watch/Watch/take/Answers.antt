@@ -8,13 +8,14 @@ use Rattle.trail_rights.proofs.watch.Watch.take.Goals as goal
 
 pub returns : goal.returns
 returns c = λ edition owner xs w.
-    let t = c.in_ok-said.ensures edition owner (entries_in xs) w.read in
+    let t = c.in_ok-said.ensures.tells edition owner (entries_in xs) w.read in
     let next = said c.in_ok-said.said in record {
       next = next;
       is = t.is;
       place_is = t.place_is;
       watched = record {
         read = subst (HasRead c.take.new.self edition owner) (sym (entries_more xs next)) t.read;
-        seen = subst (HasSeen c.take-2.new.self edition owner) (sym (marked_more [] xs next)) (c.in_ok-take.ensures edition owner (marked_after [] xs) w.seen);
+        seen = subst (HasSeen c.take-2.new.self edition owner) (sym (marked_more [] xs next))
+            (c.in_ok-take.ensures edition owner (marked_after [] xs) w.seen);
       };
     }

@@ -1,0 +1,49 @@
+//! Times that run backwards.
+
+ghost use Rattle.std.specs.Prelude.{◌≡◌};
+ghost use Rattle.trail_audit.specs.Times.{no_times, time_after};
+
+/// The loops of a server share the stamp of their lines, and one may overtake another: a line may
+/// have a time so many milliseconds before that of the line above it.
+const SLACK: u64 = 1_000;
+
+/// What the times of entries tell, one after another.
+#[derive(Clone, Copy)]
+pub struct Times {
+    /// That of the last entry, in milliseconds since 1970.
+    last: u64,
+    /// The place of the first entry whose time is before that of the entry above it.
+    back: Option<u64>,
+}
+
+impl Times {
+    /// No entry so far.
+    pub fn new() -> Times
+        ensures { result ≡ no_times }
+    {
+        Times {
+            last: 0,
+            back: None,
+        }
+    }
+
+    /// After the time of the next entry, which stands at this place.
+    pub fn after(self, place: u64, ms: u64) -> Times
+        ensures { result ≡ time_after self place ms }
+    {
+        let back = match self.back {
+            Some(first) => Some(first),
+            None if self.last.saturating_sub(ms) > SLACK => Some(place),
+            None => None,
+        };
+        Times { last: ms, back }
+    }
+
+    /// The place of the first entry whose time is more than a second before that of the entry above
+    /// it.
+    pub fn back(&self) -> Option<u64>
+        ensures { result ≡ self.now.back }
+    {
+        self.back
+    }
+}
