@@ -2,14 +2,15 @@
 
 use crate::disk::Disk;
 use crate::entries::{entry, keys, trail};
-use acl::UserId;
+use acl::{Edition, UserId};
 use server_trail::{Recorder, begin, header_of, is_trail};
+use session_model::Bytes;
 use std::alloc::Global;
 use std::sync::Wait;
 use std::thread;
 use std::thread::Threads;
 use std::time::Clock;
-use trail_audit::Cause;
+use trail_audit::{Cause, Header};
 
 /// How many loops put lines down.
 const LOOPS: usize = 3;
@@ -48,10 +49,10 @@ fn record<R: Threads + Wait + Clock + Sync>(
     })
 }
 
-// Whether a file is the trail of so many keys.
-fn is_of(alloc: Global, file: &[u8], count: usize) -> Option<bool> {
+// Whether a file is the trail of so many keys, with this first line.
+fn is_of(alloc: Global, file: &[u8], header: &Header, count: usize) -> Option<bool> {
     let entries = trail(alloc, count).ok()?;
-    is_trail(alloc, &mut &*file, &entries).ok()
+    is_trail(alloc, &mut &*file, header, &entries).ok()
 }
 
 // Whether the file, which refuses so many writes behind its first line, is whole.
@@ -67,7 +68,7 @@ fn is_recorded<R: Threads + Wait + Clock + Sync>(
     disk.refused = refused;
     let recorder = Recorder::new(alloc, LOOPS);
     let is_whole = record(rt, alloc, &recorder, &mut disk);
-    Some(is_whole && disk.syncs > 1 && is_of(alloc, &disk.text, LOOPS * LINES)?)
+    Some(is_whole && disk.syncs > 1 && is_of(alloc, &disk.text, &header, LOOPS * LINES)?)
 }
 
 // How long each write takes, in milliseconds, how much it takes at most, and how many are refused.
@@ -91,8 +92,8 @@ fn each_line_is_written_once(rt: HostRuntime) {
     assert_eq!(rt; wrong_disk(&rt, rt.alloc()), None);
 }
 
-// Files, and whether each is the trail of two keys.
-static FILES: [(&[u8], bool); 6] = [
+// Files, and whether each is the trail of two keys, of a session of own that began at 7.
+static FILES: [(&[u8], bool); 10] = [
     (
         b"mux-trail 1 2 own 0.1.0 7\n0 5 keys 0 ok:1:0:0\n1 6 keys 1 ok:1:0:0\nend 2 9 quit\n",
         true,
@@ -117,12 +118,39 @@ static FILES: [(&[u8], bool); 6] = [
         b"0 5 keys 0 ok:1:0:0\n1 6 keys 1 ok:1:0:0\nend 2 9 quit\n",
         false,
     ),
+    (
+        b"mux-trail 1 2 bob 0.1.0 7\n0 5 keys 0 ok:1:0:0\n1 6 keys 1 ok:1:0:0\nend 2 9 quit\n",
+        false,
+    ),
+    (
+        b"mux-trail 1 1 own 0.1.0 7\n0 5 keys 0 ok:1:0:0\n1 6 keys 1 ok:1:0:0\nend 2 9 quit\n",
+        false,
+    ),
+    (
+        b"mux-trail 1 2 own 0.1.1 7\n0 5 keys 0 ok:1:0:0\n1 6 keys 1 ok:1:0:0\nend 2 9 quit\n",
+        false,
+    ),
+    (
+        b"mux-trail 1 2 own 0.1.0 8\n0 5 keys 0 ok:1:0:0\n1 6 keys 1 ok:1:0:0\nend 2 9 quit\n",
+        false,
+    ),
 ];
+
+// What the first line of the first of these files says.
+fn header(alloc: Global) -> Option<Header> {
+    Some(Header {
+        edition: Edition::Second,
+        owner: UserId::of(b"own")?,
+        version: Bytes::of(alloc, b"0.1.0").ok()?,
+        ms: 7,
+    })
+}
 
 // The first of these files that is taken for what it isn't.
 fn wrong_file(alloc: Global) -> Option<usize> {
+    let header = header(alloc)?;
     for (row, (file, wanted)) in FILES.iter().enumerate() {
-        if is_of(alloc, file, 2) != Some(*wanted) {
+        if is_of(alloc, file, &header, 2) != Some(*wanted) {
             return Some(row);
         }
     }

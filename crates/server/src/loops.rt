@@ -93,7 +93,7 @@ where
 
     fn compare(&self, rt: &R, trail: &Trail) {
         if let Some(journal) = &self.journal {
-            journal.compare(rt, trail.entries());
+            journal.compare(rt, trail.acl_edition(), trail.owner(), trail.entries());
         }
     }
 }

@@ -1,14 +1,23 @@
 -- A trail's file: what was written of it, and what it is when it is read back.
 use Rattle.std.specs.Prelude.{◌≡◌, ℕ, ◌+◌, Bool, true, List, [], ◌∷◌, ◌++◌, length, take, Option}
-use Rattle.std.specs.Prelude.{Some, None, IsSome}
+use Rattle.std.specs.Prelude.{Some, None}
 use Rattle.std.specs.Io.KnownBytes.{Appends}
+use Rattle.acl.specs.declared.edition.Edition.TheVariants as edition
+use Rattle.acl.specs.declared.user_id.UserId.{UserId}
 use Rattle.hub_trail.specs.Trails.{Entry}
 use Rattle.trail_lines.specs.Entries.{line_of}
 use Rattle.trail_audit.specs.declared.ending.Cause.{Cause}
 use Rattle.trail_audit.specs.declared.ending.Ended.{Ended}
-use Rattle.trail_audit.specs.Heading.{end_text, read_end, read_header}
+use Rattle.trail_audit.specs.declared.header.Header.{Header}
+use Rattle.trail_audit.specs.Heading.{end_text, header_text, read_end}
 
 -- ---- writing
+
+-- the first line of a new trail: edition 2, this owner, this writer, and some time
+pub record Begins (header : Header) (owner : UserId) (version : List ℕ) : Type 0 where
+  pub edition : header.edition ≡ edition.Second
+  pub owner_is : header.owner ≡ owner
+  pub version_is : header.version ≡ version
 
 -- the first n bytes were written behind what stood there, once each; all of them, where that is
 -- answered
@@ -42,19 +51,14 @@ ReadsLines entries None new = Unit {0}
 ReadsLines entries (Some bytes) None = ⊥
 ReadsLines entries (Some bytes) (Some rest) = AreLines 0 entries bytes rest
 
-abbrev pub IsFirst : List ℕ → Type 0
-IsFirst line = IsSome (read_header line)
-
 abbrev pub IsLastOf : List ℕ → ℕ → Type 0
 IsLastOf line count = (ended : Ended) × (read_end line ≡ Some ended) × (ended.entries ≡ count)
 
--- a first line, the lines of the entries in their places, a last line that counts them
-pub record IsTrailOf (entries : List Entry) (bytes : List ℕ) : Type 0 where
-  pub first : List ℕ
+-- this first line, the lines of the entries in their places, a last line that counts them
+pub record IsTrailOf (header : Header) (entries : List Entry) (bytes : List ℕ) : Type 0 where
   pub lines : List ℕ
   pub last : List ℕ
-  pub is : bytes ≡ first ++ 0x0A ∷ lines
-  pub is_first : IsFirst first
+  pub is : bytes ≡ header_text header ++ 0x0A ∷ lines
   pub are_lines : AreLines 0 entries lines (last ++ 0x0A ∷ [])
   pub is_last : IsLastOf last (length entries)
 

@@ -3,6 +3,7 @@
 ghost use Rattle.std.specs.Prelude.{◌≡◌, ◌++◌, ◌∷◌, [], OnOk, IfOk};
 ghost use Rattle.std.specs.Io.KnownBytes.{Appends, Keeps};
 ghost use Rattle.trail_audit.specs.Heading.{header_text};
+ghost use Rattle.server_trail.specs.Files.{Begins};
 
 use acl::{Edition, UserId};
 use session_model::Bytes;
@@ -37,7 +38,9 @@ pub fn header_of<R: Clock>(
     alloc: Global,
     owner: UserId,
     version: &[u8],
-) -> Result<Header, AllocError> {
+) -> Result<Header, AllocError>
+    ensures { IfOk result (λ header. Begins header owner version.now) }
+{
     Ok(Header {
         edition: Edition::Second,
         owner,

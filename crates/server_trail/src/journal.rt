@@ -7,8 +7,9 @@ use crate::reading::is_trail;
 use crate::recorder::Recorder;
 use crate::stop::Stopped;
 use crate::writing::Written;
-use acl::UserId;
+use acl::{Edition, UserId};
 use hub_record::Roll;
+use session_model::Bytes;
 use std::alloc::Global;
 use std::fs::{File, OpenOptions};
 use std::io::{BufReader, Write};
@@ -18,7 +19,7 @@ use std::sync::{Mutex, Wait};
 use std::time::Clock;
 use std::{fs, io};
 use thiserror::Error;
-use trail_audit::Cause;
+use trail_audit::{Cause, Header};
 
 // What writes the file.
 const VERSION: &[u8] = b"0.1.0";
@@ -109,6 +110,8 @@ pub struct Journal<'a> {
     files: HostRuntime,
     alloc: Global,
     path: &'a str,
+    // The time that its first line says.
+    ms: u64,
     file: Mutex<Disk>,
     fault: Mutex<Option<JournalFault>>,
 }
@@ -144,6 +147,7 @@ impl<'a> Journal<'a> {
             files,
             alloc,
             path,
+            ms: header.ms,
             file: Mutex::new(file),
             fault: Mutex::new(None),
         })
@@ -185,17 +189,25 @@ impl<'a> Journal<'a> {
         *self.fault.lock(rt) = fault_of(stopped, is_ended, error);
     }
 
-    // Whether the file, read back, is that of these entries.
-    fn is_whole(&self, entries: &Roll) -> io::Result<bool> {
+    // Whether the file, read back, is the trail of a session of this edition and owner.
+    fn is_whole(&self, edition: Edition, owner: UserId, entries: &Roll) -> io::Result<bool> {
+        let header = Header {
+            edition,
+            owner,
+            version: Bytes::of(self.alloc, VERSION)?,
+            ms: self.ms,
+        };
         let file = fs::open(&self.files, self.path)?;
-        is_trail(self.alloc, &mut BufReader::new(self.alloc, file)?, entries)
+        let mut reader = BufReader::new(self.alloc, file)?;
+        is_trail(self.alloc, &mut reader, &header, entries)
     }
 
-    /// Reads the file back, if it was written to its end, and compares it with the session's trail.
-    pub fn compare(&self, rt: &impl Wait, entries: &Roll) {
+    /// Reads the file back, if it was written to its end, and compares it with the session's trail:
+    /// its edition, its owner and its entries.
+    pub fn compare(&self, rt: &impl Wait, edition: Edition, owner: UserId, entries: &Roll) {
         let mut fault = self.fault.lock(rt);
         if fault.is_none() {
-            *fault = match self.is_whole(entries) {
+            *fault = match self.is_whole(edition, owner, entries) {
                 Ok(true) => None,
                 Ok(false) => Some(JournalFault::Differs),
                 Err(error) => Some(JournalFault::NotRead(error)),

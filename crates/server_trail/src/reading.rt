@@ -1,27 +1,36 @@
 //! A file that is read back.
 
-ghost use Rattle.std.specs.Prelude.{◌≡◌, ◌∷◌, ◌++◌, ℕ, List, Some, true, IfOk, IsSome, take};
+ghost use Rattle.std.specs.Prelude.{◌≡◌, ◌∷◌, ◌++◌, [], ℕ, List, Some, true, IfOk, take};
 ghost use Rattle.trail_lines.specs.Entries.{line_of};
-ghost use Rattle.server_trail.specs.Files.{Reads, Cuts, ReadsLines, IsTrailOf, IsLastOf, IsFirst};
+ghost use Rattle.trail_audit.specs.Heading.{header_text};
+ghost use Rattle.server_trail.specs.Files.{Reads, Cuts, ReadsLines, IsTrailOf, IsLastOf};
 
 use hub_record::{Filed, Roll};
 use line_fields::u64_at;
 use std::alloc::{AllocError, Global};
 use std::io::{self, BufRead};
-use trail_audit::{read_end, read_header};
+use trail_audit::{Came, Header, next_line, print_header, read_end};
 use trail_lines::{Unread, print_line};
 
 // Reads a line, which takes the place of what `line` had, without its line feed. Whether there was
 // a whole one.
-fn next_line<R: BufRead>(reader: &mut R, line: &mut Vec<u8>) -> io::Result<bool>
+fn has_line<R: BufRead>(reader: &mut R, line: &mut Vec<u8>) -> io::Result<bool>
     ensures { IfOk result (λ is. is ≡ true
         → Cuts (R.remaining reader.old) line.new.items (R.remaining reader.new)) }
 {
-    line.clear();
-    reader.read_until(b'\n', line)?;
-    match line.pop() {
-        Some(b'\n') => Ok(true),
-        _ => Ok(false),
+    match next_line(reader, line)? {
+        Came::Whole => Ok(true),
+        Came::Torn | Came::Nothing => Ok(false),
+    }
+}
+
+// Whether nothing is left.
+fn is_over<R: BufRead>(reader: &mut R, line: &mut Vec<u8>) -> io::Result<bool>
+    ensures { IfOk result (λ is. is ≡ true → Reads (R.remaining reader.old) (λ bytes. bytes ≡ [])) }
+{
+    match next_line(reader, line)? {
+        Came::Nothing => Ok(true),
+        Came::Whole | Came::Torn => Ok(false),
     }
 }
 
@@ -41,15 +50,13 @@ fn is_line_of(alloc: Global, line: &[u8], place: u64, entry: &Filed) -> Result<b
     Ok(printed.as_slice() == line)
 }
 
-// Whether the line is a first one.
-fn is_first(alloc: Global, line: &[u8]) -> Result<bool, AllocError>
-    ensures { IfOk result (λ is. is ≡ true → IsFirst line.now) }
+// Whether the line is this first one.
+fn is_first(alloc: Global, line: &[u8], header: &Header) -> Result<bool, AllocError>
+    ensures { IfOk result (λ is. is ≡ true → line.now ≡ header_text header.now) }
 {
-    match read_header(alloc, line) {
-        Ok(_) => Ok(true),
-        Err(Unread::Malformed) => Ok(false),
-        Err(Unread::NoMemory) => Err(AllocError),
-    }
+    let mut printed = Vec::new(alloc);
+    print_header(header, &mut printed)?;
+    Ok(printed.as_slice() == line)
 }
 
 // Whether the line is a last one that counts so many entries.
@@ -71,30 +78,34 @@ fn are_lines<R: BufRead>(reader: &mut R, line: &mut Vec<u8>, entries: &Roll) -> 
     let alloc = *line.allocator();
     for place in 0..entries.len() {
         let entry = entries.at(place);
-        if !next_line(reader, line)? || !is_line_of(alloc, line.as_slice(), place as u64, entry)? {
+        if !has_line(reader, line)? || !is_line_of(alloc, line.as_slice(), place as u64, entry)? {
             return Ok(false);
         }
     }
     Ok(true)
 }
 
-/// Whether a file is a trail's: a first line, a line for each of the entries in its place, a last
-/// line that counts them, and nothing behind it. `Err` where it can't be read, or memory is
+/// Whether a file is this trail's: this first line, a line for each of the entries in its place, a
+/// last line that counts them, and nothing behind it. `Err` where it can't be read, or memory is
 /// refused.
-pub fn is_trail<R: BufRead>(alloc: Global, reader: &mut R, entries: &Roll) -> io::Result<bool>
+pub fn is_trail<R: BufRead>(
+    alloc: Global,
+    reader: &mut R,
+    header: &Header,
+    entries: &Roll,
+) -> io::Result<bool>
     ensures { IfOk result (λ is. is ≡ true
-        → Reads (R.remaining reader.old) (IsTrailOf entries.now.entries)) }
+        → Reads (R.remaining reader.old) (IsTrailOf header.now entries.now.entries)) }
 {
     let mut line = Vec::new(alloc);
-    if !next_line(reader, &mut line)? || !is_first(alloc, line.as_slice())? {
+    if !has_line(reader, &mut line)? || !is_first(alloc, line.as_slice(), header)? {
         return Ok(false);
     }
-    if !are_lines(reader, &mut line, entries)? || !next_line(reader, &mut line)? {
+    if !are_lines(reader, &mut line, entries)? || !has_line(reader, &mut line)? {
         return Ok(false);
     }
     if !is_last(alloc, line.as_slice(), entries.len() as u64)? {
         return Ok(false);
     }
-    line.clear();
-    Ok(reader.read_until(b'\n', &mut line)? == 0)
+    is_over(reader, &mut line)
 }

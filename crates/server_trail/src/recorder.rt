@@ -1,7 +1,9 @@
 //! Lines on their way to a trail's file, which several threads put down and one writes.
 
-ghost use Rattle.std.specs.Prelude.{◌≡◌, ◌++◌, ◌∷◌, [], IfOk};
+ghost use Rattle.std.specs.Prelude.{◌≡◌, ◌++◌, ◌∷◌, [], ℕ, List, IfOk};
 ghost use Rattle.trail_lines.specs.Entries.{line_of};
+ghost use Rattle.server_trail.specs.Merging.{Placed, HasMerged};
+ghost use Rattle.server_trail.specs.Putting.{TellsPut};
 
 use crate::file::time;
 use crate::merge::Merge;
@@ -23,8 +25,6 @@ pub const BLOCK: usize = 65_536;
 #[derive(Drop)]
 pub struct Waiting {
     pub merge: Merge,
-    /// How many bytes the writer has taken and not written.
-    pub writing: usize,
     /// How many loops haven't left.
     pub loops: usize,
 }
@@ -54,9 +54,12 @@ fn line_of(alloc: Global, place: usize, ms: u64, entry: &Filed) -> Result<Vec<u8
 
 impl Waiting {
     // Puts a line down. Whether the writer is to be woken: the first bytes are ready, or as many
-    // as it waits for.
-    fn put(&mut self, place: usize, line: Vec<u8>) -> Result<bool, Stopped> {
-        if self.merge.waiting().saturating_add(self.writing) > MOST {
+    // as it waits for. What the writer has taken doesn't wait, however long the disk takes over it.
+    fn put(&mut self, place: usize, line: Vec<u8>) -> Result<bool, Stopped>
+        ensures { (put : List Placed) (taken : List ℕ) → HasMerged put taken self.old.merge
+            → TellsPut result put taken (place, line.items) self.old.merge self.new.merge }
+    {
+        if self.merge.waiting() > MOST {
             return Err(Stopped::Disk);
         }
         let before = self.merge.ready();
@@ -75,7 +78,6 @@ impl Recorder {
             alloc,
             waiting: Mutex::new(Waiting {
                 merge: Merge::new(alloc),
-                writing: 0,
                 loops,
             }),
             news: Condvar::new(),

@@ -138,10 +138,7 @@ impl Recorder {
 
     // Takes what is ready.
     fn take(&self, rt: &impl Wait) -> Vec<u8> {
-        let mut waiting = self.waiting.lock(rt);
-        let text = waiting.merge.take();
-        waiting.writing = text.len();
-        text
+        self.waiting.lock(rt).merge.take()
     }
 
     // Writes the bytes. What the file refuses is tried again each second; once all loops have left,
@@ -174,10 +171,7 @@ impl Recorder {
     // Writes what is ready. Whether all of it was written.
     fn write_ready<R: Clock + Wait, F: Write>(&self, rt: &R, file: &mut F) -> bool {
         let text = self.take(rt);
-        let is_written = self.push(rt, file, &text);
-        let mut waiting = self.waiting.lock(rt);
-        waiting.writing = 0;
-        is_written
+        self.push(rt, file, &text)
     }
 
     // What was written, once all loops have left.
