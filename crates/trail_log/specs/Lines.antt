@@ -95,10 +95,13 @@ open_text title (Ok f) =
     codes " opened " ++ (title ++ (codes " (window " ++ (decimal f.made ++ codes ")")))
 open_text title (Err r) = codes " couldn't open " ++ (title ++ (codes ": " ++ cause_text r))
 
+abbrev pub ended_text : Ending → List ℕ
+ended_text (Ok f) = codes " ended"
+ended_text (Err r) = codes " ended: " ++ cause_text r
+
 abbrev pub closed_text : List Titled → ℕ → Ending → List ℕ
-closed_text titles w (Ok f) = codes "the program of " ++ (window_text titles w ++ codes " ended")
-closed_text titles w (Err r) =
-    codes "the program of " ++ (window_text titles w ++ (codes " ended: " ++ cause_text r))
+closed_text titles w reply =
+    codes "the program of " ++ (window_text titles w ++ ended_text reply)
 
 -- ---- a row an event
 
@@ -134,6 +137,8 @@ abbrev pub line_text : Names → Said → List ℕ
 line_text n x = visible (plain_text n x) ++ 0x0A ∷ []
 
 -- the line of a trail's end
+abbrev pub end_text : Ended → List ℕ
+end_text e = codes " the session ended: " ++ heading.cause_text e.cause
+
 abbrev pub end_line : Ended → List ℕ
-end_line e =
-    clock_text e.ms ++ (codes " the session ended: " ++ (heading.cause_text e.cause ++ 0x0A ∷ []))
+end_line e = clock_text e.ms ++ (end_text e ++ 0x0A ∷ [])

@@ -5,7 +5,7 @@ ghost use Rattle.hub_check.specs.Clients.{user_in};
 ghost use Rattle.hub_record.specs.Stored.{kept_lent};
 ghost use Rattle.trail_log.specs.Causes.{cause_text};
 ghost use Rattle.trail_log.specs.Lines.{attach_text, client_text, closed_text, command_line};
-ghost use Rattle.trail_log.specs.Lines.{deed_text, detach_text, open_text};
+ghost use Rattle.trail_log.specs.Lines.{deed_text, detach_text, ended_text, open_text};
 
 use crate::causes::{push_cause, refused_verb};
 use crate::checks::window_in;
@@ -109,6 +109,16 @@ fn push_open(title: &[u8], ending: Ending, out: &mut Vec<u8>) -> Result<(), Allo
     }
 }
 
+/// Appends that something ended.
+fn push_ended(ending: Ending, out: &mut Vec<u8>) -> Result<(), AllocError>
+    ensures { OnOk result (out.new.items ≡ out.old.items ++ ended_text ending) }
+{
+    match ending {
+        Ok(_) => out.extend_from_slice(b" ended"),
+        Err(refusal) => push_refused(b" ended: ", &refusal, out),
+    }
+}
+
 /// Appends that a window's program ended.
 fn push_closed(
     titles: &[Titled],
@@ -120,10 +130,7 @@ fn push_closed(
 {
     out.extend_from_slice(b"the program of ")?;
     push_window(titles, window, out)?;
-    match ending {
-        Ok(_) => out.extend_from_slice(b" ended"),
-        Err(refusal) => push_refused(b" ended: ", &refusal, out),
-    }
+    push_ended(ending, out)
 }
 
 /// Appends who gave an event, and what became of it.

@@ -2,7 +2,7 @@
 
 ghost use Rattle.std.specs.Prelude.{◌≡◌, ◌++◌, ◌<◌, ◌∷◌, [], OnOk};
 ghost use Rattle.trail_lines.specs.Entries.{said};
-ghost use Rattle.trail_log.specs.Lines.{clock_text, end_line, line_text, plain_text, two};
+ghost use Rattle.trail_log.specs.Lines.{clock_text, end_line, end_text, line_text, plain_text, two};
 
 use crate::deeds::push_deed;
 use crate::names::Names;
@@ -59,12 +59,19 @@ pub fn push_line(names: &Names, line: &Line, out: &mut Vec<u8>) -> Result<(), Al
     out.extend_from_slice(b"\n")
 }
 
+/// Appends why a trail ended.
+fn push_why(ended: &Ended, out: &mut Vec<u8>) -> Result<(), AllocError>
+    ensures { OnOk result (out.new.items ≡ out.old.items ++ end_text ended.now) }
+{
+    out.extend_from_slice(b" the session ended: ")?;
+    out.extend_from_slice(ended.cause.word())
+}
+
 /// Appends the line of a trail's end: when it ended, and why.
 pub fn push_end(ended: &Ended, out: &mut Vec<u8>) -> Result<(), AllocError>
     ensures { OnOk result (out.new.items ≡ out.old.items ++ end_line ended.now) }
 {
     push_clock(ended.ms, out)?;
-    out.extend_from_slice(b" the session ended: ")?;
-    out.extend_from_slice(ended.cause.word())?;
+    push_why(ended, out)?;
     out.extend_from_slice(b"\n")
 }
