@@ -855,6 +855,9 @@ def words_alone(play):
                                     " < contrib/policies/support.mux")}
     for line in lines[play.text.name]:
         play.text.leave(line, "it is a pattern, or builds")
+    if play.text.name == "docs/FOR-SCREEN-USERS.md":
+        for line in ("mux-share --with cole", "mux-join dana"):
+            play.text.leave(line, "tests/outside/share plays it, with three accounts")
 
 
 def muxd_page(play):
