@@ -128,7 +128,7 @@ own_user : (t : Tables) (user : UserId) (cs : List Check) → AllByRecursion (Is
     → AllByRecursion (λ v. is_of_user user v ≡ true) (verdicts t cs)
 own_user t user cs own =
     all_weaken (λ v. user_of v ≡ user) (λ v. is_of_user user v ≡ true) (verdicts t cs)
-        (λ v same. ap (λ u. same_user u user) same ∙ same_user-refl user) (own_verdicts t user cs own)
+    (λ v same. ap (λ u. same_user u user) same ∙ same_user-refl user) (own_verdicts t user cs own)
 
 -- ---- a line that says a command
 
@@ -171,7 +171,7 @@ module _ (t : Tables) (user : UserId) (number : Option ℕ) (bytes : List ℕ) w
         (d.acts ++ left_acts t.clients d.tables.clients)
     named d has o said =
         subst (λ (o : Order). HasEach (d.acts ++ left_acts t.clients d.tables.clients) (first_names t.owner t.acts o))
-            (one_order c o (read_line bytes) read (relates-reads bytes o said))
+        (one_order c o (read_line bytes) read (relates-reads bytes o said))
         (each_then d.acts (left_acts t.clients d.tables.clients) (first_names t.owner t.acts c) has)
 
     does_legal : (a : Answer) → first_fault t (checks t k c) ≡ None → Tells None (failed (verdicts t (checks t k c)))
@@ -181,7 +181,7 @@ module _ (t : Tables) (user : UserId) (number : Option ℕ) (bytes : List ℕ) w
         (plain_tells r (failed (verdicts t (checks t k c))) (plain_refusal r plain) told)
     does_legal (Ok d) none told still has =
         finished_legal t event (checks t k c) (record { taken = 0; made = 0; number = 0; text = d.lists }) d own first
-            (granted_first t k c none) told (named d has)
+        (granted_first t k c none) told (named d has)
 
     ruled_legal : (f : Option Refusal) → first_fault t (checks t k c) ≡ f
         → Tells f (failed (verdicts t (checks t k c)))
@@ -195,7 +195,7 @@ module _ (t : Tables) (user : UserId) (number : Option ℕ) (bytes : List ℕ) w
       (tells t (checks t k c) (plain_checks t k c))
   line_legal (Err f) read =
       refused_legal t event [] (Line f) tt
-          (λ known d said. fault_or_order f d (read_line bytes) read (relates-reads bytes d said)) refl
+      (λ known d said. fault_or_order f d (read_line bytes) read (relates-reads bytes d said)) refl
 
   known_legal : (b : Bool) → is_known t user ≡ b
       → Legal t event (if b then commanded t (line_ruling t k (read_line bytes)) else refused t [] UnknownUser)
@@ -213,8 +213,8 @@ attach_legal : (t : Tables) (user : UserId) (rows columns : ℕ)
 attach_legal t user rows columns =
     let cs : List Check = attach_checks t user rows columns in
     passed_legal t (kept.Attach user rows columns) cs
-        (record { taken = 0; made = t.next_client; number = 0; text = None })
-        (attaches t (new_client t user rows columns)) (refl, (refl, (refl, (refl, tt)))) tt tt
+    (record { taken = 0; made = t.next_client; number = 0; text = None })
+    (attaches t (new_client t user rows columns)) (refl, (refl, (refl, (refl, tt)))) tt tt
     (λ none. all_pass t cs none) (or_left _ _ (and_from _ _ (eq-eqb t.next_client t.next_client refl)
     (same_user-refl user)))
 
@@ -224,8 +224,8 @@ open_legal t user rows columns keep title =
     let cs : List Check = open_checks t user rows columns keep title in
     let w : Window = new_window t rows columns keep title in
     passed_legal t (kept.Open user rows columns keep title) cs
-        (record { taken = 0; made = w.serial; number = w.number; text = None }) (opens t user w)
-        (refl, (tt, (refl, (refl, (refl, (refl, tt))))))
+    (record { taken = 0; made = w.serial; number = w.number; text = None }) (opens t user w)
+    (refl, (tt, (refl, (refl, (refl, (refl, tt))))))
     (own_user t user cs (tt, (refl, (tt, (tt, (tt, (tt, tt))))))) tt
     (λ none. all_pass t cs none) (or_left _ _ (and_from _ _ (eq-eqb t.next_window t.next_window refl)
     (same_user-refl user)))
@@ -237,7 +237,7 @@ detach_legal : (t : Tables) (client : ℕ) → Legal t (kept.Detach client) (out
 detach_legal t client =
     let d : Deed = parts (λ (d : Client). d.serial == client) reason.Detached t in
     outcomes.found (Legal t (kept.Detach client)) t (λ (c : Client). finished t [] done d) (client_at t client)
-        (refused_legal t (kept.Detach client) [] NoWindow tt tt refl)
+    (refused_legal t (kept.Detach client) [] NoWindow tt tt refl)
     (λ c is. finished_legal t (kept.Detach client) [] nothing d tt tt refl tt
     (parted_found t.clients client c (left_acts t.clients d.tables.clients) is))
 
@@ -245,7 +245,7 @@ closed_legal : (t : Tables) (window : ℕ) → Legal t (kept.Closed window) (out
 closed_legal t window =
     let d : Deed = closes (λ (v : Window). v.serial == window) reason.Detached t in
     outcomes.found (Legal t (kept.Closed window)) t (λ (w : Window). finished t [] done d) (window_at t window)
-        (refused_legal t (kept.Closed window) [] NoWindow tt tt refl)
+    (refused_legal t (kept.Closed window) [] NoWindow tt tt refl)
     (λ w is. finished_legal t (kept.Closed window) [] nothing d tt tt refl tt
     (closed_found t.windows window w (left_acts t.clients d.tables.clients) is))
 
@@ -264,8 +264,16 @@ module _ (t : Tables) (cs : List Client) (same : SameClients t cs) (d : Client) 
   v = record t { clients = cs }
 
   only : OnlyRead t v
-  only = record { owner = refl; edition = refl; next_window = refl; next_client = refl; acts = refl; multiuser = refl;
-      windows = refl; clients = same }
+  only = record {
+    owner = refl;
+    edition = refl;
+    next_window = refl;
+    next_client = refl;
+    acts = refl;
+    multiuser = refl;
+    windows = refl;
+    clients = same;
+  }
 
   abbrev Is : Ordered → Type 0
   Is o = IsOrdered t d.user o
@@ -275,7 +283,7 @@ module _ (t : Tables) (cs : List Client) (same : SameClients t cs) (d : Client) 
       → Is (record { verdicts = verdicts v asked; deed = keyed v d.serial m (Err r) })
   why_said r m asked own =
       let all : OnlyRead t (told v d.serial (message.Text (text_of r))) =
-          told_read t v d.serial (message.Text (text_of r)) only in
+      told_read t v d.serial (message.Text (text_of r)) only in
       record {
         truth = true_verdicts v asked;
         own = own_verdicts v d.user asked own;
@@ -296,8 +304,11 @@ module _ (t : Tables) (cs : List Client) (same : SameClients t cs) (d : Client) 
     }
 
     on : (f : Option Refusal) → first_fault v (checks v (caller_of v d) c) ≡ f
-        → Is (record { verdicts = verdicts v (checks v (caller_of v d) c); deed = keyed v d.serial (message_of c)
-        (elim f as (λ _. Answer) [ Some r ↦ Err r | None ↦ does v (caller_of v d) c ]) })
+        → Is (record {
+          verdicts = verdicts v (checks v (caller_of v d) c);
+          deed = keyed v d.serial (message_of c)
+              (elim f as (λ _. Answer) [ Some r ↦ Err r | None ↦ does v (caller_of v d) c ]);
+        })
     on (Some r) is = why_said r (message_of c) (checks v (caller_of v d) c) (own_checks v (caller_of v d) c)
     on None is = answer (does v (caller_of v d) c) is (stills v (caller_of v d) c)
 
@@ -329,7 +340,7 @@ keys_ordered t s c bytes found =
     let d : Client = reading bytes c in
     let item : Option Item = command_item (items_behind c.keys bytes) in
     typing_clients (λ v. IsOrdered t c.user (ordered v d item)) t s c d
-        (typed_bytes (items_behind c.keys bytes)) found refl refl
+    (typed_bytes (items_behind c.keys bytes)) found refl refl
     (λ cs same. is_ordered t cs same d item)
 
 -- the verdicts of typed bytes
@@ -396,7 +407,7 @@ unkept : (t : Tables) (event : EventValue) (o : Outcome) → outcomes.Happens t 
 unkept t _ _ (outcomes.failed event vs r why) none = refl
 unkept t _ _ (outcomes.changed event x c is f at) none =
     left_none t.clients _ (stays_alike t.clients _
-        (with_stays t.clients x.client c (x.row c) at (f.serial c) (λ i. (f.user c i, f.focus c i))))
+    (with_stays t.clients x.client c (x.row c) at (f.serial c) (λ i. (f.user c i, f.focus c i))))
 unkept t _ _ (outcomes.wrote window bytes w at) none = nobody_left t.clients t.clients refl
 unkept t _ _ (outcomes.drew client c at) none = nobody_left t.clients t.clients refl
 unkept t _ _ h none = absurd (cc (none))
@@ -406,7 +417,7 @@ legal_step t (Attach user rows columns) agree = attach_legal t user rows columns
 legal_step t (Detach client) agree = detach_legal t client
 legal_step t (Keys client bytes) agree =
     outcomes.found (Legal t (kept.Keys client)) t (λ c. keys_outcome t c (take (taken c.keys bytes) bytes))
-        (client_at t client) (refused_legal t (kept.Keys client) [] NoWindow tt tt refl)
+    (client_at t client) (refused_legal t (kept.Keys client) [] NoWindow tt tt refl)
     (λ c is. keys_legal t client c (take (taken c.keys bytes) bytes) agree is)
 legal_step t (Command user number bytes) agree = command_legal t user number bytes
 legal_step t (Open user rows columns keep title) agree = open_legal t user rows columns keep title

@@ -96,28 +96,40 @@ answered_verdicts t vs (Ok d) = refl
 line_asks : (t : Tables) (k : Caller) (r : Result Order ParseFault)
     → AllByRecursion (Asks (commanded t (line_ruling t k r)).verdicts) (with_order k (ok_of r))
 line_asks t k (Err f) = tt
-line_asks t k (Ok c) =
-    (subst (λ vs. Asks vs (record { caller = k; order = c }))
-    (answered_verdicts t (verdicts t (checks t k c)) (ruling t k c).answer) (asks_first t k c), tt)
+line_asks t k (Ok c) = (
+  subst (λ vs. Asks vs (record { caller = k; order = c }))
+      (answered_verdicts t (verdicts t (checks t k c)) (ruling t k c).answer) (asks_first t k c),
+  tt,
+)
 
 item_asks : (t v : Tables) (c : Client) (d : Client) → d.user ≡ c.user → (item : Option Item)
     → AllByRecursion (Asks (ordered v d item).verdicts) (with_order (caller_of t c) (order_in item))
 item_asks t v c d same None = tt
 item_asks t v c d same (Some (typed b)) = tt
-item_asks t v c d same (Some (bound order)) =
-    ((may_in v d.user Execute (object.Command (name_of order)), ap
-    (λ u. right u Execute (object.Command (name_of order)) (may_in v d.user Execute (object.Command (name_of order))))
-    same), tt)
+item_asks t v c d same (Some (bound order)) = (
+  (
+    may_in v d.user Execute (object.Command (name_of order)),
+    ap
+        (λ u. right u Execute (object.Command (name_of order)) (may_in v d.user Execute (object.Command (name_of order))))
+        same,
+  ),
+  tt,
+)
 item_asks t v c d same (Some (line [])) = tt
 item_asks t v c d same (Some (line (b ∷ bytes))) = on (read_line (b ∷ bytes)) where
   on : (r : Result Order ParseFault)
       → AllByRecursion (Asks (Rattle.session_model.specs.Answering.by_line v d r).verdicts)
       (with_order (caller_of t c) (ok_of r))
   on (Err f) = tt
-  on (Ok order) =
-      ((may_in v d.user Execute (object.Command (name_of order)), ap
-      (λ u. right u Execute (object.Command (name_of order)) (may_in v d.user Execute (object.Command (name_of order))))
-      same), tt)
+  on (Ok order) = (
+    (
+      may_in v d.user Execute (object.Command (name_of order)),
+      ap
+          (λ u. right u Execute (object.Command (name_of order)) (may_in v d.user Execute (object.Command (name_of order))))
+          same,
+    ),
+    tt,
+  )
 
 keys_ask : (t : Tables) (c : Client) (bytes : List ℕ)
     → AllByRecursion (Asks (keys_outcome t c (take (taken c.keys bytes) bytes)).verdicts)
@@ -125,12 +137,12 @@ keys_ask : (t : Tables) (c : Client) (bytes : List ℕ)
 keys_ask t c bytes =
     let d : Client = reading (take (taken c.keys bytes) bytes) c in
     let v : Tables =
-        (types (Rattle.session_model.specs.Tables.with_client t d) d (typed_bytes (step_items c bytes))).tables in
+    (types (Rattle.session_model.specs.Tables.with_client t d) d (typed_bytes (step_items c bytes))).tables in
     let gs : List Given = with_order (caller_of t c) (order_in (command_item (step_items c bytes))) in
     let order : List Verdict = (ordered v d (command_item (step_items c bytes))).verdicts in
     subst (λ vs. AllByRecursion (λ (g : Given). AsksFirst g.caller.user (name_of g.order) vs) gs)
-        (sym (asks_none t c (typed_bytes (step_items c bytes)) order))
-        (item_asks t v c d refl (command_item (step_items c bytes)))
+    (sym (asks_none t c (typed_bytes (step_items c bytes)) order))
+    (item_asks t v c d refl (command_item (step_items c bytes)))
 
 asks : (t : Tables) (event : EventValue) → AllByRecursion (Asks (outcome t event).verdicts) (commands_of t event)
 asks t (Command user number bytes) = on (is_known t user) where
@@ -186,7 +198,7 @@ did_made : (t : Tables) (e : trace.Entry) (g : Given) → AreFit t → IsOf t g.
     → AllByRecursion (λ a. makes g.caller.client g.caller.user (name_of g.order) a ≡ true) e.acts
 did_made t e g fit of d =
     subst (AllByRecursion Made) (sym (d.acts ∙ ap (λ left. d.deed.acts ++ left)
-        (left_read t.clients d.clients d.deed.tables.clients d.same)))
+    (left_read t.clients d.clients d.deed.tables.clients d.same)))
     (deed_of (Fine v g.caller d.by mine g.order) (does v g.caller g.order) d.deed d.does_it
     (fine v g.caller d.by mine g.order)) where
       v : Tables
@@ -199,8 +211,8 @@ did_made t e g fit of d =
       mine s at =
           let r = of s at in
           own_read t d.clients s g.caller.user d.same
-              (subst (λ u. AllByRecursion (Own s u) t.clients) r.2
-              (unique t.clients t.next_client s r.0 fit.sound.clients_rise r.1))
+          (subst (λ u. AllByRecursion (Own s u) t.clients) r.2
+          (unique t.clients t.next_client s r.0 fit.sound.clients_rise r.1))
 
 some_made : (t : Tables) (e : trace.Entry) (client : Option ℕ) (vs : List Verdict) (gs : List Given) → AreFit t
     → AllByRecursion (λ (g : Given). IsOf t g.caller) gs → AllByRecursion (λ (g : Given). g.caller.client ≡ client) gs
@@ -219,7 +231,7 @@ obeys_made t e fit step (inl rests) = ap (made_by (giving e.event) (from_command
     ∙ made_none (giving e.event) (from_command e.verdicts)
 obeys_made t e fit step (inr some) =
     some_made t e (giving e.event) e.verdicts (commands_of t e.event) fit (callers t e.event) (gives_client t e.event)
-        (subst (λ vs. AllByRecursion (Asks vs) (commands_of t e.event)) (sym step.verdicts) (asks t e.event)) some
+    (subst (λ vs. AllByRecursion (Asks vs) (commands_of t e.event)) (sym step.verdicts) (asks t e.event)) some
 
 -- ---- the other events
 
@@ -230,20 +242,20 @@ attached_one : (client : ℕ) (user : UserId) (o : Option ℕ) (left : List Act)
     → attaches_one client user ((act.Attached client user ∷ entering user o) ++ left) ≡ true
 attached_one client user o left none =
     ap (λ acts. attaches_one client user ((act.Attached client user ∷ entering user o) ++ acts)) none ∙ on o where
-  enters : (o : Option ℕ) → enters_once user (entering user o ++ []) ≡ true
-  enters None = refl
-  enters (Some w) = same_user-refl user
+      enters : (o : Option ℕ) → enters_once user (entering user o ++ []) ≡ true
+      enters None = refl
+      enters (Some w) = same_user-refl user
 
-  on : (o : Option ℕ) → attaches_one client user ((act.Attached client user ∷ entering user o) ++ []) ≡ true
-  on o = both_true ((client == client) && same_user user user) (enters_once user (entering user o ++ []))
-      (both_true (client == client) (same_user user user) (itself client) (same_user-refl user)) (enters o)
+      on : (o : Option ℕ) → attaches_one client user ((act.Attached client user ∷ entering user o) ++ []) ≡ true
+      on o = both_true ((client == client) && same_user user user) (enters_once user (entering user o ++ []))
+          (both_true (client == client) (same_user user user) (itself client) (same_user-refl user)) (enters o)
 
 attach_fits : (t : Tables) (user : UserId) (rows columns : ℕ)
     → FitsIn t (kept.Attach user rows columns) (outcome t (Attach user rows columns))
 attach_fits t user rows columns =
     let c : Client = new_client t user rows columns in
     outcomes.passed (FitsIn t (kept.Attach user rows columns)) t (verdicts t (attach_checks t user rows columns))
-        (first_fault t (attach_checks t user rows columns)) (reply_of 0 t.next_client 0 None) (attaches t c)
+    (first_fault t (attach_checks t user rows columns)) (reply_of 0 t.next_client 0 None) (attaches t c)
     (λ r is. refl)
     (λ is. attached_one t.next_client user (focused c) (left_acts t.clients (t.clients ++ c ∷ []))
     (nobody (left_acts t.clients (t.clients ++ c ∷ []))
@@ -254,9 +266,9 @@ open_fits : (t : Tables) (user : UserId) (rows columns keep : ℕ) (title : List
 open_fits t user rows columns keep title =
     let w : Window = new_window t rows columns keep title in
     outcomes.passed (FitsIn t (kept.Open user rows columns keep title)) t
-        (verdicts t (open_checks t user rows columns keep title))
-        (first_fault t (open_checks t user rows columns keep title)) (reply_of 0 w.serial w.number None)
-        (opens t user w)
+    (verdicts t (open_checks t user rows columns keep title))
+    (first_fault t (open_checks t user rows columns keep title)) (reply_of 0 w.serial w.number None)
+    (opens t user w)
     (λ r is. refl)
     (λ is. ap (λ acts. opens_one t.next_window user (act.Opened user t.next_window ∷ acts)) (none_left t.clients)
     ∙ both_true (t.next_window == t.next_window) (same_user user user) (itself t.next_window) (same_user-refl user))
@@ -264,7 +276,7 @@ open_fits t user rows columns keep title =
 detach_fits : (t : Tables) (client : ℕ) → AreFit t → FitsIn t (kept.Detach client) (outcome t (Detach client))
 detach_fits t client fit =
     outcomes.found (FitsIn t (kept.Detach client)) t
-        (λ c. finished t [] done (parts (λ d. d.serial == client) reason.Detached t)) (client_at t client) refl
+    (λ c. finished t [] done (parts (λ d. d.serial == client) reason.Detached t)) (client_at t client) refl
     (λ c at. all_true (detaches (is_client_of t.acts client) client) _
     (all_append Fit (map (λ (d : Client). act.Parted d.serial) (filter (λ (d : Client). d.serial == client) t.clients))
     (left_acts t.clients rest)
@@ -292,7 +304,7 @@ detach_fits t client fit =
 closed_fits : (t : Tables) (window : ℕ) → FitsIn t (kept.Closed window) (outcome t (Closed window))
 closed_fits t window =
     outcomes.found (FitsIn t (kept.Closed window)) t
-        (λ w. finished t [] done (closes (λ v. v.serial == window) reason.Detached t)) (window_at t window) refl
+    (λ w. finished t [] done (closes (λ v. v.serial == window) reason.Detached t)) (window_at t window) refl
     (λ w at. all_true (shuts window) _
     (all_append Fit (map (λ (v : Window). act.Closed v.serial) gone)
     (left_acts t.clients (without_windows gone t.clients))
@@ -323,8 +335,8 @@ as_filed : (t : Tables) (k : Kept) (e : trace.Entry) → IsStep t e → FitsIn t
     → EntryFits t.acts (record { event = k; verdicts = e.verdicts; acts = e.acts; reply = ending_of e.reply })
 as_filed t k e s fits =
     subst (λ (x : Entry). EntryFits t.acts x)
-        (λ i. record { event = k; verdicts = sym s.verdicts i; acts = sym s.acts i; reply = ending_of (sym s.reply i) })
-        fits
+    (λ i. record { event = k; verdicts = sym s.verdicts i; acts = sym s.acts i; reply = ending_of (sym s.reply i) })
+    fits
 
 pub filed_fits : (t : Tables) (event : EventValue) (reply : Reply) (acts : List Act) (vs : List Verdict)
     (effects : List Effect) → AreFit t
@@ -341,18 +353,18 @@ filed_fits t (Closed window) reply acts vs effects fit step =
     (as_filed t (kept.Closed window) _ step (closed_fits t window), tt)
 filed_fits t (Keys client bytes) (Ok y) acts vs effects fit step =
     let e : trace.Entry =
-        record { event = Keys client bytes; reply = Ok y; acts = acts; verdicts = vs; effects = effects } in
-        (obeys_made t e fit step (obeys_of below t e step refl), tt)
+    record { event = Keys client bytes; reply = Ok y; acts = acts; verdicts = vs; effects = effects } in
+    (obeys_made t e fit step (obeys_of below t e step refl), tt)
 filed_fits t (Keys client bytes) (Err r) acts vs effects fit step =
     let e : trace.Entry =
-        record { event = Keys client bytes; reply = Err r; acts = acts; verdicts = vs; effects = effects } in
+    record { event = Keys client bytes; reply = Err r; acts = acts; verdicts = vs; effects = effects } in
     let promise : KeepsPromise t e = below.keep t e step in ((promise.refusals refl).1, tt)
 filed_fits t (Command user number bytes) (Ok y) acts vs effects fit step =
     let e : trace.Entry =
-        record { event = Command user number bytes; reply = Ok y; acts = acts; verdicts = vs; effects = effects } in
-        (obeys_made t e fit step (obeys_of below t e step refl), tt)
+    record { event = Command user number bytes; reply = Ok y; acts = acts; verdicts = vs; effects = effects } in
+    (obeys_made t e fit step (obeys_of below t e step refl), tt)
 filed_fits t (Command user number bytes) (Err r) acts vs effects fit step =
     let e : trace.Entry =
-        record { event = Command user number bytes; reply = Err r; acts = acts; verdicts = vs; effects = effects } in
+    record { event = Command user number bytes; reply = Err r; acts = acts; verdicts = vs; effects = effects } in
     let promise : KeepsPromise t e = below.keep t e step in ((promise.refusals refl).1, tt)
 filed_fits t event reply acts vs effects fit step = tt

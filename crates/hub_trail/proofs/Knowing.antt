@@ -33,8 +33,8 @@ Known t user o = is_ok o.reply ≡ true → is_known t user ≡ true
 attach_known : (t : Tables) (user : UserId) (rows columns : ℕ) → Known t user (outcome t (Attach user rows columns))
 attach_known t user rows columns =
     outcomes.passed (Known t user) t (verdicts t (attach_checks t user rows columns))
-        (first_fault t (attach_checks t user rows columns)) (reply_of 0 t.next_client 0 None)
-        (attaches t (new_client t user rows columns))
+    (first_fault t (attach_checks t user rows columns)) (reply_of 0 t.next_client 0 None)
+    (attaches t (new_client t user rows columns))
     (λ r is ok. absurd (cc (ok))) (λ is ok. first_passed (is_known t user) _ _ is)
 
 open_known : (t : Tables) (user : UserId) (rows columns keep : ℕ) (title : List ℕ)
@@ -42,8 +42,8 @@ open_known : (t : Tables) (user : UserId) (rows columns keep : ℕ) (title : Lis
 open_known t user rows columns keep title =
     let w : Window = new_window t rows columns keep title in
     outcomes.passed (Known t user) t (verdicts t (open_checks t user rows columns keep title))
-        (first_fault t (open_checks t user rows columns keep title)) (reply_of 0 w.serial w.number None)
-        (opens t user w)
+    (first_fault t (open_checks t user rows columns keep title)) (reply_of 0 w.serial w.number None)
+    (opens t user w)
     (λ r is ok. absurd (cc (ok))) (λ is ok. first_passed (is_known t user) _ _ is)
 
 command_known : (t : Tables) (user : UserId) (number : Option ℕ) (bytes : List ℕ)

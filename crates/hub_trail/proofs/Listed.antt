@@ -44,7 +44,7 @@ module _ (P : Act → Type 0) (known : (u : UserId) → P (act.Known u))
   change_all users [] bits objects = tt
   change_all users (name ∷ names) bits objects =
       all_append P (name_acts users name bits objects) (change_acts (with_name users name) names bits objects)
-          (name_all users name bits objects) (change_all (with_name users name) names bits objects)
+      (name_all users name bits objects) (change_all (with_name users name) names bits objects)
 
   new_all : (users : List UserId) (name : Option UserId) → AllByRecursion P (new_acts users name)
   new_all users None = tt

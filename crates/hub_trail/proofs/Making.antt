@@ -124,7 +124,7 @@ module _ (t : Tables) (k : Caller) (by : IsCaller t k) (mine : IsMine t k) where
   removal word None = anyone (command.Acldel word) [] t.clients (λ u w. refl) tt
   removal word (Some u) =
       anyone (command.Acldel word) (map (λ (d : Client). act.Parted d.serial)
-          (filter (is_of u) t.clients) ++ act.Gone u ∷ []) (filter (λ d. not (is_of u d)) t.clients) (λ v w. refl)
+      (filter (is_of u) t.clients) ++ act.Gone u ∷ []) (filter (λ d. not (is_of u d)) t.clients) (λ v w. refl)
       (all_append (Made (command.Acldel word)) (map (λ (d : Client). act.Parted d.serial) (filter (is_of u) t.clients))
       (act.Gone u ∷ []) (parted_all (command.Acldel word) (is_of u) t.clients (λ d goes. refl)) (refl, tt))
 
@@ -137,8 +137,8 @@ module _ (t : Tables) (k : Caller) (by : IsCaller t k) (mine : IsMine t k) where
   detached d at =
       let given_by : k.client ≡ Some d.serial = caller_is t k.client d at in
       then_left command.Detach (map (λ (e : Client). act.Parted e.serial)
-          (filter (λ (e : Client). e.serial == d.serial) t.clients))
-          (filter (λ (e : Client). not (e.serial == d.serial)) t.clients)
+      (filter (λ (e : Client). e.serial == d.serial) t.clients))
+      (filter (λ (e : Client). not (e.serial == d.serial)) t.clients)
       (parted_all command.Detach (λ (e : Client). e.serial == d.serial) t.clients
       (λ e goes. client_is k.client e.serial (given_by ∙ ap Some (sym (equal e.serial d.serial goes)))))
       (himself command.Detach (left_acts t.clients (filter (λ (e : Client). not (e.serial == d.serial)) t.clients))
@@ -195,19 +195,19 @@ module _ (t : Tables) (k : Caller) (by : IsCaller t k) (mine : IsMine t k) where
       (still (command.Aclgrp word None) [] tt)
   fine (command.Aclgrp word (Some leader)) =
       by_clear (Fine (command.Aclgrp word (Some leader))) Acl
-          (group_fault_in t (named_by word) (new_leader_of leader)) _ (λ f. refl)
+      (group_fault_in t (named_by word) (new_leader_of leader)) _ (λ f. refl)
       (λ clear. still (command.Aclgrp word (Some leader)) _
       (group_all (Made (command.Aclgrp word (Some leader))) (λ u l. refl) (named_by word) (new_leader_of leader)))
   fine (command.Aclumask masks) =
       by_clear (Fine (command.Aclumask masks)) Acl (mask_fault t.owner (known_users t) (mask_entries t masks)) _
-          (λ f. refl)
+      (λ f. refl)
       (λ clear. still (command.Aclumask masks) _
       (mask_all (Made (command.Aclumask masks)) k.user (λ u b v. same_user-refl k.user) (λ kind b v. refl)
       (mask_entries t masks)))
   fine (command.Multiuser true) = still (command.Multiuser true) [] tt
   fine (command.Multiuser false) =
       anyone (command.Multiuser false)
-          (map (λ (d : Client). act.Parted d.serial) (filter (λ d. not (is_of t.owner d)) t.clients)) _ (λ u w. refl)
+      (map (λ (d : Client). act.Parted d.serial) (filter (λ d. not (is_of t.owner d)) t.clients)) _ (λ u w. refl)
       (parted_all (command.Multiuser false) (λ d. not (is_of t.owner d)) t.clients (λ d goes. refl))
   fine (command.Writelock mode) = on_own (command.Writelock mode) _
       (λ w at. still (command.Writelock mode) (act.Mode k.user w.serial mode ∷ []) (same_user-refl k.user, tt))
@@ -250,7 +250,7 @@ module _ (t : Tables) (k : Caller) (by : IsCaller t k) (mine : IsMine t k) where
   fine command.Detach = on_page command.Detach _ (λ d at. detached d at)
   fine command.Kill = on_own command.Kill _ (λ w at.
       anyone command.Kill (map (λ (v : Window). act.Closed v.serial)
-          (filter (λ (v : Window). v.serial == w.serial) t.windows)) _ (λ u x. refl)
+      (filter (λ (v : Window). v.serial == w.serial) t.windows)) _ (λ u x. refl)
       (closed_all command.Kill (λ (v : Window). v.serial == w.serial) t.windows (λ x. refl)))
   fine command.Quit = quits
   fine c = still c [] tt

@@ -47,7 +47,7 @@ pub legal_parts : (edition : Edition) (owner : UserId) (h : History) (es fs : Li
 legal_parts edition owner h [] fs all = (tt, all)
 legal_parts edition owner h (e ∷ es) fs all =
     let rest : AreLegal edition owner (followed_by h e.acts) es × AreLegal edition owner
-        (acts_after (followed_by h e.acts) es) fs = legal_parts edition owner (followed_by h e.acts) es fs all.1 in
+    (acts_after (followed_by h e.acts) es) fs = legal_parts edition owner (followed_by h e.acts) es fs all.1 in
     ((all.0, rest.0), rest.1)
 
 pub decided : (edition : Edition) (owner : UserId) (h : History) (v w : Verdict) → AskTheSame v w
@@ -77,7 +77,11 @@ names_after t event effects = ap (λ (x : Rules). (x.0, x.1)) (rules_after t eve
 
 -- the entry of a step is that of its outcome
 filed_of : (t : Tables) (k : Kept) (e : trace.Entry) → IsStep t e
-    → entry k (outcome t e.event) ≡ record { event = k; verdicts = e.verdicts; acts = e.acts; reply = ending_of e.reply
+    → entry k (outcome t e.event) ≡ record {
+      event = k;
+      verdicts = e.verdicts;
+      acts = e.acts;
+      reply = ending_of e.reply;
     }
 filed_of t k e s =
     λ i. record { event = k; verdicts = sym s.verdicts i; acts = sym s.acts i; reply = ending_of (sym s.reply i) }

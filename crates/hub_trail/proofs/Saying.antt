@@ -108,7 +108,7 @@ module _ (P : Act → Type 0) (N : UserId → Type 0) (B : Bit → Bool → Type
   change_all us [] n bits b os is = tt
   change_all us (name ∷ names) n bits b os is =
       all_append P (name_acts us name bits os) (change_acts (with_name us name) names bits os)
-          (name_all us name n.0 bits b os is) (change_all (with_name us name) names n.1 bits b os is)
+      (name_all us name n.0 bits b os is) (change_all (with_name us name) names n.1 bits b os is)
 
   new_all : (us : List UserId) (name : Option UserId) → ((u : UserId) → name ≡ Some u → N u)
       → AllByRecursion P (new_acts us name)
@@ -148,7 +148,7 @@ words_all : (words : List (List ℕ))
 words_all [] = tt
 words_all (w ∷ words) = (
   (λ u is. or_early (names_user u (named_by w)) (list_any (λ x. names_user u (named_by x)) words)
-  (ap (names_user u) is ∙ same_user-refl u)),
+      (ap (names_user u) is ∙ same_user-refl u)),
   all_weaken (λ n. (u : UserId) → n ≡ Some u → list_any (λ x. names_user u (named_by x)) words ≡ true)
       (λ n. (u : UserId) → n ≡ Some u → list_any (λ x. names_user u (named_by x)) (w ∷ words) ≡ true)
       (map named_by words)
@@ -213,8 +213,8 @@ wide_said : (t : Tables) (item : List ℕ) → is_wide item ≡ true
     → AllByRecursion (λ o. item_names item o ≡ true) (wide_objects t item)
 wide_said t item wide =
     all_append Said (if list_any (nat_eq (code "#")) item then every_window t else [])
-        (if list_any (nat_eq (code "?")) item then every_command else []) (windows (list_any (nat_eq (code "#")) item))
-        (commands (list_any (nat_eq (code "?")) item) refl) where
+    (if list_any (nat_eq (code "?")) item then every_command else []) (windows (list_any (nat_eq (code "#")) item))
+    (commands (list_any (nat_eq (code "?")) item) refl) where
       Said : Object → Type 0
       Said o = item_names item o ≡ true
 
@@ -235,10 +235,12 @@ one_said : (t : Tables) (item : List ℕ) (wide : is_wide item ≡ false) (o : O
     → AllByRecursion (λ x. item_names item x ≡ true) os
 one_said t item wide (Some d) named os is =
     let same : object.Command d ∷ [] ≡ os = cc (is) in
-    subst (AllByRecursion (λ x. item_names item x ≡ true)) same
-    ((ap (λ b. if b then list_any (nat_eq (code "?")) item else option_map_or (λ c. same_command c d)
-    (command_named item) false) wide ∙ ap (λ o. option_map_or (λ c. same_command c d) o false) named
-    ∙ itself (Rattle.acl.specs.Same.index_of_command d)), tt)
+    subst (AllByRecursion (λ x. item_names item x ≡ true)) same (
+      (ap (λ b. if b then list_any (nat_eq (code "?")) item else option_map_or (λ c. same_command c d)
+          (command_named item) false) wide ∙ ap (λ o. option_map_or (λ c. same_command c d) o false) named
+          ∙ itself (Rattle.acl.specs.Same.index_of_command d)),
+      tt,
+    )
 one_said t item wide None named os is = on (window_named t.windows item) is where
   on : (o : Option Window) → option_map (λ (w : Window). object.Window w.serial ∷ []) o ≡ Some os
       → AllByRecursion (λ x. item_names item x ≡ true) os
@@ -274,20 +276,20 @@ items_said t [] os is = let same : (let none : List Object = [] in none) ≡ os 
     subst (AllByRecursion (λ o. items_say [] o ≡ true)) same tt
 items_said t (item ∷ items) os is =
     on (item_objects t item) refl (objects_of t items) refl is (items_said t items) where
-  on : (a : Option (List Object)) → item_objects t item ≡ a → (b : Option (List Object)) → objects_of t items ≡ b
-      → option_and_then (λ objects. option_map (λ more. objects ++ more) b) a ≡ Some os
-      → ((xs : List Object) → objects_of t items ≡ Some xs → AllByRecursion (λ o. items_say items o ≡ true) xs)
-      → AllByRecursion (λ o. items_say (item ∷ items) o ≡ true) os
-  on None at b rest is later = absurd (cc (is))
-  on (Some xs) at None rest is later = absurd (cc (is))
-  on (Some xs) at (Some ys) rest is later =
-      let same : xs ++ ys ≡ os = cc (is) in
-      subst (AllByRecursion (λ o. items_say (item ∷ items) o ≡ true)) same
-      (all_append (λ o. items_say (item ∷ items) o ≡ true) xs ys
-      (all_weaken (λ o. item_names item o ≡ true) (λ o. items_say (item ∷ items) o ≡ true) xs
-      (λ o s. first_says item items o s) (item_said t item xs at))
-      (all_weaken (λ o. items_say items o ≡ true) (λ o. items_say (item ∷ items) o ≡ true) ys
-      (λ o s. later_says item items o s) (later ys rest)))
+      on : (a : Option (List Object)) → item_objects t item ≡ a → (b : Option (List Object)) → objects_of t items ≡ b
+          → option_and_then (λ objects. option_map (λ more. objects ++ more) b) a ≡ Some os
+          → ((xs : List Object) → objects_of t items ≡ Some xs → AllByRecursion (λ o. items_say items o ≡ true) xs)
+          → AllByRecursion (λ o. items_say (item ∷ items) o ≡ true) os
+      on None at b rest is later = absurd (cc (is))
+      on (Some xs) at None rest is later = absurd (cc (is))
+      on (Some xs) at (Some ys) rest is later =
+          let same : xs ++ ys ≡ os = cc (is) in
+          subst (AllByRecursion (λ o. items_say (item ∷ items) o ≡ true)) same
+          (all_append (λ o. items_say (item ∷ items) o ≡ true) xs ys
+          (all_weaken (λ o. item_names item o ≡ true) (λ o. items_say (item ∷ items) o ≡ true) xs
+          (λ o s. first_says item items o s) (item_said t item xs at))
+          (all_weaken (λ o. items_say items o ≡ true) (λ o. items_say (item ∷ items) o ≡ true) ys
+          (λ o s. later_says item items o s) (later ys rest)))
 
 -- ---- a command
 
@@ -310,10 +312,12 @@ module _ (v : Tables) (k : Caller) where
     on : (o : Option UserId) → named_by word ≡ o
         → AllByRecursion (Said (command.Aclgrp word (Some leader))) (group_acts o (new_leader_of leader))
     on None is = tt
-    on (Some u) is =
-        (both_true (names_user u (named_by word))
-        (same_leader (chosen_leader (new_leader_of leader)) (chosen_leader (new_leader_of leader)))
-        (ap (names_user u) is ∙ same_user-refl u) (leader_itself (chosen_leader (new_leader_of leader))), tt)
+    on (Some u) is = (
+      both_true (names_user u (named_by word))
+          (same_leader (chosen_leader (new_leader_of leader)) (chosen_leader (new_leader_of leader)))
+          (ap (names_user u) is ∙ same_user-refl u) (leader_itself (chosen_leader (new_leader_of leader))),
+      tt,
+    )
 
   acted : (c : Order) (acts : List Act) → shapes.Acted v k c acts → AllByRecursion (Said c) acts
   acted c _ (shapes.added names all is clear every) =
@@ -353,8 +357,8 @@ module _ (v : Tables) (k : Caller) where
   removed word None is = tt
   removed word (Some u) is =
       all_append (Said (command.Acldel word)) (map (λ (d : Client). act.Parted d.serial) (filter (is_of u) v.clients))
-          (act.Gone u ∷ []) (parted_said (command.Acldel word) (filter (is_of u) v.clients))
-          (ap (names_user u) is ∙ same_user-refl u, tt)
+      (act.Gone u ∷ []) (parted_said (command.Acldel word) (filter (is_of u) v.clients))
+      (ap (names_user u) is ∙ same_user-refl u, tt)
 
   deed_said : (c : Order) (d : Deed) → shapes.Shape v k c d → AllByRecursion (Said c) d.acts
   deed_said c d (shapes.acts all none is) = acted c all is
@@ -368,7 +372,7 @@ module _ (v : Tables) (k : Caller) where
       let ws : List Window = filter (λ (w : Window). true) v.windows in
       let ds : List Client = filter (λ (d : Client). true) (deeds.without_windows ws v.clients) in
       all_append (Said c) (map (λ (w : Window). act.Closed w.serial) ws) (map (λ (d : Client). act.Parted d.serial) ds)
-          (closed_said c ws) (parted_said c ds)
+      (closed_said c ws) (parted_said c ds)
   deed_said c d (shapes.lists bytes none tells) = tt
   deed_said c d (shapes.keeps_page y l is at shows keeps) = tt
   deed_said c d (shapes.writes_to y what one at) = tt
