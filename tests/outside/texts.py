@@ -288,14 +288,20 @@ def surprises(on):
     if any(line.startswith(":wall") for line in on.page("ann")):
         raise Fault("docs/FIRST-SESSION.md: an arrow key leaves the prompt open")
     on.keys("ann", "C-c")
+    time.sleep(1)
     # A C-a in pasted text is the command key.
     on.tmux("set-buffer", "printf one\001:wall pasted\r")
     on.tmux("paste-buffer", "-p", "-t", "texts:ann")
     on.shows("bob", "^ann: pasted")
     on.shows("ann", "printf one$")
     on.keys("ann", "C-c")
-    on.type("ann", "cat\n\001a\n\004")
-    on.shows("ann", r"^\^A")
+    # (C-c makes the shell forget what is typed ahead)
+    time.sleep(1)
+    on.type("ann", "clear; cat -v\n")
+    time.sleep(1)
+    on.type("ann", "\001a\n")
+    on.wait("ann", "C-a that came through", lambda: on.page("ann").count("^A") == 2)
+    on.keys("ann", "C-d")
     # SGR 38 and 48 are read value by value: 5 blinks, 4 underlines.
     on.type("ann", r"clear; printf '\033[38;5;9mred\033[m \033[48;5;4mblue\033[m\n'" + "\n")
     on.shows("ann", "^red blue")
