@@ -85,10 +85,13 @@ pub fn is_of_known(replay: &Replay, event: KeptRef<'_>, ending: &Ending) -> bool
         StandsAfter replay.now edition owner h → (result ≡ true)
         ↔ IsOfKnown owner h (kept_lent event.entry) ending.now }
 {
-    match event {
-        KeptRef::Attach { user, .. } => ending.is_err() || replay.knows(user),
-        KeptRef::Command { user, .. } => ending.is_err() || replay.knows(user),
-        KeptRef::Open { user, .. } => ending.is_err() || replay.knows(user),
-        KeptRef::Detach { .. } | KeptRef::Keys { .. } | KeptRef::Closed { .. } => true,
+    match ending {
+        Ok(_) => match event {
+            KeptRef::Attach { user, .. } => replay.knows(user),
+            KeptRef::Command { user, .. } => replay.knows(user),
+            KeptRef::Open { user, .. } => replay.knows(user),
+            KeptRef::Detach { .. } | KeptRef::Keys { .. } | KeptRef::Closed { .. } => true,
+        },
+        Err(_) => true,
     }
 }
