@@ -1,3 +1,2 @@
 pub mod Merging
 pub mod Files
-pub mod Putting

@@ -1,9 +1,7 @@
 //! Lines on their way to a trail's file, which several threads put down and one writes.
 
-ghost use Rattle.std.specs.Prelude.{◌≡◌, ◌++◌, ◌∷◌, [], ℕ, List, IfOk};
+ghost use Rattle.std.specs.Prelude.{◌≡◌, ◌++◌, ◌∷◌, [], IfOk};
 ghost use Rattle.trail_lines.specs.Entries.{line_of};
-ghost use Rattle.server_trail.specs.Merging.{Placed, HasMerged};
-ghost use Rattle.server_trail.specs.Putting.{TellsPut};
 
 use crate::file::time;
 use crate::merge::Merge;
@@ -55,10 +53,7 @@ fn line_of(alloc: Global, place: usize, ms: u64, entry: &Filed) -> Result<Vec<u8
 impl Waiting {
     // Puts a line down. Whether the writer is to be woken: the first bytes are ready, or as many
     // as it waits for. What the writer has taken doesn't wait, however long the disk takes over it.
-    fn put(&mut self, place: usize, line: Vec<u8>) -> Result<bool, Stopped>
-        ensures { (put : List Placed) (taken : List ℕ) → HasMerged put taken self.old.merge
-            → TellsPut result put taken (place, line.items) self.old.merge self.new.merge }
-    {
+    fn put(&mut self, place: usize, line: Vec<u8>) -> Result<bool, Stopped> {
         if self.merge.waiting() > MOST {
             return Err(Stopped::Disk);
         }

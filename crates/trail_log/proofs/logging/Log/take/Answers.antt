@@ -8,7 +8,7 @@ use Rattle.trail_log.proofs.logging.Log.take.Goals as goal
 
 pub returns : goal.returns
 returns c = λ edition owner xs w.
-    let t = c.in_ok-said.ensures edition owner (entries_in xs) w.read in
+    let t = c.in_ok-said.ensures.tells edition owner (entries_in xs) w.read in
     let next = said c.in_ok-said.said in record {
       next = next;
       is = t.is;
