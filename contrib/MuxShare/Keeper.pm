@@ -90,7 +90,15 @@ sub keep {
     close $ready;
     $self->serve;
     log_line('the session ends');
+    $self->close_door;
     $self->{session}->end;
+}
+
+# Nobody may take a session that ends for one that is there.
+sub close_door {
+    my ($self) = @_;
+    unlink "$self->{place}/door";
+    close $self->{door};
 }
 
 # Nobody is let in before the owner is here.  Where they don't come (they were interrupted) the session ends.
@@ -133,7 +141,7 @@ sub look_here {
     my $count = sysread($self->{here}, my $bytes, 512);
     $self->{was_here} = 1 if $count;
     return unless defined $count && $count == 0;
-    close $self->{here};
+    # The FIFO is opened again before its old end is closed: a terminal that comes meanwhile always has a reader.
     $self->{here} = $self->open_here;
     $self->{guests}->take_unwatched;
 }
@@ -144,7 +152,6 @@ sub answer_door {
     my $uid = peer_uid($peer);
     if ($uid == $>) { $self->answer_owner($peer) }
     elsif ($self->{was_here} && $self->{guests}->guest($uid)) { $self->let_in($peer, $uid) }
-    close $peer;
 }
 
 # Gives a guest's connection a process of its own.
@@ -169,7 +176,8 @@ sub let_in {
     );
 }
 
-# Answers a line of mux-share, which comes at once: 'ok' and text, or 'fault' and why.
+# Answers a line of mux-share, which comes at once: 'ok' and text, or 'fault' and why.  The answer to 'end' stays open as
+# long as this process lives: mux-share --end returns when everything is removed.
 sub answer_owner {
     my ($self, $peer) = @_;
     my $line = '';
@@ -183,6 +191,7 @@ sub answer_owner {
     return unless $line =~ s/\n.*//s;
     my ($fault, $text) = $self->command(split / /, $line);
     write_all($peer, $fault eq '' ? "ok\n$text" : "fault\n$fault\n");
+    push @{ $self->{enders} }, $peer if $self->{ending};
 }
 
 # Does what mux-share asks.  Returns a fault or '', and text.
