@@ -20,8 +20,6 @@ mod fresh;
 #[cfg(test)]
 mod many;
 #[cfg(test)]
-mod refusing;
-#[cfg(test)]
 mod steps;
 #[cfg(test)]
 mod stops;

@@ -1,14 +1,15 @@
 //! The loops of a server, each in a thread of the session's.
 
 use server_loop::{End, Gate};
-use server_session::{Begun as Roll, LoopBody, Recorder, Seat, Seated, SharedSession, Trail};
+use server_session::{
+    Accounts, Begun as Roll, LoopBody, Recorder, Seat, Seated, SharedSession, Trail,
+};
 use server_sockets::{Common, LoopStart, run_loop};
 use server_system::{Place, Setup};
 use server_trail::{Cause, Journal};
-use server_users::Accounts;
 use std::alloc::Global;
 use std::rt::{HostRuntime, Stderr};
-use std::sync::{Mutex, Wait};
+use std::sync::Wait;
 use std::time::Clock;
 
 // What the last line of the trail's file says of the end; none where a fault leaves it without one.
@@ -27,7 +28,7 @@ pub struct Server<'a, G> {
     pub files: HostRuntime,
     pub place: &'a Place<'a>,
     /// What each user has spent and holds.
-    pub accounts: Mutex<Accounts>,
+    pub accounts: Accounts,
     /// What the owner commands before anybody connects.
     pub setup: Setup<'a>,
     /// Is told who comes and goes.

@@ -6,18 +6,18 @@ use clap::ArgMatches;
 use mio::net::UnixListener;
 use program_words::{of_server, tell};
 use server_loop::{End, Gate, Open};
-use server_session::{LoopsFault, Start, keep};
+use server_session::{Accounts, Limits, LoopsFault, Start, keep};
 use server_sockets::{Common, LoopHandle, LoopStart, Places, Shared, start_watching};
 use server_system::{Place, Seen, ServeFault, Setup, Stamp, UsersFile, Watched};
 use server_trail::Journal;
-use server_users::{Accounts, Limits, Users};
+use server_users::Users;
 use std::alloc::Global;
 use std::fs::{File, Files};
 use std::io;
 use std::io::Write;
 use std::net::Net;
 use std::rt::HostRuntime;
-use std::sync::{Arc, Mutex, Wait};
+use std::sync::{Arc, Wait};
 use std::thread::Threads;
 use std::time::Clock;
 
@@ -194,7 +194,7 @@ where
         },
         files,
         place,
-        accounts: Mutex::new(Accounts::new(alloc, users.owner(), asked.limits)),
+        accounts: Accounts::new(alloc, users.owner(), asked.limits),
         setup,
         log: files.stderr(),
         journal,

@@ -36,14 +36,18 @@ fn time_text(alloc: Global, ms: u64) -> io::Result<Vec<u8>> {
     Ok(text)
 }
 
+/// What stands before the `T` of a time: its day; or all of it.
+fn day_in(time: &[u8]) -> &[u8] {
+    match cut(time, b'T') {
+        Some((day, _)) => day,
+        None => time,
+    }
+}
+
 /// Writes the day of a time.
 fn write_day<W: Write>(alloc: Global, ms: u64, output: &mut W) -> io::Result<()> {
     let time = time_text(alloc, ms)?;
-    let day = match cut(time.as_slice(), b'T') {
-        Some((day, _)) => day,
-        None => time.as_slice(),
-    };
-    output.write_all(day)?;
+    output.write_all(day_in(time.as_slice()))?;
     output.write_all(b" (UTC)\n")
 }
 
