@@ -115,7 +115,7 @@ def programs(folder, rng):
         "git log": (["git", "-C", str(TOP), "log", "--color", "-p", "-n", "60"], [b""] * 20),
         "compiler": (["gcc", "-c", "-fdiagnostics-color=always", "-fmax-errors=0", "-o", "/dev/null",
                       str(folder / "faulty.c")], [b""] * 100),
-        "vim": (["vim", "-u", "NONE", "-c", "syntax on", "-c", "set ruler", source], pages),
+        "vim": (["vim", "-n", "-u", "NONE", "-c", "syntax on", "-c", "set ruler", source], pages),
         "htop": (["htop", "-d", "1"], [rng.choice((b"\x1b[B", b"\x1b[A", b"P", b"M")) for _ in range(200)]),
         "less": (["less", str(folder / "mixed.txt")], [rng.choice((b" ", b" ", b" ", b"b", b"j", b"k")) for _ in range(400)]),
     }
